@@ -1,4 +1,4 @@
--- Where no step changes what all is carried out from, what is kept begins what is accepted; and where one does.
+-- What survives: where no step changes the base, and where one does.
 use Rattle.std.specs.Prelude.{◌≡◌, ◌≤◌, ◌<◌, ℕ, zero, suc, List, [], ◌∷◌, length, take, refl}
 use Rattle.std.proofs.Common.{◌∙◌, inl, inr, ⊎_elim, sym, subst, arith, append-nil}
 use Rattle.std.proofs.lemmas.List.{take_all}
@@ -10,14 +10,14 @@ use Rattle.accepting.specs.Rebasing.{GivesKept, ShowsEither, rebasing_shows, reb
 use Rattle.accepting.proofs.KeptLemmas.{acknowledged_is_kept, begins, holds_all, keeps_core, safe_is_kept, steps_hold}
 
 module _ (rules : Rules) where
-  -- the same rules, but what all is carried out from never changes
+  -- the same rules, with a base that never changes
   abbrev still : Rules
   still = record rules { rebases = λ base items other. ⊥ }
 
   never : NeverRebases still
   never base base' items goes = goes
 
-  -- steps of which none changes what all is carried out from are steps by those rules
+  -- steps of which none changes the base are steps by those rules
   still_steps : (old new : Core rules.Base rules.Item) (steps : List (CoreStep rules.Item)) → NoneRebases steps
       → AllStepTo rules old steps new → AllStepTo still old steps new
   still_steps old new [] none leads = leads
@@ -32,7 +32,7 @@ module _ (rules : Rules) where
       (leads.0, leads.1, still_steps leads.0 new steps none leads.2)
   still_steps old new (Rebase ∷ steps) none leads = absurd none
 
-  -- the first so many of such steps are such
+  -- a first part of such steps consists of such steps
   none_in_first : (n : ℕ) (steps : List (CoreStep rules.Item)) → NoneRebases steps → NoneRebases (take n steps)
   none_in_first zero steps none = tt
   none_in_first (suc n) [] none = tt
@@ -44,7 +44,7 @@ module _ (rules : Rules) where
   none_in_first (suc n) (Stop kept ∷ steps) none = none_in_first n steps none
   none_in_first (suc n) (Rebase ∷ steps) none = absurd none
 
-  -- what may come in a call changes no base
+  -- steps that may come in a call change no base
   none_may : (failed : Type 0) (old new : Core rules.Base rules.Item) (steps : List (CoreStep rules.Item))
       (leads : AllStepTo rules old steps new) → AllMayCome rules failed old steps new leads → NoneRebases steps
   none_may failed old new [] leads may = tt
@@ -102,10 +102,10 @@ module _ (rules : Rules) (device : Device rules.Image) where
         record { core = (keeps_core rules old new event.steps core event.leads).0; base = safe.0; safe = safe.1 },
       )
 
--- all that was accepted could be acknowledged, and another base may come
+-- all that was accepted could be acknowledged, and a new base may come
 module _ (rules : Rules) (old : Core rules.Base rules.Item) (base : rules.Base) (core : IsCore old)
     (could : CanAcknowledge old) where
-  -- where it goes into that, it is kept behind it, with whatever comes then
+  -- items that go into a base survive after it, with whatever comes then
   kept_below : rules.rebases old.base old.accepted base → (items : List rules.Item)
       → IsKept rules old.base old.accepted base items
   kept_below goes_into items =
@@ -116,7 +116,7 @@ module _ (rules : Rules) (old : Core rules.Base rules.Item) (base : rules.Base) 
   all_of n many image g =
       inl (subst (λ (l : List rules.Item). rules.gives old.base l image) (take_all n old.accepted many) g)
 
-  -- and in what is given while it goes there
+  -- and in what images give during the change
   kept_either : (image : rules.Image) → ShowsEither rules old base image → GivesKept rules old.base old.accepted image
   kept_either image (inl shows) =
       ⊎_elim (all_of old.safe (omega (arith, could.1)) image)

@@ -1,11 +1,11 @@
--- What is kept in something that is itself kept in something later is kept in that.
+-- Items that survive in others, which themselves survive in a third list, survive in the third.
 use Rattle.std.specs.Prelude.{◌≡◌, ℕ, zero, suc, List, ◌++◌}
 use Rattle.std.proofs.Common.{◌∙◌, ap, subst, sym}
 use Rattle.std.proofs.lemmas.List.{append_assoc}
 use Rattle.accepting.specs.Core.{Rules, IsKept, IsPrefix, KeptThrough}
 use Rattle.accepting.specs.Laws.{KeptStaysKept}
 
--- what begins with what begins with these begins with these
+-- a prefix of a prefix is a prefix
 begins_on : {C : Type 0} (xs ys zs : List C) → IsPrefix xs ys → IsPrefix ys zs → IsPrefix xs zs
 begins_on xs ys zs one two = (
   one.0 ++ two.0,
@@ -13,7 +13,7 @@ begins_on xs ys zs one two = (
 )
 
 module _ (rules : Rules) where
-  -- what is kept is kept in what begins with that, carried out from the same
+  -- items that survive in a list survive in each longer one from the same base
   kept_in_more : (n : ℕ) (base base' base'' : rules.Base) (items items' items'' : List rules.Item)
       → KeptThrough rules n base items base' items' → base'' ≡ base' → IsPrefix items' items''
       → KeptThrough rules n base items base'' items''

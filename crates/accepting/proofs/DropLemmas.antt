@@ -7,14 +7,14 @@ use Rattle.accepting.specs.Core.{Rules, Core, CoreStep, Accept, Store, Safe, Ack
 use Rattle.accepting.specs.Laws.{CallsDropNothing}
 
 module _ (rules : Rules) (failed : Type 0) (unfailed : failed → ⊥) where
-  -- no fault is known, and nothing was stopped, or all that was accepted is safe
+  -- no fault is known, and there was no stop, or all that was accepted is safe
   record Works (core : Core rules.Base rules.Item) : Type 0 where
     pub fine : core.fault ≡ false
     pub safe : core.safe ≤ core.stored
     pub stored : core.stored ≤ length core.accepted
     pub whole : (core.recovering ≡ false) ⊎ (core.safe ≡ length core.accepted)
 
-  -- all that was accepted is safe, so a stop keeps it
+  -- all that was accepted is safe, so it survives a stop
   stops : (core next : Core rules.Base rules.Item) (kept : ℕ) → Works core → core.safe ≡ length core.accepted
       → (kept ≡ core.safe) ⊎ (kept ≡ core.stored)
       → next ≡ record core {

@@ -1,28 +1,28 @@
--- Each step keeps what was acknowledged.
+-- What was acknowledged survives each step.
 use Rattle.std.specs.Prelude.{suc, ◌⊎◌, false, true}
 use Rattle.std.proofs.Common.{◌≡◌, ℕ, ◌+◌, inl, inr, ◌≤◌, List, [], ◌∷◌, ◌++◌, length, take, drop, refl, sym, ◌∙◌, ap, subst, arith, ⊎_elim, length-append}
 use Rattle.std.proofs.lemmas.List.{take-append-drop, take-append-le, take-take, length-take-le, take_all}
 use Rattle.accepting.specs.Core.{Rules, Core, CoreStep, Accept, Store, Safe, Ack, Fault, Stop, Rebase, IsCore, IsPrefix, IsKept, KeptThrough, NeverRebases, StepsTo, AllStepTo, kept_begins, stopped}
 
 module _ (rules : Rules) where
-  -- these were accepted first, and are safe; all is carried out from there
+  -- these items were accepted first and are safe, from that base
   pub record HoldsFirst (base : rules.Base) (xs : List rules.Item) (s : Core rules.Base rules.Item) : Type 0 where
     pub safe : length xs ≤ s.safe
     pub first : take (length xs) s.accepted ≡ xs
     pub base_is : s.base ≡ base
 
-  -- these went into what all is carried out from
+  -- these items went into the base
   abbrev HoldsBelow : rules.Base → List rules.Item → Core rules.Base rules.Item → Type 0
   HoldsBelow base xs s =
       (n : ℕ) × (mid : rules.Base) × (more : List rules.Item)
       × KeptThrough rules n base xs mid more × rules.rebases mid more s.base
 
-  -- these are kept: accepted first and safe, or below
+  -- these items survive: accepted first and safe, or in an earlier base
   pub record Holds (base : rules.Base) (xs : List rules.Item) (s : Core rules.Base rules.Item) : Type 0 where
     pub core : IsCore s
     pub held : HoldsFirst base xs s ⊎ HoldsBelow base xs s
 
-  -- a step that leaves what all is carried out from
+  -- a step that does not change the base
   stays : (base : rules.Base) (xs : List rules.Item) (s t : Core rules.Base rules.Item) → IsCore t
       → t.base ≡ s.base → (length xs ≤ s.safe → length xs ≤ t.safe)
       → (length xs ≤ s.safe → take (length xs) t.accepted ≡ take (length xs) s.accepted)
@@ -126,7 +126,7 @@ module _ (rules : Rules) where
         });
       }
 
-  -- what is held is kept in each first part that has what is safe
+  -- these items survive in each first part that has all that is safe
   pub begins : (base : rules.Base) (xs : List rules.Item) (s : Core rules.Base rules.Item) (n : ℕ) → Holds base xs s
       → s.safe ≤ n → IsKept rules base xs s.base (take n s.accepted)
   begins base xs s n h le =
@@ -147,7 +147,7 @@ module _ (rules : Rules) where
       (λ (b : HoldsBelow base xs s). (suc b.0, (b.1, b.2, b.3, b.4)))
       h.held
 
-  -- in all of it too
+  -- and in the whole list
   begins_all : (base : rules.Base) (xs : List rules.Item) (s : Core rules.Base rules.Item) → Holds base xs s
       → IsKept rules base xs s.base s.accepted
   begins_all base xs s h =

@@ -1,43 +1,44 @@
--- What was accepted, how much of it is stored and how much is safe; and the steps by which that goes on.
+-- What was accepted, how much of it is stored and how much is safe; and the steps that change this.
 use Rattle.std.specs.Prelude.{◌≡◌, ◌⊎◌, ℕ, zero, suc, ◌+◌, ◌≤◌, List, [], ◌∷◌, ◌++◌, length, take, drop, Bool, true, false, IsTrue}
 
--- What is accepted, and what an image gives: changes of a cartridge, say, or states of a reservation store (own).
+-- What is accepted, and what an image gives: changes of a cartridge, for example, or states of a reservation store
+-- (own).
 pub record Rules : Type 1 where
-  -- what all is carried out from: an empty side with its heading, say
+  -- the base, to which all items apply: an empty side with its heading, for example
   pub Base : Type 0
   pub Item : Type 0
   -- what a crash leaves of the device
   pub Image : Type 0
-  -- the item applies behind these, all carried out from there
+  -- the item applies after these, from that base
   pub applies : Base → List Item → Item → Bool
-  -- what is found on the image is just these, in order, all carried out from there
+  -- the image gives exactly these items, in order, from that base
   pub gives : Base → List Item → Image → Type 0
-  -- these, all carried out from there, may go into the other, from which the next ones are then carried out
+  -- these items, from the first base, may go into the second, from which the next items apply
   pub rebases : Base → List Item → Base → Type 0
 
--- What was accepted, and how far it got (own).
+-- What was accepted, and how far it was stored (own).
 pub record Core (S C : Type 0) : Type 0 where
-  -- what all is carried out from
+  -- the base, to which all items apply
   pub base : S
   -- what was accepted, in order
   pub accepted : List C
   -- how many of these, from the first on, are stored: a crash may leave them
   pub stored : ℕ
-  -- how many of these, from the first on, are safe: a crash leaves them
+  -- how many of these, from the first on, are safe: they survive each crash
   pub safe : ℕ
   -- the device failed, and that was reported: nothing more is stored or accepted
   pub fault : Bool
-  -- the device failed, and that is not yet reported: nothing more is stored. No step sets it while each fault is
+  -- the device failed, and that is not reported yet: nothing more is stored. No step sets it while each fault is
   -- reported at once.
   pub stuck : Bool
-  -- stopped, and what was then found is not yet made safe
+  -- there was a stop, and what it left is not made safe yet
   pub recovering : Bool
 
--- A step of what accepts (own).
+-- A step of an accepting type (own).
 pub data CoreStep (C : Type 0) : Type 0 where
-  -- one more is accepted
+  -- one more item is accepted
   Accept : (item : C) → CoreStep C
-  -- so many more are stored
+  -- `count` more items are stored
   Store : (count : ℕ) → CoreStep C
   -- what is stored is made safe
   Safe : CoreStep C
@@ -45,16 +46,16 @@ pub data CoreStep (C : Type 0) : Type 0 where
   Ack : CoreStep C
   -- the device fails
   Fault : CoreStep C
-  -- a stop leaves so many
+  -- a stop leaves the first `kept` items
   Stop : (kept : ℕ) → CoreStep C
-  -- all that was accepted goes into what the next ones are carried out from
+  -- all that was accepted goes into a new base, from which the next items apply
   Rebase : CoreStep C
 
--- the second begins with the first (own)
+-- the second list begins with the first (own)
 abbrev pub IsPrefix : {C : Type 0} → List C → List C → Type 0
 IsPrefix xs ys = (rest : List _) × (ys ≡ xs ++ rest)
 
--- what steps accept, in order (own)
+-- the items that the steps accept, in order (own)
 abbrev pub accepted_in : {C : Type 0} → List (CoreStep C) → List C
 accepted_in [] = []
 accepted_in (Accept item ∷ steps) = item ∷ accepted_in steps
@@ -65,7 +66,7 @@ accepted_in (Fault ∷ steps) = accepted_in steps
 accepted_in (Stop kept ∷ steps) = accepted_in steps
 accepted_in (Rebase ∷ steps) = accepted_in steps
 
--- none of these steps changes what all is carried out from (own)
+-- none of these steps changes the base (own)
 abbrev pub NoneRebases : {C : Type 0} → List (CoreStep C) → Type 0
 NoneRebases [] = Unit {0}
 NoneRebases (Accept item ∷ steps) = NoneRebases steps
@@ -99,7 +100,7 @@ module _ {S C : Type 0} where
   abbrev pub in_flight : Core S C → List C
   in_flight core = drop core.safe (take core.stored core.accepted)
 
-  -- the device works: no fault of it is known (own)
+  -- the device works: no fault is known (own)
   abbrev pub IsWorking : Core S C → Type 0
   IsWorking core = (core.fault ≡ false) × (core.stuck ≡ false)
 
@@ -107,24 +108,24 @@ module _ {S C : Type 0} where
   abbrev pub CanAcknowledge : Core S C → Type 0
   CanAcknowledge core = IsWorking core × (core.safe ≡ length core.accepted)
 
-  -- one more was accepted (own)
+  -- one more item was accepted (own)
   abbrev pub with_item : C → Core S C → Core S C
   with_item item core = record core { accepted = core.accepted ++ item ∷ [] }
 
-  -- so many more were stored (own)
+  -- `count` more items were stored (own)
   abbrev pub with_stored : ℕ → Core S C → Core S C
   with_stored count core = record core { stored = core.stored + count }
 
-  -- so many more were stored, and made safe (own)
+  -- `count` more items were stored, and all stored items made safe (own)
   abbrev pub settled : ℕ → Core S C → Core S C
   settled count core =
       record core { stored = core.stored + count; safe = core.stored + count; recovering = false }
 
-  -- the device failed while so many more were stored (own)
+  -- the device failed while `count` more items were stored (own)
   abbrev pub broken_in : ℕ → Core S C → Core S C
   broken_in count core = record core { stored = core.stored + count; fault = true }
 
-  -- what a stop left was found, and made safe (own)
+  -- the items that a stop left were found and made safe (own)
   abbrev pub recovered : ℕ → Core S C → Core S C
   recovered kept core =
       record core {
@@ -136,7 +137,7 @@ module _ {S C : Type 0} where
         recovering = false;
       }
 
-  -- a stop left the first so many (own)
+  -- a stop left the first `kept` items (own)
   abbrev pub stopped : ℕ → Core S C → Core S C
   stopped kept core =
       record core {
@@ -147,14 +148,14 @@ module _ {S C : Type 0} where
         recovering = true;
       }
 
-  -- all that was accepted went into this, from which the next ones are carried out (own)
+  -- all that was accepted went into this base, from which the next items apply (own)
   abbrev pub rebased : S → Core S C → Core S C
   rebased base core = record core { base = base; accepted = []; stored = 0; safe = 0 }
 
 module _ (rules : Rules) where
-  -- One step leads from old to new. Nothing is accepted after a fault, or after a stop until what was found is safe;
-  -- nothing is stored while something is in flight; a stop leaves what is safe or what is stored; what is carried out
-  -- from changes only where all may be acknowledged (own).
+  -- One step leads from old to new. Nothing is accepted after a fault, or after a stop until what was found is safe.
+  -- Nothing is stored while something is in flight. A stop leaves what is safe or what is stored. The base changes only
+  -- where all may be acknowledged (own).
   abbrev pub StepsTo : Core rules.Base rules.Item → CoreStep rules.Item → Core rules.Base rules.Item → Type 0
   StepsTo old (Accept item) new =
       (old.fault ≡ false) × (old.recovering ≡ false) × IsTrue (rules.applies old.base old.accepted item)
@@ -172,37 +173,37 @@ module _ (rules : Rules) where
       CanAcknowledge old
       × ((base : rules.Base) × rules.rebases old.base old.accepted base × (new ≡ rebased base old))
 
-  -- steps in a row lead from old to new (own)
+  -- steps, one after another, lead from old to new (own)
   abbrev pub AllStepTo : Core rules.Base rules.Item → List (CoreStep rules.Item) → Core rules.Base rules.Item → Type 0
   AllStepTo old [] new = new ≡ old
   AllStepTo old (step ∷ steps) new =
       (between : Core rules.Base rules.Item) × StepsTo old step between × AllStepTo between steps new
 
-  -- These, carried out from the first, are kept in the others, carried out from the second: they begin them, where the
-  -- two are the same; or they begin what went into something from which the second came by so many changes (own).
+  -- These items survive n changes of base in the others. With n = 0 both lists have one base, and the others begin with
+  -- these; else these survive one change fewer in a list that went into the last base (own).
   abbrev pub KeptThrough : ℕ → rules.Base → List rules.Item → rules.Base → List rules.Item → Type 0
   KeptThrough zero base items base' items' = (base' ≡ base) × IsPrefix items items'
   KeptThrough (suc n) base items base' items' =
       (mid : rules.Base) × (more : List rules.Item)
       × KeptThrough n base items mid more × rules.rebases mid more base'
 
-  -- these are kept in the others, however often what is carried out from has changed since (own)
+  -- these items survive in the others, however often the base has changed since (own)
   abbrev pub IsKept : rules.Base → List rules.Item → rules.Base → List rules.Item → Type 0
   IsKept base items base' items' = (n : ℕ) × KeptThrough n base items base' items'
 
-  -- what all is carried out from never changes (own)
+  -- the base never changes (own)
   abbrev pub NeverRebases : Type 0
   NeverRebases = (base base' : rules.Base) (items : List rules.Item) → rules.rebases base items base' → ⊥
 
-  -- where it never changes, what is kept begins what is accepted
+  -- where the base never changes, items that survive begin what is accepted
   pub kept_begins : NeverRebases → (base base' : rules.Base) (items items' : List rules.Item)
       → IsKept base items base' items' → (base' ≡ base) × IsPrefix items items'
   kept_begins never base base' items items' (zero, kept) = kept
   kept_begins never base base' items items' (suc n, kept) = absurd (never kept.0 base' kept.1 kept.3)
 
-  -- What may come in a call, in which the device failed or did not: it fails only where it did, and a stop comes only
-  -- after a fault, or while what an earlier stop left is not yet made safe, or where all that was accepted is safe.
-  -- What all is carried out from never changes in a call (own).
+  -- The steps that may come in a call. The device fails only where it did in the call. A stop comes only after a fault,
+  -- or while what an earlier stop left is not safe yet, or where all that was accepted is safe. The base never changes
+  -- in a call (own).
   abbrev pub MayCome : Type 0 → Core rules.Base rules.Item → CoreStep rules.Item → Type 0
   MayCome failed core Fault = failed
   MayCome failed core (Stop kept) =

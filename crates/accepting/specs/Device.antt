@@ -1,4 +1,4 @@
--- What is seen of a device, of whatever disks it is made; of one disk, and of two.
+-- A device as laws see it, whatever disks it is made of: one disk, and two.
 use Rattle.std.specs.Prelude.{◌≤◌, ℕ, List}
 use Rattle.tape_disk.specs.Disk.{DiskState, IsDisk, Keeps}
 use Rattle.tape_disk.specs.Disk as Disks
@@ -7,20 +7,20 @@ use Rattle.tape_disk.specs.Moments.{LeavesOnly}
 use Rattle.tape_disk.specs.TwoDisks as Twos
 use Rattle.tape_disk.specs.TwoDisks.{AreDisks, AreHonest, EachOfTwo, Images, KeepsDisks, MayLeave, TwoDisks, TwoLeave, failures_of}
 
--- A device with images of this kind: whether it is honest and keeps to the laws of its kind, how often it failed, and
--- what a crash leaves, now or at a moment since (own).
+-- A device with images of this kind: whether it is honest and obeys the laws of its kind, how often it failed, and what
+-- a crash leaves, now or at a moment since (own).
 pub record Device (I : Type 0) : Type 1 where
   pub State : Type 0
   pub honest : State → Type 0
   pub sound : State → Type 0
   pub failures : State → ℕ
-  -- each image that a crash now may leave has P
+  -- each image that a crash may leave now has P
   pub each : State → (I → Type 0) → Type 0
-  -- each image that a crash at some moment since the first might have left has P
+  -- each image that a crash might have left at some moment since the first has P
   pub leaves : State → State → (I → Type 0) → Type 0
 
--- The laws of a device: nothing was called; two runs in a row; other words; what holds of each moment since holds now;
--- other words of that (own).
+-- The laws of a device: without a call nothing changes; two runs compose; a property can be weakened, at each moment
+-- and now; what holds at each moment since holds now (own).
 pub record IsDevice {I : Type 0} (device : Device I) : Type 1 where
   pub no_call : (now : device.State) (P : I → Type 0) → device.sound now → device.each now P
       → device.leaves now now P
@@ -32,7 +32,7 @@ pub record IsDevice {I : Type 0} (device : Device I) : Type 1 where
   pub each_weakened : (now : device.State) (P Q : I → Type 0) → device.each now P
       → ((image : I) → P image → Q image) → device.each now Q
 
--- What holds whatever is answered: honesty stays as it is, and failures are counted (own).
+-- What holds after every result: honesty stays, and failures are counted (own).
 pub record KeepsDevice {I : Type 0} (device : Device I) (old new : device.State) : Type 0 where
   pub stays_honest : device.honest old → device.honest new
   pub was_honest : device.honest new → device.honest old
@@ -60,18 +60,18 @@ module _ {D : Type 0} (state : D → DiskState) where
     each_weakened = λ now P Q each means image left. means image (each image left);
   }
 
-  -- what a disk keeps to, the device of it keeps to
+  -- the laws of one disk, as laws of its device
   pub one_keeps : (old new : D) → Keeps (state old) (state new) → KeepsDevice one_disk old new
   one_keeps old new keeps =
       record { stays_honest = keeps.stays_honest; was_honest = keeps.was_honest; counted = keeps.counted }
 
-  -- what held of each image before holds of each moment of calls that write nothing
+  -- where calls write nothing, what held of each image before holds at each moment of them
   pub one_rests : (old new : D) (P : List ℕ → Type 0)
       → LeavesOnly (state old) (state new) (state old).may_leave → Disks.Each (state old) P
       → LeavesOnly (state old) (state new) P
   one_rests old new P quiet shows = Moments.weakened (state old) (state new) (state old).may_leave P quiet shows
 
-  -- two disks, whose images are an image of each (own)
+  -- two disks, whose images are pairs, one image of each (own)
   abbrev pub two_disks : Device Images
   two_disks = record {
     State = TwoDisks D;
@@ -92,7 +92,7 @@ module _ {D : Type 0} (state : D → DiskState) where
     each_weakened = Twos.each_weakened state;
   }
 
-  -- what each of two disks keeps to, the device of them keeps to
+  -- the laws of both disks, as laws of their device
   pub two_keep : (old new : TwoDisks D) → KeepsDisks state old new → KeepsDevice two_disks old new
   two_keep old new keeps =
       record {
@@ -101,7 +101,7 @@ module _ {D : Type 0} (state : D → DiskState) where
         counted = Twos.counted_of_two state old new keeps;
       }
 
-  -- what held of each pair of images before holds of each moment of calls that write nothing
+  -- where calls write nothing, what held of each pair of images before holds at each moment of them
   pub two_rest : (old new : TwoDisks D) (P : Images → Type 0) → TwoLeave state old new (MayLeave state old)
       → EachOfTwo state old P → TwoLeave state old new P
   two_rest old new P quiet shows = Twos.still_leave state old new P quiet shows

@@ -1,4 +1,4 @@
--- What a crash leaves while steps are made: an event is a run of calls of the device, and the steps that it makes.
+-- What a crash leaves while steps are made. An event is a run of calls of the device, with the steps that it makes.
 use Rattle.std.specs.Prelude.{◌≡◌, ◌⊎◌, ◌≤◌, ◌<◌, ℕ, zero, suc, List, [], ◌∷◌, ◌++◌, take, refl}
 use Rattle.std.proofs.Common.{◌∙◌, ap, subst, sym, arith}
 use mathlib.Core.Path.{path_j, subst_refl}
@@ -12,7 +12,7 @@ module _ (rules : Rules) where
       rules.gives core.base (take core.safe core.accepted) image
       ⊎ rules.gives core.base (take core.stored core.accepted) image
 
-  -- the image gives what is safe or stored once some of these steps were made, from the first on (own)
+  -- the image gives what is safe or stored after some of these steps, from the first on (own)
   abbrev pub ShowsBetween : Core rules.Base rules.Item → List (CoreStep rules.Item) → rules.Image → Type 0
   ShowsBetween old steps image =
       (count : ℕ) × (between : Core rules.Base rules.Item)
@@ -23,7 +23,7 @@ module _ (rules : Rules) where
   steps_on a b c [] second one two = subst (λ (x : Core rules.Base rules.Item). AllStepTo rules x second c) one two
   steps_on a b c (step ∷ steps) second one two = (one.0, one.1, steps_on one.0 b c steps second one.2 two)
 
-  -- what may come in either run may come in both
+  -- steps that may come in two runs may come in both together
   may_come_on : (failed : Type 0) (a b c : Core rules.Base rules.Item) (first second : List (CoreStep rules.Item))
       (one : AllStepTo rules a first b) (two : AllStepTo rules b second c) → AllMayCome rules failed a first b one
       → AllMayCome rules failed b second c two
@@ -66,7 +66,7 @@ module _ (rules : Rules) where
   accepted_on (Stop kept ∷ steps) second = accepted_on steps second
   accepted_on (Rebase ∷ steps) second = accepted_on steps second
 
-  -- a core on the way of the first steps is on the way of both
+  -- a core that some of the first steps lead to is reached by some of both
   in_first : (a b : Core rules.Base rules.Item) (n : ℕ) (first second : List (CoreStep rules.Item))
       → AllStepTo rules a (take n first) b → (k : ℕ) × AllStepTo rules a (take k (first ++ second)) b
   in_first a b n [] second run = (0, ends n run)
@@ -87,8 +87,8 @@ module _ (rules : Rules) where
       let rest = in_second one.0 b c n steps second one.2 run in (suc rest.0, (one.0, one.1, rest.1))
 
 module _ (rules : Rules) (device : Device rules.Image) where
-  -- An event: its steps, which accept just these and each of which may come in a call, and what a crash at any moment
-  -- since its start leaves (own).
+  -- An event: its steps, which accept exactly these items and each of which may come in a call, and what a crash leaves
+  -- at any moment since its start (own).
   pub record IsEvent (disk disk' : device.State) (old new : Core rules.Base rules.Item) (made : List rules.Item)
       : Type 0 where
     pub steps : List (CoreStep rules.Item)
@@ -97,8 +97,9 @@ module _ (rules : Rules) (device : Device rules.Image) where
     pub accepts : accepted_in steps ≡ made
     pub moments : device.leaves disk disk' (ShowsBetween rules old steps)
 
-  -- From old to new just these were accepted. Where the device is honest and its images were those of the old core,
-  -- steps lead to the new one, and its images are those of that; each moment between has those of a core between (own).
+  -- From old to new exactly these items were accepted. Where the device is honest and its images were those of the old
+  -- core, steps lead to the new core, and its images are those of the new one. At each moment between, they are those
+  -- of a core between (own).
   pub record CoreMoves (disk disk' : device.State) (old new : Core rules.Base rules.Item) (made : List rules.Item)
       : Type 0 where
     pub keeps : KeepsDevice device disk disk'
@@ -118,7 +119,7 @@ module _ (rules : Rules) (device : Device rules.Image) where
       }
 
 module _ (rules : Rules) (device : Device rules.Image) (laws : IsDevice device) where
-  -- two events in a row are one
+  -- two events, one after another, are one
   pub events_on : (d0 d1 d2 : device.State) → device.failures d0 ≤ device.failures d1
       → device.failures d1 ≤ device.failures d2
       → (a b c : Core rules.Base rules.Item) (first second : List rules.Item)
@@ -146,7 +147,7 @@ module _ (rules : Rules) (device : Device rules.Image) (laws : IsDevice device) 
             let on = in_second rules a b s.1 s.0 one.steps two.steps one.leads s.2 in (on.0, s.1, on.1, s.3)));
       }
 
-  -- nothing done is the empty list
+  -- where nothing is done, nothing is accepted
   pub core_moves_nowhere : (disk : device.State) (core : Core rules.Base rules.Item)
       → (device.honest disk → device.sound disk) → CoreMoves rules device disk disk core core []
   core_moves_nowhere disk core is_sound =
@@ -167,7 +168,7 @@ module _ (rules : Rules) (device : Device rules.Image) (laws : IsDevice device) 
         );
       }
 
-  -- two in a row append what they accept
+  -- two runs, one after another, accept the items of both
   pub core_moves_on : (d0 d1 d2 : device.State) (a b c : Core rules.Base rules.Item) (first second : List rules.Item)
       → CoreMoves rules device d0 d1 a b first → CoreMoves rules device d1 d2 b c second
       → CoreMoves rules device d0 d2 a c (first ++ second)
@@ -183,9 +184,8 @@ module _ (rules : Rules) (device : Device rules.Image) (laws : IsDevice device) 
       }
 
 module _ (rules : Rules) where
-  -- An image gives all that was acknowledged in the old core: the first so many that were accepted in a core between,
-  -- which some of the steps lead to, and what was acknowledged begins these. All is carried out from what it was
-  -- carried out from then (own).
+  -- An image gives all that was acknowledged in the old core: the first `kept` items accepted in a core that some of
+  -- the steps lead to, which begin with what was acknowledged. The base is that of the old core (own).
   pub record GivesAcknowledged (old : Core rules.Base rules.Item) (steps : List (CoreStep rules.Item))
       (image : rules.Image) : Type 0 where
     pub count : ℕ

@@ -1,4 +1,4 @@
--- The kinds of events: what each makes of a core, and what a crash leaves meanwhile.
+-- The kinds of events: the core after each, and what a crash leaves in it.
 use Rattle.std.specs.Prelude.{◌≡◌, ◌⊎◌, ℕ, ◌+◌, ◌≤◌, ◌<◌, List, [], ◌∷◌, ◌++◌, length, take, true, false, IsTrue, refl}
 use Rattle.std.proofs.Common.{inl, inr, sym, ap, subst, arith, ⊎_elim}
 use Rattle.std.proofs.lemmas.List.{take-append-le, take-take}
@@ -7,19 +7,19 @@ use Rattle.accepting.specs.Core.{Rules, Core, Accept, Store, Safe, Fault, Stop, 
 use Rattle.accepting.specs.Events.{CoreMoves, ShowsCore, ShowsBetween, keeps_nowhere}
 
 module _ (rules : Rules) where
-  -- an image gives what is stored, with so many more or without (own)
+  -- an image gives what is stored, with `count` more items or without (own)
   abbrev pub GivesSoMany : Core rules.Base rules.Item → ℕ → rules.Image → Type 0
   GivesSoMany core count image =
       rules.gives core.base (take core.stored core.accepted) image
       ⊎ rules.gives core.base (take (core.stored + count) core.accepted) image
 
-  -- what an image gives is the same by another spelling of what was accepted
+  -- an image gives the same of an equal list
   gives_as : (base : rules.Base) (xs ys : List rules.Item) (image : rules.Image)
       → ys ≡ xs → rules.gives base xs image → rules.gives base ys image
   gives_as base xs ys image same gives = subst (λ (l : List rules.Item). rules.gives base l image) (sym same) gives
 
 module _ (rules : Rules) (device : Device rules.Image) (laws : IsDevice device) where
-  -- one more is accepted, with no call of the device
+  -- one more item is accepted, with no call of the device
   pub moves_accepting : (disk : device.State) (old : Core rules.Base rules.Item) (item : rules.Item)
       → (device.honest disk → device.sound disk) → IsCore old → old.fault ≡ false → old.recovering ≡ false
       → IsTrue (rules.applies old.base old.accepted item)
@@ -104,7 +104,7 @@ module _ (rules : Rules) (device : Device rules.Image) (laws : IsDevice device) 
         );
       }
 
-  -- so many more are stored, and made safe
+  -- more items are stored, and made safe
   pub moves_storing : (disk disk' : device.State) (old : Core rules.Base rules.Item) (count : ℕ)
       → KeepsDevice device disk disk'
       → IsWorking old → old.safe ≡ old.stored → old.stored + count ≤ length old.accepted
@@ -133,7 +133,7 @@ module _ (rules : Rules) (device : Device rules.Image) (laws : IsDevice device) 
         );
       }
 
-  -- the device fails while so many more are stored
+  -- the device fails while more items are stored
   pub moves_failing : (disk disk' : device.State) (old : Core rules.Base rules.Item) (count : ℕ)
       → (device.honest disk' → device.sound disk')
       → KeepsDevice device disk disk' → device.failures disk < device.failures disk'
@@ -167,8 +167,8 @@ module _ (rules : Rules) (device : Device rules.Image) (laws : IsDevice device) 
         );
       }
 
-  -- It is stopped with no call of the device, and what may be stored is kept: after a fault, or while what a stop left
-  -- is not yet made safe, or where all that was accepted is safe.
+  -- A stop with no call of the device, which all that is stored survives: after a fault, or while what an earlier stop
+  -- left is not safe yet, or where all that was accepted is safe.
   pub moves_stopping : (disk : device.State) (old : Core rules.Base rules.Item)
       → (device.honest disk → device.sound disk) → IsCore old
       → (old.fault ≡ true) ⊎ (old.recovering ≡ true) ⊎ (old.safe ≡ length old.accepted)
@@ -204,7 +204,7 @@ module _ (rules : Rules) (device : Device rules.Image) (laws : IsDevice device) 
           image (stays old.stored (omega arith)) g))
           shows
 
-  -- What a stop left is found by calls that write nothing, and made safe. How much that is the images decide.
+  -- Calls that write nothing find what a stop left, and make it safe. The images decide how much that is.
   pub moves_recovering : (disk disk' : device.State) (old new : Core rules.Base rules.Item)
       → KeepsDevice device disk disk' → old.recovering ≡ true
       → (device.honest disk → device.each disk (ShowsCore rules old) → device.leaves disk disk' (ShowsCore rules old))

@@ -1,5 +1,5 @@
--- A change of what all is carried out from: a reclaim of a cartridge, say. It is no call of what accepts: no event has
--- one among its steps.
+-- A change of base: a reclaim of a cartridge, for example. It is not a call of the accepting type: no event has one
+-- among its steps.
 use Rattle.std.specs.Prelude.{◌≡◌, ◌⊎◌, ◌<◌, List, [], ◌∷◌, refl}
 use Rattle.std.proofs.Common.{inl, ⊎_elim, subst, sym}
 use Rattle.accepting.specs.Device.{Device, IsDevice, KeepsDevice}
@@ -7,22 +7,22 @@ use Rattle.accepting.specs.Core.{Rules, Core, Rebase, AllStepTo, CanAcknowledge,
 use Rattle.accepting.specs.Events.{ShowsBetween, ShowsCore}
 
 module _ (rules : Rules) where
-  -- the image gives just these, carried out from there; or nothing yet, carried out from what all these go into (own)
+  -- the image gives exactly these items from this base; or no item from a base that all of these go into (own)
   abbrev pub GivesKept : rules.Base → List rules.Item → rules.Image → Type 0
   GivesKept base items image =
       rules.gives base items image
       ⊎ ((next : rules.Base) × rules.rebases base items next × rules.gives next [] image)
 
-  -- the image gives what is safe or what is stored, or nothing yet, carried out from this, into which all that was
-  -- accepted then goes (own)
+  -- the image gives what is safe or stored in the old core; or no item from this base, into which all that was accepted
+  -- then goes (own)
   abbrev pub ShowsEither : Core rules.Base rules.Item → rules.Base → rules.Image → Type 0
   ShowsEither old base image =
       ShowsCore rules old image ⊎ (rules.gives base [] image × rules.rebases old.base old.accepted base)
 
 module _ (rules : Rules) (device : Device rules.Image) where
-  -- All that was accepted goes into what the next ones are carried out from. It could be acknowledged before. Where the
-  -- device is honest and its images were those of the old core, each moment has an image of that, or of the new base
-  -- with nothing behind it; and in the end the latter (own).
+  -- All that was accepted goes into a new base; it could be acknowledged before. Where the device is honest and its
+  -- images were those of the old core, each moment has an image of that core, or of the new base without items; in the
+  -- end it is the latter (own).
   pub record Rebases (disk disk' : device.State) (old new : Core rules.Base rules.Item) : Type 0 where
     pub keeps : KeepsDevice device disk disk'
     pub could : CanAcknowledge old
@@ -33,9 +33,9 @@ module _ (rules : Rules) (device : Device rules.Image) where
         → device.leaves disk disk' (ShowsEither rules old new.base)
     pub sure : device.honest disk → device.each disk (ShowsCore rules old) → device.each disk' (rules.gives new.base [])
 
-  -- The device failed while all that was accepted was to go into this base: each moment has an image of the old core,
-  -- or of the new base with nothing behind it, and which of the two is found when it is read again. That all goes into
-  -- it is known of an image of it alone (own).
+  -- The device failed while all that was accepted was to go into this base. Each moment has an image of the old core,
+  -- or of the new base without items; the next reading decides which. That all goes into this base is known only of an
+  -- image of it (own).
   pub record FailsToRebase (disk disk' : device.State) (old : Core rules.Base rules.Item) (base : rules.Base)
       : Type 0 where
     pub keeps : KeepsDevice device disk disk'
@@ -45,18 +45,18 @@ module _ (rules : Rules) (device : Device rules.Image) where
         device.honest disk → device.each disk (ShowsCore rules old)
         → device.leaves disk disk' (ShowsEither rules old base)
 
-  -- What a change of base shows, over an honest device whose images were those of the old core: each moment has those
-  -- of a core that the step leads to, and in the end those of the new one (own).
+  -- What a change of base leaves, over an honest device whose images were those of the old core: at each moment the
+  -- images of a core that the step leads to, and in the end those of the new one (own).
   pub record ShowsRebase (disk disk' : device.State) (old new : Core rules.Base rules.Item) : Type 0 where
     pub moments : device.leaves disk disk' (ShowsBetween rules old (Rebase ∷ []))
     pub now : device.each disk' (ShowsCore rules new)
 
-  -- it is one step
+  -- a change of base is one step
   pub rebasing_steps : (disk disk' : device.State) (old new : Core rules.Base rules.Item)
       → Rebases disk disk' old new → AllStepTo rules old (Rebase ∷ []) new
   rebasing_steps disk disk' old new r = (new, (r.could, (new.base, r.goes_into, r.is)), refl)
 
-  -- and shows what it leads to
+  -- its images are those of the cores that the step leads to
   pub rebasing_shows : IsDevice device → (disk disk' : device.State) (old new : Core rules.Base rules.Item)
       → Rebases disk disk' old new → device.honest disk → device.each disk (ShowsCore rules old)
       → ShowsRebase disk disk' old new

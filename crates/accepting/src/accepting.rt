@@ -1,14 +1,14 @@
-//! The words of what accepts.
+//! The trait of accepting types.
 ghost use Rattle.accepting.specs.Core.{Rules};
 ghost use Rattle.accepting.specs.Device.{Device, IsDevice};
 
-/// What accepts, by its rules and its device alone: it has no call. Whoever states of itself by which steps it goes on
-/// implements it once, and the laws hold of it.
+/// An accepting type, by its rules and its device: it has no call. A type that states by which steps it goes
+/// on implements it once, and the laws hold for it.
 pub trait Accepting {
-    /// What is accepted, what applies, and what an image gives.
+    /// The items, when one applies, and what an image gives.
     ghost rules: { Rules };
 
-    /// What it is kept on.
+    /// The device that the items are stored on.
     ghost device: { Device rules.Image };
 
     ghost is_device: { IsDevice device };

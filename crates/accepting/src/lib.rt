@@ -1,5 +1,5 @@
-//! What was accepted, what of it is safe, and what a crash leaves: for changes of a cartridge and for saved
-//! reservations alike.
+//! What was accepted, how much of it is safe, and what a crash leaves: for changes of a cartridge and for
+//! saved reservations alike.
 #![tactic(auto)]
 
 pub mod accepting;

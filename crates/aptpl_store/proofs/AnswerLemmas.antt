@@ -1,4 +1,4 @@
--- Each image has an answer: the states of a store, or why it has none.
+-- Each image has a result: the states of a store, or why it has none.
 use Rattle.std.proofs.Common.{◌≡◌, ◌⊎◌, inl, inr, ℕ, List, [], ◌∷◌, ◌++◌, length, take, get_or, refl, sym, ◌∙◌, ap, subst, arith, append_assoc, length-append}
 use Rattle.std.specs.List.{All}
 use Rattle.std.proofs.Math.Seq.{get_or-append_seam}
@@ -22,7 +22,7 @@ Found h bodies =
     ((states : List PrState) × All IsSavable states × (state_bodies states ≡ bodies))
     ⊎ ((good : List PrState) × (at : ℕ) × IsBadState h bodies good at)
 
--- a body that spells no state, behind some that do
+-- a body that spells no state, after some that do
 bad_here : (h : Heading) → h.kind ≡ Store → (bodies : List (List ℕ)) (good : List PrState) (body : List ℕ)
     (rest : List (List ℕ)) → All IsSavable good → bodies ≡ state_bodies good ++ body ∷ rest
     → ((state : PrState) → SpellsState state body → ⊥) → Found h bodies
@@ -48,7 +48,7 @@ bad_here h kind bodies good body rest all split never =
       },
     )
 
--- from good frames on through the bodies that are left
+-- from good frames on through the other bodies
 walked : (h : Heading) → h.kind ≡ Store → (bodies : List (List ℕ)) (good : List PrState) (rest : List (List ℕ))
     → All IsSavable good → bodies ≡ state_bodies good ++ rest → Found h bodies
 walked h kind bodies good [] all split = inl (good, all, sym (split ∙ append-nil (state_bodies good)))

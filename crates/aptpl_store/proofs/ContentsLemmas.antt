@@ -1,4 +1,4 @@
--- What a store's side holds, with one state more.
+-- What is on a store's side, with one more state.
 use Rattle.std.proofs.Common.{◌≡◌, inl, inr, ℕ, List, [], ◌∷◌, ◌++◌, false, Option, None, Some, is_some, refl, sym, ◌∙◌, ap, subst}
 use Rattle.std.specs.Prelude.{option_to_list, unwrap_or}
 use Rattle.std.specs.List.{All}
@@ -26,12 +26,12 @@ pub bodies_more : (states : List PrState) (state : PrState)
     → state_bodies (states ++ state ∷ []) ≡ state_bodies states ++ spell_state state ∷ []
 bodies_more states state = map-append spell_state states (state ∷ [])
 
--- nothing is under way
+-- no save is in doubt
 pub none_torn : (torn : Option PrState) → is_some torn ≡ false → torn ≡ None
 none_torn None none = refl
 none_torn (Some state) none = absurd (cc)
 
--- an image that shows states opens as what a loss of power leaves of the last, or of the one under way
+-- an image that shows states opens as what a loss of power leaves of the last, or of the one in doubt
 pub opens_either : (heading : Heading) (states : List PrState) (torn : Option PrState) (image : List ℕ)
     → ShowsStates heading states torn image
     → OpensAsEither heading (latest states) (unwrap_or torn (latest states)) image
@@ -41,7 +41,7 @@ opens_either heading states None image (inr gives) =
 opens_either heading states (Some state) image (inr gives) =
     inr (states ++ state ∷ [], gives, ap power_loss (sym (latest_more states state)))
 
--- with none under way it gives the states
+-- with none in doubt it gives the states
 pub sure_at_rest : (heading : Heading) (states : List PrState) (torn : Option PrState) (image : List ℕ) → torn ≡ None
     → ShowsStates heading states torn image → GivesStates heading states image
 sure_at_rest heading states torn image none (inl gives) = gives
@@ -64,7 +64,7 @@ module _ (heading : Heading) (kind : heading.kind ≡ Store) (states : List PrSt
     subst (λ (b : List (List ℕ)). StandsFor (plain heading) b image) with_body stands,
   )
 
-  -- with or without it shows these, or those
+  -- with or without the body it shows the former or the latter
   pub shows_more : (image : List ℕ) → WithOrWithout (plain heading) bodies body image
       → ShowsStates heading states (Some state) image
   shows_more image (inl stands) =

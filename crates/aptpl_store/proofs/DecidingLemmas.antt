@@ -1,4 +1,4 @@
--- Whether bytes spell a state can be found out: only the one that they tell, and only if they are its spelling.
+-- It is decidable whether bytes spell a state: only the one that is read from them, and only if they are its spelling.
 use Rattle.std.proofs.Common.{◌≡◌, ◌⊎◌, inl, inr, ℕ, ◌<◌, ◌≤◌, List, [], ◌∷◌, length, Bool, true, false, Option, None, Some, refl, sym, subst, arith}
 use Rattle.std.specs.Prelude.{◌^◌}
 use Rattle.std.specs.List.{All}
@@ -66,7 +66,7 @@ is_savable state =
     by (inl all) (inr none) (inr never) keys = inr (λ is. never is.sound.held)
     by (inl all) (inr none) (inl held) (inr never) = inr (λ is. never is.keys)
 
--- the state that bytes tell is the one that they spell, if they spell any
+-- the state that is read from bytes is the one that they spell, if they spell any
 told_savable : (state : PrState) (body : List ℕ) → SpellsState state body → IsSavable (state_told body)
 told_savable state body spells = record {
   sound = told_sound state body spells;

@@ -1,4 +1,4 @@
--- A side is read, a body after the other.
+-- A side is read, body by body.
 use Rattle.std.proofs.Common.{◌≡◌, inl, inr, ℕ, ◌<◌, ◌+◌, List, [], ◌∷◌, ◌++◌, length, take, Bool, true, false, refl, sym, ◌∙◌, ap, subst, arith, length-append}
 use Rattle.std.specs.Prelude.{slice_index_or}
 use Rattle.std.proofs.lemmas.List.{length-map, length-take-le}
@@ -32,7 +32,7 @@ too_long body long state spells =
 
 module _ (notes : NotedStates) (last : PrState) (heading : Heading) (extents : List (ℕ × ℕ)) (bodies : List (List ℕ))
     (so_far : HasRead notes last heading extents bodies) where
-  -- a body that spells a state is read behind the others, and noted
+  -- a body that spells a state is read after the others, and noted
   pub read_behind : (notes' : NotedStates) (state : PrState) (place : ℕ) (body : List ℕ) → SpellsState state body
       → notes' ≡ with_state notes state
       → HasRead notes' state heading (extents ++ (place, length body) ∷ []) (bodies ++ body ∷ [])
@@ -55,7 +55,7 @@ module _ (notes : NotedStates) (last : PrState) (heading : Heading) (extents : L
             (λ i. so_far.spelled i ++ spells.bytes i ∷ []) ∙ sym (bodies_more notes.states state);
       })
 
-  -- the body behind those that were read is the first bad one of a side that has it
+  -- the body after those that were read is the first bad one of a side
   pub bad_frame : (all : List (List ℕ)) (good at : ℕ) → bodies ≡ take good all → good < length all
       → at ≡ length (spell (plain heading) (take good all)) → IsNoState (slice_index_or all good [])
       → IsBadState heading all notes.states at
@@ -79,7 +79,7 @@ module _ (notes : NotedStates) (last : PrState) (heading : Heading) (extents : L
             length-take-le good all (omega (arith, inside)),
           )
 
--- what begins with a header of another kind begins with a cartridge's
+-- bytes that begin with a header of another kind begin with a cartridge's
 pub no_store : (image : List ℕ) → IsNotOf SideKinds.Store image → IsNoStore image
 no_store image (inl never) = inl never
 no_store image (inr (SideKinds.Cartridge, other, begins)) = inr begins
@@ -111,7 +111,7 @@ module _ {T : Type 0} (notes : T → NotedStates) (last : T → PrState) (body :
         length-append (so_far ++ piece) more,
       ))
 
--- why its side is not decoded is why a store is not opened, by what is noted of a decoder
+-- the error of its side says why a store is not opened, by the notes of a decoder
 module _ {T : Type 0} (notes : T → NotedStates) (last : T → PrState) where
   pub not_opened : (cause : OpenError) (old new : DiskState)
       → IsNotDecoded (λ (d : T). HasRead (notes d) (last d)) (λ (d : T). IsNoState) SideKinds.Store cause old new

@@ -1,4 +1,4 @@
--- What an open store keeps while a state is saved.
+-- The invariant of an open store while a state is saved.
 use Rattle.std.proofs.Common.{◌≡◌, inl, inr, ℕ, ◌≤◌, ◌<◌, ◌+◌, List, [], ◌∷◌, ◌++◌, length, take, true, false, Option, None, Some, Ok, is_some, refl, sym, ◌∙◌, ap, subst, arith, length-append}
 use Rattle.std.proofs.lemmas.List.{take_all, take_at}
 use Rattle.std.proofs.lemmas.List.Elements.{All-push}
@@ -49,13 +49,13 @@ is_body state body savable is =
       omega (arith, size, spelling_short state savable.sound.all),
     )
 
--- with gate and length it is a state's frame
+-- with gate and length it is the frame of a state
 pub frame_of : (state : PrState) (body : List ℕ) → IsSavable state → body ≡ spell_state state
     → length body + 5 ≡ state_frame_size state
 frame_of state body savable is =
     omega (arith, ap (λ (l : List ℕ). length l) is, spelling_frame state savable.sound.all)
 
--- what is accepted and stored is no more than was accepted
+-- the accepted and stored states are no more than were accepted
 core_is : (heading : Heading) (states : List PrState) → IsCore (core_with heading states None)
 core_is heading states = record { safe = omega arith; stored = omega arith }
 
@@ -118,7 +118,7 @@ module _ {D : Type 0} (device : D → DiskState) (is_disk : (d : D) → (device 
       (core_moves_on store_rules (one_disk device) is_device disk disk disk' old mid (settled 1 mid) (state ∷ []) []
       accepts stored)
 
-  -- the disk failed while it was saved
+  -- the disk failed in the save
   pub moves_broken : (device disk).failures < (device disk').failures
       → CoreMoves store_rules (one_disk device) disk disk' old (core_with heading states (Some state)) (state ∷ [])
   moves_broken rose =
@@ -128,7 +128,7 @@ module _ {D : Type 0} (device : D → DiskState) (is_disk : (d : D) → (device 
       (one_keeps device disk disk' keeps) rose (refl, refl) refl (omega (arith, counted)) so_many)
 
 module _ {D : Type 0} (state : D → DiskState) (is_disk : (d : D) → (state d).honest → IsDisk (state d)) where
-  -- a store that is the same
+  -- a store that is unchanged
   pub rests : (old new : OpenSide D) (notes : NotedStates) → new ≡ old
       → Advances (store_below state) (store_on old notes) [] false (store_on new notes)
   rests old new notes same =

@@ -16,7 +16,7 @@ use Rattle.pr_core.specs.States.{key_of}
 use Rattle.aptpl_store.specs.Spelling.{IsKey, registration, registrations, spell_state}
 use Rattle.aptpl_store.specs.Inner.Told.{nexuses_from, registrations_of}
 
--- the nexuses from one on are that one, and those from the next on
+-- the nexuses from one on are that one and those from the next on
 pub nexuses_more : (nexus : ℕ) → nexus ≤ 64 → nexuses_from nexus ≡ nexus ∷ nexuses_from (nexus + 1)
 unfolding nexuses_from
 nexuses_more nexus few =
@@ -37,7 +37,7 @@ pub registrations_none : (state : PrState) → registrations_of state [] ≡ []
 unfolding registrations_of
 registrations_none state = refl
 
--- those of all nexuses are the state's
+-- the registrations of all nexuses are those of the state
 pub registrations_all : (state : PrState) → registrations state ≡ registrations_of state (nexuses_from 1)
 unfolding registrations registrations_of nexuses_from
 registrations_all state = refl
@@ -48,7 +48,7 @@ pub registrations_alike : (state : PrState) (generation : ℕ)
 unfolding registrations
 registrations_alike state generation = refl
 
--- what stands for a nexus is the entry at the place before its number
+-- the entry of a nexus is at the place before its number
 pub key_at : (state : PrState) (nexus : ℕ) → 1 ≤ nexus → key_of state nexus ≡ get_or state.keys (nexus - 1) None
 key_at state zero is = absurd (omega arith)
 key_at state (suc place) is = rw sub-one refl
@@ -88,12 +88,12 @@ spelled_more state nexus done all some few so_far =
     ∙ ap (λ (key : Option ℕ). registration key nexus ++ later) (key_at state nexus some)))
     ∙ so_far
 
--- a registration has nine bytes at most
+-- a registration has at most nine bytes
 pub registration_short : (key : Option ℕ) (nexus : ℕ) → length (registration key nexus) ≤ 9
 registration_short None nexus = omega arith
 registration_short (Some key) nexus = omega arith
 
--- nine bytes for each that is registered
+-- nine bytes for each registered nexus
 counted_of : (state : PrState) (some : List ℕ)
     → length (registrations_of state some) ≡ 9 * count_by is_some (map (key_of state) some)
 counted_of state [] = ap (λ (l : List ℕ). length l) (registrations_none state)
@@ -125,7 +125,7 @@ spelling_length state long =
     ∙ ap (λ (l : List (Option ℕ)). 9 * count_by is_some l) (keys_are state long) in
     omega (arith, all)
 
--- and 580 at most
+-- and at most 580
 pub spelling_short : (state : PrState) → length state.keys ≡ NEXUSES → length (spell_state state) ≤ 580
 spelling_short state long =
     omega (arith, spelling_length state long, count_by-le-length is_some state.keys, long)

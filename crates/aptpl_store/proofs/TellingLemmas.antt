@@ -1,4 +1,4 @@
--- What the spelling of a state tells is that state, but for the generation.
+-- The state that is read from its spelling is that state, except for the generation.
 use Rattle.std.proofs.Common.{◌≡◌, ◌⊎◌, inl, inr, ◌≤◌, ◌<◌, ◌+◌, ◌-◌, ◌++◌, ◌^◌, ℕ, zero, suc, List, [], ◌∷◌, length, map, drop, Bool, true, false, Option, None, Some, refl, sym, ◌∙◌, ap, subst, arith, length-append, eqb, eq-eqb, leb}
 use Rattle.std.specs.Prelude.{◌&&◌, IfNone, count_by, is_some, is_none, slice_index, slice_index_or, unwrap_or, if◌then◌else◌, ◌==◌}
 use Rattle.std.specs.Cmp.Lexicographic.{pointwise}
@@ -47,7 +47,7 @@ pub keys_are_64 : (bytes : List ℕ) → length (keys_told (nexuses_from 1) byte
 unfolding nexuses_from
 keys_are_64 bytes = keys_length (range_with_len 1 64) bytes ∙ length-range_with_len 1 64
 
--- nexuses that rise
+-- nexuses by rising number
 abbrev IsRising : List ℕ → Type 0
 IsRising [] = Unit {0}
 IsRising (nexus ∷ later) = All (λ other. nexus < other) later × IsRising later
@@ -62,7 +62,7 @@ rising : (from count : ℕ) → IsRising (range_with_len from count)
 rising from zero = tt
 rising from (suc count) = (all_above from (from + 1) count (omega arith), rising (from + 1) count)
 
--- the registrations of later nexuses begin with one of these, if with any
+-- if the registrations of later nexuses begin with any, it is one of these
 first_above : (state : PrState) (low : ℕ) (later : List ℕ) → All (λ other. low < other) later
     → (registrations_of state later ≡ []) ⊎ (low < slice_index (registrations_of state later) 0)
 first_above state low [] all = inl (registrations_none state)
@@ -114,7 +114,7 @@ told_some nexus key later rest fits =
     ∷ keys_told later (if begun i then drop 9 bytes else bytes))
     ∙ ap (λ (k : ℕ). Some k ∷ keys_told later rest) (big_number-reads_back 8 key rest fits)
 
--- the registrations of nexuses tell their keys
+-- the registrations of nexuses give their keys
 keys_again : (state : PrState) → All IsKey state.keys → (some : List ℕ) → IsRising some
     → keys_told some (registrations_of state some) ≡ map (key_of state) some
 keys_again state fit [] rises = keys_none (registrations_of state [])
@@ -141,7 +141,7 @@ all_keys_again state is =
     ∙ keys_again state is.keys (range_with_len 1 64) (rising 1 64)
     ∙ keys_are state is.sound.all
 
--- the number of a type tells the type
+-- the number of a type gives the type
 type_told : (kind : PrType) → type_of (type_number kind) ≡ Some kind
 type_told WriteExclusive = refl
 type_told ExclusiveAccess = refl
@@ -167,7 +167,7 @@ told_registered state (suc place) long registered =
           absurd (false≢true (sym (ap is_some none) ∙ registered))
     ]
 
--- the holder of a reservation that is held rightly
+-- the holder of a reservation, which is valid
 holder_told : (state : PrState) (kind : PrType) (holder : Option ℕ) → length state.keys ≡ NEXUSES
     → is_held_rightly (Some (record { kind = kind; holder = holder })) state ≡ true
     → nexus_told (unwrap_or holder 0) ≡ holder
@@ -192,7 +192,7 @@ aptpl_told : (aptpl : Bool) → (aptpl_byte aptpl == 1) ≡ aptpl
 aptpl_told true = refl
 aptpl_told false = refl
 
--- what the spelling of a state tells is the state, but for the generation
+-- the state that is read from its spelling is the state, except for the generation
 pub told_again : (state : PrState) (body : List ℕ) → SpellsState state body
     → state_told body ≡ record state { generation = 0 }
 told_again state body spells =
@@ -205,7 +205,7 @@ told_again state body spells =
       generation = 0;
     })
 
--- bytes spell one state at most, but for the generation
+-- bytes spell at most one state, except for the generation
 pub one_state : (body : List ℕ) (one other : PrState) → SpellsState one body → SpellsState other body
     → AreSavedAlike one other
 one_state body one other first second =
@@ -217,14 +217,14 @@ one_state body one other first second =
       aptpl = ap (λ (s : PrState). s.aptpl) same;
     }
 
--- the generation has no part in how a reservation is held
+-- the generation has no part in whether the holder is valid
 held_alike : (state : PrState) (generation : ℕ) (reservation : Option Reservation)
     → is_held_rightly reservation state ≡ true
     → is_held_rightly reservation (record state { generation = generation }) ≡ true
 held_alike state generation None right = right
 held_alike state generation (Some held) right = right
 
--- what is spelled keeps the rules
+-- the state that was read meets the rules
 pub told_sound : (state : PrState) (body : List ℕ) → SpellsState state body → IsSound (state_told body)
 told_sound state body spells =
     let is = spells.savable.sound in
@@ -234,7 +234,7 @@ told_sound state body spells =
       held = held_alike state 0 state.reservation is.held;
     })
 
--- and is spelled so again
+-- and has the same spelling
 pub told_spelled : (state : PrState) (body : List ℕ) → SpellsState state body → spell_state (state_told body) ≡ body
 told_spelled state body spells =
     ap spell_state (told_again state body spells)
@@ -242,7 +242,7 @@ told_spelled state body spells =
     ∷ count_by is_some state.keys ∷ l) (registrations_alike state 0)
     ∙ sym spells.bytes
 
--- rows of bytes that are compared
+-- bytes that are compared
 pub equal_bytes : (xs ys : List ℕ) → xs ≡ ys → pointwise eqb xs ys ≡ true
 equal_bytes xs ys e = ap (λ (l : List ℕ). pointwise eqb l ys) e ∙ itself ys
   where
@@ -269,7 +269,7 @@ keys_step all nexus rest some few long so_far =
       ap (λ (l : List (Option ℕ)). drop 1 l) (sym both) ∙ ap (λ (n : ℕ). drop n all) next,
     )
 
--- the row of keys with one more
+-- the list of keys with one more
 pub keys_below : (keys all : List (Option ℕ)) (nexus : ℕ) (key : Option ℕ) → 1 ≤ nexus → nexus ≤ 64
     → length keys ≡ 64 → get_or all (nexus - 1) None ≡ key
     → ((k : ℕ) → k < nexus - 1 → get_or keys k None ≡ get_or all k None)

@@ -1,4 +1,4 @@
--- An image has one answer at most: one store's states, or one cause for which it has none.
+-- An image has at most one result: the states of one store, or one cause for which it has none.
 use Rattle.std.proofs.Common.{◌≡◌, ◌⊎◌, inl, inr, ℕ, ◌<◌, ◌≤◌, List, [], ◌∷◌, ◌++◌, length, take, get_or, refl, sym, ◌∙◌, ap, subst, arith, append_assoc}
 use Rattle.std.specs.Prelude.{if◌then◌else◌}
 use Rattle.std.specs.List.{All, flat_map}
@@ -22,7 +22,7 @@ use Rattle.aptpl_store.specs.Contents.{AreAllSavedAlike, GivesStates, IsBadState
 use Rattle.aptpl_store.specs.Spelling.{IsSavable, spell_state}
 use Rattle.aptpl_store.proofs.TellingLemmas.{one_state}
 
--- states that are spelled alike are saved alike
+-- states with the same spelling are saved alike
 same_states : (states others : List PrState) → All IsSavable states → All IsSavable others
     → state_bodies states ≡ state_bodies others → AreAllSavedAlike states others
 same_states [] [] a b e = tt
@@ -44,7 +44,7 @@ gives_one image h k states others one two =
     let side = one_side image (plain h) (plain k) (state_bodies states) (state_bodies others) one.2 two.2 in
     (ap (λ (f : Front). f.head.heading) side.0, same_states states others one.1 two.1 side.1)
 
--- what is saved alike is lost alike
+-- states that are saved alike are the same after a loss of power
 lost_alike : (one other : PrState) → AreSavedAlike one other → power_loss one ≡ power_loss other
 lost_alike one other alike = λ i. if alike.aptpl i then (record {
   keys = alike.keys i;
@@ -53,7 +53,7 @@ lost_alike one other alike = λ i. if alike.aptpl i then (record {
   generation = 0;
 }) else empty_state
 
--- the last of states that are saved alike are lost alike
+-- so are the last of states that are saved alike
 latest_alike : (one other : PrState) (states others : List PrState) → AreSavedAlike one other
     → AreAllSavedAlike states others → power_loss (last_saved one states) ≡ power_loss (last_saved other others)
 latest_alike one other [] [] first rest = lost_alike one other first
@@ -100,13 +100,13 @@ pub damaged_begins : (image : List ℕ) (at : ℕ) (damage : IsDamagedAt image a
 damaged_begins image at (f, bodies, rest, ok, each, is, far, bad) =
     (f, flat_map frame bodies ++ rest, ok, refl, in_front f bodies rest image is)
 
--- what begins with a store's header is a store's
+-- an image that begins with a store's header is a store's
 no_store_begins : (image : List ℕ) → IsNoStore image → BeginsAs Store image → ⊥
 no_store_begins image (inl never) (h, rest, ok, kind, is) = never h rest ok is
 no_store_begins image (inr cartridge) begins =
     let kinds : Cartridge ≡ Store = begins_once image Cartridge Store cartridge begins in cc
 
--- what gives states is the side of a store
+-- an image that gives states is the side of a store
 pub gives_ours : (image : List ℕ) (h : Heading) (states : List PrState) → GivesStates h states image
     → IsNoStore image → ⊥
 gives_ours image h states gives none =
@@ -118,7 +118,7 @@ pub gives_whole : (image : List ℕ) (h : Heading) (states : List PrState) (at :
     → IsDamagedOf Store image at → ⊥
 gives_whole image h states at gives damage = sound image (plain h) (state_bodies states) at gives.2 damage.1
 
--- states that a side begins with reach no further than its first bad frame
+-- states with which a side begins reach no further than its first bad frame
 no_further : (h : Heading) (bodies : List (List ℕ)) (good : List PrState) (at : ℕ) → IsBadState h bodies good at
     → (states : List PrState) → All IsSavable states → state_bodies states ≡ take (length states) bodies
     → length good < length states → ⊥
@@ -132,7 +132,7 @@ no_further h bodies good at bad states all spelled further =
       bytes = there;
     })
 
--- what gives states has no bad frame
+-- an image that gives states has no bad frame
 pub gives_good : (image : List ℕ) (k : Heading) (states : List PrState) (at : ℕ) → GivesStates k states image
     → IsBadStateAt image at → ⊥
 gives_good image k states at gives (h, bodies, good, s, bad) =
@@ -142,7 +142,7 @@ gives_good image k states at gives (h, bodies, good, s, bad) =
     no_further h bodies good at bad states gives.1
     (side.1 ∙ sym (take_all (length states) bodies (omega (arith, long)))) (omega (arith, bad.inside, long))
 
--- the first bad frame of a side is one
+-- a side has at most one first bad frame
 one_bad : (h : Heading) (bodies : List (List ℕ)) (good others : List PrState) (a b : ℕ)
     → IsBadState h bodies good a → IsBadState h bodies others b → a ≡ b
 one_bad h bodies good others a b one two = by (cases_lt (length good) (length others))
@@ -184,7 +184,7 @@ damaged_ours image at none damage = no_store_begins image none damage.0
 pub damaged_once : (image : List ℕ) (a b : ℕ) → IsDamagedOf Store image a → IsDamagedOf Store image b → a ≡ b
 damaged_once image a b one two = one_place image a b one.1 two.1
 
--- bytes that open as a state are refused by no cause of their own
+-- bytes that open as a state are refused only for other causes
 pub refused_so : (error : StoreError) (old new : DiskState) → old.honest → IsStoreNotOpened error old new
     → (h : Heading) (state : PrState) → OpensAs h state old.seen → IsNotOfBytes error
 refused_so NotOurs old new honest why h state (states, gives, is) =

@@ -1,4 +1,4 @@
--- What holds after each answer of a call.
+-- What holds after each result of a call.
 use Rattle.std.specs.Prelude.{◌≡◌, ◌≤◌, ◌+◌, ℕ, List, [], ◌∷◌, ◌++◌, length, Some, true, Result, Ok, Err}
 use Rattle.vtl_base.specs.declared.faults.DevFault.{DevFault}
 use Rattle.tape_disk.specs.Disk.{DiskState, Only}
@@ -16,8 +16,8 @@ use Rattle.aptpl_store.specs.Contents.{IsBadStateAt, IsNoStore, OpensAs}
 use Rattle.aptpl_store.specs.State.{OpenStore}
 
 module _ {D : Type 0} where
-  -- A store is asked to save a state, and answers so: what is then in it, over any disk. At Ok the state comes last, in
-  -- a frame of its own; after a fault it is under way; memory runs out only where no save is reserved (own).
+  -- The store after saving a state with this result, over any disk. At Ok the state comes last, in a frame of its own.
+  -- After a fault its save is in doubt. Memory runs out only where no save is reserved (own).
   abbrev pub SavesState : OpenStore D → PrState → Result Unit KeeperError → OpenStore D → Type 0
   SavesState old state (Ok done) new =
       new ≡ record old {
@@ -34,17 +34,17 @@ module _ {D : Type 0} where
   SavesState old state (Err save.SideFull) new = new ≡ old
   SavesState old state (Err save.Failed) new = new ≡ old
 
-  -- the disk that a creation returns, in the store or beside its refusal (own)
+  -- the disk that a creation returns, in the store or in its error (own)
   abbrev pub disk_of_new : Result (OpenStore D) (StoreRefused D) → D
   disk_of_new (Ok store) = store.disk
   disk_of_new (Err refused) = refused.disk
 
-  -- the disk that an opening returns, in the store or beside its refusal (own)
+  -- the disk that an opening returns, in the store or in its error (own)
   abbrev pub disk_of_opened : {R : Type 0} → Result (OpenStore D × R) (StoreRefused D) → D
   disk_of_opened (Ok opened) = opened.0.disk
   disk_of_opened (Err refused) = refused.disk
 
--- a cause that no bytes are: the disk failed, or memory ran out (own)
+-- a cause that does not come from the bytes: the disk failed, or memory ran out (own)
 abbrev pub IsNotOfBytes : StoreError → Type 0
 IsNotOfBytes (Device fault) = Unit {0}
 IsNotOfBytes NoMemory = Unit {0}
@@ -52,8 +52,8 @@ IsNotOfBytes NotOurs = ⊥
 IsNotOfBytes (Damaged at) = ⊥
 IsNotOfBytes (BadRecord at) = ⊥
 
--- An opening gives the state that these bytes open as, which is one at most; where it gives none though they open as
--- some, the disk failed or memory ran out (own).
+-- An opening returns the state that these bytes open as; there is at most one. If it returns an error though they open
+-- as a state, the disk failed or memory ran out (own).
 abbrev pub Recovers : {D : Type 0} → Result (OpenStore D × PrState) (StoreRefused D) → List ℕ → Type 0
 Recovers (Ok opened) image = OpensAs opened.0.heading opened.1 image
 Recovers (Err refused) image =
@@ -67,8 +67,8 @@ IsStoreNotMade NotOurs memory device = ⊥
 IsStoreNotMade (Damaged at) memory device = ⊥
 IsStoreNotMade (BadRecord at) memory device = ⊥
 
--- Why a store is not opened: what the old bytes are; a fault; or memory ran out, where there are the 27 bytes of a
--- heading. But for a fault no call failed, and what stands is sure (own).
+-- Why a store is not opened: what the old bytes are; a fault; or memory ran out, over at least the 27 bytes of a
+-- heading. Except for a fault, no call failed and the disk's bytes are sure (own).
 abbrev pub IsStoreNotOpened : StoreError → DiskState → DiskState → Type 0
 IsStoreNotOpened NotOurs old new = NoneFailed old new × (old.honest → IsNoStore old.seen × Only old.seen new.may_leave)
 IsStoreNotOpened (Damaged at) old new =

@@ -1,4 +1,4 @@
--- States as plain data, for the views of types and for what is noted.
+-- States as plain data, for the views of types and for ghost notes.
 use Rattle.std.specs.Prelude.{◌≡◌, ℕ, List, Bool, Option, unwrap_or, refl}
 use Rattle.std.specs.Coded.{Coded, code_by, coded×, coded_ℕ, coded_bool, coded_list, coded_option}
 use Rattle.scsi_lists.specs.declared.actions.PrType.{PrType}
@@ -8,11 +8,11 @@ use Rattle.pr_core.specs.declared.states.Reservation.{Reservation}
 use Rattle.pr_core.specs.declared.states.PrState.{PrState}
 use Rattle.aptpl_store.specs.NotedStates.{NotedStates}
 
--- the type of a number that is one's (own)
+-- the type with this number, if it is the number of one (own)
 abbrev type_again : ℕ → PrType
 type_again number = unwrap_or (type_of number) WriteExclusive
 
--- the type of its number is the type
+-- the number of a type gives the type
 pub same_type : (kind : PrType) → type_again (type_number kind) ≡ kind
 same_type WriteExclusive = refl
 same_type ExclusiveAccess = refl
@@ -36,7 +36,7 @@ state_code =
     (λ s. (s.keys, (s.reservation, (s.aptpl, s.generation))))
     (λ p. record { keys = p.0; reservation = p.1.0; aptpl = p.1.1.0; generation = p.1.1.1 }) (λ _. refl)
 
--- what is noted of a side as plain data (own)
+-- the notes of a side as plain data (own)
 abbrev pub noted_states_code : Coded NotedStates
 noted_states_code =
     code_by (List PrState × Option PrState) (coded× (coded_list state_code) (coded_option state_code))

@@ -1,4 +1,4 @@
--- What the side of a store holds, and what an image of it gives.
+-- What is on the side of a store, and what an image of it gives.
 use Rattle.std.specs.Prelude.{◌≡◌, ◌⊎◌, ◌<◌, ℕ, List, [], ◌∷◌, ◌++◌, length, map, take, slice_index_or, Option, option_to_list}
 use Rattle.std.specs.List.{All}
 use Rattle.gate_journal.specs.declared.header.SideKind.TheVariants.{Cartridge, Store}
@@ -17,23 +17,23 @@ heading_for drive = record { kind = Store; name = drive_name drive; capacities =
 abbrev pub state_bodies : List PrState → List (List ℕ)
 state_bodies states = map spell_state states
 
--- What is found on the image is a store's side with this heading, and a frame for each of just these states. A store is
--- no copy, and its pair gate is closed (own).
+-- The image stands for a store's side with this heading and exactly one frame for each of these states. A store is no
+-- copy, and its pair gate is closed (own).
 abbrev pub GivesStates : Heading → List PrState → List ℕ → Type 0
 GivesStates heading states image =
     (heading.kind ≡ Store) × All IsSavable states × StandsFor (plain heading) (state_bodies states) image
 
--- the image gives the states, or these with the one whose save was under way (own)
+-- the image gives the states, or these with the one whose save is in doubt (own)
 abbrev pub ShowsStates : Heading → List PrState → Option PrState → List ℕ → Type 0
 ShowsStates heading states torn image =
     GivesStates heading states image ⊎ GivesStates heading (states ++ option_to_list torn) image
 
--- what was saved last: nothing registered or reserved, where nothing was (own)
+-- the state that was saved last; the empty state where none was (own)
 abbrev pub latest : List PrState → PrState
 latest states = last_saved empty_state states
 
--- The image opens as this state: as what a loss of power leaves of the state in its last frame, and as nothing
--- registered or reserved where it has no frame (own).
+-- The image opens as this state: as what a loss of power leaves of the state in its last frame, or as the empty state
+-- where it has no frame (own).
 abbrev pub OpensAs : Heading → PrState → List ℕ → Type 0
 OpensAs heading state image =
     (states : List PrState) × GivesStates heading states image × (state ≡ power_loss (latest states))
@@ -43,19 +43,19 @@ abbrev pub OpensAsEither : Heading → PrState → PrState → List ℕ → Type
 OpensAsEither heading one other image =
     OpensAs heading (power_loss one) image ⊎ OpensAs heading (power_loss other) image
 
--- each state of one list is saved as that at its place in another (own)
+-- the states of two lists are saved alike, one by one (own)
 abbrev pub AreAllSavedAlike : List PrState → List PrState → Type 0
 AreAllSavedAlike [] [] = Unit {0}
 AreAllSavedAlike (state ∷ states) (other ∷ others) = AreSavedAlike state other × AreAllSavedAlike states others
 AreAllSavedAlike [] (other ∷ others) = ⊥
 AreAllSavedAlike (state ∷ states) [] = ⊥
 
--- the image begins with no header of a store: with no header at all, or with a cartridge's (own)
+-- the image begins with no header of a store: with no header at all, or with that of a cartridge (own)
 abbrev pub IsNoStore : List ℕ → Type 0
 IsNoStore image = IsNotOurs image ⊎ BeginsAs Cartridge image
 
--- These bodies begin with some that spell states, and the body behind those spells none; the gate of its frame has that
--- place (own).
+-- These bodies begin with some that spell states, and the next one spells none; the gate of its frame has that place
+-- (own).
 pub record IsBadState (heading : Heading) (bodies : List (List ℕ)) (good : List PrState) (at : ℕ) : Type 0 where
   pub kind : heading.kind ≡ Store
   pub inside : length good < length bodies
@@ -70,7 +70,7 @@ IsBadStateAt image at =
     (heading : Heading) × (bodies : List (List ℕ)) × (good : List PrState)
     × StandsFor (plain heading) bodies image × IsBadState heading bodies good at
 
--- the image gives states, is no store's, is a damaged store's, or has a first bad frame (own)
+-- the image gives states, is not a store's, is a damaged store's, or has a first bad frame (own)
 abbrev pub IsStoreAnswered : List ℕ → Type 0
 IsStoreAnswered image =
     ((heading : Heading) × (states : List PrState) × GivesStates heading states image)

@@ -1,4 +1,4 @@
--- What only private contracts and invariants use.
+-- Definitions for private contracts and invariants alone.
 pub mod Causes
 pub mod Open
 pub mod Reading

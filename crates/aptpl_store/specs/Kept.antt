@@ -1,4 +1,4 @@
--- What a store is as a keeper: what it holds, and how it goes on below.
+-- A store as a keeper: what it has saved, and how it goes on.
 use Rattle.std.specs.Prelude.{◌+◌, ℕ, List, [], ◌∷◌, ◌++◌, length, Option, None, Some, true, false}
 use Rattle.vtl_base.specs.Below.{Below}
 use Rattle.tape_disk.specs.Disk.{DiskState}
@@ -11,8 +11,8 @@ use Rattle.pr_core.specs.Keepers.{KeeperState}
 use Rattle.aptpl_store.specs.Contents.{GivesStates, latest}
 use Rattle.aptpl_store.specs.State.{OpenStore}
 
--- A store accepts any state, and an image of it gives the states that were saved, in order; what all is carried out
--- from never changes (own).
+-- A store accepts any state, and an image of it gives the states that were saved, in order; the base never changes
+-- (own).
 abbrev pub store_rules : Rules
 store_rules = record {
   Base = Heading;
@@ -23,8 +23,8 @@ store_rules = record {
   rebases = λ heading states other. ⊥;
 }
 
--- how far the saves of a store got: all its states are safe, and the one whose save was under way when the disk failed
--- may be stored (own)
+-- the core of a store: all its states are safe, and a state whose save was under way when the disk failed may be stored
+-- (own)
 abbrev pub core_with : Heading → List PrState → Option PrState → Core Heading PrState
 core_with heading states None =
     record {
@@ -48,11 +48,11 @@ core_with heading states (Some state) =
     }
 
 module _ {D : Type 0} where
-  -- how far the saves of an open store got (own)
+  -- the core of an open store (own)
   abbrev pub core_of : OpenStore D → Core Heading PrState
   core_of store = core_with store.heading store.states store.torn
 
-  -- what an open store holds as any keeper does (own)
+  -- an open store as the state of a keeper (own)
   abbrev pub store_kept : OpenStore D → KeeperState
   store_kept store =
       record {
@@ -63,13 +63,13 @@ module _ {D : Type 0} where
       }
 
   module _ (state : D → DiskState) where
-    -- From old to new just these states were saved, or were under way when the disk failed. Where the disk is honest
-    -- and its images were those of the old store, each moment between has images of a store between (own).
+    -- From old to new exactly these states were saved, or were being saved when the disk failed. Where the disk is
+    -- honest and its images were those of the old store, each moment between has images of a store between (own).
     abbrev pub StoreMoves : OpenStore D → List PrState → OpenStore D → Type 0
     StoreMoves old made new =
         CoreMoves store_rules (one_disk state) old.disk new.disk (core_of old) (core_of new) made
 
-    -- what is seen below a store: the failures of its disk, whether it is honest, and its saves (own)
+    -- what a contract sees below a store: the failures of its disk, whether it is honest, and its saves (own)
     abbrev pub store_below : Below (OpenStore D) PrState
     store_below =
         record {

@@ -6,15 +6,15 @@ use Rattle.gate_journal.specs.State.{heading_code}
 use Rattle.pr_core.specs.declared.states.PrState.{PrState}
 use Rattle.aptpl_store.specs.Codes.{state_code}
 
--- an open store: its disk, what its side holds, and how far saves may go (own)
+-- an open store: its disk, what is on its side, and how many saves can follow (own)
 pub record OpenStore (D : Type 0) : Type 0 where
   pub disk : D
   pub heading : Heading
-  -- the states that were saved, in order: one a frame
+  -- the states that were saved, in order: one for each frame
   pub states : List PrState
-  -- the state whose save was under way when the disk failed
+  -- the state that was being saved when the disk failed
   pub torn : Option PrState
-  -- the disk failed, and nothing more is read or written
+  -- the disk has failed, and nothing more is read or written
   pub failed : Bool
   -- the bytes that may still be added to the side; a state takes 9, and 9 for each registration
   pub room : ℕ

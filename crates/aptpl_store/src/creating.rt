@@ -1,4 +1,4 @@
-//! A store is made.
+//! Making a store.
 ghost use Rattle.std.specs.Prelude.{◌≡◌, ◌⊎◌, ◌≤◌, ◌<◌, ◌++◌, [], ◌∷◌, None, false, IfOk, IfErr, OnOk, OnErr};
 ghost use Rattle.tape_disk.specs.Disk.{Each, Keeps};
 ghost use Rattle.gate_journal.specs.Answers.{IsFault, NoneFailed};
@@ -20,8 +20,9 @@ use vtl_base::{DriveNo, NoMemory};
 pub const RESERVED_SAVES: usize = 256;
 
 impl<D: Disk> AptplStore<D> {
-    /// Makes the store of a drive, whatever the disk held: nothing is registered or reserved. After a device
-    /// fault anything may stand on the disk. After `NoMemory` it was not touched, or it is the new store.
+    /// Makes the store of a drive, whatever the disk held, with no registration and no reservation. After a
+    /// device fault anything may be on the disk. After `NoMemory` the disk was not touched, or it holds the
+    /// new store.
     pub fn create(alloc: Global, disk: D, drive: DriveNo) -> Result<AptplStore<D>, StoreRefused<D>>
         ensures disk { Keeps (D.state disk) (D.state (disk_of_new result)) }
         ensures ok { IfOk result (λ store. (store.heading ≡ heading_for drive) × (store.states ≡ [])
@@ -75,7 +76,7 @@ impl<D: Disk> AptplStore<D> {
     }
 }
 
-// The name of a drive's store: `DRIVE` and the number, and spaces up to 16 bytes.
+// The name of a drive's store: `DRIVE` and the number, filled up with spaces to 16 bytes.
 fn name_of(drive: DriveNo) -> [u8; NAME_BYTES]
     ensures { result ≡ drive_name drive }
 {

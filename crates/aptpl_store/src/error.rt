@@ -70,6 +70,6 @@ impl From<NoMemory> for StoreError {
 pub struct StoreRefused<D> {
     /// Why.
     pub error: StoreError,
-    /// The disk that was given.
+    /// The disk that was passed to the call.
     pub disk: D,
 }

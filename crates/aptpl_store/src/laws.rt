@@ -9,8 +9,8 @@ ghost use Rattle.aptpl_store.specs.declared.creating.TheConstants.{RESERVED_SAVE
 ghost use Rattle.aptpl_store.specs.Contents.{AreAllSavedAlike, GivesStates, IsStoreAnswered, IsBadStateAt, IsNoStore, OpensAs};
 ghost use Rattle.aptpl_store.specs.Spelling.{SpellsState};
 
-/// Bytes spell at most one state, but for the generation, which is not saved; a state has one row of bytes,
-/// 580 at most, and takes 5 more as a frame.
+/// Bytes spell at most one state, except for the generation, which is not saved. A state has one spelling, of
+/// at most 580 bytes, and takes 5 more as a frame.
 pub fn bytes_spell_one_state()
     ensures one_state { (body : List ℕ) (one other : PrState) →
         SpellsState one body → SpellsState other body → AreSavedAlike one other }
@@ -21,8 +21,8 @@ pub fn bytes_spell_one_state()
         SpellsState state body → length body + 5 ≡ state_frame_size state }
 {}
 
-/// An image gives at most one store's states, but for their generations, and opens as at most one state;
-/// what gives some is a store's side, is not damaged and has no bad frame.
+/// An image gives at most one store's states, except for their generations, and opens as at most one state.
+/// An image that gives states is a store's side, is not damaged and has no bad frame.
 pub fn an_image_gives_one_store()
     ensures states { (image : List ℕ) (h k : Heading) (states others : List PrState) →
         GivesStates h states image → GivesStates k others image →
@@ -39,7 +39,7 @@ pub fn an_image_gives_one_store()
         IsBadStateAt image a → IsBadStateAt image b → a ≡ b }
 {}
 
-/// What gives no states does so for one cause, at one place.
+/// An image that gives no states has one cause for it, at one place.
 pub fn a_refusal_has_one_cause()
     ensures none_damaged { (image : List ℕ) (at : ℕ) →
         IsNoStore image → IsDamagedOf Store image at → ⊥ }
@@ -50,12 +50,12 @@ pub fn a_refusal_has_one_cause()
         IsDamagedOf Store image a → IsDamagedOf Store image b → a ≡ b }
 {}
 
-/// Each image gives states, is no store's, is a damaged store's, or has a first bad frame.
+/// Each image gives states, is not a store's, is a damaged store's, or has a first bad frame.
 pub fn each_image_is_answered()
     ensures { (image : List ℕ) → IsStoreAnswered image }
 {}
 
-/// The number that this crate names itself.
+/// The number that this crate names.
 pub fn the_numbers()
     ensures saves { RESERVED_SAVES ≡ 256 }
 {}

@@ -1,4 +1,4 @@
-//! What proofs alone note of a side, which takes no bytes: the states that were saved stay on the disk.
+//! What only proofs note of a side, which takes no bytes: the states that were saved are on the disk alone.
 ghost use Rattle.std.specs.Prelude.{◌≡◌};
 ghost use Rattle.aptpl_store.specs.NotedStates.{NotedStates, no_notes, with_state, with_torn_state};
 ghost use Rattle.aptpl_store.specs.Codes.{noted_states_code};
@@ -6,7 +6,7 @@ ghost use Rattle.aptpl_store.specs.Codes.{noted_states_code};
 use pr_core::Reservations;
 use std::marker::{Model, PhantomData};
 
-/// What is noted of a side.
+/// The notes of a side.
 #[derive(Drop)]
 pub(crate) struct Noted {
     marker: PhantomData<()>,
@@ -22,21 +22,21 @@ impl Model for Noted {
 }
 
 impl Noted {
-    /// Of a side with no frames.
+    /// The notes of a side with no frames.
     pub(crate) fn none() -> Noted
         ensures { result.notes ≡ no_notes }
     {
         made(&0)
     }
 
-    /// With one state more.
+    /// The notes with one more state.
     pub(crate) fn with_state(&self, state: &Reservations) -> Noted
         ensures { result.notes ≡ with_state self.now.notes state.now }
     {
         by_state(self, state)
     }
 
-    /// With this state under way.
+    /// The notes with this state in doubt.
     pub(crate) fn with_torn_state(&self, state: &Reservations) -> Noted
         ensures { result.notes ≡ with_torn_state self.now.notes state.now }
     {
@@ -44,7 +44,7 @@ impl Noted {
     }
 }
 
-// What the caller names, which may speak of what was noted and of a state.
+// The notes that the caller names, by earlier notes and by a state.
 fn by_state(_noted: &Noted, _state: &Reservations) -> Noted
     ghost notes: { NotedStates }
     ensures { result.notes ≡ notes }
@@ -52,7 +52,7 @@ fn by_state(_noted: &Noted, _state: &Reservations) -> Noted
     made(&0)
 }
 
-// What the caller names.
+// The notes that the caller names.
 fn made(_any: &u64) -> Noted
     ghost notes: { NotedStates }
     ensures { result.notes ≡ notes }

@@ -1,4 +1,4 @@
-//! What is recovered of a store's side, a frame's body after the other.
+//! What is recovered from a store's side, body by body.
 ghost use Rattle.std.specs.Prelude.{◌≤◌};
 ghost use Rattle.aptpl_store.specs.declared.spelling.TheConstants.{STATE_BYTES};
 
@@ -18,7 +18,7 @@ pub(crate) struct Recovered {
     pub frame: Frame,
     pub noted: Noted,
     pub last: Reservations,
-    // The body that is under way.
+    // The body that is being read.
     pub body: StateBody,
     ghost room: { STATE_BYTES ≤ frame.room },
 }
@@ -67,7 +67,7 @@ impl Decodes for Recovered {
     }
 
     fn pass(&mut self, _at: u64, _count: usize) -> Result<bool, NoMemory> {
-        // It sees each byte, so none is passed over.
+        // It needs each byte, so none is passed over.
         Ok(true)
     }
 

@@ -1,4 +1,4 @@
-//! A state is saved, as one frame.
+//! Saving a state, as one frame.
 ghost use Rattle.std.specs.Prelude.{◌≡◌, ◌++◌, [], ◌∷◌, List, Some, false, OnOk};
 ghost use Rattle.vtl_base.specs.Below.{Advances};
 ghost use Rattle.tape_disk.specs.Disk.{Each, Keeps};
@@ -27,8 +27,8 @@ impl<D: Disk> Keeper for AptplStore<D> {
     ghost below = { store_below D.state };
 
     /// Saves these reservations as one frame, in four calls of the disk, two of them syncs. At Ok they are
-    /// sure. Within what is reserved it takes no memory. After `Device` the side has the frame or not, and
-    /// nothing more is written; after every other error nothing changed.
+    /// sure. A reserved save takes no memory. After `Device` the side has the frame or not, and nothing more
+    /// is written. After every other error nothing has changed.
     fn save(&mut self, reservations: &Reservations) -> Result<(), KeeperError>
         ensures answer { Saves (store_kept self.old) reservations.now result (store_kept self.new) }
         ensures advances { Advances (store_below D.state)

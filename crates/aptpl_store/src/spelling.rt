@@ -68,7 +68,7 @@ fn registered(keys: &[Option<u64>]) -> u8
     count
 }
 
-// Puts the registration of a nexus, where it has a key, behind what a frame holds, which has room for it.
+// Appends the registration of a nexus, if it has a key, to the body of a frame that has room for it.
 fn push_registration(frame: &mut Frame, number: u8, key: Option<u64>)
     requires room { length frame.old.body + REGISTRATION_BYTES ≤ frame.old.room }
     ensures body { frame.new.body ≡ frame.old.body ++ registration key number }
@@ -80,7 +80,7 @@ fn push_registration(frame: &mut Frame, number: u8, key: Option<u64>)
     frame.extend_reserved(&key.to_be_bytes());
 }
 
-// Spells a state in a frame that has room for it, and nothing beside it.
+// Spells a state in a frame that has room for it, and nothing else.
 pub(crate) fn fill_body(frame: &mut Frame, state: &PrState)
     requires room { STATE_BYTES ≤ frame.old.room }
     requires sound { IsSound state.now }

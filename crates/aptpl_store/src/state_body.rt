@@ -1,10 +1,10 @@
-//! The bytes of a body, of which none is longer than the longest state's.
+//! The bytes of a body, up to the length of the longest state.
 ghost use Rattle.std.specs.Prelude.{◌≡◌, ◌+◌, ◌<◌, ◌++◌, [], length, true, false};
 
 use crate::spelling::STATE_BYTES;
 use std::marker::Model;
 
-// The bytes of a body so far. To a contract it is their list.
+// The bytes of a body so far. A contract sees them as a list.
 #[derive(Drop)]
 pub(crate) struct StateBody {
     bytes: [u8; STATE_BYTES],
@@ -31,7 +31,7 @@ impl StateBody {
         }
     }
 
-    // Takes the next bytes. False is that there are more than a state has.
+    // Takes the next bytes. False: there are more than a state has.
     pub(crate) fn add(&mut self, piece: &[u8]) -> bool
         ensures added { result ≡ true → self.new ≡ self.old ++ piece.now }
         ensures long { result ≡ false → 580 < length self.old + length piece.now }

@@ -49,10 +49,10 @@ impl<D: Disk> Model for AptplStore<D> {
 }
 
 impl<D: Disk> AptplStore<D> {
-    /// It is a drive's store, and has failed just where a state is under way. Where the disk is honest, each
-    /// image that a crash now may leave gives the states, or these with the one whose save was under way
-    /// when the disk failed; and it opens as what a loss of power leaves of the state that was saved last,
-    /// or of that one. The room is what the side's spelling leaves.
+    /// It is a drive's store, and has failed exactly where a save is in doubt. Where the disk is honest, each
+    /// image that a crash may leave now gives the states, or these with the one that was being saved when the
+    /// disk failed. It opens as what a loss of power leaves of the state that was saved last, or of that one.
+    /// The room is what the side's spelling leaves.
     pub fn known(&self)
         ensures kind { self.now.heading.kind ≡ Kinds.Store }
         ensures at_rest { self.now.failed ≡ is_some self.now.torn }
@@ -67,12 +67,12 @@ impl<D: Disk> AptplStore<D> {
         ensures room { (D.state self.now.disk).honest → self.now.room
             ≡ room_behind (length (spell (plain self.now.heading) (state_bodies self.now.states))) }
     {
-        // Looked at for the proof's sake: the facts are the type's.
+        // Read for the proof: the facts are the type's invariant.
         self.journal.known();
         let _ = &self.noted;
     }
 
-    /// The name in the header: `DRIVE` and the drive's number, with spaces behind it up to 16 bytes.
+    /// The name in the header: `DRIVE` and the drive's number, filled up with spaces to 16 bytes.
     pub fn name(&self) -> &[u8; NAME_BYTES]
         ensures { result.now ≡ self.now.heading.name }
     {
@@ -94,14 +94,14 @@ impl<D: Disk> AptplStore<D> {
         self.journal.room()
     }
 
-    /// The disk, to be looked at.
+    /// The disk, for reading.
     pub fn disk(&self) -> &D
         ensures { result.now ≡ self.now.disk }
     {
         self.journal.disk()
     }
 
-    /// Gives the disk back.
+    /// Closes the store, and returns the disk.
     pub fn close(self) -> D
         ensures { result ≡ self.disk }
     {

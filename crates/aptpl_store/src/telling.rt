@@ -20,7 +20,7 @@ fn begins_with(number: u8, bytes: &[u8]) -> bool
     bytes.len() >= REGISTRATION_BYTES && bytes[0] == number
 }
 
-// The key of a nexus, where the bytes begin with its registration, and what lies behind that.
+// The key of a nexus, where the bytes begin with its registration, and the bytes after that.
 fn key_told(number: u8, bytes: &[u8]) -> (Option<u64>, &[u8])
     ensures key { result.0 ≡ key_told number bytes.now }
     ensures behind { result.1.now ≡ behind number bytes.now }
@@ -35,7 +35,7 @@ fn key_told(number: u8, bytes: &[u8]) -> (Option<u64>, &[u8])
     }
 }
 
-// The keys by rising nexus, of which each may have its registration next.
+// The keys by rising nexus, each of which may have its registration next.
 fn keys_told(bytes: &[u8]) -> [Option<u64>; 64]
     ensures { result ≡ keys_told (nexuses_from 1) bytes.now }
 {
@@ -49,7 +49,7 @@ fn keys_told(bytes: &[u8]) -> [Option<u64>; 64]
     keys
 }
 
-// A reservation of this type, if it is one, with this holder, if it is one.
+// A reservation of this type, if there is one, with this holder, if there is one.
 fn held_told(kind: u8, holder: u8) -> Option<Reservation>
     ensures { result ≡ held_told (type_of kind) (nexus_told holder) }
 {
@@ -59,7 +59,7 @@ fn held_told(kind: u8, holder: u8) -> Option<Reservation>
     })
 }
 
-// What a body of four bytes and more would spell.
+// The state that a body of at least four bytes would spell.
 fn state_told(body: &[u8]) -> PrState
     requires { 4 ≤ length body.now }
     ensures { result ≡ state_told body.now }
@@ -72,8 +72,8 @@ fn state_told(body: &[u8]) -> PrState
     }
 }
 
-// The reservations that a body spells, if it spells some: those that it would spell, where their spelling
-// is the body itself.
+// The reservations that a body spells, if it spells some: those that it would spell, where their spelling is
+// the body itself.
 pub(crate) fn decode(body: &[u8], spelled: &mut Frame) -> Option<Reservations>
     requires room { STATE_BYTES ≤ spelled.old.room }
     ensures some { IfSome result (λ reservations. SpellsState reservations body.now) }

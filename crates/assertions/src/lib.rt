@@ -1,14 +1,14 @@
-//! `assert_equal!` and `assert_holds!` for crates of tests, each of which is one call. `std`'s `assert_eq!` and
-//! `assert!` write a branch and its text where they stand, and the proof of a function grows faster than its length: a
-//! test of many comparisons is proved in half the time with these.
+//! `assert_equal!` and `assert_holds!` for crates of tests. Each is one call. `assert_eq!` and `assert!` of
+//! `std` write a branch and its text in place, and the proof of a function grows faster than its length. With
+//! these macros a test of many comparisons is proved in half the time.
 //!
-//! What they call is the function `equal` in the module `asserted` of the crate of tests, since a library has no
+//! They call the function `equal` in the module `asserted` of the crate of tests, since a library has no
 //! function that ends the process.
 #![tactic(auto)]
 
-/// Ends the test unless both values, which are moved, are equal: `assert_equal!(rt; left, right)`. It says both, and
-/// what the left one is, or the text of `assert_equal!(rt; left, right, "text")`, and the row of a table that is named
-/// last: `assert_equal!(rt; left, right; row)`. Own.
+/// Ends the test unless both values, which are moved, are equal: `assert_equal!(rt; left, right)`. It reports
+/// both, with the expression of the left one, or with the text of `assert_equal!(rt; left, right, "text")`,
+/// and the row of a table that is named last: `assert_equal!(rt; left, right; row)`. Own.
 #[macro_export]
 macro_rules! assert_equal {
     ($rt:expr; $left:expr, $right:expr) => {
@@ -22,8 +22,9 @@ macro_rules! assert_equal {
     };
 }
 
-/// Ends the test unless this is so: `assert_holds!(rt; is_so)`. It says what should be so, or the text of
-/// `assert_holds!(rt; is_so, "text")`, and the row of a table that is named last: `assert_holds!(rt; is_so; row)`. Own.
+/// Ends the test unless this is true: `assert_holds!(rt; is_so)`. It reports the expression, or the text of
+/// `assert_holds!(rt; is_so, "text")`, and the row of a table that is named last: `assert_holds!(rt; is_so;
+/// row)`. Own.
 #[macro_export]
 macro_rules! assert_holds {
     ($rt:expr; $is_so:expr) => {

@@ -1,5 +1,5 @@
--- What was accepted at an acknowledgement begins what is accepted behind it; and what the images of a drive's store
--- give of its orders.
+-- What was accepted at an acknowledgement begins what is accepted later; and what the images of a drive's store give of
+-- its orders.
 use Rattle.std.proofs.Common.{◌≡◌, ◌∙◌, inl, inr, ℕ, ◌+◌, List, [], ◌∷◌, ◌++◌, length, take, Option, None, Some, refl, sym, ap, subst, arith, length-append}
 use Rattle.std.specs.Prelude.{option_map}
 use Rattle.std.proofs.lemmas.List.{take_all, take_at}
@@ -24,7 +24,7 @@ stops_keep rules kept begins never first acked last events before after rest all
     (begins never acked.base last.base acked.accepted last.accepted
     (kept first acked last before after core one two)).1
 
--- steps in a row lead to a core between
+-- steps, one after another, lead to a core between
 parted : (rules : Rules) (a c : Core rules.Base rules.Item) (first second : List (CoreStep rules.Item))
     → AllStepTo rules a (first ++ second) c
     → (b : Core rules.Base rules.Item) × AllStepTo rules a first b × AllStepTo rules b second c

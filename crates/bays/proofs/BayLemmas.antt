@@ -1,4 +1,4 @@
--- The drives of a library, in a row.
+-- The drives of a library, as a list.
 use Rattle.std.proofs.Common.{◌≡◌, ◌≢◌, ◌⊎◌, ◌&&◌, inl, inr, ℕ, ◌-◌, ◌≤◌, ◌<◌, nat_le, Bool, true, false, Result, Ok, Err, List, length, set, get_or, Option, None, Some, is_some, is_ok, is_err, [], ◌∷◌, ◌++◌, OnOk, IfErr, replicate, nat_lt, refl, sym, ap, ◌∙◌, arith, cond, subst}
 use Rattle.std.proofs.lemmas.Bool.Decides.{nat_tests}
 use Rattle.std.proofs.lemmas.List.{get_or-replicate, get_or_default, get_or-set_same, get_or-set_other, length-replicate}
@@ -9,14 +9,14 @@ use Rattle.bays.specs.Elements.{BayState, Becomes, HeldState, bay_at}
 use Rattle.bays.specs.Moves.{BayIs}
 
 module _ {D : Type 0} where
-  -- where a drive stands
+  -- the place of a drive
   pub at_place : (bays : List (Option (BayState D))) (number : ℕ) → 1 ≤ number
       → bay_at bays number ≡ get_or bays (number - 1) None
   at_place bays number least =
       let is : nat_le 1 number ≡ true = grind (arith, nat_tests) in
       ap (λ (b : Bool). cond b (get_or bays (number - 1) None) None) is
 
-  -- no drive stands at these numbers
+  -- no drive has these numbers
   pub at_no_place : (bays : List (Option (BayState D))) (number : ℕ) → length bays ≡ 16
       → (number ≡ 0) ⊎ (16 < number) → bay_at bays number ≡ None
   at_no_place bays number long (inl zero) =
@@ -26,7 +26,7 @@ module _ {D : Type 0} where
       at_place bays number (omega (arith, beyond))
       ∙ get_or-eq_default bays None (omega (arith, beyond, long))
 
-  -- a drive that is set in its place is there, and the others are where they were
+  -- a drive that is set in its place is there, and the others stay
   pub set_becomes : (bays : List (Option (BayState D))) (number : ℕ) (bay : Option (BayState D)) → 1 ≤ number
       → number ≤ 16 → length bays ≡ 16 → Becomes number bay bays (set bays (number - 1) bay)
   set_becomes bays number bay least most long = record {
@@ -47,7 +47,7 @@ module _ {D : Type 0} where
           ap (λ (b : Bool). cond b (get_or (set bays (number - 1) bay) (other - 1) None) None) is
           ∙ sym (ap (λ (b : Bool). cond b (get_or bays (other - 1) None) None) is)
 
-  -- what was lent of the row is the drive of this number
+  -- the drive that was lent is the one of this number
   pub found_at : (bays : List (Option (BayState D))) (number place : ℕ) (lent : Option (BayState D)) → 1 ≤ number
       → number ≤ 16 → length bays ≡ 16 → place ≡ number - 1 → lent ≡ get_or bays place lent → bay_at bays number ≡ lent
   found_at bays number place lent least most long is value =
@@ -57,13 +57,13 @@ module _ {D : Type 0} where
       ∙ get_or_default bays place None lent within
       ∙ sym value
 
-  -- and once another stands there in its place, the row is that of the drives with this one
+  -- with another drive in its place, the list has that one there
   pub changed_at : (bays : List (Option (BayState D))) (number place : ℕ) (bay : Option (BayState D)) → 1 ≤ number
       → number ≤ 16 → length bays ≡ 16 → place ≡ number - 1 → Becomes number bay bays (set bays place bay)
   changed_at bays number place bay least most long is =
       subst (λ (i : ℕ). Becomes number bay bays (set bays i bay)) (sym is) (set_becomes bays number bay least most long)
 
-  -- the same of the whole library
+  -- the same for the whole library
   pub bay_is : (slots : List (Option (BufferState D))) (bays : List (Option (BayState D))) (number place : ℕ)
       (bay : BayState D) (held : HeldState D) → record { slots = slots; bays = bays } ≡ held → 1 ≤ number
       → number ≤ 16 → length bays ≡ 16 → place ≡ number - 1
@@ -86,7 +86,7 @@ no_slot number most =
     let before : nat_le 1001 number ≡ false = grind (arith, nat_tests) in
     ap (λ (b : Bool). b && nat_lt (number - 1001) 256) before
 
--- what a call answers says, in other words
+-- the result of a call, in other terms
 pub on_ok : {T E : Type 0} {A B : Type 0} (result : Result T E) → (A → B) → OnOk result A → OnOk result B
 on_ok (Ok done) says holds = says holds
 on_ok (Err error) says holds = tt
@@ -107,7 +107,7 @@ pub nothing : {X : Type 0} (found : Option X) → is_some found ≡ false → fo
 nothing (Some x) none = absurd (cc)
 nothing None none = refl
 
--- no drive is in a row of no drives
+-- an empty list has no drive
 pub none_in : {X : Type 0} (count place : ℕ) → get_or (replicate {A = Option X} count None) place None ≡ None
 none_in {X = X} count place = by (nat_lt place count) refl
   where

@@ -1,4 +1,4 @@
--- What stands beside lines, drive by drive.
+-- The values that belong to lines, drive by drive.
 use Rattle.std.proofs.Common.{◌≡◌, ℕ, ◌==◌, Bool, true, false, List, [], ◌∷◌, cond, filter, length, map, refl, sym, ap, ◌∙◌, arith}
 use Rattle.std.proofs.lemmas.Bool.{eqb-true, eq-eqb}
 use Rattle.vtl_script.specs.declared.lines.Line.{Line}
@@ -15,12 +15,12 @@ module _ {A : Type 0} where
   rest_of [] = []
   rest_of (x ∷ xs) = xs
 
-  -- what is left once the first value was taken, if it was
+  -- the rest after the first value was taken, if it was
   abbrev left_by : Bool → List A → List A
   left_by true values = rest_of values
   left_by false values = values
 
-  -- beside no line stands nothing
+  -- no values belong to no lines
   nothing_by : (test : Bool) (line : Line) (lines : List Line) (value : A) (values : List A)
       → cond test (line ∷ lines) lines ≡ [] → (lines ≡ [] → values ≡ []) → cond test (value ∷ values) values ≡ []
   nothing_by true line lines value values is none = absurd (cc)
@@ -34,7 +34,7 @@ module _ {A : Type 0} where
       nothing_by (line.drive == number) line (filter (λ line. line.drive == number) lines) value
       (beside number lines values) is (λ none. beside_nothing number lines values none)
 
-  -- two lists of values that are the same beside the lines of each drive are the same
+  -- two lists of values that are the same for the lines of each drive are the same
   rest_same : (test : Bool) (x y : A) (xs ys : List A) → cond test (x ∷ xs) xs ≡ cond test (y ∷ ys) ys → xs ≡ ys
   rest_same true x y xs ys is = ap (λ (l : List A). rest_of l) is
   rest_same false x y xs ys is = is
@@ -69,7 +69,7 @@ module _ {A : Type 0} where
   put_back false x hand xs is first = is
 
 module _ {A B : Type 0} (f : A → B) where
-  -- what is made of each value stands beside the same lines
+  -- a mapped value belongs to the same line
   kept_map : (test : Bool) (value : A) (values : List A) (made : List B) → made ≡ map f values
       → cond test (f value ∷ made) made ≡ map f (cond test (value ∷ values) values)
   kept_map true value values made is = ap (λ (rest : List B). f value ∷ rest) is
@@ -83,7 +83,7 @@ module _ {A B : Type 0} (f : A → B) where
       kept_map (line.drive == number) value (beside number lines values) (beside number lines (map f values))
       (beside_map number lines values)
 
-  -- values that are told for each drive, as they stand beside all lines
+  -- the values of all lines, from those of each drive
   none_made : (xs : List A) → map f xs ≡ [] → xs ≡ []
   none_made [] is = refl
   none_made (x ∷ xs) is = absurd (cc)

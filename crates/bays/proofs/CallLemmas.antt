@@ -37,7 +37,7 @@ use Rattle.bays.proofs.MachineLemmas.{Goes, step_goes}
 use Rattle.bays.proofs.StoreCoreLemmas.{none_torn}
 
 module _ {M D : Type 0} (medium : M → MediumState) (below : Below M Change) (disk : D → DiskState) where
-  -- what is equal to one with the same keeper and reservations
+  -- equal drives have the same keeper and reservations
   both : (one new : DriveState M (OpenStore D)) → new ≡ one
       → (new.keeper ≡ one.keeper) × (new.reservations ≡ one.reservations)
   both one new same = (
@@ -45,7 +45,7 @@ module _ {M D : Type 0} (medium : M → MediumState) (below : Below M Change) (d
     ap (λ (d : DriveState M (OpenStore D)). d.reservations) same,
   )
 
-  -- what goes in or out leaves keeper and reservations
+  -- a cartridge that goes in or out leaves keeper and reservations unchanged
   out_stays : (bay : Bay M) (old : DriveState M (OpenStore D)) (result : Result M Reply)
       (new : DriveState M (OpenStore D)) → GoesOutOf medium below bay old result new
       → (new.keeper ≡ old.keeper) × (new.reservations ≡ old.reservations)
@@ -71,7 +71,7 @@ module _ {M D : Type 0} (medium : M → MediumState) (below : Below M Change) (d
 module _ {M D : Type 0} (medium : M → MediumState) (below : Below M Change) (disk : D → DiskState)
     (is_disk : (d : D) → (disk d).honest → IsDisk (disk d)) (keep : OrdersKeepRules)
     (due : SavesAreDueByChange) (lost : SavedAlikeAreLostAlike) where
-  -- what a call does to the store, and to what it is compared with
+  -- the store after a call, and what it is compared with
   pub record CallGoes (old : DriveState M (OpenStore D)) (call : Call) (new : DriveState M (OpenStore D)) : Type 0 where
     pub made : List PrState
     pub moves :
@@ -178,7 +178,7 @@ module _ {M D : Type 0} (medium : M → MediumState) (below : Below M Change) (d
     asked_to_save state ordered sound (Err save.Failed) keeper saves kept made_is is =
         unsaved made_is (kept ∙ saves.1) (subst IsSound (sym is) holding.sound) (ap power_loss is)
 
-  -- what an order's work does
+  -- the work of an order
   module _ (old new : DriveState M (OpenStore D)) (holding : IsHolding medium below disk old) (request : Request)
       (reply : Reply) (answer : Result Reply Fault) (made : Made)
       (moves : CoreMoves store_rules (one_disk disk) old.keeper.disk new.keeper.disk
@@ -239,7 +239,7 @@ module _ {M D : Type 0} (medium : M → MediumState) (below : Below M Change) (d
             ordered = order.work.3;
           }) (needs_save old.reservations order.work.2) refl order.work.4
 
-  -- a turn leaves the reservations
+  -- a turn leaves the reservations unchanged
   pub turn_leaves : (bay : Bay MediumState) (old : Machine) (turn : Turn) (new : Machine) → TurnsIn bay old turn new
       → new.reservations ≡ old.reservations
   turn_leaves Empty old turn new turned = ap (λ (m : Machine). m.reservations) turned.1

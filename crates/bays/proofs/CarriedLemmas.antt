@@ -1,4 +1,4 @@
--- What each move on what is lent does in a library that has what is lent.
+-- What each move on lent slots and drives does in a library that has them.
 use Rattle.std.proofs.Common.{◌≡◌, ◌≢◌, inl, inr, ℕ, ◌-◌, ◌==◌, Bool, true, false, List, [], set, Option, None, Some, Ok, Err, refl, sym, ap, ◌∙◌, cond, subst}
 use Rattle.tape_disk.specs.Disk.{DiskState}
 use Rattle.scsi_sense.specs.declared.replies.Reply.{Reply}
@@ -38,7 +38,7 @@ module _ {D : Type 0} (state : D → DiskState) where
     abbrev with_row : List (Option (BayState D)) → HeldState D
     with_row row = record { slots = slots; bays = row }
 
-    -- what is awake at the source
+    -- the loaded medium at the source is awake
     none_awake : bay_at bays from ≡ None → IsAwakeAt state old from
     none_awake none = subst (λ (b : Option (BayState D)). IsAwakeBay state b) (sym none) tt
 
@@ -101,7 +101,7 @@ module _ {D : Type 0} (state : D → DiskState) where
           (ap (λ (row : List (Option (BayState D))). with_row row)
           (found_same bays from bay named.all named.at_source))
 
-      -- the drive once something went out of it, or did not
+      -- the drive after its cartridge came out, or did not
       out_bay : (left : BayState D) → BayIs from left old (record {
         slots = slots;
         bays = set bays (from - 1) (Some

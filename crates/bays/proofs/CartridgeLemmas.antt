@@ -1,4 +1,4 @@
--- What was acknowledged of a cartridge in a drive is kept.
+-- What was acknowledged of a cartridge in a drive survives.
 use Rattle.std.specs.Prelude.{◌≡◌, ◌++◌, List, [], ◌∷◌, Bool, true, false, Option, None, Some, length, refl}
 use Rattle.std.proofs.Common.{sym, ◌∙◌, ap, subst}
 use Rattle.std.proofs.lemmas.List.{append-nil}
@@ -30,7 +30,7 @@ use Rattle.bays.specs.Cartridges.{IsKnown, KeepsIn, StopsKeepChanges}
 use Rattle.bays.specs.Doings.{Commanded, Does, Doing, DoesAll, Turned}
 
 module _ {D : Type 0} (state : D → DiskState) (is_disk : (disk : D) → (state disk).honest → IsDisk (state disk)) where
-  -- from what may be in a bay to what may be there later just these were accepted
+  -- from the medium of a drive to the medium there later exactly these changes were accepted
   abbrev pub Moved : Option (BufferState D) → Option (BufferState D) → List Change → Type 0
   Moved (Some old) (Some new) made = MediumMoves state old made new
   Moved None None made = made ≡ []
@@ -86,7 +86,7 @@ module _ {D : Type 0} (state : D → DiskState) (is_disk : (disk : D) → (state
         (moved_on (medium_in old.bay) (medium_in mid.bay) (medium_in new.bay) first.changes rest.changes
         (moved_doing old mid doing first one) (moved_all mid new doings rest others))
 
-  -- all that was accepted is safe where nothing is pending: of an open cartridge, and of one that is not loaded
+  -- where nothing is pending, all that was accepted is safe: for an open cartridge, and for one that is not loaded
   safe_open : (c : OpenCartridge D) (pending : List Change) → c.failed ≡ false → pending ≡ []
       → CanAcknowledge (core_held state (Open c) pending)
   safe_open c pending works none = (
@@ -135,7 +135,7 @@ module _ {D : Type 0} (state : D → DiskState) (is_disk : (disk : D) → (state
         (safe_parked m.held m.pending on (nothing.1 h))
 
   module _ (crash : CrashesKeepAcknowledged medium_rules (two_disks state)) (cores : StepsKeepCores medium_rules) where
-    -- what is acknowledged over two disks is kept over the next
+    -- what is acknowledged over two disks survives over the next two
     keep_on : (x y z : Option (TwoDisks D)) (first second third : Core Start Change) (made more : List Change)
         (disks : TwoDisks D)
         → x ≡ Some disks → AreHonest state disks → IsCore first → EachOfTwo state disks (ShowsCore medium_rules first)

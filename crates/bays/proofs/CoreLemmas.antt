@@ -1,4 +1,4 @@
--- What a run of steps from states that are all safe may leave: these states, or these with one more.
+-- What steps may leave that start from states which are all safe: these states, or these with one more.
 use Rattle.std.proofs.Common.{◌≡◌, ◌⊎◌, inl, inr, ℕ, zero, suc, ◌≤◌, ◌<◌, ◌+◌, List, [], ◌∷◌, ◌++◌, length, take, refl, sym, ◌∙◌, ap, subst, arith, length-append}
 use Rattle.std.proofs.lemmas.Bool.{cases_lt}
 use Rattle.std.proofs.lemmas.List.{length-take-le, take_all, take_at}
@@ -27,7 +27,7 @@ module _ (rules : Rules) (base : rules.Base) (states : List rules.Item) (more : 
     pub stored : core.safe ≤ core.stored
     pub all : core.stored ≤ length core.accepted
 
-  -- the first so many of what was accepted, where these are at least the states
+  -- a first part of what was accepted, with at least these states
   pub first_many : (accepted : List rules.Item) (count : ℕ) → Either accepted → length states ≤ count
       → count ≤ length accepted → Either (take count accepted)
   first_many accepted count (inl is) enough few =
@@ -129,7 +129,7 @@ module _ (rules : Rules) (base : rules.Base) (states : List rules.Item) (more : 
   within_steps never (Rebase ∷ steps) old new is may leads =
       absurd (never old.base leads.1.1.0 old.accepted leads.1.1.1)
 
-  -- where steps accept nothing, the first of them accept nothing
+  -- where steps accept nothing, a first part of them accepts nothing
   fewer_none : (steps : List (CoreStep rules.Item)) (count : ℕ) → accepted_in steps ≡ []
       → accepted_in (take count steps) ≡ []
   fewer_none steps zero none = refl
@@ -142,7 +142,7 @@ module _ (rules : Rules) (base : rules.Base) (states : List rules.Item) (more : 
   fewer_none (Stop n ∷ steps) (suc count) none = fewer_none steps count none
   fewer_none (Rebase ∷ steps) (suc count) none = fewer_none steps count none
 
-  -- the first so many of some steps accept what may be accepted still
+  -- a first part of steps accepts what may still be accepted
   pub fewer_accept : (steps : List (CoreStep rules.Item)) (count : ℕ) (accepted : List rules.Item)
       → MayAccept steps accepted → MayAccept (take count steps) accepted
   fewer_accept steps zero accepted may = inl refl

@@ -1,4 +1,4 @@
--- What a move from a drive to another does in a library that has what is lent.
+-- A move from one drive to another, in a library that has both.
 use Rattle.std.proofs.Common.{◌≡◌, ◌≢◌, ◌⊎◌, inl, inr, ℕ, ◌-◌, false, List, [], length, set, Option, None, Some, Ok, Err, refl, sym, ap, ◌∙◌, subst}
 use Rattle.tape_disk.specs.Disk.{DiskState}
 use Rattle.scsi_sense.specs.declared.replies.Reply.{Reply}
@@ -24,7 +24,7 @@ module _ {D : Type 0} (state : D → DiskState) (slots : List (Option (BufferSta
   abbrev with_row : List (Option (BayState D)) → HeldState D
   with_row row = record { slots = slots; bays = row }
 
-  -- the row once a drive stands at the source, and then another at the destination
+  -- the drives with one set at the source, and then another at the destination
   abbrev out_row : BayState D → List (Option (BayState D))
   out_row left = set bays (from - 1) (Some left)
 
@@ -46,7 +46,7 @@ module _ {D : Type 0} (state : D → DiskState) (slots : List (Option (BufferSta
   in_becomes : (left later : BayState D) → Becomes to (Some later) (out_row left) (row_with left later)
   in_becomes left later = found_becomes (out_row left) to destination later (out_long left) (at_to left)
 
-  -- a destination that is what it was
+  -- a destination that is unchanged
   in_same : (left : BayState D) → row_with left destination ≡ out_row left
   in_same left = found_same (out_row left) to destination (out_long left) (at_to left)
 
@@ -113,7 +113,7 @@ module _ {D : Type 0} (state : D → DiskState) (slots : List (Option (BufferSta
         ),
       ))
 
-  -- the source, once its cartridge was put back
+  -- the source after its cartridge was put back
   back_becomes : (left later again : BayState D)
       → Becomes from (Some again) (row_with left later) (row_with again later)
   back_becomes left later again = record {

@@ -1,4 +1,4 @@
--- The ends of a move on what is lent, and the row of drives once those that are lent came back.
+-- The ends of a move on lent slots and drives, and the drives after those that were lent were put back.
 use Rattle.std.proofs.Common.{◌≡◌, ◌≢◌, ◌⊎◌, inl, inr, ℕ, ◌-◌, ◌≤◌, ◌<◌, nat_le, ◌&&◌, ◌||◌, not, Bool, true, false, List, length, set, get_or, Option, None, Some, is_some, refl, sym, ap, ◌∙◌, arith, cond, subst}
 use Rattle.std.proofs.lemmas.Bool.Decides.{nat_tests}
 use Rattle.std.proofs.lemmas.List.{length-set, set-get_or}
@@ -19,7 +19,7 @@ known_both true true w rest is = (refl, refl)
 known_both true false w rest is = absurd (cc)
 known_both false l w rest is = absurd (cc)
 
--- where nothing refuses a move
+-- a move that is not refused
 all_known : (k l q c d : Bool) (w x y z : Reply)
     → cond (not (k && l)) (Some w) (cond q (Some x) (cond (not c) (Some y) (cond d (Some z) None))) ≡ None
     → (k ≡ true) × (l ≡ true) × (c ≡ true) × (d ≡ false)
@@ -114,7 +114,7 @@ module _ {D : Type 0} where
       let reach = in_reach bays number bay long at in
       set_becomes bays number (Some later) reach.0 reach.1 long
 
-  -- a drive that is what it was
+  -- a drive that is unchanged
   pub found_same : (bays : List (Option (BayState D))) (number : ℕ) (bay : BayState D) → length bays ≡ 16
       → bay_at bays number ≡ Some bay → set bays (number - 1) (Some bay) ≡ bays
   found_same bays number bay long at =

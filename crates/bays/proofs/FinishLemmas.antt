@@ -9,7 +9,7 @@ use Rattle.bays.specs.declared.finishing.Unwritten.{Unwritten}
 use Rattle.bays.proofs.BayLemmas.{at_no_place}
 
 module _ {D : Type 0} (state : D → DiskState) where
-  -- where there is no drive, none takes a turn
+  -- without a drive, none takes a turn
   pub none_turn : (old new : Option (BayState D)) → old ≡ None → new ≡ None → TurnsAt state old new
   none_turn old new was is =
       subst (λ (b : Option (BayState D)). TurnsAt state b new) (sym was)
@@ -78,7 +78,7 @@ module _ {D : Type 0} (state : D → DiskState) where
           subst (λ (b : Option (BayState D)). TurnsAt state (bay_at old.bays number) b)
           (sym (next.others number apart)) (so_far.turns number below)
 
-  -- a failed one
+  -- a drive whose medium has failed
   pub step_failed : (count : ℕ) (old mid new : HeldState D) (result one last : Result Unit Unwritten)
       → IsWrittenUpTo state count old result mid → TurnsOne (count + 1) mid one new → is_err one ≡ true
       → is_err last ≡ true → IsWrittenUpTo state (count + 1) old last new
@@ -94,7 +94,7 @@ module _ {D : Type 0} (state : D → DiskState) where
     err = (count + 1, omega (arith), next.err);
   }
 
-  -- one that works
+  -- a drive whose medium works
   pub step_fine : (count : ℕ) (old mid new : HeldState D) (result one : Result Unit Unwritten)
       → IsWrittenUpTo state count old result mid → TurnsOne (count + 1) mid one new → is_err one ≡ false
       → IsWrittenUpTo state (count + 1) old result new

@@ -1,4 +1,4 @@
--- What was acknowledged of a cartridge is kept wherever it is moved.
+-- What was acknowledged of a cartridge survives wherever the cartridge is moved.
 use Rattle.std.specs.Prelude.{◌≡◌, ◌≢◌, ◌⊎◌, ◌++◌, ℕ, List, [], ◌∷◌, Bool, true, false, Option, None, Some, refl, if◌then◌else◌}
 use Rattle.std.proofs.Common.{inl, inr, sym, ◌∙◌, ap, subst}
 use Rattle.tape_disk.specs.Disk.{DiskState, IsDisk}
@@ -25,7 +25,7 @@ use Rattle.bays.proofs.CartridgeLemmas.{Moved, honest_in, keep_media, moved_as, 
 use Rattle.bays.proofs.PlaceLemmas.{bay_elsewhere, bay_here, in_bay, same_or_not}
 
 module _ {D : Type 0} (state : D → DiskState) (is_disk : (disk : D) → (state disk).honest → IsDisk (state disk)) where
-  -- a cartridge that moved on is there
+  -- a cartridge that moved is at its new place
   still_there : (a b : Option (BufferState D)) (changes : List Change) (medium : BufferState D) → a ≡ Some medium
       → Moved state is_disk a b changes → (later : BufferState D) × (b ≡ Some later)
   still_there None b changes medium is moved = absurd (cc)
@@ -89,7 +89,7 @@ module _ {D : Type 0} (state : D → DiskState) (is_disk : (disk : D) → (state
           unmoved (cartridge_at old place) (cartridge_at new after)
           (ap (λ (n : ℕ). cartridge_at new n) is ∙ stays.others place off)
 
-  -- what is in a drive through a turn
+  -- the medium of a drive through a turn
   turned : (old new : Option (BayState D)) → TurnsAt state old new
       → Moved state is_disk (cartridge_in old) (cartridge_in new) []
   turned None None turns = refl

@@ -1,4 +1,4 @@
--- Moves on what is lent: from what they do in each library to what they keep there.
+-- Moves on lent slots and drives: from what they do in each library to what stays there.
 use Rattle.std.proofs.Common.{ℕ, List, Option}
 use Rattle.scsi_sense.specs.declared.replies.Reply.{Reply}
 use Rattle.tape_disk.specs.Disk.{DiskState, IsDisk}

@@ -16,7 +16,7 @@ module _ {X : Type 0} where
   none_lent None left none Q q = q
   none_lent (Some given) left none Q q = absurd (cc)
 
-  -- the same of two
+  -- the same for two drives
   pub neither_lent : (r s : Option (MutBor X)) (left still : Unit {0} ⊎ ((MutBor X × Unit {0}) ⊎ ⊥))
       → option_copied_mut r ≡ None → option_copied_mut s ≡ None
       → (Q : Option X → Option X → Option X → Option X → Type 0) → Q (lent r) (lent s) (back r left) (back s still)
@@ -25,7 +25,7 @@ module _ {X : Type 0} where
   neither_lent (Some given) s left still none nor Q q = absurd (cc)
   neither_lent None (Some given) left still none nor Q q = absurd (cc)
 
-  -- what stands in a place that was found
+  -- the drive of a place that was found
   pub some_is : (found : Option X) (x : X) (Q : X → Type 0) → found ≡ Some x → IfSome found Q → Q x
   some_is found x Q is so = subst (λ (f : Option X). IfSome f Q) is so
 
@@ -41,7 +41,7 @@ module _ {D : Type 0} where
 
   module _ (P : HeldState D → HeldState D → Type 0) (slots slots' : List (Option (BufferState D))) (from to : ℕ)
       (bays : List (Option (BayState D))) (long : length bays ≡ 16) where
-    -- of the values before and after by other names
+    -- the values before and after, by other names
     renewed : (at : HeldState D → HeldState D) (held new other : HeldState D)
         → record { slots = slots; bays = bays } ≡ held → new ≡ other
         → P (at (record { slots = slots; bays = bays })) other → P (at held) new
@@ -141,7 +141,7 @@ module _ {D : Type 0} where
           once = λ same. refl;
         }))
 
-  -- a drive that was taken out, or none was there
+  -- a drive was taken out, or there was none
   module _ (slots : List (Option (BufferState D))) (bays : List (Option (BayState D))) (number place : ℕ)
       (found left : Option (BayState D)) (held : HeldState D) (is : record { slots = slots; bays = bays } ≡ held)
       (drive : IsDriveAddress number) (at : place ≡ number - 1) (there : bay_at bays number ≡ found)
@@ -152,7 +152,7 @@ module _ {D : Type 0} where
     in_place : get_or bays place None ≡ found
     in_place = ap (λ (i : ℕ). get_or bays i None) at ∙ sym (at_place bays number drive.least) ∙ there
 
-    -- what stood there is put back
+    -- the drive that was there is put back
     same_again : set (set bays place left) (number - 1) found ≡ bays
     same_again =
         ap (λ (i : ℕ). set (set bays place left) i found) (sym at)

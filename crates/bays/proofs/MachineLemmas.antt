@@ -1,4 +1,4 @@
--- What a step of the drive machine does to reservations and keeper: nothing, or an order's work.
+-- What a step of the drive machine does to reservations and keeper: nothing, or the work of an order.
 use Rattle.std.proofs.Common.{◌≡◌, ◌⊎◌, inl, inr, ℕ, [], Bool, true, false, Option, None, Some, Result, Ok, Err, refl, ◌∙◌, ap}
 use Rattle.scsi_sense.specs.declared.replies.Reply.{Reply}
 use Rattle.scsi_sense.specs.declared.sense_data.Sense.{Sense}
@@ -32,7 +32,7 @@ use Rattle.drive_core.specs.State.{Machine, start}
 use Rattle.drive_core.specs.StoredFirst.{GoesTo, StoredFirst}
 use Rattle.drive_core.specs.Work.{DriveWork, MediumWork, Request, WorkBy}
 
--- reservations and keeper are as they were, and nothing was saved
+-- reservations and keeper are unchanged, and nothing was saved
 pub record Unordered (old : Machine) (made : Made) (new : Machine) : Type 0 where
   pub reservations : new.reservations ≡ old.reservations
   pub keeper : new.keeper ≡ old.keeper
@@ -51,7 +51,7 @@ pub record IsOrder (old : Machine) (request : Request) (answer : Result Reply Fa
 abbrev pub Goes : Machine → Request → Result Reply Fault → Made → Machine → Type 0
 Goes old request answer made new = Unordered old made new ⊎ IsOrder old request answer made new
 
--- what leaves a machine with the same reservations and keeper
+-- steps that leave a machine with the same reservations and keeper
 as_it_was : (old : Machine) (made : Made) (new left : Machine) → new ≡ left → left.reservations ≡ old.reservations
     → left.keeper ≡ old.keeper → made.saved ≡ [] → Unordered old made new
 as_it_was old made new left is reservations keeper saved = record {
@@ -157,7 +157,7 @@ load_unload : (honest : Type 0) (load : Bool) (nexus : ℕ) (old : Machine) (ans
 load_unload honest true nexus old answer made new work = loads honest old.bay nexus old answer made new work
 load_unload honest false nexus old answer made new work = unloads honest old.bay old answer made new work
 
--- what is told changes nothing
+-- reported conditions change nothing
 tells : (old : Machine) (made : Made) (new : Machine) → made ≡ made_nothing → new ≡ old → Unordered old made new
 tells old made new none is = as_it_was old made new old is refl refl (none_saved made none)
 

@@ -65,13 +65,13 @@ module _ {D : Type 0} (state : D → DiskState) (is_disk : (disk : D) → (state
       (λ image left. to_core old.keeper.heading old.keeper.states old.keeper.torn image
       (holding.shows honest image left))).0
 
-  -- a store that is left alone
+  -- a store that is not called
   saves_nothing : (old new : OpenStore D) → new ≡ old → StoreMoves state old [] new
   saves_nothing old new same =
       subst (λ (k : OpenStore D). StoreMoves state old [] k) (sym same)
       (core_moves_nowhere store_rules (one_disk state) (one_is_device state) old.disk (core_of old) (is_disk old.disk))
 
-  -- what a loading makes of the medium that is handed in
+  -- the medium after a loading
   pub taken_moved : (old : BayState D) (given : BufferState D) (result : Result Unit (BufferState D × Reply))
       (new : BayState D) → TakesIn (state_of state) (buffer_below state) old given result new
       → Moved state is_disk (Some given) (loaded_or_back state result new) []
@@ -80,7 +80,7 @@ module _ {D : Type 0} (state : D → DiskState) (is_disk : (disk : D) → (state
       takes.1.advances.moved
   taken_moved old given (Err back) new takes = takes.1.advances.moved
 
-  -- what an unloading makes of the medium in the drive
+  -- the medium after an unloading
   pub out_moved : (bay : Bay (BufferState D)) (old : BayState D) (result : Result (BufferState D) Reply)
       (new : BayState D) → old.bay ≡ bay → GoesOutOf (state_of state) (buffer_below state) bay old result new
       → Moved state is_disk (medium_in bay) (out_or_in state result new) []
@@ -96,7 +96,7 @@ module _ {D : Type 0} (state : D → DiskState) (is_disk : (disk : D) → (state
   out_moved (Loaded m) old (Err reply) new is goes =
       subst (λ (d : BayState D). Moved state is_disk (Some m) (medium_in d.bay) []) (sym goes.3) goes.1.2.moved
 
-  -- what is in a drive that was just switched on is the medium as it opened
+  -- the medium of a drive that was just switched on is the one that was opened
   abbrev in_some : Option (Bay (BufferState D)) → Option (BufferState D)
   in_some None = None
   in_some (Some bay) = medium_in bay
@@ -126,7 +126,7 @@ module _ {D : Type 0} (state : D → DiskState) (is_disk : (disk : D) → (state
   on_keeper None reservations store new on = ap (λ (d : BayState D). d.keeper) on
   on_keeper (Some given) reservations store new on = ap (λ (d : BayState D). d.keeper) on.5
 
-  -- every moment of a power on, where memory was there
+  -- every moment of a power on that had memory
   pub on_moments : (given : Option (BufferState D)) (reservations : PrState) (store : OpenStore D) (new : BayState D)
       → HoldingGives (state_of state) (buffer_below state) state → KeepsCartridgeIn state given
       → IsHolding (state_of state) (buffer_below state) state new
@@ -177,7 +177,7 @@ module _ {D : Type 0} (state : D → DiskState) (is_disk : (disk : D) → (state
             (shows honest));
       }
 
-  -- all that was accepted is safe, where each medium that may be there says so
+  -- all that was accepted is safe, where it is so for each medium that may be there
   pub safe_where : (found : Option (BufferState D))
       → ((medium : BufferState D) → found ≡ Some medium → CanAcknowledge (medium_core state medium))
       → IsSafeIn state found
@@ -185,14 +185,14 @@ module _ {D : Type 0} (state : D → DiskState) (is_disk : (disk : D) → (state
   safe_where (Some medium) each = each medium refl
 
   module _ (goes_on : HoldingGoesOn (state_of state) (buffer_below state) state) where
-    -- what a call leaves keeps both again
+    -- the invariant of both holds after a call
     pub call_keeps : (old new : BayState D) (call : Call) → KeepsBoth state old
         → CallDoes (state_of state) (buffer_below state) state old call new → KeepsCartridgeIn state (medium_in new.bay)
         → KeepsBoth state new
     call_keeps old new call kept does known =
         record { cartridge = known; reservations = (goes_on old new call kept.reservations does).0 }
 
-    -- and at each moment inside it a crash leaves what that says
+    -- at each moment inside the call a crash leaves what this says
     every_moment : (old new : BayState D) (call : Call) (made : Made) (before after : Option (BufferState D))
         → KeepsBoth state old → CallDoes (state_of state) (buffer_below state) state old call new
         → KeepsCartridgeIn state before → Moved state is_disk before after made.changes
@@ -236,7 +236,7 @@ module _ {D : Type 0} (state : D → DiskState) (is_disk : (disk : D) → (state
         (moved_by state is_disk (medium_in old.bay) (medium_in new.bay) [] (turn_met_fault turn) takes.advances)
         (saves_nothing old.keeper new.keeper takes.keeper)
 
-    -- of a cartridge that comes or goes
+    -- of a cartridge that is loaded or unloaded
     moved_moments : (old new : BayState D) (before after : Option (BufferState D)) → KeepsBoth state old
         → ChangesBay (state_of state) (buffer_below state) state old new → KeepsCartridgeIn state before
         → Moved state is_disk before after [] → EveryMoment state old call.Moved made_nothing before after new

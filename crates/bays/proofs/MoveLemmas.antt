@@ -54,7 +54,7 @@ module _ {D : Type 0} (state : D → DiskState) where
         subst (λ (found : Option (BufferState D)). StaysAt state found new) (sym old_is)
         (subst (λ (found : Option (BufferState D)). StaysAt state (Some given) found) (sym new_is) stays)
 
-    -- what goes out of a drive
+    -- a cartridge that comes out of a drive
     goes_out : (b : Bay (BufferState D)) (bay left : BayState D) (given out : BufferState D)
         → medium_in b ≡ Some given → IsAwakeIn state b
         → GoesOutOf (state_of state) (buffer_below state) b bay (Ok out) left
@@ -71,7 +71,7 @@ module _ {D : Type 0} (state : D → DiskState) where
       ap (λ (b : BayState D). medium_in b.bay) goes.1,
     )
 
-    -- what stays in a drive, since its device failed
+    -- a cartridge that stays in a drive, since its device failed
     stays_in : (b : Bay (BufferState D)) (bay left : BayState D) (given : BufferState D) (reply : Reply)
         → medium_in b ≡ Some given → IsAwakeIn state b
         → GoesOutOf (state_of state) (buffer_below state) b bay (Err reply) left
@@ -141,7 +141,7 @@ module _ {D : Type 0} (state : D → DiskState) where
           others = bay_elsewhere to goes.1.1 mid new goes.1.4;
         }
 
-    -- a cartridge came back from a drive, which is as it was
+    -- a cartridge was returned by a drive, which is unchanged
     record ComesBack (mid : HeldState D) (to : ℕ) (out back : BufferState D) (reply : Reply) (left : HeldState D) :
         Type 0 where
       same : StaysCartridge state out back

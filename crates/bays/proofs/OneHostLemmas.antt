@@ -32,7 +32,7 @@ use Rattle.bays.specs.Runs.{AnswersOrders, Command, LibraryAnswers, Order, is_co
 use Rattle.bays.proofs.BesideLemmas.{beside_map, beside_nothing, dealt, same_beside}
 use Rattle.bays.proofs.ServedLemmas.{counted, found_same, none_asked, orders_are, served_at}
 
--- requests ask as they do
+-- requests are alike to themselves
 ask_alike : (requests : List Request) → AllAskAlike (map Execute requests) (map Execute requests)
 ask_alike [] = tt
 ask_alike (request ∷ requests) = (refl, ask_alike requests)
@@ -42,7 +42,7 @@ no_turns : (requests : List Request) → without_turns (map Execute requests) �
 no_turns [] = refl
 no_turns (request ∷ requests) = ap (λ (rest : List Input). Execute request ∷ rest) (no_turns requests)
 
--- replies without a fault are the replies of what came
+-- replies without a fault are the replies of the outputs
 replies_among : (replies : List Reply) → replies_of (map Answered (map Ok replies)) ≡ replies
 replies_among [] = refl
 replies_among (reply ∷ replies) = ap (λ (rest : List Reply). reply ∷ rest) (replies_among replies)
@@ -51,13 +51,13 @@ replied : (replies : List Reply) → map reply_of (map Ok replies) ≡ replies
 replied [] = refl
 replied (reply ∷ replies) = ap (λ (rest : List Reply). reply ∷ rest) (replied replies)
 
--- and no fault, want of memory or full side came
+-- and memory did not run out, no side was full, and no fault came
 all_calm : (replies : List Reply) → All IsCalm (map Answered (map Ok replies))
 all_calm replies =
     All-map IsCalm Answered (map Ok replies)
     (All-map (λ (answer : Result Reply Fault). IsCalm (Answered answer)) Ok replies (λ k d h. tt))
 
--- requests take no medium in
+-- requests load no medium
 bring_nothing : (requests : List Request) → All BringsSure (map Execute requests)
 bring_nothing requests = All-map BringsSure Execute requests (λ k d h. tt)
 
@@ -95,7 +95,7 @@ pub record Laws {D : Type 0} (state : D → DiskState) : Type 0 where
   pub no_moves : NoMoveIsRun
 
 module _ {D : Type 0} (state : D → DiskState) (laws : Laws state) where
-  -- a drive may give no other replies than it gave
+  -- a drive may give no other replies than those that it gave
   told_alike : (bay : BayState D) (requests : List Request) (silent others : List Reply) (made : Made) (end : Machine)
       → IsHonestBay state bay → IsSureDrive (seen_of (machine_in state bay))
       → Run (IsHonestBay state bay) (machine_in state bay) (map Execute requests) (map Answered (map Ok silent)) made
@@ -148,7 +148,7 @@ module _ {D : Type 0} (state : D → DiskState) (laws : Laws state) where
             (record { left = served.left; is = served.is; made = own.made; run = own.run });
       }
 
-  -- two lists of replies that each drive may have given are the same beside its lines
+  -- two lists of replies that each drive may have given are the same for its lines
   agree : (number : ℕ) (lines : List Line) (replies silent others : List Reply) (old new : HeldState D)
       (answers : List (Result Reply Fault))
       → AnswersOrders state old (map Command lines) replies new → answers ≡ map Ok silent

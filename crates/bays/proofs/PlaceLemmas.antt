@@ -1,4 +1,4 @@
--- What is at an address of a library, where one place has changed; and which answers of a move are no refusal.
+-- The cartridge at an address of a library, of which one place has changed; and which replies to a move are no refusal.
 use Rattle.std.proofs.Common.{◌≡◌, ◌≢◌, ◌⊎◌, inl, inr, ℕ, ◌==◌, not, Bool, true, false, List, [], Option, None, Some, is_some, refl, sym, ap, ◌∙◌, cond, arith}
 use Rattle.std.proofs.lemmas.Bool.Decides.{nat_tests}
 use Rattle.scsi_sense.specs.declared.replies.Reply.{Reply}
@@ -54,7 +54,7 @@ wake_is_not_good Errors.SideFull = check_is_not_good _ _
 wake_is_not_good Errors.Failed = check_is_not_good _ _
 wake_is_not_good (Errors.Refused cause) = check_is_not_good _ _
 
--- four tests in their order
+-- four tests, one after another
 pub all_passed : (a b c d : Bool) (w x y z : Reply)
     → cond (not a) (Some w) (cond b (Some x) (cond (not c) (Some y) (cond d (Some z) None))) ≡ None
     → (c ≡ true) × (d ≡ false)
@@ -73,7 +73,7 @@ one_failed true true c d w x y z good r dw dx dy dz is = λ same. dx (the_same x
 one_failed false b c d w x y z good r dw dx dy dz is = λ same. dw (the_same w r is ∙ same)
 
 module _ {D : Type 0} where
-  -- what is at an address that changed, and at any other
+  -- the cartridge at an address that changed, and at any other
   pub slot_here : (address : ℕ) (cartridge : Option (BufferState D)) (old new : HeldState D) → is_slot address ≡ true
       → SlotHolds address cartridge old new → cartridge_at new address ≡ cartridge
   slot_here address cartridge old new slot is =
@@ -114,7 +114,7 @@ module _ {D : Type 0} where
   in_slot address held slot =
       ap (λ (b : Bool). cond b (held_at held.slots address) (cartridge_in (bay_at held.bays address))) slot
 
-  -- the drives are where they were, if this one alone has changed
+  -- the same drives are configured where only this one has changed
   pub bay_stays : (address : ℕ) (bay left : BayState D) (old new : HeldState D) → bay_at old.bays address ≡ Some bay
       → BayIs address left old new → KeepsBays old new
   bay_stays address bay left old new at is number = by (same_or_not number address)

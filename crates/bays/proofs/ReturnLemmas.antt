@@ -1,4 +1,4 @@
--- What a function has to show where it returns, at other arguments that are the same.
+-- The facts that a function shows where it returns, for other arguments that are the same.
 use Prim.Native.Nat.{ℕ}
 use mathlib.Core.List.{List}
 use mathlib.Core.Path.{◌≡◌, subst, sym}
@@ -12,7 +12,7 @@ use borrow.Fn.Frame.{rows_from}
 use borrow.Fn.Enter.{lasts_p, rows_ret_p}
 
 module _ {n : ℕ} (ps : List (ParamKind n)) (r : ResultKind n) (xs : List Ty) (κs : Lfts n) (Q : Out n ps r) where
-  -- what is asked at the return: the arguments, the result, and what the function leaves behind
+  -- the goal at the return: the arguments, the result, and what the function leaves
   abbrev pub AtReturn : Dens κs ps → (res_t r κs).Denot → St (rows_from 1 (rows_ret_p κs ps xs)) → Type 0
   AtReturn args result left =
       Q κs args result (at_exit (ended_of n ps r) κs args (lasts_p κs 1 ps xs args left))

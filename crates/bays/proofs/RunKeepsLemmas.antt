@@ -1,4 +1,4 @@
--- What a run of orders over a library keeps.
+-- What survives a run of orders over a library.
 use Rattle.std.proofs.Common.{◌≡◌, ◌≢◌, ◌⊎◌, ◌++◌, ◌∙◌, inl, inr, ℕ, Bool, true, List, [], ◌∷◌, Option, Some, Result, Ok, Err, flat_map, refl, sym, ap, subst}
 use Rattle.tape_disk.specs.Disk.{DiskState}
 use Rattle.tape_disk.specs.TwoDisks.{AreHonest, TwoDisks}
@@ -35,7 +35,7 @@ use Rattle.bays.proofs.PlaceLemmas.{in_bay, same_or_not}
 use Rattle.bays.proofs.ServedLemmas.{found_same}
 
 module _ {D : Type 0} (state : D → DiskState) where
-  -- a command is done with its drive
+  -- a command is one use of its drive
   does : (old mid : HeldState D) (line : Line) (reply : Reply)
       → (one : Commands state line.drive (line_request line) old reply mid)
       → DriveDoes state line.drive (Commanded (line_request line) reply) one.step.taken.made old mid
@@ -49,7 +49,7 @@ module _ {D : Type 0} (state : D → DiskState) where
         now = one.now;
       }
 
-  -- a cartridge goes with an order
+  -- a cartridge through an order
   goes_one : (old mid : HeldState D) (place : ℕ) (order : Order) (reply : Reply)
       → AnswersOrder state old order reply mid
       → (after : ℕ) × (changes : List Change) × GoesWith state old place (deed_of order reply) changes mid after
@@ -86,7 +86,7 @@ module _ {D : Type 0} (state : D → DiskState) where
       let rest = goes_all mid new first.0 orders replies others in
       (rest.0, first.1 ++ rest.1, (mid, first.0, first.1, rest.1, first.2, rest.2, refl))
 
-  -- the side of one that is awake gave a volume
+  -- the side of an awake cartridge gave a volume
   stored_in : (held : Holding (OpenCartridge D) (ClosedCartridge D)) (pending : List Change)
       → (state_held state held pending).awake ≡ true
       → (volume : List Part) × ((state_held state held pending).stored ≡ Some volume)
@@ -94,7 +94,7 @@ module _ {D : Type 0} (state : D → DiskState) where
   stored_in (Closed cartridge) pending awake = absurd (cc)
   stored_in Between pending awake = absurd (cc)
 
-  -- what is kept of a cartridge that is awake, on honest disks, is known
+  -- the invariant of an awake cartridge on honest disks makes it known
   known_of : (medium : BufferState D) (disks : TwoDisks D) → KeepsCartridge state medium
       → disks_in medium.held ≡ Some disks → AreHonest state disks → (state_of state medium).awake ≡ true
       → IsKnown state medium
@@ -166,7 +166,7 @@ module _ {D : Type 0} (state : D → DiskState) where
                 );
           }
 
-      -- nothing more was run
+      -- no more orders were run
       stays : (old mid new : HeldState D) (items : List Item) (replies : List Reply) → new ≡ mid
           → LibraryAnswers state old items replies mid → RunKeeps state old new
       stays old mid new items replies same answered =
@@ -174,7 +174,7 @@ module _ {D : Type 0} (state : D → DiskState) where
           (subst (λ (h : HeldState D). AnswersOrders state old (flat_map orders_of items) replies h) (sym same)
           answered)
 
-      -- some was
+      -- some orders were run
       more : (old mid new : HeldState D) (items others : List Item) (replies more_replies : List Reply)
           → LibraryAnswers state old items replies mid → LibraryAnswers state mid others more_replies new
           → RunKeeps state old new

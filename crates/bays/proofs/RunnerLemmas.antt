@@ -27,7 +27,7 @@ phase_is : (lines : List Line) → flat_map orders_of (Phase lines ∷ []) ≡ m
 phase_is lines = append-nil (map Command lines)
 
 module _ {D : Type 0} (state : D → DiskState) where
-  -- a phase goes on by one more command
+  -- a phase with one more command
   pub phase_on : (old mid new : HeldState D) (lines : List Line) (line : Line) (replies : List Reply) (reply : Reply)
       → LibraryAnswers state old (Phase lines ∷ []) replies mid
       → Commands state line.drive (line_request line) mid reply new

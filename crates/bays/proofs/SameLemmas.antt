@@ -1,4 +1,4 @@
--- A cartridge that is parked, opened or refused is the same one, and gives what it gave.
+-- A cartridge that is parked, opened or refused is the same one, and gives the same volume.
 use Rattle.std.proofs.Common.{◌≡◌, ◌⊎◌, inl, inr, ℕ, Bool, true, false, List, [], Option, None, Some, Ok, Err, refl, sym, ap, ◌∙◌, cond, subst, arith}
 use Rattle.vtl_base.specs.Below.{Counts}
 use Rattle.tape_disk.specs.Disk.{DiskState}
@@ -12,7 +12,7 @@ use Rattle.tape_buffer.specs.Moves.{buffer_below, medium_moves_on}
 use Rattle.tape_buffer.specs.State.{BufferState, state_of}
 use Rattle.bays.specs.Moves.{IsSameCartridge, StaysCartridge, volume_given}
 
--- what a side gave that was opened, where no frame was under way
+-- what the side gave that was opened, where no frame was in flight
 opened_gives : (stored found : Option (List Part)) (torn : List Change) → (stored ≡ None → ⊥)
     → (found ≡ stored) ⊎ (found ≡ Some (after (volume_or_empty stored) torn)) → torn ≡ []
     → Some (volume_or_empty found) ≡ stored
@@ -28,18 +28,18 @@ given_by : (b : Bool) (medium : MediumState) → medium.awake ≡ b
 given_by b medium is = ap (λ (awake : Bool). cond awake (Some (volume_of medium)) medium.stored) is
 
 module _ {D : Type 0} (state : D → DiskState) where
-  -- what is parked was opened
+  -- a parked medium was opened
   parked_read : (honest : Type 0) (failed : Bool) (old new : MediumState) → IsParkedFrom honest failed old new
       → new.unread ≡ false
   parked_read honest false old new h = h.unread_is
   parked_read honest true old new h = h.unread_is
 
-  -- no frame is under way, if it is parked
+  -- no frame is in flight, if it is parked
   abbrev pub IsSure : MediumState → Type 0
   IsSure medium = medium.awake ≡ false → medium.torn ≡ []
 
   -- a cartridge and a later one: nothing was accepted, no device failed, honesty stayed, and where it is sure what the
-  -- first gives, it is of the second too, which gives that
+  -- first gives, the second gives the same, and that is sure
   pub record Keeps (old new : BufferState D) : Type 0 where
     pub moves : (buffer_below state).moves old [] new
     pub honest : (buffer_below state).honest old → (buffer_below state).honest new
@@ -75,7 +75,7 @@ module _ {D : Type 0} (state : D → DiskState) where
       mid_either (inl read) = inl (one.read read)
       mid_either (inr calm) = inr (calm ∙ sym one.count)
 
-  -- what is the same stays
+  -- equal cartridges stay
   pub same_stays : (a b : BufferState D) → IsSameCartridge state a b → StaysCartridge state a b
   same_stays a b same =
       record { moves = same.moves; gives = λ honest works sure either. same.gives honest works sure }

@@ -1,4 +1,4 @@
--- What each drive of a library answered, of the commands of some lines.
+-- The answers of each drive of a library to its commands of some lines.
 use Rattle.std.proofs.Common.{◌≡◌, ◌≢◌, ℕ, ◌==◌, Bool, true, false, List, [], ◌∷◌, ◌++◌, Option, None, Some, is_some, cond, filter, flat_map, length, map, refl, sym, ap, ◌∙◌, subst, arith}
 use Rattle.std.proofs.lemmas.Bool.{eqb-false, eqb-true}
 use Rattle.std.proofs.lemmas.List.{map-append}
@@ -21,7 +21,7 @@ use Rattle.bays.specs.Moves.{KeepsBays}
 use Rattle.bays.specs.OneHost.{beside, requests_at}
 use Rattle.bays.specs.Runs.{AnswersOrders, Command, Order, orders_of, line_request}
 
--- a value that is found twice is the same
+-- two lookups of one value are the same
 pub found_same : {X : Type 0} (x y : X) → Some x ≡ Some y → x ≡ y
 found_same {X} x y is = ap (λ (found : Option X). value found) is
   where
@@ -39,7 +39,7 @@ orders_are (Phase lines ∷ items) all =
 orders_are (Move from to ∷ items) all = absurd (cc)
 
 module _ {D : Type 0} (state : D → DiskState) where
-  -- the drive of this number, which was this, answered its own of these lines
+  -- the drive of this number, from this state, answered its own of these lines
   pub record ServedAt
       (number : ℕ) (lines : List Line) (replies : List Reply) (bay : BayState D) (held : HeldState D) : Type
       0 where
@@ -49,7 +49,7 @@ module _ {D : Type 0} (state : D → DiskState) where
         Serves (state_of state) (buffer_below state) store_kept (store_below state) bay
         (requests_at number lines) (beside number lines replies) left
 
-  -- a command to this drive, or to another, and what comes then
+  -- a command to this drive, or to another, and then more
   one_more : (number : ℕ) (line : Line) (lines : List Line) (reply : Reply) (replies : List Reply) (bay : BayState D)
       (old mid new : HeldState D) (test : Bool) → (line.drive == number) ≡ test
       → Commands state line.drive (line_request line) old reply mid → bay_at old.bays number ≡ Some bay
@@ -108,7 +108,7 @@ module _ {D : Type 0} (state : D → DiskState) where
   counted old new [] (reply ∷ replies) ran = absurd ran
   counted old new (line ∷ lines) [] ran = absurd ran
 
-  -- a drive that is not there was not asked
+  -- a drive that is not configured got no command
   none_more : (number : ℕ) (line : Line) (rest : List Line) (reply : Reply) (old mid : HeldState D) (test : Bool)
       → (line.drive == number) ≡ test → Commands state line.drive (line_request line) old reply mid
       → bay_at old.bays number ≡ None → (bay_at mid.bays number ≡ None → rest ≡ [])
@@ -132,7 +132,7 @@ module _ {D : Type 0} (state : D → DiskState) where
   none_asked number old new [] (reply ∷ replies) ran none = absurd ran
   none_asked number old new (line ∷ lines) [] ran none = absurd ran
 
-  -- a command leaves the drives where they are
+  -- the same drives are configured after a command
   pub commands_keep : (number : ℕ) (request : Request) (old : HeldState D) (reply : Reply) (new : HeldState D)
       → Commands state number request old reply new → KeepsBays old new
   commands_keep number request old reply new commands other = by (other == number) refl

@@ -1,4 +1,4 @@
--- An order that was answered GOOD is there.
+-- The state of an order with the reply GOOD is held.
 use Rattle.std.proofs.Common.{◌≡◌, ◌⊎◌, inl, inr, ℕ, Bool, true, false, Result, Ok, Err, refl, sym, ◌∙◌, ap, subst}
 use Rattle.scsi_attention.specs.AttentionSets.{AttentionSet}
 use Rattle.std.specs.Prelude.{List}
@@ -38,7 +38,7 @@ module _ (old : Machine) (request : Request) (answer : Result Reply Fault) (made
       → IsOrdered old request new.reservations
   now state ordered is = subst (λ (s : PrState). IsOrdered old request s) (sym is) ordered
 
-  -- the order's state, or what was there
+  -- the order's state, or the one before
   by_saving : (saving : Result Unit KeeperError) (keeper : KeeperState) (brought : PrAnswer) (state : PrState)
       (told : List AttentionSet) → IsOrdered old request state
       → StandsOnceSaved saving keeper brought state told old answer new

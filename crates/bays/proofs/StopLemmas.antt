@@ -103,7 +103,7 @@ module _ {M D : Type 0} (medium : M → MediumState) (below : Below M Change) (d
             ),
           )
 
-  -- calls leave a drive that holds, over a disk that is honest still
+  -- after calls IsHolding holds, over a disk that is still honest
   calls_leave : (old mid : DriveState M (OpenStore D)) (calls : List Call)
       → IsHolding medium below disk old → Calls medium below disk old calls mid
       → IsHolding medium below disk mid
@@ -166,7 +166,7 @@ module _ {M D : Type 0} (medium : M → MediumState) (below : Below M Change) (d
       let found = left.1 (there.1 honest) in
       (found.1, found.2, found.0, left.0)
 
-  -- what a call leaves of the reservations
+  -- the reservations after a call
   pub stand : OrdersStand medium below disk
   stand old new (Turned turn) takes = (
     inl (turn_leaves medium below disk is_disk keep due lost _ (machine_of medium store_kept old) takes.step.0

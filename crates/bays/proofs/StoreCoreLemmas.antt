@@ -1,4 +1,4 @@
--- The images of a store whose states are these, or these with one more, in the words of its core.
+-- The images of a store with these states, or these with one more, in terms of its core.
 use Rattle.std.proofs.Common.{◌≡◌, ◌⊎◌, inl, inr, ℕ, ◌≤◌, ◌+◌, List, [], ◌∷◌, ◌++◌, length, take, false, Option, None, Some, is_some, refl, sym, ◌∙◌, subst, arith, length-append}
 use Rattle.std.proofs.lemmas.List.{append-nil, take_all, take_at}
 use Rattle.tape_disk.specs.Disk.{DiskState}
@@ -30,7 +30,7 @@ pub given_as : (heading : Heading) (xs ys : List PrState) (image : List ℕ) →
     → GivesStates heading ys image
 given_as heading xs ys image same gives = subst (λ (l : List PrState). GivesStates heading l image) same gives
 
--- what shows states shows their core, and back
+-- an image shows these states exactly where it shows their core
 pub to_core : (heading : Heading) (states : List PrState) (torn : Option PrState) (image : List ℕ)
     → ShowsStates heading states torn image → ShowsCore store_rules (core_with heading states torn) image
 to_core heading states None image (inl gives) =
@@ -57,7 +57,7 @@ from_core heading states (Some more) image (inl gives) =
 from_core heading states (Some more) image (inr gives) =
     inr (given_as heading _ (states ++ more ∷ []) image (after states more) gives)
 
--- the core of a store has accepted its states, and the one under way
+-- the core of a store has accepted its states, and the one whose save is in doubt
 pub core_within : (heading : Heading) (states : List PrState) (torn : Option PrState) (more : PrState)
     → (torn ≡ None) ⊎ (torn ≡ Some more)
     → Within store_rules heading states more (core_with heading states torn)
@@ -85,7 +85,7 @@ abbrev pub GivesEither : Heading → List PrState → PrState → List ℕ → T
 GivesEither heading states more image =
     GivesStates heading states image ⊎ GivesStates heading (states ++ more ∷ []) image
 
--- a core within shows one of the two
+-- a core within these bounds shows one of the two
 within_gives : (heading : Heading) (states : List PrState) (more : PrState) (core : Core Heading PrState)
     → Within store_rules heading states more core → (image : List ℕ) → ShowsCore store_rules core image
     → GivesEither heading states more image

@@ -1,5 +1,5 @@
--- What a list of events keeps of what was accepted, whatever stops come between: of the changes of a cartridge, and of
--- the orders of a drive's reservations.
+-- What survives of the accepted changes of a cartridge, and of the orders of a drive's reservations, through any list
+-- of events and stops.
 use Rattle.std.specs.Prelude.{◌≡◌, ◌+◌, ◌++◌, ℕ, List, [], ◌∷◌, Bool, true, false, Option, None, Some, flat_map, length, map}
 use Rattle.scsi_lists.specs.declared.pr_lists.PrOut.{PrOut}
 use Rattle.pr_core.specs.declared.states.PrAnswer.{PrAnswer}
@@ -19,7 +19,7 @@ pub data PrEvent : Type 0 where
   Ordered : (nexus : ℕ) → (order : PrOut) → PrEvent
   PowerLost : PrEvent
 
--- the state that an effect leaves (own)
+-- the state after an effect (own)
 abbrev pub state_left : Effect → PrState
 state_left effect = record {
   keys = map effect.keys nexuses;
@@ -28,30 +28,28 @@ state_left effect = record {
   generation = effect.generation;
 }
 
--- what reservations become by an order, or by a loss of power (SPC-4, PERSISTENT RESERVE OUT, persist through power
--- loss)
+-- the reservations after an order, or after a loss of power (SPC-4, PERSISTENT RESERVE OUT, persist through power loss)
 abbrev pub pr_after : PrState → PrEvent → PrState
 pr_after state (Ordered nexus order) = state_left (effect_of state nexus order)
 pr_after state PowerLost = power_loss state
 
--- what they become by all of these, one after another (own)
+-- the reservations after all of these, one after another (own)
 abbrev pub pr_after_all : PrState → List PrEvent → PrState
 pr_after_all state [] = state
 pr_after_all state (event ∷ events) = pr_after_all (pr_after state event) events
 
--- an order is answered GOOD (own)
+-- the answer to an order is GOOD (own)
 abbrev pub is_good : PrAnswer → Bool
 is_good Good = true
 is_good _ = false
 
--- an order that is answered GOOD is taken, and every loss of power (own)
+-- an order with the answer GOOD counts, and every loss of power (own)
 abbrev pub is_taken : PrState → PrEvent → Bool
 is_taken state (Ordered nexus order) = is_good (effect_of state nexus order).answer
 is_taken state PowerLost = true
 
--- A drive accepts orders that are answered GOOD behind those before them, from nothing registered or reserved on, and
--- losses of power; an image of its store gives what a loss of power leaves of all that; what all is carried out from
--- never changes (own).
+-- A drive starts with no registration and no reservation, and accepts losses of power and the orders with the answer
+-- GOOD, in order. An image of its store gives what a loss of power leaves of all these. The base never changes (own).
 abbrev pub order_rules : Rules
 order_rules = record {
   Base = Heading;
@@ -62,8 +60,8 @@ order_rules = record {
   rebases = λ heading events other. ⊥;
 }
 
--- what a drive has accepted of orders and losses of power, once these led to what it holds: just these, and behind them
--- the order whose save failed, if one did (own)
+-- the core of a drive whose reservations come from these orders and losses of power: exactly these are accepted, and
+-- then the order whose save failed, if one did (own)
 abbrev pub orders_core : Heading → List PrEvent → Option PrEvent → Core Heading PrEvent
 orders_core heading events None =
     record {
@@ -87,8 +85,8 @@ orders_core heading events (Some failed) =
     }
 
 module _ (rules : Rules) where
-  -- For every list of events, each a list of steps: what was accepted at an acknowledgement, in whichever event it
-  -- stands, begins what is accepted at any moment behind it, inside an event too, whatever stops come between (own).
+  -- For every list of events, each a list of steps: what was accepted at an acknowledgement, in whichever event, begins
+  -- what is accepted at any later moment, inside an event too, whatever stops come between (own).
   abbrev pub StopsKeepAccepted : Type 0
   StopsKeepAccepted =
       (first acked last : Core rules.Base rules.Item) (events : List (List (CoreStep rules.Item)))
@@ -97,8 +95,8 @@ module _ (rules : Rules) where
       → IsCore first → AllStepTo rules first before acked → AllStepTo rules acked (Ack ∷ after) last
       → IsPrefix acked.accepted last.accepted
 
-  -- Some steps lead to a core in which what was accepted in the old one begins what is accepted, carried out from where
-  -- it was; just that goes into what all is carried out from in the next one, and the other steps follow (own).
+  -- Steps lead to a core with the old base, whose accepted items begin with those of the old core. Exactly its items go
+  -- into the next base, and the other steps follow (own).
   pub record GoesIntoBase
       (old : Core rules.Base rules.Item) (steps rest : List (CoreStep rules.Item)) (new : Core rules.Base rules.Item)
       : Type 0 where
@@ -110,9 +108,9 @@ module _ (rules : Rules) where
     pub into : StepsTo rules mid Rebase next
     pub behind : AllStepTo rules next rest new
 
-  -- What was accepted in a core is kept in one that these steps lead to, carried out from wherever all is then. Where
-  -- no step changes that, it is what it was, and what was accepted begins what is accepted then. The first step that
-  -- changes it has it begin what goes into that (own).
+  -- What was accepted in a core survives in the core that these steps lead to. Where no step changes the base, the base
+  -- stays, and what was accepted begins what is accepted then. The items that go into the first new base begin with
+  -- what was accepted (own).
   pub record KeepsThrough
       (old : Core rules.Base rules.Item) (steps : List (CoreStep rules.Item)) (new : Core rules.Base rules.Item)
       : Type 0 where
@@ -123,9 +121,8 @@ module _ (rules : Rules) where
         (until rest : List (CoreStep rules.Item)) → steps ≡ until ++ Rebase ∷ rest → NoneRebases until
         → GoesIntoBase old until rest new
 
-  -- For every list of events, and of changes of what all is carried out from, each a list of steps: what was accepted
-  -- at an acknowledgement, in whichever event it stands, is kept so at any moment behind it, inside an event too,
-  -- whatever stops come between (own).
+  -- For every list of events and changes of base, each a list of steps: what was accepted at an acknowledgement, in
+  -- whichever event, survives so at any later moment, inside an event too, whatever stops come between (own).
   abbrev pub StopsKeepThrough : Type 0
   StopsKeepThrough =
       (first acked last : Core rules.Base rules.Item) (events : List (List (CoreStep rules.Item)))

@@ -1,5 +1,5 @@
--- What the type of a drive keeps of the disks of its cartridge and of its store, and what each of its calls leaves
--- there at every moment inside it.
+-- The invariant of a drive's type over the disks of its cartridge and its store, and what each call leaves on them at
+-- every moment inside it.
 use Rattle.std.specs.Prelude.{◌≡◌, ◌⊎◌, ℕ, List, [], false, Option, None, Some, option_map, Result, Ok, Err}
 use Rattle.tape_disk.specs.Disk.{DiskState, Each}
 use Rattle.tape_disk.specs.Moments.{LeavesOnly}
@@ -29,13 +29,13 @@ use Rattle.bays.specs.Elements.{BayState}
 use Rattle.bays.specs.Reservations.{Asked, Call, GivesHeld, IsHolding, LeavesHeld, disk_of}
 
 module _ {D : Type 0} (state : D → DiskState) where
-  -- a medium was opened before, or nothing else may be left by a crash than what a read gives (own)
+  -- a medium was opened before, or a crash leaves only what reads return (own)
   abbrev pub IsOpenedOrSettled : BufferState D → Type 0
   IsOpenedOrSettled medium = ((state_of state medium).unread ≡ false) ⊎ IsSettledIn state medium.held
 
-  -- What is kept of a cartridge: what is safe is stored, and what is stored was accepted; while its device works and
-  -- nothing was stopped, all that is stored is safe and the rest is pending; and of one that was opened or is settled,
-  -- and gives a volume, each pair of images that a crash now may leave gives what is safe, or what is stored (own).
+  -- The invariant of a cartridge. What is safe is stored, and what is stored was accepted. While its device works and
+  -- nothing was stopped, all that is stored is safe, and the rest is pending. Where it was opened or is settled, and
+  -- gives a volume, each pair of images that a crash may leave now gives what is safe, or what is stored (own).
   pub record KeepsCartridge (medium : BufferState D) : Type 0 where
     pub core : IsCore (medium_core state medium)
     pub whole : IsSafeOrPending (medium_core state medium) medium.pending
@@ -43,27 +43,27 @@ module _ {D : Type 0} (state : D → DiskState) where
         IsOpenedOrSettled medium → (volume : List Part) → (state_of state medium).stored ≡ Some volume
         → ShowsOn state (disks_in medium.held) (medium_core state medium)
 
-  -- the same of the cartridge in a drive, where there is one (own)
+  -- the same for the cartridge in a drive, if there is one (own)
   abbrev pub KeepsCartridgeIn : Option (BufferState D) → Type 0
   KeepsCartridgeIn None = Unit {0}
   KeepsCartridgeIn (Some medium) = KeepsCartridge medium
 
-  -- what the type of a drive keeps: of the cartridge in it, and of its reservations and their store (own)
+  -- the invariant of a drive's type: for the cartridge in it, and for its reservations and their store (own)
   pub record KeepsBoth (bay : BayState D) : Type 0 where
     pub cartridge : KeepsCartridgeIn (medium_in bay.bay)
     pub reservations : IsHolding (state_of state) (buffer_below state) state bay
 
-  -- Whatever orders and losses of power led to the reservations that a drive holds, and to the state whose save failed,
-  -- if one did: over an honest disk each image that a crash now may leave of its store gives what a loss of power
-  -- leaves of all these, or of those before that order (own).
+  -- For all orders and losses of power that lead to the reservations of a drive, and to the state whose save failed, if
+  -- one did: over an honest disk each image that a crash may leave now of its store gives what a loss of power leaves
+  -- of all these, or of those before that order (own).
   abbrev pub ShowsOrders : BayState D → Type 0
   ShowsOrders bay =
       (events : List PrEvent) (failed : Option PrEvent) → pr_after_all empty_state events ≡ bay.reservations
       → bay.keeper.torn ≡ option_map (pr_after bay.reservations) failed → (state bay.keeper.disk).honest
       → Each (state bay.keeper.disk) (ShowsCore order_rules (orders_core bay.keeper.heading events failed))
 
-  -- From one core to the other, over two honest disks, just these were accepted by the steps of one event: at each
-  -- moment since, a crash leaves what is safe or stored once some of the steps were made; and now, what is in the end
+  -- From one core to the other, over two honest disks, the steps of one event accept exactly these changes. At each
+  -- moment since, a crash leaves what is safe or stored after some of the steps; now, what is safe or stored in the end
   -- (own).
   abbrev pub EventOn :
       Option (TwoDisks D) → Option (TwoDisks D) → Core Start Change → Core Start Change → List Change → Type 0
@@ -82,16 +82,15 @@ module _ {D : Type 0} (state : D → DiskState) where
   EventIn None None made = made ≡ []
   EventIn _ _ made = ⊥
 
-  -- from one store to the other, over an honest disk, just these states were saved by the steps of one event (own)
+  -- from one store to the other, over an honest disk, the steps of one event save exactly these states (own)
   abbrev pub SavesIn : OpenStore D → OpenStore D → List PrState → Type 0
   SavesIn old new saved =
       (state old.disk).honest
       → IsEvent store_rules (one_disk state) old.disk new.disk (core_of old) (core_of new) saved
 
-  -- Every moment of a call of a drive, from what it was to what it is, by which the cartridge became another value:
-  -- just these changes were accepted and these states saved, each by the steps of one event; and at each moment since,
-  -- an image of the store's disk opens as what a loss of power leaves of the reservations that were held before, or of
-  -- a state that may stand in their place (own).
+  -- Every moment of a call of a drive, in which the cartridge became another value: exactly these changes are accepted
+  -- and these states saved, each by the steps of one event. At each moment since, an image of the store's disk opens as
+  -- what a loss of power leaves of the reservations before, or of a state that may stand in their place (own).
   pub record EveryMoment
       (old : BayState D) (call : Call) (made : Made) (before after : Option (BufferState D)) (new : BayState D)
       : Type 0 where
@@ -103,12 +102,13 @@ module _ {D : Type 0} (state : D → DiskState) where
         (disk_of (state_of state) (buffer_below state) state new)
         (LeavesHeld (state_of state) (buffer_below state) state old call new)
 
-  -- a host is answered by a step of the machine, and that step's event says what is left at every moment of it (own)
+  -- the reply to a host is a step of the machine, and the event of that step says what is left at every moment of it
+  -- (own)
   pub record AnswersInEvent (old : BayState D) (request : Request) (reply : Reply) (new : BayState D) : Type 0 where
     pub step : Answers (state_of state) (buffer_below state) store_kept (store_below state) old request reply new
     pub moments : EveryMoment old (Asked request reply) step.taken.made (medium_in old.bay) (medium_in new.bay) new
 
-  -- the same of a host whose data are lent, of which this is left (own)
+  -- the same for a host whose data are lent, of which this is left (own)
   pub record AnswersLentInEvent
       (old : BayState D) (request : Request) (reply : Reply) (new : BayState D) (left : List ℕ) : Type 0 where
     pub step :
@@ -116,24 +116,24 @@ module _ {D : Type 0} (state : D → DiskState) where
     pub moments :
         EveryMoment old (Asked request reply) step.step.taken.made (medium_in old.bay) (medium_in new.bay) new
 
-  -- all that the medium in a drive has accepted is safe, where there is one (own)
+  -- all that the medium in a drive has accepted is safe, if there is a medium (own)
   abbrev pub IsSafeIn : Option (BufferState D) → Type 0
   IsSafeIn None = Unit {0}
   IsSafeIn (Some medium) = CanAcknowledge (medium_core state medium)
 
-  -- the medium that a loading leaves: in the drive, or returned (own)
+  -- the medium after a loading: in the drive, or returned (own)
   abbrev pub loaded_or_back : Result Unit (BufferState D × Reply) → BayState D → Option (BufferState D)
   loaded_or_back (Ok done) new = medium_in new.bay
   loaded_or_back (Err back) new = Some back.0
 
-  -- the medium that an unloading leaves: given out, or in the drive (own)
+  -- the medium after an unloading: returned, or in the drive (own)
   abbrev pub out_or_in : Result (BufferState D) Reply → BayState D → Option (BufferState D)
   out_or_in (Ok out) new = Some out
   out_or_in (Err reply) new = medium_in new.bay
 
-  -- Every moment of a power on over a cartridge, if any, and a store: nothing was accepted; and at each moment since,
-  -- an image of the store's disk opens as what a loss of power leaves of the reservations that the drive then holds, or
-  -- of the state whose save had failed (own).
+  -- Every moment of a power on over a cartridge, if any, and a store. No change is accepted. At each moment since, an
+  -- image of the store's disk opens as what a loss of power leaves of the drive's new reservations, or of the state
+  -- whose save had failed (own).
   pub record EveryMomentOn (given : Option (BufferState D)) (store : OpenStore D) (new : BayState D) : Type 0 where
     pub cartridge : EventIn given (medium_in new.bay) []
     pub reservations :
@@ -141,7 +141,7 @@ module _ {D : Type 0} (state : D → DiskState) where
         → LeavesOnly (state store.disk) (disk_of (state_of state) (buffer_below state) state new)
         (GivesHeld (state_of state) (buffer_below state) state new)
 
-  -- The same where memory ran out, and cartridge and store come back: an image of the store's disk shows the states
+  -- The same where memory ran out, and cartridge and store are returned: an image of the store's disk shows the states
   -- that were saved before (own).
   pub record EveryMomentOff
       (given : Option (BufferState D)) (store : OpenStore D) (back : Option (BufferState D)) (left : OpenStore D)

@@ -21,8 +21,8 @@ use Rattle.drive_core.specs.Synchronize.{Acknowledges, IsSynchronizing, NothingP
 use Rattle.bays.specs.Doings.{Doing, DoesAll}
 
 module _ {D : Type 0} (state : D → DiskState) where
-  -- what a medium over two honest disks knows of itself: what is safe is stored, what is stored was accepted, and each
-  -- pair of images that a crash now may leave gives what is safe, or what is stored (own)
+  -- The facts of a medium over two honest disks: what is safe is stored, what is stored was accepted, and each pair of
+  -- images that a crash may leave now gives what is safe, or what is stored (own).
   pub record IsKnown (medium : BufferState D) : Type 0 where
     pub disks : TwoDisks D
     pub disks_are : disks_in medium.held ≡ Some disks
@@ -30,9 +30,9 @@ module _ {D : Type 0} (state : D → DiskState) where
     pub core : IsCore (medium_core state medium)
     pub shows : EachOfTwo state disks (ShowsCore medium_rules (medium_core state medium))
 
-  -- From one medium to a later one just these changes were accepted. In the first all that was accepted is safe, and at
-  -- each moment since a crash leaves a pair of images that gives all of it, and the first so many of those accepted
-  -- since; all is carried out from what it was carried out from then (own).
+  -- From one medium to a later one exactly these changes were accepted. In the first, all that was accepted is safe. At
+  -- each moment since, a crash leaves a pair of images that gives all of it and a first part of the changes accepted
+  -- since, from the same base (own).
   pub record KeepsAcknowledged (acked last : BufferState D) (made : List Change) : Type 0 where
     pub before : TwoDisks D
     pub disks_before : disks_in acked.held ≡ Some before
@@ -44,14 +44,14 @@ module _ {D : Type 0} (state : D → DiskState) where
     pub moments :
         TwoLeave state before after (GivesAcknowledged medium_rules (medium_core state acked) event.steps)
 
-  -- the same of the media in two bays (own)
+  -- the same for the media in two bays (own)
   abbrev pub KeepsIn : Option (BufferState D) → Option (BufferState D) → List Change → Type 0
   KeepsIn (Some acked) (Some last) made = KeepsAcknowledged acked last made
   KeepsIn _ _ made = ⊥
 
 module _ {D K : Type 0} (state : D → DiskState) (kept : K → KeeperState) (keeps : Below K PrState) where
-  -- A drive with a known medium in it is asked for a synchronizing command and acknowledges it; then any commands and
-  -- turns follow. What was accepted up to the acknowledgement is kept, whenever it is stopped (own).
+  -- A drive with a known medium in it acknowledges a synchronizing command; then any commands and turns follow. What
+  -- was accepted up to the acknowledgement survives a stop at any moment (own).
   abbrev pub StopsKeepChanges : Type 0
   StopsKeepChanges =
       (old acked new : DriveState (BufferState D) K) (medium : BufferState D)

@@ -16,9 +16,9 @@ use Rattle.bays.specs.Moves.{BayIs}
 use Rattle.bays.specs.Reservations.{Asked}
 
 module _ {D : Type 0} (state : D → DiskState) where
-  -- The drive of this number, which no slot's address is, answers a host, and nothing else has changed. The command's
-  -- event says what is left at every moment inside it. Before the drive acknowledges a synchronizing command, all is
-  -- stored, and all that its cartridge accepted is safe (own).
+  -- The drive of this number, which is no slot's address, answers a host, and nothing else changes. The command's event
+  -- says what is left at every moment inside it. Before the drive acknowledges a synchronizing command, all is stored,
+  -- and all that its cartridge accepted is safe (own).
   pub record Commands (number : ℕ) (request : Request) (old : HeldState D) (reply : Reply) (new : HeldState D) : Type
       0 where
     pub bay : BayState D

@@ -1,4 +1,4 @@
--- What is done with a drive, one thing after another.
+-- Commands and turns of a drive, one after another.
 use Rattle.std.specs.Prelude.{◌≡◌, List, [], ◌∷◌}
 use Rattle.vtl_base.specs.Below.{Below}
 use Rattle.scsi_sense.specs.declared.replies.Reply.{Reply}
@@ -13,20 +13,20 @@ use Rattle.drive_core.specs.Work.{Request}
 use Rattle.drive_core.specs.Execute.{Answers}
 use Rattle.drive_core.specs.Media.{TakesTurn}
 
--- one thing that is done with a drive: a host's command, with its reply, or a flusher's turn (own)
+-- one use of a drive: a host's command, with its reply, or a flusher's turn (own)
 pub data Doing : Type 0 where
   Commanded : (request : Request) → (reply : Reply) → Doing
   Turned : (turn : Turn) → Doing
 
 module _ {M K : Type 0}
     (state : M → MediumState) (below : Below M Change) (kept : K → KeeperState) (keeps : Below K PrState) where
-  -- one thing is done, and makes this (own)
+  -- one use of a drive, with the changes and saves that it made (own)
   abbrev pub Does : DriveState M K → Doing → Made → DriveState M K → Type 0
   Does old (Commanded request reply) made new =
       (answers : Answers state below kept keeps old request reply new) × (made ≡ answers.taken.made)
   Does old (Turned turn) made new = TakesTurn state below kept old turn new × (made ≡ made_nothing)
 
-  -- these are done, one after another, and make this together (own)
+  -- uses of a drive, one after another, with all changes and saves that they made (own)
   abbrev pub DoesAll : DriveState M K → List Doing → Made → DriveState M K → Type 0
   DoesAll old [] made new = (made ≡ made_nothing) × (new ≡ old)
   DoesAll old (doing ∷ doings) made new =

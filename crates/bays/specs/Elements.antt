@@ -1,4 +1,4 @@
--- What a library of slots and drives holds.
+-- The slots and drives of a library.
 use Rattle.std.specs.Prelude.{◌≡◌, ◌≢◌, ℕ, ◌-◌, ◌||◌, nat_le, Bool, false, List, slice_index_or, Option, None, Some, is_some, if◌then◌else◌}
 use Rattle.changer.specs.Slots.{held_at, is_slot}
 use Rattle.drive_core.specs.State.{DriveState, medium_in}
@@ -9,22 +9,22 @@ use Rattle.aptpl_store.specs.State.{OpenStore}
 abbrev pub BayState : Type 0 → Type 0
 BayState D = DriveState (BufferState D) (OpenStore D)
 
--- a library: what each slot holds, from the first slot on, and the drives, from number 1 on (own)
+-- a library: the content of each slot, from the first on, and the drives, from number 1 on (own)
 pub record HeldState (D : Type 0) : Type 0 where
   pub slots : List (Option (BufferState D))
   pub bays : List (Option (BayState D))
 
 module _ {D : Type 0} where
-  -- the drive of this number, where it is configured (own)
+  -- the drive of this number, if it is configured (own)
   abbrev pub bay_at : List (Option (BayState D)) → ℕ → Option (BayState D)
   bay_at bays number = if nat_le 1 number then slice_index_or bays (number - 1) None else None
 
-  -- the cartridge in a drive, where there is a drive and something is in it (own)
+  -- the cartridge in a drive, if there are both (own)
   abbrev pub cartridge_in : Option (BayState D) → Option (BufferState D)
   cartridge_in None = None
   cartridge_in (Some bay) = medium_in bay.bay
 
-  -- a reservation is held at the drive, where there is one (own)
+  -- there is a drive, and a reservation is held at it (own)
   abbrev pub is_reserved_at : Option (BayState D) → Bool
   is_reserved_at None = false
   is_reserved_at (Some bay) = is_some bay.reservations.reservation
@@ -38,7 +38,7 @@ module _ {D : Type 0} where
   cartridge_at held address =
       if is_slot address then held_at held.slots address else cartridge_in (bay_at held.bays address)
 
-  -- the drive of this number is now this one, and every other what it was (own)
+  -- the drive of this number is this one now, and every other drive stays (own)
   pub record Becomes (number : ℕ) (bay : Option (BayState D)) (old new : List (Option (BayState D))) : Type 0 where
     pub here : bay_at new number ≡ bay
     pub elsewhere : (other : ℕ) → other ≢ number → bay_at new other ≡ bay_at old other

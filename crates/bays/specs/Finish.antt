@@ -1,4 +1,4 @@
--- All that is pending is written out.
+-- Writing out all that is pending.
 use Rattle.std.specs.Prelude.{◌≡◌, ℕ, [], true, false, Option, None, Some, Result, OnOk, OnErr}
 use Rattle.tape_disk.specs.Disk.{DiskState}
 use Rattle.volume_core.specs.declared.media.Turn.{Turn}
@@ -16,17 +16,17 @@ use Rattle.bays.specs.Reservations.{Turned}
 use Rattle.bays.specs.declared.finishing.Unwritten.{Unwritten}
 
 module _ {D : Type 0} (state : D → DiskState) where
-  -- what is loaded has failed (own)
+  -- the loaded medium has failed (own)
   abbrev pub HasFailedIn : Bay (BufferState D) → Type 0
   HasFailedIn (Loaded medium) = (state_of state medium).failed ≡ true
   HasFailedIn _ = ⊥
 
-  -- what is loaded works, and all that was accepted is stored; what is not loaded is (own)
+  -- the loaded medium, if there is one, has not failed, and all that it accepted is stored (own)
   abbrev pub IsWrittenIn : Bay (BufferState D) → Type 0
   IsWrittenIn (Loaded medium) = ((state_of state medium).failed ≡ false) × ((state_of state medium).pending ≡ [])
   IsWrittenIn _ = Unit {0}
 
-  -- a drive, where there is one, takes a flusher's turn, and its event says what is left at every moment of it (own)
+  -- a drive, if there is one, takes a flusher's turn, and its event says what is left at every moment of it (own)
   abbrev pub TurnsAt : Option (BayState D) → Option (BayState D) → Type 0
   TurnsAt None None = Unit {0}
   TurnsAt (Some old) (Some new) =
@@ -34,18 +34,18 @@ module _ {D : Type 0} (state : D → DiskState) where
       × EveryMoment state old (Turned turn) made_nothing (medium_in old.bay) (medium_in new.bay) new
   TurnsAt _ _ = ⊥
 
-  -- nothing is left to be written of the drive, where there is one (own)
+  -- the drive, if there is one, has nothing left to write (own)
   abbrev pub IsWrittenAt : Option (BayState D) → Type 0
   IsWrittenAt None = Unit {0}
   IsWrittenAt (Some bay) = IsWrittenIn bay.bay
 
-  -- there is a drive, and what is loaded in it has failed (own)
+  -- there is a drive, and its loaded medium has failed (own)
   abbrev pub HasFailedAt : Option (BayState D) → Type 0
   HasFailedAt None = ⊥
   HasFailedAt (Some bay) = HasFailedIn bay.bay
 
-  -- Every drive takes a turn, and the slots stay as they are. Then nothing is left to be written; or what is loaded in
-  -- some drive has failed (own).
+  -- Every drive takes a turn, and the slots stay. Then nothing is left to write, or the loaded medium of some drive has
+  -- failed (own).
   pub record WritesOut (old : HeldState D) (result : Result Unit Unwritten) (new : HeldState D) : Type 0 where
     pub turns : (number : ℕ) → TurnsAt (bay_at old.bays number) (bay_at new.bays number)
     pub slots : new.slots ≡ old.slots

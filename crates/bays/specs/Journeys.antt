@@ -21,22 +21,22 @@ use Rattle.bays.specs.Elements.{BayState, HeldState, bay_at, cartridge_at}
 use Rattle.bays.specs.Finish.{WritesOut}
 use Rattle.bays.specs.Moves.{BayIs, KeepsCartridges, MovesMedium}
 
--- one thing that is done with a library: with the drive of a number; a move, with its reply; or the writing out of all
--- that is pending, with its result (own)
+-- one use of a library: of the drive with a number; a move, with its reply; or the writing out of all that is pending,
+-- with its result (own)
 pub data Deed : Type 0 where
   InDrive : (number : ℕ) → (doing : Doing) → Deed
   Moving : (from : ℕ) → (to : ℕ) → (reply : Reply) → Deed
   Finishing : (result : Result Unit Unwritten) → Deed
 
--- After a move with this reply a cartridge that was at one place is at another: at the destination if it was at the
--- source and the reply is GOOD, and else where it was (SMC-3, MOVE MEDIUM).
+-- The place of a cartridge after a move with this reply: the destination if the cartridge was at the source and the
+-- reply is GOOD, else its old place (SMC-3, MOVE MEDIUM).
 abbrev pub IsThen : ℕ → ℕ → Reply → ℕ → ℕ → Type 0
 IsThen from to reply place after =
     ((reply ≡ good_with []) × (place ≡ from) × (after ≡ to))
     ⊎ (((reply ≢ good_with []) ⊎ (place ≢ from)) × (after ≡ place))
 
 module _ {D : Type 0} (state : D → DiskState) where
-  -- something is done with the drive of this number, and nothing else has changed (own)
+  -- the drive of this number is used, and nothing else changes (own)
   pub record DriveDoes (number : ℕ) (doing : Doing) (made : Made) (old new : HeldState D) : Type 0 where
     pub number_is : is_slot number ≡ false
     pub bay : BayState D
@@ -45,8 +45,8 @@ module _ {D : Type 0} (state : D → DiskState) where
     pub does : Does (state_of state) (buffer_below state) store_kept (store_below state) bay doing made left
     pub now : BayIs number left old new
 
-  -- A deed is done, in which just these changes are accepted of the cartridge at one place, which then is at another
-  -- (own).
+  -- A deed is done. It accepts exactly these changes of the cartridge at one place, whose place afterwards is the
+  -- second (own).
   abbrev pub GoesWith : HeldState D → ℕ → Deed → List Change → HeldState D → ℕ → Type 0
   GoesWith old place (InDrive number doing) changes new after =
       (made : Made) × DriveDoes number doing made old new × (after ≡ place)
@@ -65,9 +65,9 @@ module _ {D : Type 0} (state : D → DiskState) where
       × GoesWith old place deed first mid between × GoesWithAll mid between deeds rest new after
       × (changes ≡ first ++ rest)
 
-  -- A drive of a library with a known cartridge in it is asked for a synchronizing command and acknowledges it; then
-  -- commands, turns, moves and writings out follow, of this drive and of others. What that cartridge had accepted up to
-  -- the acknowledgement is kept, whenever it is stopped and wherever it is then (own).
+  -- A drive of a library with a known cartridge in it acknowledges a synchronizing command; then commands, turns, moves
+  -- and writings out follow, of this drive and of others. What that cartridge had accepted up to the acknowledgement
+  -- survives a stop at any moment, wherever the cartridge is then (own).
   abbrev pub StopsKeepWhatIsMoved : Type 0
   StopsKeepWhatIsMoved =
       (old acked new : HeldState D) (number after : ℕ) (medium : BufferState D)
@@ -78,8 +78,8 @@ module _ {D : Type 0} (state : D → DiskState) where
       → GoesWithAll acked number deeds changes new after
       → KeepsIn state (cartridge_at acked number) (cartridge_at new after) changes
 
-  -- The same from any moment at which all that a known cartridge had accepted is safe, as after a loading or a writing
-  -- out: whatever is done then, a stop leaves all of that, and the first so many of what is accepted since (own).
+  -- The same holds from any moment at which all that a known cartridge had accepted is safe, as after a loading or a
+  -- writing out: whatever is done then, a stop leaves all of that, and a first part of what is accepted since (own).
   abbrev pub KeepsWhatIsSafe : Type 0
   KeepsWhatIsSafe =
       (old new : HeldState D) (place after : ℕ) (medium : BufferState D) (deeds : List Deed) (changes : List Change)

@@ -1,4 +1,4 @@
--- Moves of cartridges on the slots of a library and the drives that the two addresses name.
+-- Moves of cartridges on the slots of a library and the drives at the two addresses, which are lent.
 use Rattle.std.specs.Prelude.{◌≡◌, ◌≢◌, ◌≤◌, ℕ, ◌-◌, List, length, slice_set, Option, None, Some}
 use Rattle.std.specs.Borrow.{MutBor}
 use Rattle.std.proofs.Common.{◌⊎◌, inl, inr}
@@ -6,30 +6,30 @@ use Rattle.vtl_base.specs.declared.limits.TheConstants.{DRIVES}
 use Rattle.tape_buffer.specs.State.{BufferState}
 use Rattle.bays.specs.Elements.{BayState, HeldState, bay_at}
 
--- this is the element address of a drive's place, a drive's number (SMC-3, element addresses; which they are, own)
+-- the element address of a drive's place is the drive's number (SMC-3, element addresses; which they are, own)
 pub record IsDriveAddress (address : ℕ) : Type 0 where
   pub least : 1 ≤ address
   pub most : address ≤ DRIVES
 
 module _ {X : Type 0} where
-  -- what is lent, where something is (own)
+  -- the lent value, if there is one (own)
   abbrev pub lent : Option (MutBor X) → Option X
   lent None = None
   lent (Some given) = Some given.now
 
-  -- the same as it is given back (own)
+  -- the lent value as it is returned (own)
   abbrev pub back : Option (MutBor X) → Unit {0} ⊎ ((MutBor X × Unit {0}) ⊎ ⊥) → Option X
   back None left = None
   back (Some given) (inr (inl left)) = Some left.0.now
   back (Some given) _ = None
 
 module _ {D : Type 0} where
-  -- the row of drives, once this one, if there is one, stands at this number (own)
+  -- the drives, with this one, if there is one, at this number (own)
   abbrev pub with_drive : ℕ → Option (BayState D) → List (Option (BayState D)) → List (Option (BayState D))
   with_drive number None bays = bays
   with_drive number (Some bay) bays = slice_set bays (number - 1) (Some bay)
 
-  -- these are the drives that the addresses name; one that both name is lent as the source alone (own)
+  -- these are the drives at the two addresses; a drive at both is lent as the source alone (own)
   pub record AreNamed (from to : ℕ) (source destination : Option (BayState D)) (bays : List (Option (BayState D))) :
       Type 0 where
     pub all : length bays ≡ DRIVES
@@ -37,14 +37,14 @@ module _ {D : Type 0} where
     pub at_destination : from ≢ to → bay_at bays to ≡ destination
     pub once : from ≡ to → destination ≡ None
 
-  -- the count of a drive that is lent, if one is, stays (own)
+  -- a lent drive, if there is one, keeps its count of changes (own)
   abbrev pub KeepsCount : Option (BayState D) → Option (BayState D) → Type 0
   KeepsCount None None = Unit {0}
   KeepsCount (Some bay) (Some left) = left.accepted ≡ bay.accepted
   KeepsCount _ _ = ⊥
 
-  -- in each library that has these slots, and these drives where the addresses name them, this holds of it before and
-  -- after, its other drives being what they were (own)
+  -- in each library that has these slots, and these drives at the two addresses, the relation holds before and after,
+  -- and the other drives stay (own)
   abbrev pub InEach :
       ℕ → ℕ → List (Option (BufferState D)) → Option (BayState D) → Option (BayState D)
       → List (Option (BufferState D)) → Option (BayState D) → Option (BayState D)

@@ -1,4 +1,4 @@
--- Scripts of at most one host, which ask for no move (own).
+-- Scripts of at most one host, without moves (own).
 use Rattle.std.specs.Prelude.{◌≡◌, ◌≢◌, ℕ, ◌==◌, if◌then◌else◌, List, [], ◌∷◌, All, filter, length, map, Option, Some, Result, Ok, IfSome}
 use Rattle.std.specs.Io.KnownBytes.{Appends}
 use Rattle.tape_disk.specs.Disk.{DiskState}
@@ -22,11 +22,11 @@ use Rattle.vtl_script.specs.Text.{text_of}
 use Rattle.bays.specs.Elements.{BayState, HeldState, bay_at}
 use Rattle.bays.specs.Runs.{is_configured_in, line_request}
 
--- what some lines ask of the drive of this number, in their order (own)
+-- the requests of some lines to the drive of this number, in order (own)
 abbrev pub requests_at : ℕ → List Line → List Request
 requests_at number lines = map line_request (filter (λ line. line.drive == number) lines)
 
--- of what stands beside some lines, one by one, that which stands beside the lines of this drive (own)
+-- of the values that belong to some lines, one by one, those of the lines of this drive (own)
 abbrev pub beside : {A : Type 0} → ℕ → List Line → List A → List A
 beside number (line ∷ lines) (value ∷ values) =
     if line.drive == number then value ∷ beside number lines values else beside number lines values
@@ -41,7 +41,8 @@ module _ {D : Type 0} (state : D → DiskState) where
   abbrev pub IsHonestBay : BayState D → Type 0
   IsHonestBay bay = HonestIn (buffer_below state) (medium_in bay.bay)
 
-  -- a drive was asked this, answered so by a run of its machine, and was left as the drive of this number is now (own)
+  -- these requests to a drive have these answers in a run of its machine, whose end is the drive of this number now
+  -- (own)
   pub record RunsTo
       (number : ℕ) (requests : List Request) (answers : List (Result Reply Fault)) (old : BayState D)
       (held : HeldState D) : Type 0 where
@@ -51,8 +52,8 @@ module _ {D : Type 0} (state : D → DiskState) where
     pub run :
         Run (IsHonestBay old) (machine_in old) (map Execute requests) (map Answered answers) made (machine_in left)
 
-  -- a run of a drive's machine over these requests, with flusher's turns wherever they stand in it, may give these
-  -- replies; no fault came, memory did not run out and no side was full (own)
+  -- A run of a drive's machine over these requests, with flusher's turns anywhere between, may give these replies: no
+  -- fault came, no side was full, and memory did not run out (own).
   pub record MayReply (requests : List Request) (replies : List Reply) (old : BayState D) : Type 0 where
     pub inputs : List Input
     pub outputs : List Output
@@ -63,10 +64,10 @@ module _ {D : Type 0} (state : D → DiskState) where
     pub run : Run (Unit {0}) (machine_in old) inputs outputs made end
     pub replied : replies ≡ replies_of outputs
 
-  -- Some lines were answered by the drives that they name: each drive answered its own, in their order, by a run of its
-  -- machine, and the text of all answers was written in the order of the lines, and nothing else. Suppose that the
-  -- media are honest, that it is sure what their sides give, and that no answer is a fault, out of memory or a full
-  -- side. Then no other replies have another text that each drive may give to its own lines without any of these (own).
+  -- Each drive answered its own lines, in order, by a run of its machine, and exactly the text of all answers was
+  -- written, in the order of the lines. Suppose that the media are honest, that what their sides give is sure, and that
+  -- no answer is a fault, out of memory or a full side. Then all replies that the drives may give to their lines in
+  -- this way have the same text (own).
   pub record AnswersLines
       (lines : List Line) (old : HeldState D) (before : Option (List ℕ)) (new : HeldState D)
       (now : Option (List ℕ)) : Type 0 where
@@ -83,8 +84,8 @@ module _ {D : Type 0} (state : D → DiskState) where
         × MayReply (requests_at number lines) (beside number lines others) bay)
         → Appends before now (text_of others)
 
-  -- a script that was run to its end by a library: where it is of one host and asks for no move, its commands were
-  -- answered in the order of the lines (own)
+  -- a script that a library ran to its end: where it has one host and no moves, its commands were answered in the order
+  -- of the lines (own)
   pub record LibraryAnswersHost
       (old : HeldState D) (left before : Option (List ℕ)) (new : HeldState D) (now : Option (List ℕ)) : Type
       0 where

@@ -1,4 +1,4 @@
--- What a drive over a store of reservations leaves on the store's disk, wherever it is stopped.
+-- What a drive over a store of reservations leaves on the store's disk, at whatever moment it is stopped.
 use Rattle.std.specs.Prelude.{◌≡◌, ◌⊎◌, ℕ, List, [], ◌∷◌, Option, Some, is_some, Result, Ok}
 use Rattle.vtl_base.specs.Below.{Below}
 use Rattle.scsi_sense.specs.declared.replies.Reply.{Reply}
@@ -28,13 +28,14 @@ use Rattle.aptpl_store.specs.Contents.{OpensAs, ShowsStates, latest}
 use Rattle.aptpl_store.specs.Kept.{store_below, store_kept}
 use Rattle.aptpl_store.specs.State.{OpenStore}
 
--- what a drive is given: a host's request, with the reply that it had; or a flusher's turn, with what came of it (own)
+-- a call of a drive: a host's request, with its reply; a flusher's turn, with its result; or a cartridge in or out
+-- (own)
 pub data Call : Type 0 where
   Asked : (request : Request) → (reply : Reply) → Call
   Turned : (turn : Turn) → Call
   Moved : Call
 
--- the state that an order makes which a request asks for, once it has passed all checks (SPC-4, PERSISTENT RESERVE OUT)
+-- the state after the order of a request, which has passed all checks (SPC-4, PERSISTENT RESERVE OUT)
 pub record IsOrdered (machine : Machine) (request : Request) (state : PrState) : Type 0 where
   pub action : PrAction
   pub bytes : ℕ
@@ -45,13 +46,13 @@ pub record IsOrdered (machine : Machine) (request : Request) (state : PrState) :
   pub list : list_decoded action request.sent ≡ Ok order
   pub ordered : Orders machine.reservations request.nexus order answer told state
 
--- the state that the order of a call makes, where it is one (own)
+-- the state after the order of a call, if it is one (own)
 abbrev pub IsOrderedIn : Machine → Call → PrState → Type 0
 IsOrderedIn machine (Asked request reply) state = IsOrdered machine request state
 IsOrderedIn machine (Turned turn) state = ⊥
 IsOrderedIn machine Moved state = ⊥
 
--- an order that was answered GOOD is there (SPC-4, PERSISTENT RESERVE OUT)
+-- the state of an order with the reply GOOD is held (SPC-4, PERSISTENT RESERVE OUT)
 abbrev pub StandsWhereGood : Machine → Call → PrState → Type 0
 StandsWhereGood machine (Asked request reply) state =
     (action : PrAction) (bytes : ℕ) → verdict machine request ≡ Ok (PersistentReserveOut action bytes)
@@ -60,20 +61,20 @@ StandsWhereGood machine (Turned turn) state = Unit {0}
 StandsWhereGood machine Moved state = Unit {0}
 
 module _ {M D : Type 0} (medium : M → MediumState) (below : Below M Change) (disk : D → DiskState) where
-  -- a medium was taken in, or came back; or was put in, not loaded; or went out, or did not (own)
+  -- a medium was loaded, or returned; or was put in, not loaded; or came out, or did not (own)
   abbrev pub ChangesBay : DriveState M (OpenStore D) → DriveState M (OpenStore D) → Type 0
   ChangesBay old new =
       ((given : M) × (result : Result Unit (M × Reply)) × TakesIn medium below old given result new)
       ⊎ (((given : M) × (new ≡ record old { bay = Unloaded given }))
       ⊎ ((result : Result M Reply) × GoesOut medium below old result new))
 
-  -- a drive was given this, and it came to that (own)
+  -- a drive before and after a call (own)
   abbrev pub CallDoes : DriveState M (OpenStore D) → Call → DriveState M (OpenStore D) → Type 0
   CallDoes old (Asked request reply) new = Answers medium below store_kept (store_below disk) old request reply new
   CallDoes old (Turned turn) new = TakesTurn medium below store_kept old turn new
   CallDoes old Moved new = ChangesBay old new
 
-  -- calls one after another, each from where the one before left the drive (own)
+  -- calls one after another, each on the drive that the last one left (own)
   abbrev pub Calls : DriveState M (OpenStore D) → List Call → DriveState M (OpenStore D) → Type 0
   Calls old [] new = new ≡ old
   Calls old (call ∷ calls) new = (mid : DriveState M (OpenStore D)) × CallDoes old call mid × Calls mid calls new
@@ -82,9 +83,9 @@ module _ {M D : Type 0} (medium : M → MediumState) (below : Below M Change) (d
   abbrev pub disk_of : DriveState M (OpenStore D) → DiskState
   disk_of drive = disk drive.keeper.disk
 
-  -- A drive and its store: the reservations keep the rules, what was saved last is lost as they are, the store has
-  -- failed just where a state is under way, and over an honest disk each image that a crash may leave shows what was
-  -- saved (own).
+  -- A drive and its store: the reservations meet the rules, and what was saved last gives the same as they do after a
+  -- loss of power. The store has failed exactly where a save is in doubt. Over an honest disk each image that a crash
+  -- may leave shows what was saved (own).
   pub record IsHolding (drive : DriveState M (OpenStore D)) : Type 0 where
     pub sound : IsSound drive.reservations
     pub saved : power_loss (latest drive.keeper.states) ≡ power_loss drive.reservations
@@ -93,40 +94,39 @@ module _ {M D : Type 0} (medium : M → MediumState) (below : Below M Change) (d
         (disk_of drive).honest
         → Each (disk_of drive) (ShowsStates drive.keeper.heading drive.keeper.states drive.keeper.torn)
 
-  -- A state that may be found in the place of the one held: that whose save failed earlier; or that which the order of
-  -- this call makes, where the drive holds it once the call is over, or its save failed in the call (own).
+  -- A state that may be found in place of the held one: one whose save failed earlier, or the one that this call's
+  -- order makes, where the drive holds it after the call or its save failed in the call (own).
   abbrev pub MayStand : DriveState M (OpenStore D) → Call → DriveState M (OpenStore D) → PrState → Type 0
   MayStand old call new state =
       (old.keeper.torn ≡ Some state)
       ⊎ (IsOrderedIn (machine_of medium store_kept old) call state
       × ((new.reservations ≡ state) ⊎ (new.keeper.torn ≡ Some state)))
 
-  -- the image opens as what a loss of power leaves of the reservations that the drive held before this call, or of a
-  -- state that may stand in their place (own)
+  -- the image opens as what a loss of power leaves of the reservations before this call, or of a state that may stand
+  -- in their place (own)
   abbrev pub LeavesHeld : DriveState M (OpenStore D) → Call → DriveState M (OpenStore D) → List ℕ → Type 0
   LeavesHeld old call new image =
       OpensAs old.keeper.heading (power_loss old.reservations) image
       ⊎ ((state : PrState) × MayStand old call new state × OpensAs old.keeper.heading (power_loss state) image)
 
-  -- the image opens as what a loss of power leaves of the reservations that the drive holds, or of the state whose save
-  -- failed (own)
+  -- the image opens as what a loss of power leaves of the drive's reservations, or of the state whose save failed (own)
   abbrev pub GivesHeld : DriveState M (OpenStore D) → List ℕ → Type 0
   GivesHeld drive image =
       OpensAs drive.keeper.heading (power_loss drive.reservations) image
       ⊎ ((state : PrState) × (drive.keeper.torn ≡ Some state)
       × OpensAs drive.keeper.heading (power_loss state) image)
 
-  -- a drive that holds so over an honest disk: each image that a crash now may leave opens as what a loss of power
-  -- leaves of the reservations that it holds, or of the state whose save failed (own)
+  -- for a drive and store as in IsHolding, over an honest disk: each image that a crash may leave now opens as what a
+  -- loss of power leaves of its reservations, or of the state whose save failed (own)
   abbrev pub HoldingGives : Type 0
   HoldingGives =
       (drive : DriveState M (OpenStore D)) → IsHolding drive → (disk_of drive).honest
       → Each (disk_of drive) (GivesHeld drive)
 
-  -- Whatever a drive was given, and wherever it is stopped, inside the last call too: each image that a crash may leave
-  -- opens as what a loss of power leaves of what was held before that call, or of a state that may stand in its place;
-  -- once the call is over, of what is then held, or of the state whose save failed; and the drive goes on so, over a
-  -- disk that is honest still (own).
+  -- After any calls, a drive is stopped at any moment of the last one, over an honest disk. Each image that a crash may
+  -- leave opens as what a loss of power leaves of the reservations before that call, or of a state that may stand in
+  -- their place. After the call it is that of the reservations then, or of the state whose save failed; and the disk
+  -- stays honest (own).
   abbrev pub ReservationsOutlive : Type 0
   ReservationsOutlive =
       (old mid new : DriveState M (OpenStore D)) (calls : List Call) (last : Call)
@@ -134,8 +134,8 @@ module _ {M D : Type 0} (medium : M → MediumState) (below : Below M Change) (d
       → LeavesOnly (disk_of mid) (disk_of new) (LeavesHeld mid last new) × Each (disk_of new) (GivesHeld new)
       × (disk_of new).honest × IsHolding new
 
-  -- The same of one call, whatever the disk is: a drive that holds so goes on so; and where the store's disk is honest,
-  -- it is honest still, and each image that a crash may leave opens so, inside the call and once it is over (own).
+  -- The same for one call, over any disk: IsHolding holds after it. Where the store's disk is honest it stays honest,
+  -- and each image that a crash may leave opens so, inside the call and after it (own).
   abbrev pub HoldingGoesOn : Type 0
   HoldingGoesOn =
       (old new : DriveState M (OpenStore D)) (call : Call) → IsHolding old → CallDoes old call new
@@ -144,7 +144,7 @@ module _ {M D : Type 0} (medium : M → MediumState) (below : Below M Change) (d
       → (disk_of new).honest
       × LeavesOnly (disk_of old) (disk_of new) (LeavesHeld old call new) × Each (disk_of new) (GivesHeld new))
 
-  -- a drive that was just switched on, with what a loss of power leaves of what its store saved last, holds so (own)
+  -- IsHolding holds of a drive that was just switched on with what a loss of power leaves of the last saved state (own)
   abbrev pub SwitchedOnHolds : Type 0
   SwitchedOnHolds =
       (given : Option M) (store : OpenStore D) (reservations : PrState) (new : DriveState M (OpenStore D))
@@ -152,8 +152,8 @@ module _ {M D : Type 0} (medium : M → MediumState) (below : Below M Change) (d
       → ((disk store.disk).honest → Each (disk store.disk) (ShowsStates store.heading store.states store.torn))
       → SwitchesOn medium below given reservations store (Ok new) → IsHolding new
 
-  -- What a host is answered GOOD to once its order has passed all checks is there: the drive holds a state that the
-  -- order makes. Nothing else changes the reservations (own).
+  -- After the reply GOOD to an order that has passed all checks, the drive holds a state that the order makes. Nothing
+  -- else changes the reservations (own).
   abbrev pub OrdersStand : Type 0
   OrdersStand =
       (old new : DriveState M (OpenStore D)) (call : Call) → CallDoes old call new

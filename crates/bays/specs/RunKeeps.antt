@@ -1,4 +1,4 @@
--- What a run of orders over a library keeps, at each moment of it, of what was accepted on the way.
+-- What survives at each moment of a run of orders over a library.
 use Rattle.std.specs.Prelude.{◌≡◌, ℕ, List, [], ◌∷◌, Some}
 use Rattle.tape_disk.specs.Disk.{DiskState}
 use Rattle.tape_disk.specs.TwoDisks.{AreHonest, TwoDisks}
@@ -17,26 +17,26 @@ use Rattle.bays.specs.Elements.{BayState, HeldState, bay_at, cartridge_at}
 use Rattle.bays.specs.Journeys.{Deed, GoesWithAll, InDrive, Moving}
 use Rattle.bays.specs.Runs.{AnswersOrder, Carry, Command, Order, line_request}
 
--- an order with its reply, as something that is done with a library (own)
+-- an order with its reply, as a deed (own)
 abbrev pub deed_of : Order → Reply → Deed
 deed_of (Command line) reply = InDrive line.drive (Commanded (line_request line) reply)
 deed_of (Carry from to) reply = Moving from to reply
 
--- the same of orders, one after another (own)
+-- orders with their replies, as deeds, one after another (own)
 abbrev pub deeds_of : List Order → List Reply → List Deed
 deeds_of (order ∷ orders) (reply ∷ replies) = deed_of order reply ∷ deeds_of orders replies
 deeds_of _ _ = []
 
 module _ {D : Type 0} (state : D → DiskState) where
-  -- While these orders are answered, what the cartridge at a place had accepted is kept, whenever it is stopped and
-  -- wherever it is then, and with it the first so many of what these accept (own).
+  -- What the cartridge at a place had accepted survives a stop at any moment while these orders are answered, wherever
+  -- the cartridge is then. A first part of the changes accepted since survives with it (own).
   abbrev pub KeptWhile : HeldState D → ℕ → List Order → List Reply → HeldState D → Type 0
   KeptWhile old place orders replies new =
       (after : ℕ) × (changes : List Change) × GoesWithAll state old place (deeds_of orders replies) changes new after
       × KeepsIn state (cartridge_at old place) (cartridge_at new after) changes
 
-  -- An order was answered, and then these. If it was a synchronizing command that was acknowledged, of a drive with a
-  -- cartridge loaded whose disks are honest, what that had accepted is kept while these are answered (own).
+  -- An order was answered, and then these. If it was an acknowledged synchronizing command of a drive whose loaded
+  -- cartridge has honest disks, what that cartridge had accepted survives while these are answered (own).
   abbrev pub KeptSince : HeldState D → Order → Reply → HeldState D → List Order → List Reply → HeldState D → Type 0
   KeptSince old (Command line) reply mid orders replies new =
       (bay : BayState D) (medium : BufferState D) (disks : TwoDisks D)
@@ -46,7 +46,7 @@ module _ {D : Type 0} (state : D → DiskState) where
       → KeptWhile mid line.drive orders replies new
   KeptSince old (Carry from to) reply mid orders replies new = Unit {0}
 
-  -- orders are answered one after another, and what is acknowledged on the way is kept (own)
+  -- orders are answered one after another, and what is acknowledged on the way survives (own)
   abbrev pub AnswersKeeping : HeldState D → List Order → List Reply → HeldState D → Type 0
   AnswersKeeping old [] [] new = new ≡ old
   AnswersKeeping old (order ∷ orders) (reply ∷ replies) new =
@@ -55,8 +55,8 @@ module _ {D : Type 0} (state : D → DiskState) where
   AnswersKeeping old [] (reply ∷ replies) new = ⊥
   AnswersKeeping old (order ∷ orders) [] new = ⊥
 
-  -- A library went on by orders, however that ended: at each moment of it what was acknowledged on the way is kept, and
-  -- what was safe at its start (own).
+  -- A library went on by orders, however that ended: at each moment of it, what was acknowledged on the way survives,
+  -- and what was safe at its start (own).
   pub record RunKeeps (old new : HeldState D) : Type 0 where
     pub orders : List Order
     pub replies : List Reply

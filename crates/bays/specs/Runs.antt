@@ -1,4 +1,4 @@
--- What the items of a script ask of a library (own).
+-- The orders of a script's items to a library (own).
 use Rattle.std.specs.Prelude.{◌≡◌, ℕ, List, [], ◌∷◌, Bool, is_some, map, flat_map}
 use Rattle.tape_disk.specs.Disk.{DiskState}
 use Rattle.scsi_sense.specs.declared.replies.Reply.{Reply}
@@ -11,21 +11,21 @@ use Rattle.bays.specs.Commands.{Commands}
 use Rattle.bays.specs.Elements.{HeldState, bay_at}
 use Rattle.bays.specs.Moves.{KeepsCartridges, MovesMedium}
 
--- what a library is asked: to have the command of a line carried out, or to move a cartridge (own)
+-- an order to a library: to carry out the command of a line, or to move a cartridge (own)
 pub data Order : Type 0 where
   Command : (line : Line) → Order
   Carry : (from : ℕ) → (to : ℕ) → Order
 
--- the orders of an item, in the order of their turns (own)
+-- the orders of an item, in turn (own)
 abbrev pub orders_of : Item → List Order
 orders_of (Phase lines) = map Command lines
 orders_of (Move from to) = Carry from to ∷ []
 
--- what a line asks of its drive: to carry its command block out, for its host, with the bytes that it sends (own)
+-- the request of a line to its drive: its command block, for its host, with the bytes that it sends (own)
 abbrev pub line_request : Line → Request
 line_request line = asked line.host line.cdb line.sent
 
--- whether there is a drive of this number (own)
+-- there is a drive of this number (own)
 abbrev pub is_configured_in : {D : Type 0} → HeldState D → ℕ → Bool
 is_configured_in held number = is_some (bay_at held.bays number)
 
@@ -37,7 +37,7 @@ module _ {D : Type 0} (state : D → DiskState) where
   AnswersOrder old (Carry from to) reply new =
       MovesMedium state old from to reply new × KeepsCartridges state old from to reply new
 
-  -- orders are answered one after another, each from where the one before left the library (own)
+  -- orders are answered one after another, each by the library that the last one left (own)
   abbrev pub AnswersOrders : HeldState D → List Order → List Reply → HeldState D → Type 0
   AnswersOrders old [] [] new = new ≡ old
   AnswersOrders old (order ∷ orders) (reply ∷ replies) new =
@@ -45,6 +45,6 @@ module _ {D : Type 0} (state : D → DiskState) where
   AnswersOrders old [] (reply ∷ replies) new = ⊥
   AnswersOrders old (order ∷ orders) [] new = ⊥
 
-  -- a library answers some items so, one after another (own)
+  -- a library answers these items with these replies, one after another (own)
   abbrev pub LibraryAnswers : HeldState D → List Item → List Reply → HeldState D → Type 0
   LibraryAnswers old items replies new = AnswersOrders old (flat_map orders_of items) replies new

@@ -29,17 +29,17 @@ use tape_disk::Disk;
 use volume_core::{Medium, Turn};
 use vtl_base::{Bytes, Nexus, NoMemory};
 
-/// Why a drive was not switched on: memory ran out. What was given is returned.
+/// A drive was not switched on, since memory ran out. Its cartridge and its store are returned.
 #[derive(Drop)]
 pub struct NotOn<D: Disk> {
-    /// The cartridge, closed still.
+    /// The cartridge, still closed.
     pub cartridge: Option<Parked<D>>,
     /// The store of the drive's reservations.
     pub store: AptplStore<D>,
 }
 
-/// A drive in buffered mode over a cartridge on two disks, with a store of its reservations on a disk of its own. The
-/// type keeps what a stop may leave of cartridge and store.
+/// A drive in buffered mode over a cartridge on two disks, with a store of its reservations on a third disk.
+/// The type's invariant is what a stop may leave of cartridge and store.
 #[derive(Drop)]
 pub struct Bay<D: Disk> {
     drive: Drive<Buffered<D>, AptplStore<D>>,
@@ -68,7 +68,7 @@ impl<D: Disk> Accepting for Bay<D> {
     ghost is_device = { one_is_device D.state };
 }
 
-// What is kept of the cartridge in a drive, if there is one: each medium knows it of itself.
+// The invariant of the cartridge in a drive, if there is one.
 fn known<D: Disk>(drive: &Drive<Buffered<D>, AptplStore<D>>)
     ensures { KeepsCartridgeIn D.state (medium_in drive.now.bay) }
 {
@@ -77,7 +77,7 @@ fn known<D: Disk>(drive: &Drive<Buffered<D>, AptplStore<D>>)
     }
 }
 
-// The medium of a closed cartridge, where there is one.
+// The medium of a closed cartridge, if there is one.
 fn medium_of<D: Disk>(cartridge: Option<Parked<D>>) -> Option<Buffered<D>>
     ensures same { result ≡ cartridge }
     ensures parked { IfSome result (λ medium. (state_of D.state medium).awake ≡ false) }
@@ -90,9 +90,9 @@ fn medium_of<D: Disk>(cartridge: Option<Parked<D>>) -> Option<Buffered<D>>
 }
 
 impl<D: Disk> Bay<D> {
-    /// A drive that was just switched on, with this cartridge in it, if any: loaded, or unloaded where its side is
-    /// refused or the device fails. Its reservations are those that a loss of power leaves of what the store saved
-    /// last. Where memory runs out, cartridge and store come back.
+    /// A drive that was just switched on, with this cartridge in it, if any: loaded, or unloaded where its
+    /// side is refused or the device fails. Its reservations are those that a loss of power leaves of the
+    /// last saved state. Where memory runs out, cartridge and store are returned.
     pub fn power_on(
         alloc: Global,
         store: AptplStore<D>,
@@ -106,12 +106,12 @@ impl<D: Disk> Bay<D> {
             × SwitchesOn (state_of D.state) (buffer_below D.state) cartridge reservations store
             (Err (not.cartridge, not.store, reason))) }
 
-        // At every moment inside the call a crash leaves what that says.
+        // At every moment inside the call a crash leaves what this says.
         ensures moments { IfOk result (λ bay. EveryMomentOn D.state cartridge store bay) }
         ensures moments_off { IfErr result (λ not.
             EveryMomentOff D.state cartridge store not.cartridge not.store) }
     {
-        // The law, and what store and reservations know of themselves, for the proof alone.
+        // The law, and the facts of store and reservations, for the proof alone.
         reservations_outlive_each_stop::<Buffered<D>, D>();
         store.known();
         let _ = reservations.state();
@@ -148,7 +148,7 @@ impl<D: Disk> Bay<D> {
             → Acknowledges result → HonestIn (buffer_below D.state) (medium_in self.old.bay)
             → IsSafeIn D.state (medium_in self.new.bay) }
     {
-        // The law, and what is known of what is in the drive, for the proof alone.
+        // The law, and the facts of what is in the drive, for the proof alone.
         reservations_outlive_each_stop::<Buffered<D>, D>();
         let reply = self.drive.execute(nexus, cdb, sent);
         known(&self.drive);
@@ -193,9 +193,9 @@ impl<D: Disk> Bay<D> {
         turn
     }
 
-    /// Opens a cartridge and loads it into an empty drive. For each nexus 28/00 is established: the medium may have
-    /// changed. One that can't be opened is returned, closed, with the reply: 3, 11/00 where its side is refused or the
-    /// device fails, Bh, 55/03 where memory runs out.
+    /// Opens a cartridge and loads it into an empty drive. For each nexus 28/00 is established: the medium
+    /// may have changed. One that can't be opened is returned, closed, with the reply: 3, 11/00 where its
+    /// side is refused or the device fails; Bh, 55/03 where memory runs out.
     pub fn load(&mut self, cartridge: Parked<D>) -> Result<(), (Parked<D>, Reply)>
         requires empty { self.old.bay ≡ Bays.Empty }
         ensures taken { TakesIn (state_of D.state) (buffer_below D.state) self.old cartridge result self.new }
@@ -225,8 +225,9 @@ impl<D: Disk> Bay<D> {
         known(&self.drive);
     }
 
-    /// Unloads what is in the drive, as UNLOAD does, and gives it out, closed. Where there is nothing (2, 3A/00), or
-    /// the device fails (3, 0C/00), nothing comes out; in the second case the cartridge stays loaded, and has failed.
+    /// Unloads the cartridge of the drive, as UNLOAD does, and returns it, closed. It returns the reply
+    /// instead where the drive is empty (2, 3A/00) or the device fails (3, 0C/00); in the second case the
+    /// cartridge stays loaded, and has failed.
     pub fn unload(&mut self) -> Result<Parked<D>, Reply>
         ensures out { GoesOut (state_of D.state) (buffer_below D.state) self.old result self.new }
         ensures awake { IsAwakeIn D.state self.old.bay }
@@ -234,7 +235,7 @@ impl<D: Disk> Bay<D> {
             (out_or_in D.state result self.new) self.new }
     {
         reservations_outlive_each_stop::<Buffered<D>, D>();
-        // Looked at for the proof's sake: what is loaded is awake.
+        // Read for the proof: a loaded medium is awake.
         let _ = self.drive.medium();
         let out = self.drive.unload();
         known(&self.drive);
@@ -244,7 +245,7 @@ impl<D: Disk> Bay<D> {
         }
     }
 
-    /// Whether there is no cartridge in it, loaded or not.
+    /// Whether the drive is empty.
     pub fn is_empty(&self) -> bool
         ensures { IsTrue result ↔ (self.now.bay ≡ Bays.Empty) }
     {
@@ -265,24 +266,26 @@ impl<D: Disk> Bay<D> {
         self.drive.accepted()
     }
 
-    /// What the type keeps: over honest disks, what a crash now may leave of the cartridge, and of the reservations.
+    /// The type's invariant: over honest disks, what a crash may leave now of the cartridge, and of the
+    /// reservations.
     pub fn known(&self)
         ensures kept { KeepsBoth D.state self.now }
 
-        // What an image of the store's disk opens as, and what it gives of the orders that led to what is held.
+        // How an image of the store's disk opens, and what it gives of the orders that led to the
+        // reservations.
         ensures opens { (D.state self.now.keeper.disk).honest → Each (D.state self.now.keeper.disk)
             (GivesHeld (state_of D.state) (buffer_below D.state) D.state self.now) }
         ensures orders { ShowsOrders D.state self.now }
 
-        // What is loaded is awake, and the position is on it; what is not loaded is parked.
+        // A loaded medium is awake, and the position is on it. A medium that is not loaded is parked.
         ensures positioned { IsBayPositioned (state_of D.state) self.now.bay self.now.position }
     {
         reservations_outlive_each_stop::<Buffered<D>, D>();
-        // Looked at for the proof's sake: the facts are the type's.
+        // Read for the proof: the facts are the type's invariant.
         let _ = self.drive.medium();
     }
 
-    /// The drive, to be looked at.
+    /// The drive, for reading.
     pub fn drive(&self) -> &Drive<Buffered<D>, AptplStore<D>>
         ensures { result.now ≡ self.now }
     {

@@ -1,4 +1,4 @@
-//! All that is pending is written out.
+//! Writing out all that is pending.
 ghost use Rattle.std.specs.Prelude.{◌≡◌, ◌≢◌, ◌+◌, ◌<◌, ℕ, OnOk, OnErr, Some};
 ghost use Rattle.vtl_base.specs.declared.limits.TheConstants.{DRIVES};
 ghost use Rattle.bays.specs.Elements.{bay_at};
@@ -11,13 +11,13 @@ use tape_disk::Disk;
 use volume_core::Turn;
 use vtl_base::limits::DRIVES;
 
-/// What is loaded in a drive has failed, so that not all is written out.
+/// The loaded medium of a drive has failed, so not everything was written out.
 #[derive(Clone, Copy, PartialEq, Eq, Debug)]
 pub struct Unwritten;
 
 impl<D: Disk> Bay<D> {
-    /// Stores what is pending, by a flusher's turn. It takes no memory. At Ok all that what is loaded has accepted is
-    /// stored; else what is loaded has failed, before or in this turn.
+    /// Stores what is pending, by a flusher's turn. It takes no memory. At Ok all that the loaded medium has
+    /// accepted is stored; else that medium has failed, before this turn or in it.
     pub fn write_out(&mut self) -> Result<(), Unwritten>
         ensures turns { TurnsAt D.state (Some self.old) (Some self.new) }
         ensures ok { OnOk result (IsWrittenIn D.state self.new.bay) }
@@ -33,12 +33,12 @@ impl<D: Disk> Bay<D> {
 }
 
 impl<D: Disk + Drop> Held<D> {
-    /// Writes every buffer out, by a turn of each drive, of all of them also where one fails. It takes no memory. At Ok
-    /// all that was accepted is stored; else what is loaded in some drive has failed.
+    /// Writes every buffer out, by a turn of each drive, of all drives even where one fails. It takes no
+    /// memory. At Ok all that was accepted is stored; else the loaded medium of some drive has failed.
     pub fn finish(&mut self) -> Result<(), Unwritten>
         ensures { WritesOut D.state self.old result self.new }
     {
-        // Looked at, here and below, for the proof's sake: there are places for all drives.
+        // Read, here and below, for the proof: there are places for all drives.
         let _ = &self.bays;
         let mut result = Ok(());
         for place in 0..DRIVES as usize {

@@ -17,18 +17,18 @@ use tape_disk::Disk;
 use vtl_base::limits::DRIVES;
 use vtl_base::{Bytes, DriveNo, Nexus, NoMemory};
 
-/// Where every cartridge of a library stands: 256 slots and 16 drives, whatever is configured.
+/// The places of all cartridges of a library: 256 slots and 16 drives, whatever is configured.
 #[derive(Drop)]
 pub struct Inventory<'a, D: Disk> {
-    /// What each slot holds, from element address 1001 on.
+    /// The content of each slot, from element address 1001 on.
     pub slots: &'a [Option<Parked<D>>],
-    /// Each drive, from number 1 on, or `None` where none is configured. `Bay::is_empty` tells whether there is
-    /// something in it, and `Bay::drive` shows it.
+    /// Each drive, from number 1 on, or `None` where none is configured. `Bay::is_empty` says whether the
+    /// drive is empty, and `Bay::drive` shows it.
     pub drives: &'a [Option<Bay<D>>],
 }
 
-/// The slots and drives of a library, held by one thread: 256 slots, whatever is configured, and up to 16 drives. To a
-/// contract they are two rows.
+/// The slots and drives of a library, held by one thread: 256 slots, whatever is configured, and up to 16
+/// drives. A contract sees them as two lists.
 #[derive(Drop)]
 pub struct Held<D: Disk> {
     pub(crate) alloc: Global,
@@ -49,7 +49,7 @@ impl<D: Disk> Model for Held<D> {
 }
 
 impl<D: Disk + Drop> Held<D> {
-    /// A library of no drive whose slots hold nothing.
+    /// A library with no drives and empty slots.
     pub fn new(alloc: Global) -> Result<Held<D>, NoMemory>
         ensures slots { IfOk result (λ held. (address : ℕ) → held_at held.slots address ≡ None) }
         ensures bays { IfOk result (λ held. (number : ℕ) → bay_at held.bays number ≡ None) }
@@ -65,7 +65,7 @@ impl<D: Disk + Drop> Held<D> {
         Ok(Held { alloc, slots, bays })
     }
 
-    /// A library of these drives, each in the place of its number, and these slots.
+    /// A library with these slots, and these drives, each in the place of its number.
     pub fn from_parts(alloc: Global, bays: Vec<Option<Bay<D>>>, slots: Slots<Parked<D>>) -> Held<D>
         requires { length bays.items ≡ DRIVES }
         ensures { result ≡ record { slots = slots; bays = bays.items } }
@@ -89,7 +89,7 @@ impl<D: Disk + Drop> Held<D> {
         self.bays[drive.place()].is_some()
     }
 
-    /// Puts a drive into its place. One that is there already stays, and the other comes back.
+    /// Puts a drive into its place. If a drive is there already, it stays, and the other is returned.
     pub fn install(&mut self, number: DriveNo, bay: Bay<D>) -> Result<(), Bay<D>>
         ensures ok { OnOk result ((bay_at self.old.bays number ≡ None)
             × Becomes number (Some bay) self.old.bays self.new.bays
@@ -97,7 +97,7 @@ impl<D: Disk + Drop> Held<D> {
         ensures err { IfErr result (λ back. (back ≡ bay)
             × (is_some (bay_at self.old.bays number) ≡ true) × (self.new ≡ self.old)) }
     {
-        // Asked for the proof's sake: the numbers of drives begin with 1.
+        // Called for the proof: the numbers of drives begin with 1.
         let _ = number.number();
         if self.configured(number) {
             return Err(bay);
@@ -106,7 +106,7 @@ impl<D: Disk + Drop> Held<D> {
         Ok(())
     }
 
-    /// Puts a closed cartridge into the slot of this element address, which holds nothing, as `Slots::place` does.
+    /// Puts a closed cartridge into the empty slot of this element address, as `Slots::place` does.
     pub fn place(&mut self, address: u32, cartridge: Parked<D>) -> Result<(), NotPlaced<Parked<D>>>
         ensures ok { OnOk result ((refusal_of_placing self.old.slots address ≡ None)
             × Puts address (Some cartridge) self.old.slots self.new.slots
@@ -123,7 +123,7 @@ impl<D: Disk + Drop> Held<D> {
         requires { is_some (bay_at self.old.bays drive) ≡ true }
         ensures { Commands D.state drive (asked nexus cdb.now sent.now) self.old result self.new }
     {
-        // Asked for the proof's sake: the numbers of drives begin with 1.
+        // Called for the proof: the numbers of drives begin with 1.
         let _ = drive.number();
         match &mut self.bays[drive.place()] {
             Some(bay) => {
@@ -134,8 +134,8 @@ impl<D: Disk + Drop> Held<D> {
         }
     }
 
-    /// Answers a command of a host to a configured drive, as `command` does. Its data are lent: where they become a
-    /// block they are taken, and not copied; else they stay.
+    /// Answers a command of a host to a configured drive, as `command` does. Its data are lent: a block takes
+    /// them without copying; else they stay.
     pub fn command_lent(
         &mut self,
         nexus: Nexus,
@@ -147,7 +147,7 @@ impl<D: Disk + Drop> Held<D> {
         ensures { (commands : Commands D.state drive (asked nexus cdb.now sent.old) self.old result self.new)
             × (sent.new ≡ data_left commands.step.taken.made.changes sent.old) }
     {
-        // Asked for the proof's sake: the numbers of drives begin with 1.
+        // Called for the proof: the numbers of drives begin with 1.
         let _ = drive.number();
         match &mut self.bays[drive.place()] {
             Some(bay) => {
@@ -158,7 +158,7 @@ impl<D: Disk + Drop> Held<D> {
         }
     }
 
-    /// Where every cartridge stands: all slots and all drives, as they are now. It takes no memory.
+    /// The places of all cartridges: all slots and all drives, as they are now. It takes no memory.
     pub fn inventory(&self) -> Inventory<'_, D>
         ensures slots { result.slots.now ≡ self.now.slots }
         ensures drives { result.drives.now ≡ self.now.bays }
@@ -170,14 +170,14 @@ impl<D: Disk + Drop> Held<D> {
         }
     }
 
-    /// The drive of this number, where it is configured.
+    /// The drive of this number, if it is configured.
     pub fn bay(&self, drive: DriveNo) -> Option<&Bay<D>>
         ensures { option_map (λ bay. bay.now) result ≡ bay_at self.now.bays drive }
     {
         self.bays[drive.place()].as_ref()
     }
 
-    /// The closed cartridge in the slot of this element address, where there is such a slot and it holds one.
+    /// The closed cartridge in the slot of this element address, if there is such a slot and it is full.
     pub fn slot(&self, address: u32) -> Option<&Parked<D>>
         ensures { option_map (λ cartridge. cartridge.now) result ≡ held_at self.now.slots address }
     {

@@ -1,4 +1,4 @@
-//! Laws of what is left of a drive. Each is a function whose contract is the law.
+//! Laws of what a stop leaves of a drive. Each is a function whose contract is the law.
 ghost use Rattle.tape_buffer.specs.Rules.{medium_rules};
 ghost use Rattle.bays.specs.Accepted.{StopsKeepAccepted, StopsKeepThrough, order_rules};
 
@@ -12,9 +12,10 @@ use accepting::laws::{
 use tape_buffer::Buffered;
 use tape_disk::Disk;
 
-/// For every list of events, of the changes of a cartridge and of the orders of a drive's reservations: what was
-/// accepted at an acknowledgement begins all that is accepted later, whatever stops come between. Of a cartridge also
-/// where what all is carried out from changes between two events: then what was accepted begins what goes into that.
+/// For every list of events, of the changes of a cartridge and of the orders of a drive's reservations: what
+/// was accepted at an acknowledgement begins all that is accepted later, whatever stops come between. For a
+/// cartridge the base may change between two events: then what was accepted begins what goes into the new
+/// base.
 pub fn stop_keeps<D: Disk>()
     ensures changes { StopsKeepThrough medium_rules }
     ensures orders { StopsKeepAccepted order_rules }

@@ -1,4 +1,4 @@
-//! Moves of cartridges on slots and drives that are lent.
+//! Moves of cartridges on lent slots and drives.
 ghost use Rattle.std.specs.Prelude.{◌≡◌, ◌≢◌, IfSome, None, Some, true, false, is_some};
 ghost use Rattle.changer.specs.Slots.{Puts, held_at, is_slot};
 ghost use Rattle.bays.specs.Inner.Carried.{MovesLent, drive_end, end_beside, refusal_between, slot_end};
@@ -14,7 +14,7 @@ use std::alloc::Global;
 use tape_disk::Disk;
 use vtl_base::{Bytes, SlotNo};
 
-// What decides whether a cartridge may leave this end of a move, or come to it.
+// One end of a move, by what decides whether a cartridge may leave it or come to it.
 #[derive(Clone, Copy)]
 pub(crate) struct End {
     // Whether there is such a slot or drive.
@@ -58,7 +58,7 @@ fn end_beside<D: Disk + Drop>(slots: &Slots<Parked<D>>, bay: &Bay<D>, from: u32,
     }
 }
 
-// The first cause for which nothing is moved, as it is answered.
+// The reply to a refused move, by the first cause that holds.
 fn refusal_between(alloc: Global, source: End, destination: End) -> Option<Reply>
     ensures { result ≡ refusal_between source destination }
 {
@@ -77,7 +77,7 @@ fn refusal_between(alloc: Global, source: End, destination: End) -> Option<Reply
     None
 }
 
-// Takes what a slot holds.
+// Takes the cartridge out of a full slot.
 fn take_held<D: Disk + Drop>(slots: &mut Slots<Parked<D>>, address: u32) -> Parked<D>
     requires slot { is_slot address ≡ true }
     requires full { is_some (held_at slots.old address) ≡ true }
@@ -90,7 +90,7 @@ fn take_held<D: Disk + Drop>(slots: &mut Slots<Parked<D>>, address: u32) -> Park
     }
 }
 
-// Puts a cartridge into a slot that holds nothing.
+// Puts a cartridge into an empty slot.
 fn fill<D: Disk + Drop>(slots: &mut Slots<Parked<D>>, address: u32, cartridge: Parked<D>)
     requires slot { is_slot address ≡ true }
     requires empty { is_some (held_at slots.old address) ≡ false }
@@ -207,12 +207,12 @@ fn between_drives<D: Disk + Drop>(
     }
 }
 
-/// Moves a cartridge from one element address to another, on slots and drives that are lent, by the rules of
-/// `Held::move_medium` (own): `source` is the drive that `from` names and `destination` that of `to`, and `None` where
-/// the address is no configured drive's; a drive that both name is lent as the source alone. So a drive is lent only
-/// under an address of 1 to 16, and a destination only where the addresses differ. In every library of 16 places that
-/// has these slots, and these drives at these addresses, reply and outcome are those of `Held::move_medium`. A move
-/// counts no change.
+/// Moves a cartridge from one element address to another, on lent slots and drives, by the rules of
+/// `Held::move_medium` (own). `source` is the drive at `from` and `destination` the one at `to`, or `None`
+/// where the address is no configured drive's. A drive at both is lent as the source alone. So a drive is
+/// lent only for an address of 1 to 16, and a destination only where the addresses differ. In every library
+/// of 16 places with these slots, and these drives at these addresses, reply and outcome are those of
+/// `Held::move_medium`. A move counts no change.
 pub fn move_lent<D: Disk + Drop>(
     alloc: Global,
     slots: &mut Slots<Parked<D>>,

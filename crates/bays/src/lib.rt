@@ -1,4 +1,5 @@
-//! Drives over disks, slots, and moves between them; what is left of them wherever they are stopped.
+//! Drives over disks, slots, and moves between them; what is left of them at whatever moment they are
+//! stopped.
 #![tactic(auto)]
 
 pub mod bays;

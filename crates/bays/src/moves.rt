@@ -1,4 +1,4 @@
-//! Moves of cartridges in a library: its slots, and the drives that are named, are lent to `move_lent`.
+//! Moves of cartridges in a library: its slots and the drives at the two addresses are lent to `move_lent`.
 ghost use Rattle.std.specs.Prelude.{◌≡◌, ◌≢◌, ◌≤◌, ◌⊎◌, ◌<◌, None, Some, IfSome, IfNone, []};
 ghost use Rattle.vtl_base.specs.declared.limits.TheConstants.{DRIVES};
 ghost use Rattle.scsi_sense.specs.Replies.{check_with};
@@ -15,8 +15,8 @@ use std::alloc::Global;
 use tape_disk::Disk;
 use vtl_base::{Bytes, DriveNo};
 
-/// The drive of this element address, where it is that of a drive's place: 1 to 16, whatever is configured. SMC-3,
-/// element addresses; which they are, own.
+/// The drive of this element address, if it is the address of a drive's place: 1 to 16, whatever is
+/// configured. SMC-3, element addresses; which they are, own.
 pub fn drive_of(address: u32) -> Option<DriveNo>
     ensures some { IfSome result (λ drive.
         (drive ≡ address) × (1 ≤ address) × (address ≤ DRIVES)) }
@@ -33,19 +33,19 @@ pub(crate) fn check(alloc: Global, sense: Sense) -> Reply
 }
 
 impl<D: Disk + Drop> Held<D> {
-    /// Moves a cartridge from one element address to another: 1 to 16 is a drive, 1001 to 1256 a slot. It is refused
-    /// by the first of these that holds, and then nothing changes: 5, 21/01 where an address is no slot's and no
-    /// configured drive's; RESERVATION CONFLICT where a reservation is held at a drive that is touched, since the
-    /// operator is no nexus; 5, 3B/0E where nothing is at the source; 5, 3B/0D where something is at the destination.
-    /// Out of a drive it does what UNLOAD does, and answers as it does. Into a drive it loads, and 28/00 is established
-    /// there for each nexus; where the loading fails the cartridge goes back to its source, unloaded, and the reply is
-    /// the drive's.
+    /// Moves a cartridge from one element address to another: 1 to 16 is a drive, 1001 to 1256 a slot. It is
+    /// refused by the first of these that holds, and then nothing changes: 5, 21/01 where an address is
+    /// neither a slot's nor a configured drive's; RESERVATION CONFLICT where a reservation is held at a drive
+    /// of the move, since the operator is no nexus; 5, 3B/0E where the source is empty; 5, 3B/0D where the
+    /// destination is full. Out of a drive it does what UNLOAD does, with the same reply. Into a drive it
+    /// loads, and establishes 28/00 there for each nexus. Where the loading fails, the cartridge returns to
+    /// its source, unloaded, and the reply is the drive's.
     pub fn move_medium(&mut self, from: u32, to: u32) -> Reply
         ensures answer { MovesMedium D.state self.old from to result self.new }
         ensures kept { KeepsCartridges D.state self.old from to result self.new }
         ensures bays { KeepsBays self.old self.new }
     {
-        // A drive that both addresses name is taken out as the source, and nothing is left for the destination.
+        // A drive that both addresses name is taken out as the source; the destination is then None.
         let source = self.take_drive(from);
         let destination = self.take_drive(to);
         match (source, destination) {
@@ -65,7 +65,7 @@ impl<D: Disk + Drop> Held<D> {
         ensures some { IfSome result (λ bay. IsDriveAddress address × (with_bay address bay self.new ≡ self.old)) }
         ensures none { IfNone result (self.new ≡ self.old) }
     {
-        // Looked at for the proof's sake: there are places for all drives.
+        // Read for the proof: there are places for all drives.
         let _ = &self.bays;
         match drive_of(address) {
             Some(drive) => self.bays[drive.place()].take(),
@@ -73,7 +73,7 @@ impl<D: Disk + Drop> Held<D> {
         }
     }
 
-    // Puts a drive into its place, where none is.
+    // Puts a drive into its empty place.
     fn return_drive(&mut self, address: u32, bay: Bay<D>)
         requires { IsDriveAddress address }
         ensures { self.new ≡ with_bay address bay self.old }

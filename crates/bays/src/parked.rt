@@ -1,4 +1,4 @@
-//! A cartridge that is closed: in a slot, or on its way.
+//! A closed cartridge: in a slot, or on its way.
 ghost use Rattle.std.specs.Prelude.{◌≡◌, false};
 ghost use Rattle.tape_buffer.specs.State.{closed_buffer, state_of};
 ghost use Rattle.tape_buffer.specs.declared.holding.Holding.TheVariants as Holdings;
@@ -10,8 +10,9 @@ use std::marker::Model;
 use tape_buffer::Buffered;
 use tape_disk::Disk;
 
-/// A closed cartridge, as a slot holds it and a drive takes it in. To a contract it is its medium, which is parked. The
-/// type keeps what is kept of a cartridge in a drive; one that is unread keeps it once a drive has opened it.
+/// A closed cartridge, as it is in a slot and as a drive loads it. A contract sees its medium, which is
+/// parked. Its invariant is that of a cartridge in a drive; for an unread one it holds once a drive has
+/// opened it.
 #[derive(Drop)]
 pub struct Parked<D: Disk> {
     medium: Buffered<D>,
@@ -30,8 +31,8 @@ impl<D: Disk> Model for Parked<D> {
 }
 
 impl<D: Disk> Parked<D> {
-    /// A closed cartridge. Over disks that were only taken for a cartridge it is unread: nothing is known of it until a
-    /// drive opens it.
+    /// A closed cartridge. Over disks that were only taken for a cartridge it is unread: nothing is known of
+    /// it until a drive opens it.
     pub fn of(alloc: Global, shelved: Shelved<D>) -> Parked<D>
         ensures { result ≡ closed_buffer shelved }
     {
@@ -56,12 +57,12 @@ impl<D: Disk> Parked<D> {
         self.medium
     }
 
-    /// What the type keeps of it.
+    /// The type's invariant.
     pub fn known(&self)
         ensures parked { (state_of D.state self.now).awake ≡ false }
         ensures kept { KeepsCartridge D.state self.now }
     {
-        // Looked at for the proof's sake: the facts are the type's.
+        // Read for the proof: the facts are the type's invariant.
         let _ = &self.medium;
     }
 
@@ -72,7 +73,7 @@ impl<D: Disk> Parked<D> {
         self.medium.into_shelved()
     }
 
-    /// The medium, to be looked at.
+    /// The medium, for reading.
     pub fn medium(&self) -> &Buffered<D>
         ensures { result.now ≡ self.now }
     {

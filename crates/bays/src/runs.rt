@@ -1,4 +1,4 @@
-//! A script that is run over a library.
+//! Running a script over a library.
 ghost use Rattle.std.specs.Prelude.{◌≡◌, ◌≢◌, [], ◌∷◌, true, IfOk, OnOk, OnErr, Err};
 ghost use Rattle.std.specs.List.{list_all};
 ghost use Rattle.vtl_script.specs.declared.items.Item.TheVariants as Kinds;
@@ -22,7 +22,7 @@ use vtl_base::{DriveNo, NoMemory};
 use vtl_script::{Item, Line, Runner, ScriptFault, run_script};
 
 impl<D: Disk + Drop> Held<D> {
-    // Carries the command of a line out, by the drive that it names. Its data are taken where they become a block.
+    // Carries out the command of a line, on the drive that it names. A block takes its data without copying.
     fn run_line(&mut self, line: &mut Line) -> Reply
         requires { is_configured_in self.old line.old.drive ≡ true }
         ensures { Commands D.state line.old.drive (line_request line.old) self.old result self.new }
@@ -30,7 +30,7 @@ impl<D: Disk + Drop> Held<D> {
         self.command_lent(line.host, line.drive, line.cdb.as_slice(), &mut line.sent)
     }
 
-    // Carries the commands of these lines out, in order, each by the drive that it names.
+    // Carries out the commands of these lines in order, each on the drive that it names.
     fn run_lines(&mut self, alloc: Global, lines: &mut [Line]) -> Result<Vec<Reply>, NoMemory>
         requires { list_all (λ line. is_configured_in self.old line.drive) lines.old ≡ true }
         ensures ok { IfOk result (λ replies.
@@ -46,7 +46,7 @@ impl<D: Disk + Drop> Held<D> {
         Ok(replies)
     }
 
-    // Moves a cartridge. Where memory runs out nothing is moved.
+    // Moves a cartridge. Where memory runs out, nothing is moved.
     fn run_move(&mut self, alloc: Global, from: u32, to: u32) -> Result<Vec<Reply>, NoMemory>
         ensures ok { IfOk result (λ replies.
             LibraryAnswers D.state self.old (Kinds.Move from to ∷ []) replies.items self.new) }
@@ -84,10 +84,10 @@ impl<D: Disk + Drop> Runner for Held<D> {
     ghost answers_on = { held_on D.state };
 }
 
-/// Runs a script over a library, read to its end or to the first line that is refused, and writes a line for each
-/// reply. Where it is of one host, asks for no move, and was run to its end over honest media with no fault, no full
-/// side and memory for everything, what is written is the text of the replies that each drive's machine gives to its
-/// own lines, and nothing else.
+/// Runs a script over a library, up to its end or the first line that is refused, and writes a line for each
+/// reply. Take a script of one host without moves that ran to its end over honest media, with no fault, no
+/// full side and memory for everything. Then exactly the text of the replies is written that each drive's
+/// machine gives to its own lines.
 pub fn run_held<D: Disk + Drop, R: Read, W: Write>(
     alloc: Global,
     held: &mut Held<D>,
@@ -101,7 +101,7 @@ pub fn run_held<D: Disk + Drop, R: Read, W: Write>(
     ensures past { result ≢ Err ScriptFault.ReadFault →
         TakesWithin (R.remaining reader.old) 0 (R.remaining reader.new) }
 
-    // However it ends, a stop at any moment of it keeps what was acknowledged.
+    // However the run ends, what was acknowledged survives a stop at any moment of it.
     ensures keeps { RunKeeps D.state held.old held.new }
 {
     // The laws of the machine, of scripts and of stops, for the proof alone.

@@ -17,13 +17,13 @@ const POWERED_ON: Answer = (Status::Check, 6, 0x29, 0);
 
 const MEDIUM_CHANGED: Answer = (Status::Check, 6, 0x28, 0);
 
-// Host 1 asks whether the drive is ready, and is answered so.
+// TEST UNIT READY of host 1 gets this answer.
 fn is_told<D: Disk>(rt: &impl Abort, bay: &mut Bay<D>, wanted: Answer, at: usize) {
     let host = Nexus::new(1).expect(rt, "a nexus");
     is_answer(rt, &bay.execute(host, READY, b""), wanted, at);
 }
 
-// A command of host 1 is GOOD, and gives these bytes.
+// A command of host 1 is GOOD, and returns these bytes.
 fn gives<D: Disk>(rt: &impl Abort, bay: &mut Bay<D>, cdb: &[u8], sent: &[u8], wanted: &[u8]) {
     let host = Nexus::new(1).expect(rt, "a nexus");
     let reply = bay.execute(host, cdb, sent);
@@ -31,7 +31,7 @@ fn gives<D: Disk>(rt: &impl Abort, bay: &mut Bay<D>, cdb: &[u8], sent: &[u8], wa
     assert_equal!(rt; reply.bytes.as_slice(), wanted);
 }
 
-// The cartridge goes out of the drive, is closed, and is loaded again.
+// The cartridge is unloaded, closed, and loaded again.
 fn is_taken_back<D: Disk + Drop>(alloc: Global, bay: &mut Bay<D>) -> bool {
     match bay.unload() {
         Ok(parked) if bay.is_empty() => {
@@ -41,7 +41,7 @@ fn is_taken_back<D: Disk + Drop>(alloc: Global, bay: &mut Bay<D>) -> bool {
     }
 }
 
-// What is written before that is read behind it.
+// Blocks that were written before are read afterwards.
 fn keeps<D: Disk + Drop>(rt: &impl Abort, alloc: Global, bay: &mut Bay<D>) {
     is_told(rt, bay, POWERED_ON, 0);
     gives(rt, bay, &[0x0a, 0, 0, 0, 5, 0], b"hello", b"");
@@ -60,7 +60,7 @@ fn a_cartridge_is_closed_and_taken_back(rt: HostRuntime) -> Result<(), Fail> {
     Ok(())
 }
 
-// Drive 1 is asked in another thread whether it is ready, and the library is given back with the status.
+// TEST UNIT READY to drive 1 in another thread, which returns the library with the status.
 fn asked_elsewhere<D: Disk + Drop + Send, R: Threads>(
     rt: &R,
     held: Held<D>,
@@ -82,7 +82,7 @@ fn asked_elsewhere<D: Disk + Drop + Send, R: Threads>(
     asked
 }
 
-// Whether the cartridge is moved into the drive before, and the status that is then answered.
+// Whether the cartridge is moved into the drive first, and the status of the command.
 static ASKED: &'static [(bool, Status)] = &[
     (false, Status::Check),
     (false, Status::Check),

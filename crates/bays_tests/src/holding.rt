@@ -1,4 +1,4 @@
-//! What the slots and the drives of a library hold.
+//! The contents of the slots and the drives of a library.
 use crate::samples::{Answer, GOOD, NEVER, Once, library, moves, place};
 use assertions::{assert_equal, assert_holds};
 use bays::{Held, Parked};
@@ -21,7 +21,7 @@ fn barcode(parked: &Parked<Once>) -> &[u8] {
     }
 }
 
-// A place holds the cartridge that is wanted there, by its place and its barcode.
+// A place holds the expected cartridge, by its place and its barcode.
 fn is_wanted(rt: &impl Abort, parked: &Parked<Once>, at: usize, wanted: Option<&(usize, &[u8])>) {
     match wanted {
         Some((place, name)) => {
@@ -32,7 +32,7 @@ fn is_wanted(rt: &impl Abort, parked: &Parked<Once>, at: usize, wanted: Option<&
     }
 }
 
-// Just these places hold a cartridge, of these barcodes.
+// Exactly these places hold a cartridge, with these barcodes.
 fn are_held(rt: &impl Abort, row: &[Option<Parked<Once>>], wanted: &[(usize, &[u8])]) {
     assert_equal!(rt; row.len(), 256);
     let mut found = 0usize;
@@ -45,7 +45,7 @@ fn are_held(rt: &impl Abort, row: &[Option<Parked<Once>>], wanted: &[(usize, &[u
     assert_equal!(rt; found, wanted.len());
 }
 
-// Of 16 places for drives just the first two have one, and there is a cartridge in it where this says so.
+// Of 16 places for drives exactly the first two have one, with a cartridge where this says so.
 fn assert_drives(rt: &impl Abort, held: &Held<Once>, wanted: &[bool]) {
     let row = held.inventory().drives;
     assert_equal!(rt; row.len(), 16);
@@ -55,7 +55,7 @@ fn assert_drives(rt: &impl Abort, held: &Held<Once>, wanted: &[bool]) {
     }
 }
 
-// A move, how it is answered, and what the slots hold then.
+// A move, its answer, and the contents of the slots afterwards.
 type Row = (u32, u32, Answer, &'static [(usize, &'static [u8])]);
 
 // Two cartridges are moved: out of their slots, into others, and into both drives.

@@ -1,4 +1,4 @@
-//! A cartridge that is not loaded goes back where it was.
+//! A cartridge that is not loaded returns to its source.
 use crate::samples::{Answer, GOOD, NEVER, READY, Row, asks, is_answer, library, moves};
 use crate::writing::{is_kept, is_unwritten};
 use assertions::assert_equal;
@@ -55,7 +55,7 @@ fn a_cartridge_goes_round_what_is_lent(rt: HostRuntime) -> Result<(), Fail> {
 // The first loading fails.
 static NOT_LOADED: &'static [Row] = &[(1001, 1, NOT_OPENED), (1, 1002, NO_SOURCE), (1001, 1, GOOD)];
 
-// The creation of the cartridge makes five calls of its disk; the next one begins its opening.
+// Creating the cartridge makes five calls of its disk; the next call begins its opening.
 #[test]
 fn what_is_not_loaded_goes_back(rt: HostRuntime) -> Result<(), Fail> {
     let mut held = library(rt.alloc(), 5)?;
@@ -63,7 +63,7 @@ fn what_is_not_loaded_goes_back(rt: HostRuntime) -> Result<(), Fail> {
     Ok(())
 }
 
-// What drive 1 answers a host once its cartridge was put back into it: it is there, and not loaded.
+// The answers of drive 1 to a host after its cartridge was put back: it is there, and not loaded.
 static PUT_BACK: &'static [(&'static [u8], Answer)] = &[
     (READY, POWERED_ON),
     (READY, MEDIUM_CHANGED),
@@ -72,10 +72,10 @@ static PUT_BACK: &'static [(&'static [u8], Answer)] = &[
     (READY, GOOD),
 ];
 
-// Drive 1 has the cartridge, and drive 2 has none.
+// Drive 1 has the cartridge, and drive 2 is empty.
 static OUT_OF_BOTH: &'static [Row] = &[(2, 1002, NO_SOURCE), (1, 2, GOOD), (2, 1002, GOOD)];
 
-// Whether the opening in drive 2 of the cartridge, which goes there from drive 1, fails: it goes back.
+// Whether the opening in drive 2 of the cartridge, which is moved from drive 1, fails: it returns.
 fn is_put_back<D: Disk + Drop>(rt: &impl Abort, held: &mut Held<D>, fails: u64) -> bool {
     if held.move_medium(1001, 1).sense.is_some() {
         return false;
@@ -92,18 +92,18 @@ fn is_put_back<D: Disk + Drop>(rt: &impl Abort, held: &mut Held<D>, fails: u64) 
     true
 }
 
-/// What is done with a library whose cartridge's disk fails at a call.
+/// The use of a library whose cartridge's disk fails at a call.
 #[derive(Clone, Copy)]
 pub enum Work {
-    /// The cartridge goes into drive 1, and from there into drive 2.
+    /// The cartridge is moved into drive 1, and from there into drive 2.
     Moves,
     /// A block is written, and the library ends.
     Ends,
-    /// A block is written, and the cartridge goes out of its drive.
+    /// A block is written, and the cartridge is moved out of its drive.
     GoesOut,
 }
 
-// Whether the call that fails is one of the work's.
+// Whether the call that fails belongs to this work.
 fn is_met<D: Disk + Drop>(rt: &impl Abort, held: &mut Held<D>, work: Work, fails: u64) -> bool {
     match work {
         Work::Moves => is_put_back(rt, held, fails),
@@ -112,7 +112,7 @@ fn is_met<D: Disk + Drop>(rt: &impl Abort, held: &mut Held<D>, work: Work, fails
     }
 }
 
-/// How many calls of the work fail, each in turn.
+/// How many calls of the work fail, one after another.
 pub fn met(rt: &impl Abort, alloc: Global, work: Work) -> Result<u32, Fail> {
     let mut count = 0u32;
     for fails in 5..30 {
@@ -124,8 +124,8 @@ pub fn met(rt: &impl Abort, alloc: Global, work: Work) -> Result<u32, Fail> {
     Ok(count)
 }
 
-// The opening of a new cartridge makes six calls of its first disk. It is found that this one counts by a sync and a
-// read of how it begins; then come a sync, two reads of the header, and one of the gate that is closed behind it.
+// Opening a new cartridge makes six calls of its first disk. A sync and a read of the first bytes show that
+// this disk counts. Then come a sync, two reads of the header, and one of the closed gate after it.
 #[test]
 fn what_another_drive_does_not_load_goes_back(rt: HostRuntime) -> Result<(), Fail> {
     assert_equal!(rt; met(&rt, rt.alloc(), Work::Moves)?, 6);

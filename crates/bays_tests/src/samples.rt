@@ -1,4 +1,4 @@
-//! Libraries in memory, and how they answer.
+//! Libraries in memory, and their answers.
 ghost use Rattle.std.specs.Prelude.{◌≡◌, [], IfOk, true};
 
 use aptpl_store::AptplStore;
@@ -13,21 +13,21 @@ use std::test::Fail;
 use tape_disk::{Disk, MemDisk, OnceDisk};
 use vtl_base::{Barcode, DriveNo, Nexus};
 
-/// A disk of whose calls one may fail.
+/// A disk of which one call may fail.
 pub type Once = OnceDisk<MemDisk>;
 
 /// No call of a disk is this one.
 pub const NEVER: u64 = u64::MAX;
 
-/// What is to be answered: a status, and of CHECK CONDITION the key, code and qualifier.
+/// The expected answer: a status, and for CHECK CONDITION the key, code and qualifier.
 pub type Answer = (Status, u8, u8, u8);
 
 pub const GOOD: Answer = (Status::Good, 0, 0, 0);
 
 pub const READY: &'static [u8] = &[0; 6];
 
-/// A new cartridge of this barcode and 4,096 bytes, whose first disk fails at the call of this number. Its creation
-/// makes five.
+/// A new cartridge with this barcode and 4,096 bytes, whose first disk fails at call number `fails`. Creating
+/// it makes five calls.
 fn cartridge(alloc: Global, barcode: &[u8], fails: u64) -> Result<Shelved<Once>, Fail>
     ensures { IfOk result (λ shelved. shelved.known ≡ true) }
 {
@@ -57,7 +57,7 @@ fn store_on<D: Disk + Drop>(alloc: Global, disk: D, number: DriveNo) -> Result<A
     }
 }
 
-// A drive over this store that is just switched on, with this in it.
+// A drive over this store that was just switched on, with this cartridge in it.
 fn switched_on<D: Disk + Drop>(
     alloc: Global,
     store: AptplStore<D>,
@@ -71,7 +71,7 @@ fn switched_on<D: Disk + Drop>(
     }
 }
 
-/// A drive that is just switched on, with this in it.
+/// A drive that was just switched on, with this cartridge in it.
 pub fn bay(
     alloc: Global,
     number: DriveNo,
@@ -98,7 +98,7 @@ fn install<D: Disk + Drop>(held: &mut Held<D>, number: DriveNo, bay: Bay<D>) -> 
     }
 }
 
-// Adds a drive with nothing in it.
+// Adds an empty drive.
 fn add_drive(alloc: Global, held: &mut Held<Once>, number: u8) -> Result<(), Fail> {
     let number = drive_no(number)?;
     let bay = bay(alloc, number, None)?;
@@ -113,7 +113,7 @@ fn put<D: Disk + Drop>(held: &mut Held<D>, address: u32, cartridge: Parked<D>) -
     }
 }
 
-/// Places a new cartridge of this barcode, whose first disk fails at the call of this number.
+/// Places a new cartridge with this barcode, whose first disk fails at call number `fails`.
 pub fn place(
     alloc: Global,
     held: &mut Held<Once>,
@@ -125,21 +125,21 @@ pub fn place(
     put(held, address, cartridge)
 }
 
-// Puts what a library has into it.
+// Fills a library.
 fn fill(alloc: Global, held: &mut Held<Once>, fails: u64) -> Result<(), Fail> {
     place(alloc, held, 1001, b"T00001L6", fails)?;
     add_drive(alloc, held, 1)?;
     add_drive(alloc, held, 2)
 }
 
-/// Drives 1 and 2, and in slot 1001 a new cartridge T00001L6 whose first disk fails at the call of this number.
+/// Drives 1 and 2, and in slot 1001 a new cartridge T00001L6 whose first disk fails at call number `fails`.
 pub fn library(alloc: Global, fails: u64) -> Result<Held<Once>, Fail> {
     let mut held = Held::new(alloc)?;
     fill(alloc, &mut held, fails)?;
     Ok(held)
 }
 
-// The key, code and qualifier that a reply tells.
+// The key, code and qualifier in a reply.
 fn told(reply: &Reply) -> (u8, u8, u8) {
     match reply.sense {
         Some(sense) => {
@@ -150,7 +150,7 @@ fn told(reply: &Reply) -> (u8, u8, u8) {
     }
 }
 
-/// A reply is this answer, with no bytes.
+/// A reply is this answer, without bytes.
 pub fn is_answer(rt: &impl Abort, reply: &Reply, wanted: Answer, at: usize) {
     let (status, key, code, qualifier) = wanted;
     assert_equal!(rt; reply.status, status; at);
@@ -158,16 +158,16 @@ pub fn is_answer(rt: &impl Abort, reply: &Reply, wanted: Answer, at: usize) {
     assert_equal!(rt; told(reply), (key, code, qualifier); at);
 }
 
-/// A move, and how it is answered.
+/// A move, and its answer.
 pub type Row = (u32, u32, Answer);
 
-/// A cartridge is moved, or not, and that is answered so.
+/// A cartridge is moved, or not, with this answer.
 pub fn moves<D: Disk + Drop>(rt: &impl Abort, held: &mut Held<D>, row: Row, at: usize) {
     let (from, to, wanted) = row;
     is_answer(rt, &held.move_medium(from, to), wanted, at);
 }
 
-/// A command of host 1 to drive 1, which is there, is answered so.
+/// A command of host 1 to drive 1, which is there, has this answer.
 pub fn asks<D: Disk + Drop>(
     rt: &impl Abort,
     held: &mut Held<D>,
@@ -177,7 +177,7 @@ pub fn asks<D: Disk + Drop>(
 ) {
     let nexus = Nexus::new(1).expect(rt, "a nexus");
     let drive = DriveNo::new(1).expect(rt, "a drive");
-    // `std`'s, since `command` asks for what it says.
+    // The `assert!` of `std`, since `command` requires this.
     assert!(rt; held.configured(drive));
     is_answer(rt, &held.command(nexus, drive, cdb, sent), wanted, 0);
 }

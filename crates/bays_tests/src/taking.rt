@@ -1,4 +1,4 @@
-//! Commands whose data are lent: they are taken where they become a block; else they stay.
+//! Commands with lent data: a block takes them; else they stay.
 use crate::samples::{Answer, GOOD, NEVER, asks, is_answer, library, moves};
 use assertions::assert_equal;
 use bays::Held;
@@ -19,7 +19,7 @@ const NO_MEDIUM: Answer = (Status::Check, 2, 0x3a, 0);
 
 const WRITE_ERROR: Answer = (Status::Check, 3, 0x0c, 0);
 
-// A WRITE of one byte to drive 1, which is there: the reply, and what is left of the data.
+// A WRITE of one byte to drive 1, which is there: the reply, and the data that are left.
 fn write<D: Disk + Drop>(
     rt: &impl Abort,
     alloc: Global,
@@ -28,13 +28,13 @@ fn write<D: Disk + Drop>(
     let nexus = Nexus::new(1).expect(rt, "a nexus");
     let drive = DriveNo::new(1).expect(rt, "a drive");
     let mut lent = Bytes::from_slice(alloc, b"x")?;
-    // `std`'s, since `command_lent` asks for what it says.
+    // The `assert!` of `std`, since `command_lent` requires this.
     assert!(rt; held.configured(drive));
     let reply = held.command_lent(nexus, drive, WRITE_1, &mut lent);
     Ok((reply, lent))
 }
 
-// The answers to WRITEs in a row, and what is left of the data of each.
+// The answers to WRITEs, one after another, and the data that are left of each.
 static WRITES: &'static [(Answer, &'static [u8])] = &[
     (POWERED_ON, b"x"),
     (CHANGED, b"x"),
@@ -42,10 +42,10 @@ static WRITES: &'static [(Answer, &'static [u8])] = &[
     (GOOD, b""),
 ];
 
-// What is read then.
+// The blocks that are read afterwards.
 static READS: &'static [&'static [u8]] = &[b"x", b"x"];
 
-// WRITEs of one byte to drive 1 are answered so.
+// WRITEs of one byte to drive 1 have these answers.
 fn are_written<D: Disk + Drop>(
     rt: &impl Abort,
     alloc: Global,
@@ -91,8 +91,8 @@ fn read<D: Disk + Drop>(rt: &impl Abort, held: &mut Held<D>) -> Reply {
     held.command(nexus, drive, &[0x08, 0, 0, 0, 1, 0], b"")
 }
 
-// The 65th block waits until those before it are stored, in four calls of the disk. Where one fails the block is not
-// taken. Whether this call is one of them.
+// The 65th block waits until those before it are stored, in four calls of the disk. Where one fails, the
+// block is not taken. Whether the call that fails is one of these.
 fn is_met<D: Disk + Drop>(
     rt: &impl Abort,
     alloc: Global,
@@ -134,7 +134,7 @@ fn a_block_stays_where_no_way_is_made_for_it(rt: HostRuntime) -> Result<(), Fail
     Ok(())
 }
 
-// The answers of a drive without a cartridge to WRITEs in a row, and what is left of the data of each.
+// The answers of an empty drive to WRITEs, one after another, and the data that are left of each.
 static NONE_TAKEN: &'static [(Answer, &'static [u8])] = &[(POWERED_ON, b"x"), (NO_MEDIUM, b"x")];
 
 #[test]

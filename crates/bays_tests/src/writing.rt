@@ -1,4 +1,4 @@
-//! Buffers are written out.
+//! Writing out buffers.
 use crate::moving::{Work, met};
 use crate::samples::{Answer, GOOD, NEVER, Once, READY, asks, is_answer, library, moves};
 use assertions::{assert_equal, assert_holds};
@@ -10,7 +10,7 @@ use std::test::Fail;
 use tape_disk::Disk;
 use vtl_base::DriveNo;
 
-// A command, what is sent with it, and the answer: a block of one byte is written.
+// A command, the data sent with it, and the answer: a block of one byte is written.
 static WRITING: &'static [(&'static [u8], &'static [u8], Answer)] = &[
     (READY, b"", (Status::Check, 6, 0x29, 0)),
     (READY, b"", (Status::Check, 6, 0x28, 0)),
@@ -18,7 +18,7 @@ static WRITING: &'static [(&'static [u8], &'static [u8], Answer)] = &[
     (&[0x0a, 0, 0, 0, 1, 0], b"x", GOOD),
 ];
 
-// Loads the cartridge into drive 1, with a block of one byte pending; or says that it does not go into the drive.
+// Loads the cartridge into drive 1, with a block of one byte pending. False: it cannot be loaded.
 fn has_a_block<D: Disk + Drop>(rt: &impl Abort, held: &mut Held<D>) -> bool {
     if held.move_medium(1001, 1).sense.is_some() {
         return false;
@@ -38,7 +38,7 @@ fn syncs(rt: &impl Abort, held: &Held<Once>) -> u64 {
     }
 }
 
-// The library is finished, and ends so.
+// The library is finished, with this result.
 fn finishes<D: Disk + Drop>(rt: &impl Abort, held: &mut Held<D>, wanted: Result<(), Unwritten>) {
     assert_equal!(rt; held.finish(), wanted);
 }
@@ -59,7 +59,7 @@ fn all_is_written_out(rt: HostRuntime) -> Result<(), Fail> {
     Ok(())
 }
 
-/// Whether the call that fails is one of the writing out: it fails, and so does the next one.
+/// Whether the call that fails belongs to the writing out: it fails, and so does the next one.
 pub fn is_unwritten<D: Disk + Drop>(rt: &impl Abort, held: &mut Held<D>) -> bool {
     if !has_a_block(rt, held) || held.finish() != Err(Unwritten) {
         return false;
@@ -75,8 +75,9 @@ fn what_is_not_written_is_told(rt: HostRuntime) -> Result<(), Fail> {
     Ok(())
 }
 
-/// Whether the call that fails is one of the writing out of the cartridge, which is to go from drive 1 into a slot: it
-/// fails, and the cartridge stays until it is asked to go again, which gives up what is pending.
+/// Whether the call that fails belongs to the writing out of the cartridge, which is moved from drive 1 into
+/// a slot. The writing out fails, and the cartridge stays until it is moved again, which discards what is
+/// pending.
 pub fn is_kept<D: Disk + Drop>(rt: &impl Abort, held: &mut Held<D>, fails: u64) -> bool {
     if !has_a_block(rt, held) {
         return false;

@@ -9,13 +9,13 @@ use vtl_base::{Barcode, Nexus};
 
 const BLOCK: usize = 262_144;
 
-// As many of them as 64 MiB.
+// The blocks of 64 MiB.
 const BLOCKS_A_MARK: u32 = 256;
 
 // WRITE of 262,144 bytes.
 const WRITE_BLOCK: [u8; 6] = [0x0a, 0, 4, 0, 0, 0];
 
-// The disk in a cartridge's second file, which is made where it is missing.
+// The disk in a cartridge's second file, which is created where it is missing.
 fn second_disk(rt: &HostRuntime, path: &str) -> Option<FileDisk> {
     let path = format!(in rt.alloc(); "{path}.2").ok()?;
     match create(rt, path.as_str()) {
@@ -24,7 +24,7 @@ fn second_disk(rt: &HostRuntime, path: &str) -> Option<FileDisk> {
     }
 }
 
-// A drive with an empty cartridge in a new file, and a second one beside it.
+// A drive with an empty cartridge in a new file and a second one.
 fn new_drive(rt: &HostRuntime, path: &str) -> Option<Tape<FileDisk>> {
     let barcode = Barcode::parse(b"T00001L6").ok()?;
     let first = create(rt, path).ok()?;
@@ -34,13 +34,13 @@ fn new_drive(rt: &HostRuntime, path: &str) -> Option<Tape<FileDisk>> {
     switched_on(rt.alloc(), first, second)
 }
 
-// Whether all these blocks and the last mark were taken.
+// Whether all these blocks and the last mark were accepted.
 fn are_written(drive: &mut Tape<FileDisk>, host: Nexus, count: u32, block: &[u8]) -> bool {
     writes(drive, host, count, &WRITE_BLOCK, block, BLOCKS_A_MARK)
         && writes(drive, host, 1, &[0x10, 0, 0, 0, 1, 0], &[], 0)
 }
 
-// How long they take, in nanoseconds, and how many bytes they have.
+// The nanoseconds that they take, and their number of bytes.
 fn timed(rt: &HostRuntime, drive: &mut Tape<FileDisk>, count: u32) -> Option<Timed> {
     let block = vec![in rt.alloc(); 90u8; BLOCK].ok()?;
     let host = Nexus::new(1)?;
@@ -53,8 +53,9 @@ fn timed(rt: &HostRuntime, drive: &mut Tape<FileDisk>, count: u32) -> Option<Tim
     Some((time, count as u64 * BLOCK as u64))
 }
 
-/// Buffered writes of 262,144 bytes to a new cartridge in this file, which must not exist, with a filemark behind each
-/// 256 of them and one at the end: how many bytes were written. Its second file has `.2` added to the name.
+/// Buffered writes of 262,144 bytes to a new cartridge in this file, which must not exist, with a filemark
+/// after each 256 of them and one at the end. Returns how many bytes were written. Its second file has `.2`
+/// added to the name.
 pub fn appended(rt: &HostRuntime, path: &str, count: u32) -> Option<Timed> {
     let mut drive = new_drive(rt, path)?;
     timed(rt, &mut drive, count)

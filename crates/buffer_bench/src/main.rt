@@ -1,4 +1,4 @@
-//! Work for a clock: a drive writes to a cartridge in memory, and as many bytes are copied.
+//! A timed program: a drive writes to a cartridge in memory, and as many bytes are copied.
 #![tactic(auto)]
 
 mod drives;
@@ -10,7 +10,7 @@ use std::env;
 use std::process::ExitCode;
 use work::{Timed, blocks, bytes, copied, marks};
 
-// The nanoseconds that the work of a word took, done so often, and what came of it.
+// The nanoseconds of the work for a word, done `count` times, and its result.
 fn timed(rt: &HostRuntime, word: &str, count: u32) -> Option<Timed> {
     match word {
         "blocks" => blocks(rt, count),
@@ -21,8 +21,8 @@ fn timed(rt: &HostRuntime, word: &str, count: u32) -> Option<Timed> {
     }
 }
 
-/// With `blocks N`, `bytes N`, `marks N`, `copy N` or `file N PATH` it tells the nanoseconds and what came of it; with
-/// no words it does a little of each but the last, and tells that alone.
+/// With `blocks N`, `bytes N`, `marks N`, `copy N` or `file N PATH` it prints the nanoseconds and the result.
+/// Without words it does a little of each but the last, and prints only the results.
 fn main(rt: HostRuntime) -> ExitCode {
     let Ok(words) = env::args(&rt) else {
         return ExitCode::from(1);

@@ -1,4 +1,4 @@
-//! What is timed.
+//! The work that is timed.
 use crate::drives::{Tape, switched_on};
 use scsi_sense::{Reply, Sense, Status};
 use std::alloc::Global;
@@ -8,7 +8,7 @@ use vtl_base::Nexus;
 
 const BLOCK: usize = 65_536;
 
-// As many of them as 64 MiB.
+// The blocks of 64 MiB.
 const BLOCKS_A_MARK: u32 = 1_024;
 
 // WRITE of 65,536 bytes and of one byte, WRITE FILEMARKS of one, stored before its answer.
@@ -23,10 +23,10 @@ pub(crate) const TEST_UNIT_READY: [u8; 6] = [0; 6];
 // The side of a cartridge of one partition of 1,099,511,627,776 bytes, with no frames.
 const SIDE: [u8; 36] = *b"\xa5VTLCART1\0\x01T00001L6        \0\0\x01\0\0\0\0\0\0";
 
-/// Nanoseconds, and what came of the work.
+/// Nanoseconds, and the result of the work.
 pub type Timed = (u128, u64);
 
-// A drive with an empty cartridge in memory, and a host that took its power on.
+// A drive with an empty cartridge in memory, and a host to which its power on was reported.
 fn new_drive(alloc: Global) -> Option<(Tape<MemDisk>, Nexus)> {
     let disk = MemDisk::from_bytes(alloc, &SIDE).ok()?;
     let mut drive = switched_on(alloc, disk, MemDisk::new(alloc))?;
@@ -35,7 +35,7 @@ fn new_drive(alloc: Global) -> Option<(Tape<MemDisk>, Nexus)> {
     Some((drive, host))
 }
 
-// Asks a command, and once more where memory runs out: whether it is GOOD.
+// Sends a command, and once more where memory runs out. Returns whether it is GOOD.
 fn ask<D: Disk + Drop>(drive: &mut Tape<D>, host: Nexus, cdb: &[u8], sent: &[u8]) -> bool {
     let mut reply = drive.execute(host, cdb, sent);
     if reply.sense == Some(Sense::insufficient_resources()) {
@@ -52,7 +52,7 @@ fn syncs(drive: &Tape<MemDisk>) -> u64 {
     }
 }
 
-// So many writes of a block, with a filemark behind each group of so many, if any: whether all are GOOD.
+// `count` writes of a block, with a filemark after each group of them, if any. Returns whether all are GOOD.
 pub(crate) fn writes<D: Disk + Drop>(
     drive: &mut Tape<D>,
     host: Nexus,
@@ -97,7 +97,7 @@ fn timed_writes(
     Some((time, syncs(drive).saturating_sub(before)))
 }
 
-/// Buffered writes of 65,536 bytes, with a filemark behind each 1,024 of them: how many syncs they take.
+/// Buffered writes of 65,536 bytes, with a filemark after each 1,024 of them: how many syncs they take.
 pub fn blocks(rt: &HostRuntime, count: u32) -> Option<Timed> {
     let block = vec![in rt.alloc(); 90u8; BLOCK].ok()?;
     written(rt, count, &WRITE_BLOCK, &block, BLOCKS_A_MARK)
@@ -108,12 +108,12 @@ pub fn bytes(rt: &HostRuntime, count: u32) -> Option<Timed> {
     written(rt, count, &WRITE_BYTE, b"x", 0)
 }
 
-/// Buffered writes of one byte, with a filemark behind each: how many syncs they take.
+/// Buffered writes of one byte, with a filemark after each: how many syncs they take.
 pub fn marks(rt: &HostRuntime, count: u32) -> Option<Timed> {
     written(rt, count, &WRITE_BYTE, b"x", 1)
 }
 
-/// Copies as many blocks of 65,536 bytes into one row: how many bytes it has.
+/// Copies as many blocks of 65,536 bytes into one vector: how many bytes it has.
 pub fn copied(rt: &HostRuntime, count: u32) -> Option<Timed> {
     let block = vec![in rt.alloc(); 90u8; BLOCK].ok()?;
     let mut row = Vec::new(rt.alloc());

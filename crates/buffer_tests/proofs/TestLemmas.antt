@@ -12,7 +12,7 @@ woken_is_awake honest false old new is answer = answer.0.awake
 pub opened_is_awake : (honest : Type 0) (old new : MediumState) → Wakes honest old (Ok tt) new → new.awake ≡ true
 opened_is_awake honest old new = woken_is_awake honest old.awake old new refl
 
--- as many filemarks stand among all objects as there are
+-- all objects have as many filemarks as there are
 pub marks_of_all : (volume : List Part) (part count : ℕ) → count ≡ count_of volume part
     → marks_upto volume part count ≡ mark_count volume part
 marks_of_all volume part count all =

@@ -1,4 +1,4 @@
-//! A cartridge that was reclaimed: its second side counts.
+//! A reclaimed cartridge: its second side counts.
 use crate::drives::Tape;
 use crate::samples::{
     GOOD, LOAD, NO_MEDIUM, NONE, READ_1, REWIND, Row, TEST_UNIT_READY, WRITE_1, WRITE_OUT, asks,
@@ -10,24 +10,25 @@ use std::process::Abort;
 use std::test::Fail;
 use tape_disk::{MemDisk, OnceDisk};
 
-/// The first side, as it was before: a block of five bytes and a filemark, and then a block written at the beginning.
+/// The first side, as before the reclaim: a block of five bytes and a filemark, and then a block written at the
+/// beginning.
 pub static FIRST: &'static [u8] = b"\xa5VTLCART1\xa5\x01T00001L6        \0\0\0\0\0\0\x10\0\
     \xa5\0\0\0\x0f\x01\0\0\0\0\0\0\0\0\x05hello\
     \xa5\0\0\0\x0a\x02\0\0\0\0\x01\0\0\0\x01\
     \xa5\0\0\0\x0b\x01\0\0\0\0\0\0\0\0\x01x\0";
 
-/// The second side: epoch 1, and one frame that is the copy.
+/// The second side: epoch 1, and one frame, which is the copy.
 pub static SECOND: &'static [u8] = b"\xa5VTLCART1\0\x81T00001L6        \0\0\0\0\0\0\x10\0\
     \0\0\0\0\0\0\0\x01\0\0\0\x01\
     \xa5\0\0\0\x0b\x01\0\0\0\0\0\0\0\0\x01x\0";
 
-/// The second side with a frame more: the block `y`.
+/// The second side with one more frame: the block `y`.
 pub static MORE: &'static [u8] = b"\xa5VTLCART1\0\x81T00001L6        \0\0\0\0\0\0\x10\0\
     \0\0\0\0\0\0\0\x01\0\0\0\x01\
     \xa5\0\0\0\x0b\x01\0\0\0\0\0\0\0\0\x01x\
     \xa5\0\0\0\x0b\x01\0\0\0\0\x01\0\0\0\x01y\0";
 
-/// The block of the copy is read, and one more is stored behind it.
+/// The block of the copy is read, and one more is stored after it.
 pub static APPENDED: &'static [Row<'static>] = &[
     (1, READ_1, NONE, (None, b"x")),
     (1, WRITE_1, b"y", GOOD),
@@ -35,10 +36,10 @@ pub static APPENDED: &'static [Row<'static>] = &[
     (1, REWIND, NONE, GOOD),
 ];
 
-// Calls of the first disk in an opening: a sync, and a read that chooses.
+// Calls of the first disk in an opening: a sync, and a read that decides which side counts.
 const CHOOSING: u64 = 2;
 
-// A drive with that cartridge, of whose first disk the call after so many fails.
+// A drive with that cartridge, whose first disk fails at the call after `calls`.
 fn reclaimed(rt: &impl Abort, alloc: Global, calls: u64) -> Result<Tape<OnceDisk<MemDisk>>, Fail> {
     greeted(
         rt,
@@ -48,7 +49,7 @@ fn reclaimed(rt: &impl Abort, alloc: Global, calls: u64) -> Result<Tape<OnceDisk
     )
 }
 
-// The tape was not loaded at power on, and is at the second asking.
+// The tape was not loaded at power on, but it is at the second command.
 static LOADED_LATE: &'static [Row<'static>] = &[
     (1, TEST_UNIT_READY, NONE, NO_MEDIUM),
     (1, LOAD, NONE, GOOD),

@@ -19,14 +19,14 @@ const ONE_WAITS: &'static [Row<'static>] = &[
     (1, WRITE_1, b"b", GOOD),
 ];
 
-// A block is stored, and the next is not to wait.
+// A block is stored, and the next must not wait.
 const NONE_WAITS: &'static [Row<'static>] = &[
     (1, WRITE_1, b"a", GOOD),
     (1, WRITE_OUT, NONE, GOOD),
     (1, SELECT_4, MODE_0, GOOD),
 ];
 
-// Two blocks are stored, and the tape stands before them.
+// Two blocks are stored, and the position is before them.
 const TWO_STAND: &'static [Row<'static>] = &[
     (1, WRITE_1, b"a", GOOD),
     (1, WRITE_1, b"b", GOOD),
@@ -34,8 +34,8 @@ const TWO_STAND: &'static [Row<'static>] = &[
     (1, SELECT_4, MODE_0, GOOD),
 ];
 
-// What comes before a command, the command, its answer where no call fails, and what the tape then holds without and
-// with the frame that is under way.
+// The commands before a command, the command, its answer where no call fails, and what the tape then holds
+// without the frame in flight and with it.
 type Case<'a> = (
     &'a [Row<'a>],
     &'a [u8],
@@ -78,8 +78,9 @@ static CASES: &'static [Case<'static>] = &[
 // More calls than a test makes.
 const NEVER: u64 = 1_000;
 
-// A drive with a tape, of whose disks the call after so many of the first fails, and after so many of the second. Six
-// calls of the first and one of the second switch it on; four of the first store what stands before a case's command.
+// A drive with a tape. The first disk fails at the call after the first number, the second disk after the
+// second. Six calls of the first disk and one of the second switch the drive on. Four of the first store what
+// comes before a case's command.
 fn failing(
     rt: &impl Abort,
     alloc: Global,
@@ -95,7 +96,7 @@ fn failing(
     )
 }
 
-// The tape has failed; it is unloaded and loaded.
+// The tape has failed. It is unloaded and loaded.
 static FOUND_AGAIN: &'static [Row<'static>] = &[
     (1, TEST_UNIT_READY, NONE, FAILED),
     (1, READ_1, NONE, FAILED),
@@ -121,8 +122,9 @@ fn passes<D: Disk + Drop>(rt: &impl Abort, drive: &mut Tape<D>, case: &Case) {
     ask(rt, drive, (1, cdb, sent, wanted), 0);
 }
 
-// A case at one call of its disk. A write, a sync, the write of the gate and a sync store. A call that fails does
-// nothing, so the frame is there where the last one failed; the call behind them is none of the case's.
+// A case with a fault at one call of its disk. A write, a sync, the write of the gate and a sync store a
+// frame. A failed call does nothing, so the frame is there where the last call failed. The call after them
+// does not belong to the case.
 fn storing(rt: &impl Abort, alloc: Global, case: &Case, calls: u64) -> Result<(), Fail> {
     let (_, _, _, _, without, with) = *case;
     let mut drive = failing(rt, alloc, EMPTY, calls, NEVER)?;
@@ -144,7 +146,7 @@ fn a_fault_at_each_call_of_a_storing(rt: HostRuntime) -> Result<(), Fail> {
     Ok(())
 }
 
-// A turn failed: that is reported to one host in the place of its command, and then to nobody.
+// A turn failed. That is reported to one host in place of its command, and to no other.
 static TOLD_ONCE: &'static [Row<'static>] = &[
     (1, INQUIRY, NONE, INQUIRED),
     (2, TEST_UNIT_READY, NONE, LATE_ERROR),
@@ -153,7 +155,8 @@ static TOLD_ONCE: &'static [Row<'static>] = &[
     (2, INQUIRY, NONE, INQUIRED),
 ];
 
-// The same, reported at a command that would clear it all: one of an unknown code comes first and clears nothing.
+// The same, reported at a command that would clear it all: one with an unknown code comes first and clears
+// nothing.
 static TOLD_TO_A_READ: &'static [Row<'static>] = &[
     (1, &[0xa5; 12], NONE, (Some((0x70, 5, 0, 0x20, 0)), &[])),
     (1, READ_1, NONE, LATE_ERROR),
@@ -161,7 +164,7 @@ static TOLD_TO_A_READ: &'static [Row<'static>] = &[
     (2, WRITE_OUT, NONE, FAILED),
 ];
 
-// The same, given as data.
+// The same, returned as data.
 static TOLD_AS_DATA: &'static [Row<'static>] = &[
     (
         2,
@@ -173,7 +176,7 @@ static TOLD_AS_DATA: &'static [Row<'static>] = &[
     (1, TEST_UNIT_READY, NONE, FAILED),
 ];
 
-// The same, reported at UNLOAD, which is then asked again.
+// The same, reported at UNLOAD, which is then sent again.
 static TOLD_TO_AN_UNLOADING: &'static [Row<'static>] = &[
     (1, UNLOAD, NONE, LATE_ERROR),
     (2, TEST_UNIT_READY, NONE, FAILED),
@@ -181,7 +184,7 @@ static TOLD_TO_AN_UNLOADING: &'static [Row<'static>] = &[
 
 static WAITING: &'static [Row<'static>] = ONE_WAITS;
 
-// A turn fails, that is reported to hosts, and the tape is found to hold this.
+// A turn fails, which is reported to hosts, and the tape is found to hold this.
 fn turn_fails<D: Disk + Drop>(rt: &impl Abort, drive: &mut Tape<D>, told: &[Row], holds: &[u8]) {
     asks(rt, drive, WAITING);
     assert_turn(rt, drive, Turn::Device);
@@ -210,7 +213,7 @@ fn a_fault_at_each_call_of_a_turn(rt: HostRuntime) -> Result<(), Fail> {
     Ok(())
 }
 
-// The tape was not loaded at power on, and is at the second asking.
+// The tape was not loaded at power on, but it is at the second command.
 static LOADED_LATE: &'static [Row<'static>] = &[
     (1, TEST_UNIT_READY, NONE, NO_MEDIUM),
     (1, LOAD, NONE, GOOD),
@@ -218,7 +221,7 @@ static LOADED_LATE: &'static [Row<'static>] = &[
     (2, TEST_UNIT_READY, NONE, GOOD),
 ];
 
-// The tape is unloaded, and loaded at the second asking alone; that is reported to the other host once.
+// The tape is unloaded, and loaded only at the second command; that is reported to the other host once.
 static LOADED_AGAIN: &'static [Row<'static>] = &[
     (1, UNLOAD, NONE, GOOD),
     (1, LOAD, NONE, READ_ERROR),
@@ -236,7 +239,8 @@ static READ_AGAIN: &'static [Row<'static>] = &[
     (1, LOAD, NONE, GOOD),
 ];
 
-// A side with one block, of whose disks a call fails: the tape answers so, and has its block then.
+// A side with one block, with a fault at a call of its disks: the tape has these answers, and its block
+// afterwards.
 fn loading(
     rt: &impl Abort,
     alloc: Global,
@@ -253,7 +257,8 @@ fn loading(
 #[test]
 fn a_fault_at_each_call_of_a_loading(rt: HostRuntime) -> Result<(), Fail> {
     let alloc = rt.alloc();
-    // A sync and a read that choose; a sync, two reads of the header, two of gates and one of the body.
+    // A sync and a read decide which side counts; then a sync, two reads of the header, two of gates and one
+    // of the body.
     for calls in 0..8 {
         loading(&rt, alloc, calls, NEVER, LOADED_LATE)?;
     }
@@ -271,7 +276,7 @@ fn a_fault_of_the_second_disk_in_a_loading(rt: HostRuntime) -> Result<(), Fail> 
     loading(&rt, alloc, NEVER, 1, LOADED_AGAIN)
 }
 
-// A side that is refused stands in the drive unloaded, and LOAD tells so; UNLOAD leaves it.
+// A refused side is in the drive, unloaded, and LOAD reports the error; UNLOAD changes nothing.
 static UNREADABLE: &'static [Row<'static>] = &[
     (1, TEST_UNIT_READY, NONE, NO_MEDIUM),
     (1, LOAD, NONE, READ_ERROR),
@@ -280,7 +285,7 @@ static UNREADABLE: &'static [Row<'static>] = &[
     (2, TEST_UNIT_READY, NONE, NO_MEDIUM),
 ];
 
-// No cartridge's side, a partition too many, a record of no kind, and a last gate that is open.
+// No cartridge's side, one partition too many, a record of an unknown kind, and an open last gate.
 static WRONG: &'static [(usize, u8)] = &[(0, 0x00), (10, 0x05), (40, 0x04), (51, 0xa5)];
 
 // The side with one block, with one of its bytes set to a value.

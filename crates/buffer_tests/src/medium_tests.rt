@@ -1,4 +1,4 @@
-//! A buffered medium on its own: what waits, and what it costs.
+//! A buffered medium by itself: what waits, and how many syncs that takes.
 ghost use Rattle.std.specs.Prelude.{◌≡◌, true};
 
 use crate::samples::{EMPTY, ONE};
@@ -18,7 +18,7 @@ fn parked(alloc: Global, side: &[u8]) -> Result<Buffered<MemDisk>, Fail> {
     Ok(Buffered::parked(alloc, Shelved::of(disk, MemDisk::new(alloc))))
 }
 
-// A block of this size behind the first objects. A medium that is awake stays as it is.
+// A block of this size after the first objects. A medium that is awake stays awake.
 #[tactic(auto, using(crate::proofs::TestLemmas::opened_is_awake))]
 fn puts<D: Disk + Drop>(
     alloc: Global,
@@ -32,7 +32,7 @@ fn puts<D: Disk + Drop>(
     Ok(())
 }
 
-// How many changes wait after so many blocks of one size, and how many syncs these took.
+// How many changes wait after these blocks of one size, and how many syncs they took.
 #[tactic(auto, using(crate::proofs::TestLemmas::opened_is_awake))]
 fn filled(
     alloc: Global,
@@ -80,7 +80,8 @@ fn what_waits_is_counted(rt: HostRuntime) -> Result<(), Fail> {
     Ok(())
 }
 
-// Adds an object to what is seen: the byte of a block, and `|` for a filemark. A medium that is awake stays as it is.
+// Appends an object to what was seen: the byte of a block, or `|` for a filemark. A medium that is awake
+// stays awake.
 #[tactic(auto, using(crate::proofs::TestLemmas::opened_is_awake))]
 fn see<D: Disk + Drop>(
     medium: &mut Buffered<D>,
@@ -124,7 +125,7 @@ fn find_marks<C: Catalog>(alloc: Global, catalog: &C) -> Result<Vec<u32>, Fail>
     Ok(places)
 }
 
-// What a medium is seen to hold.
+// The contents of a medium.
 #[derive(Drop)]
 struct Contents {
     text: Vec<u8>,
@@ -157,10 +158,10 @@ fn seen<D: Disk + Drop>(alloc: Global, medium: &mut Buffered<D>) -> Result<Conte
     })
 }
 
-// The objects, what all of them take, how many filemarks are among the first ones, and the object of each filemark.
+// The objects, what they take, how many filemarks are among the first ones, and the object of each filemark.
 type View<'a> = (&'a [u8], u64, &'a [u32], &'a [u32]);
 
-// A medium over a block `a` takes one change behind another; what it holds then.
+// A medium over a block `a` takes one change after another; its contents then.
 static CHANGES: &'static [(Option<u8>, u32, u32, View<'static>)] = &[
     (None, 1, 2, (b"a||", 49, &[0, 0, 1, 2, 2], &[1, 2])),
     (Some(b'b'), 2, 1, (b"a|b", 50, &[0, 0, 1, 1, 1], &[1])),
@@ -171,7 +172,7 @@ static CHANGES: &'static [(Option<u8>, u32, u32, View<'static>)] = &[
     (Some(b'd'), 0, 1, (b"d", 17, &[0, 0, 0], &[])),
 ];
 
-// A block of this byte, so many marks, or, with none, an erase, behind the first objects.
+// A block with this byte, filemarks or, with none, an erase, after the first objects.
 #[tactic(auto, using(crate::proofs::TestLemmas::opened_is_awake))]
 fn takes<D: Disk + Drop>(
     alloc: Global,
@@ -189,7 +190,7 @@ fn takes<D: Disk + Drop>(
     Ok(())
 }
 
-// Asks a medium to store, or to be parked and opened again.
+// Has a medium store, or park and open again.
 #[tactic(auto, using(crate::proofs::TestLemmas::opened_is_awake))]
 fn stores<D: Disk + Drop>(medium: &mut Buffered<D>, parks: bool) -> Result<(), Fail> {
     medium.wake()?;
@@ -219,7 +220,7 @@ fn is_seen<D: Disk + Drop>(
     Ok(())
 }
 
-// All changes, with a storing behind the one of this number.
+// All changes, with a storing after the one with this number.
 fn sees<D: Disk + Drop>(
     rt: &impl Abort,
     alloc: Global,
@@ -237,7 +238,7 @@ fn sees<D: Disk + Drop>(
     Ok(())
 }
 
-// The same of a new medium over a block.
+// The same for a new medium over a block.
 fn sees_all(rt: &impl Abort, alloc: Global, behind: usize, parks: bool) -> Result<(), Fail> {
     let mut medium = parked(alloc, ONE)?;
     sees(rt, alloc, &mut medium, behind, parks)
@@ -245,7 +246,7 @@ fn sees_all(rt: &impl Abort, alloc: Global, behind: usize, parks: bool) -> Resul
 
 #[test]
 fn what_waits_is_seen(rt: HostRuntime) -> Result<(), Fail> {
-    // Nothing is stored on the way, all is stored behind a change, or it is parked there and opened again.
+    // Nothing is stored between; or all is stored after a change, or the medium is parked and opened again.
     for behind in 0..8 {
         sees_all(&rt, rt.alloc(), behind, false)?;
         sees_all(&rt, rt.alloc(), behind, true)?;

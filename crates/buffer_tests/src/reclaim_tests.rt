@@ -1,4 +1,4 @@
-//! A closed cartridge is reclaimed below a drive: it comes back with the copy, or as it was.
+//! A closed cartridge is reclaimed below a drive: it is returned with the copy, or unchanged.
 use crate::copy_tests::{APPENDED, FIRST, MORE, SECOND};
 use crate::samples::{asks, greeted, reads};
 use assertions::assert_equal;
@@ -67,7 +67,7 @@ fn what_is_not_reclaimed_comes_back(rt: HostRuntime) -> Result<(), Fail> {
     )
 }
 
-// The first call of the first disk fails, so nothing is opened: what is on it is read at the second try.
+// The first call of the first disk fails, so nothing is opened. The disk is read at the second try.
 #[test]
 fn a_fault_of_the_opening_leaves_all(rt: HostRuntime) -> Result<(), Fail> {
     let alloc = rt.alloc();

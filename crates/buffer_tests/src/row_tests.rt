@@ -1,4 +1,5 @@
-//! Which commands cost a sync, by steps, each reply to the byte, whether their data are shown or lent.
+//! Which commands cost a sync, step by step, with each reply to the byte, whether their data are borrowed or
+//! lent.
 use crate::drives::Tape;
 use crate::samples::{
     EMPTY, ERASE, GOOD, LOCATE_1, MARK_AT_ONCE, MODE_0, MODE_1, NONE, Row, SELECT_4, Sending,
@@ -11,8 +12,8 @@ use std::test::Fail;
 use tape_disk::MemDisk;
 use volume_core::Turn;
 
-// What is done so many times, and how many syncs all of it takes: a row, a buffered WRITE of so many bytes, or a
-// flusher's turn, which answers so.
+// A step that is done a number of times, and how many syncs all of it takes: a row, a buffered WRITE of some
+// bytes, or a flusher's turn with its result.
 #[derive(Clone, Copy)]
 enum Step<'a> {
     Asks(u32, Row<'a>, u64),
@@ -34,7 +35,7 @@ static TEN: &'static [Step<'static>] = &[
     Step::Asks(1, OUT, 0),
 ];
 
-// A turn tells how many waited.
+// A turn returns how many changes waited.
 static TURNS: &'static [Step<'static>] = &[
     Step::Asks(1, BYTE, 0),
     Step::Turns(Turn::Stored(1), 2),
@@ -58,7 +59,7 @@ static CHANGES: &'static [Step<'static>] = &[
     Step::Turns(Turn::Stored(1), 2),
 ];
 
-// So does the byte past 4,194,304; filemarks have none.
+// The same for the byte past 4,194,304; filemarks have none.
 static BYTES: &'static [Step<'static>] = &[
     Step::Writes(4, 1_048_576, 0),
     Step::Asks(1, BYTE, 2),
@@ -76,8 +77,8 @@ static BYTES: &'static [Step<'static>] = &[
     Step::Turns(Turn::Stored(1), 2),
 ];
 
-// Unbuffered, each write and each erase is stored at once; the mode alone stores nothing. Buffered again, an erase
-// stores what waits, and waits itself.
+// Unbuffered, each write and each erase is stored at once; the mode alone stores nothing. Buffered again, an
+// erase stores what waits, and waits itself.
 static UNBUFFERED: &'static [Step<'static>] = &[
     Step::Asks(1, (1, WRITE_1, b"a", GOOD), 0),
     Step::Asks(1, (1, SELECT_4, MODE_0, GOOD), 0),
@@ -91,8 +92,8 @@ static UNBUFFERED: &'static [Step<'static>] = &[
     Step::Turns(Turn::Stored(1), 2),
 ];
 
-// Were a turn taken behind each write, each would cost two syncs: the ten above ask for none, so they fail of a medium
-// that stores each write at once.
+// With a turn after each write, each costs two syncs. The ten above cost none, so they fail for a medium that
+// stores each write at once.
 static AT_ONCE: &'static [Step<'static>] = &[
     Step::Asks(1, BYTE, 0),
     Step::Turns(Turn::Stored(1), 2),
@@ -100,7 +101,7 @@ static AT_ONCE: &'static [Step<'static>] = &[
     Step::Turns(Turn::Stored(1), 2),
 ];
 
-// The ways in which each course is gone.
+// How the data of each course are sent.
 static WAYS: &'static [Sending] = &[Sending::Shown, Sending::Lent];
 
 fn writes(
@@ -151,7 +152,7 @@ fn goes(rt: &impl Abort, alloc: Global, drive: &mut Tape<MemDisk>, way: Sending,
     }
 }
 
-// How many of the bytes that are not sure a crash keeps, and what the others become.
+// How many of the bytes that are not sure a crash leaves, and what the others become.
 static CRASHES: &'static [(u64, u8)] = &[
     (0, 0x00),
     (0, 0xa5),
@@ -174,7 +175,7 @@ fn is_left(
     Ok(())
 }
 
-// So does each, whatever becomes of the bytes that are not sure.
+// The same for each crash, whatever becomes of the bytes that are not sure.
 fn left(rt: &impl Abort, alloc: Global, drive: &Tape<MemDisk>, wanted: &[u8]) -> Result<(), Fail> {
     let Some(medium) = drive.medium() else {
         return Err(Fail::from("no medium"));
@@ -185,7 +186,7 @@ fn left(rt: &impl Abort, alloc: Global, drive: &Tape<MemDisk>, wanted: &[u8]) ->
     Ok(())
 }
 
-// Steps from an empty tape, and what a crash leaves behind them.
+// Steps from an empty tape, and what a crash leaves after them.
 fn course(rt: &impl Abort, alloc: Global, steps: &[Step], wanted: &[u8]) -> Result<(), Fail> {
     for way in WAYS {
         let mut drive = greeted(

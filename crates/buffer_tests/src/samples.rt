@@ -1,4 +1,4 @@
-//! A drive over a cartridge on two disks, and what tests ask of it.
+//! A drive over a cartridge on two disks, and the commands of the tests.
 use crate::drives::{Tape, switched_on};
 use assertions::assert_equal;
 use cartridge::{Cartridge, Shelved};
@@ -10,11 +10,11 @@ use tape_disk::{Disk, MemDisk};
 use volume_core::{Kind, Turn};
 use vtl_base::{Bytes, Nexus};
 
-// What a reply is wanted to be: its sense data, if any, by bytes 0 and 2, INFORMATION, additional
-// code and qualifier; and the bytes that it gives.
+// The expected reply: its sense data, if any, by bytes 0 and 2, INFORMATION, additional code and qualifier;
+// and its bytes.
 pub type Wanted<'a> = (Option<(u8, u8, u32, u8, u8)>, &'a [u8]);
 
-// A host, its command and the bytes that it sends, and what is wanted of the reply.
+// A host, its command and the bytes that it sends, and the expected reply.
 pub type Row<'a> = (u8, &'a [u8], &'a [u8], Wanted<'a>);
 
 /// A cartridge `T00001L6` of one partition of 16,777,216 bytes, with no frames.
@@ -78,10 +78,10 @@ pub const LATE_ERROR: Wanted<'static> = (Some((0x71, 3, 0, 0x0c, 0)), &[]);
 
 pub const FAILED: Wanted<'static> = (Some((0x70, 4, 0, 0x44, 0)), &[]);
 
-// The end of data, where one byte was asked for.
+// The end of data, for a request of one byte.
 pub const END: Wanted<'static> = (Some((0xf0, 8, 1, 0, 5)), &[]);
 
-// A filemark, where one byte was asked for.
+// A filemark, for a request of one byte.
 pub const AT_MARK: Wanted<'static> = (Some((0xf0, 0x80, 1, 0, 1)), &[]);
 
 pub const INQUIRED: Wanted<'static> = (
@@ -89,14 +89,14 @@ pub const INQUIRED: Wanted<'static> = (
     b"\x01\x80\x06\x02\x1f\0\0\0VTLIB   TAPE DRIVE      0001",
 );
 
-/// How a drive is given what a host sends: it is shown, and copied where it is written, or lent, and taken.
+/// How a drive gets the data of a host: borrowed, and copied where they are written; or lent, and taken.
 #[derive(Clone, Copy, Debug)]
 pub enum Sending {
     Shown,
     Lent,
 }
 
-// The status, the 18 bytes of sense data and the bytes that are wanted.
+// The expected status, 18 bytes of sense data and bytes.
 type Told<'a> = (Status, Option<[u8; 18]>, &'a [u8]);
 
 fn told(wanted: Wanted) -> Told {
@@ -111,7 +111,7 @@ fn told(wanted: Wanted) -> Told {
     (Status::Check, Some(sense), bytes)
 }
 
-// What a reply tells.
+// The status, sense data and bytes of a reply.
 fn heard(reply: &Reply) -> Told<'_> {
     let sense = match &reply.sense {
         Some(sense) => Some(sense.bytes()),
@@ -120,7 +120,7 @@ fn heard(reply: &Reply) -> Told<'_> {
     (reply.status, sense, reply.bytes.as_slice())
 }
 
-/// A command is answered as it is wanted.
+/// A command has the expected reply.
 pub fn ask<D: Disk + Drop>(rt: &impl Abort, drive: &mut Tape<D>, row: Row, at: usize) {
     let (host, cdb, sent, wanted) = row;
     let nexus = Nexus::new(host).expect(rt, "a nexus");
@@ -128,7 +128,7 @@ pub fn ask<D: Disk + Drop>(rt: &impl Abort, drive: &mut Tape<D>, row: Row, at: u
     assert_equal!(rt; heard(&reply), told(wanted); at);
 }
 
-// So is one whose data are lent.
+// The same for a command with lent data.
 fn ask_lent<D: Disk + Drop>(
     rt: &impl Abort,
     alloc: Global,
@@ -143,7 +143,7 @@ fn ask_lent<D: Disk + Drop>(
     assert_equal!(rt; heard(&reply), told(wanted); at);
 }
 
-/// So is one whose data are given in this way.
+/// The same for a command whose data are sent in this way.
 pub fn ask_by<D: Disk + Drop>(
     rt: &impl Abort,
     alloc: Global,
@@ -164,7 +164,7 @@ pub fn asks<D: Disk + Drop>(rt: &impl Abort, drive: &mut Tape<D>, rows: &[Row]) 
     }
 }
 
-/// Whether each command is answered as it is wanted; it ends at the first that is not.
+/// Whether each command has the expected reply; it ends at the first that has not.
 pub fn answered<D: Disk + Drop>(drive: &mut Tape<D>, rows: &[Row]) -> bool {
     for &(host, cdb, sent, wanted) in rows {
         let Some(nexus) = Nexus::new(host) else {
@@ -178,13 +178,13 @@ pub fn answered<D: Disk + Drop>(drive: &mut Tape<D>, rows: &[Row]) -> bool {
     true
 }
 
-// Hosts 1 and 2 take their power on.
+// The power on is reported to hosts 1 and 2.
 static GREETINGS: &'static [Row<'static>] = &[
     (1, TEST_UNIT_READY, NONE, POWERED_ON),
     (2, TEST_UNIT_READY, NONE, POWERED_ON),
 ];
 
-/// A drive with the cartridge that two disks hold. Hosts 1 and 2 took their power on.
+/// A drive with the cartridge on two disks. Its power on was reported to hosts 1 and 2.
 pub fn greeted<D: Disk + Drop>(
     rt: &impl Abort,
     alloc: Global,
@@ -198,13 +198,13 @@ pub fn greeted<D: Disk + Drop>(
     Ok(drive)
 }
 
-/// A flusher's turn answers so.
+/// A flusher's turn has this result.
 pub fn assert_turn<D: Disk + Drop>(rt: &impl Abort, drive: &mut Tape<D>, wanted: Turn) {
     let turn = drive.turn();
     assert_equal!(rt; turn, wanted);
 }
 
-/// Host 1 writes a block of so many bytes, which is GOOD.
+/// Host 1 writes a block of this size, which is GOOD.
 pub fn write<D: Disk + Drop>(
     rt: &impl Abort,
     alloc: Global,
@@ -218,8 +218,8 @@ pub fn write<D: Disk + Drop>(
     ask_by(rt, alloc, drive, way, (1, &cdb, &block, GOOD), 0);
 }
 
-/// The tape has these objects from the position on, blocks of one byte and `|` for a filemark, and
-/// then the end of data.
+/// The tape has these objects from the position on, blocks of one byte and `|` for a filemark, and then the
+/// end of data.
 pub fn reads<D: Disk + Drop>(rt: &impl Abort, drive: &mut Tape<D>, objects: &[u8]) {
     for i in 0..objects.len() {
         let wanted: Wanted = match objects[i] {
@@ -231,7 +231,7 @@ pub fn reads<D: Disk + Drop>(rt: &impl Abort, drive: &mut Tape<D>, objects: &[u8
     ask(rt, drive, (1, READ_1, NONE, END), objects.len());
 }
 
-/// The syncs of the disk of a drive on which the side lies that counts.
+/// The syncs of the disk with the side that counts.
 pub fn syncs(drive: &Tape<MemDisk>) -> u64 {
     match drive.medium() {
         Some(medium) => medium.disk().syncs(),
@@ -239,7 +239,7 @@ pub fn syncs(drive: &Tape<MemDisk>) -> u64 {
     }
 }
 
-// Adds an object to what is found: the bytes of a block, and `|` for a filemark.
+// Appends an object to what was found: the bytes of a block, or `|` for a filemark.
 fn find<D: Disk>(
     cartridge: &mut Cartridge<D>,
     at: u32,
@@ -265,7 +265,7 @@ fn found_in<D: Disk>(alloc: Global, cartridge: &mut Cartridge<D>) -> Result<Vec<
     Ok(text)
 }
 
-/// What the cartridge on a disk holds, beside an empty one.
+/// The contents of the cartridge on a disk, with an empty second one.
 pub fn found(alloc: Global, disk: MemDisk) -> Result<Vec<u8>, Fail> {
     match Cartridge::open(alloc, Shelved::of(disk, MemDisk::new(alloc))) {
         Ok(mut cartridge) => found_in(alloc, &mut cartridge),

@@ -15,7 +15,7 @@ use vtl_base::NoMemory;
 // More calls than a test makes.
 const NEVER: u64 = 1_000;
 
-// Three blocks are written and stored; then one is written in the place of the second.
+// Three blocks are written and stored; then one is written in place of the second.
 struct Rewriting;
 
 static REWRITING: &'static [Row<'static>] = &[
@@ -29,7 +29,7 @@ static REWRITING: &'static [Row<'static>] = &[
     (1, WRITE_OUT, NONE, GOOD),
 ];
 
-// The disk of a drive as it is; one of no bytes where memory runs out, which is no cartridge's.
+// The disk of a drive, unchanged. Where memory runs out, one of no bytes, which holds no cartridge.
 fn reached(alloc: Global, drive: &Tape<FuseDisk<MemDisk>>) -> MemDisk {
     match drive.medium() {
         Some(medium) => match medium.disk().inner().copy() {
@@ -51,8 +51,8 @@ impl Run for Rewriting {
     }
 }
 
-// What the tape may hold after so many calls. Six calls open it, four store the three blocks, and
-// four the block in the middle.
+// What the tape may hold after this many calls. Six calls open it, four store the three blocks, and four the
+// block in the middle.
 fn may_be_found(calls: u64) -> (&'static [u8], &'static [u8]) {
     match calls {
         0..=6 => (b"", b""),
@@ -81,7 +81,7 @@ fn stops_of(alloc: Global) -> Result<Vec<Stop>, NoMemory> {
 #[test]
 fn a_stop_never_leaves_a_cut_without_its_block(rt: HostRuntime) -> Result<(), Fail> {
     let stops = stops_of(rt.alloc())?;
-    // Before each of 14 calls and behind them all, nine crashes.
+    // Before each of 14 calls and after them all, nine crashes.
     assert_equal!(rt; stops.len(), 135);
     for stop in stops {
         is_right(&rt, rt.alloc(), stop)?;

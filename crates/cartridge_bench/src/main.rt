@@ -1,4 +1,4 @@
-//! Work for a clock: a cartridge stores, fetches and is opened, and as many bytes are copied.
+//! A timed program: a cartridge stores, fetches and is opened, and as many bytes are copied.
 #![tactic(auto)]
 
 mod work;
@@ -7,10 +7,10 @@ use std::env;
 use std::process::ExitCode;
 use work::{Timed, copied, fetched, made, opened, stored, stored_together};
 
-// The words of which a little is done where none is given.
+// The words for which a little work is done where none is given.
 static WORDS: &'static [&'static str] = &["store", "copy", "fetch", "side", "open"];
 
-// The nanoseconds that the work of a word took, done so often, and what came of it.
+// The nanoseconds of the work for a word, done `count` times, and its result.
 fn timed(rt: &HostRuntime, word: &str, count: u32) -> Option<Timed> {
     match word {
         "store" => stored(rt, count),
@@ -23,7 +23,7 @@ fn timed(rt: &HostRuntime, word: &str, count: u32) -> Option<Timed> {
     }
 }
 
-// Does a little of each of these words, and tells what came of it.
+// Does a little work for each of these words, and prints the results.
 fn a_little_of_all(rt: &HostRuntime) -> ExitCode {
     for &word in WORDS {
         match timed(rt, word, 1) {
@@ -36,8 +36,8 @@ fn a_little_of_all(rt: &HostRuntime) -> ExitCode {
     ExitCode::from(0)
 }
 
-/// With `store N`, `frame N`, `copy N`, `fetch N`, `side N` or `open N` it tells the nanoseconds and
-/// what came of it; with no words it does a little of all but `frame`, and tells that alone.
+/// With `store N`, `frame N`, `copy N`, `fetch N`, `side N` or `open N` it prints the nanoseconds and the
+/// result. Without words it does a little of all but `frame`, and prints only the results.
 fn main(rt: HostRuntime) -> ExitCode {
     let Ok(words) = env::args(&rt) else {
         return ExitCode::from(1);

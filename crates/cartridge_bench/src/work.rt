@@ -1,4 +1,4 @@
-//! What is timed.
+//! The work that is timed.
 use cartridge::{Cartridge, Shelved};
 use known_cartridge::Known;
 use std::alloc::Global;
@@ -16,15 +16,15 @@ const TEBIBYTE: u64 = 1_099_511_627_776;
 // The first bytes of a side with one partition of 1,099,511,627,776 bytes, up to its first gate.
 const HEADER: [u8; 35] = *b"\xa5VTLCART1\0\x01T00001L6        \0\0\x01\0\0\0\0\0";
 
-/// Nanoseconds, and what came of the work.
+/// Nanoseconds, and the result of the work.
 pub type Timed = (u128, usize);
 
-// A cartridge in memory with no objects.
+// A cartridge in memory without objects.
 fn new_cartridge(alloc: Global) -> Option<Known<MemDisk>> {
     Known::made(alloc, MemDisk::new(alloc), MemDisk::new(alloc), &[TEBIBYTE]).ok()
 }
 
-// That many blocks of so many bytes, from an object number on.
+// `count` blocks of this size, from an object number on.
 fn blocks(alloc: Global, from: u32, count: u32, size: usize) -> Option<Vec<Change>> {
     let mut changes = Vec::new(alloc);
     for i in 0..count {
@@ -35,7 +35,7 @@ fn blocks(alloc: Global, from: u32, count: u32, size: usize) -> Option<Vec<Chang
     Some(changes)
 }
 
-// Stores one frame of so many blocks of a size, behind as many frames of the same: the time of the store alone.
+// Stores one frame of blocks of a size, after as many frames of the same: the time of the store alone.
 fn store_one(
     rt: &HostRuntime,
     known: &mut Known<MemDisk>,
@@ -47,7 +47,7 @@ fn store_one(
     known.store_by_the_clock(rt, &changes)
 }
 
-// Stores that many frames of so many blocks of a size: the time of the stores alone, and how many frames there are.
+// Stores frames of blocks of a size: the time of the stores alone, and how many frames there are.
 fn store_all(
     rt: &HostRuntime,
     known: &mut Known<MemDisk>,
@@ -74,7 +74,7 @@ pub fn stored_together(rt: &HostRuntime, count: u32) -> Option<Timed> {
     store_all(rt, &mut known, count, 64, SMALL)
 }
 
-/// Copies as many blocks of 262,144 bytes into one row: how many bytes it has.
+/// Copies as many blocks of 262,144 bytes into one vector: how many bytes it has.
 pub fn copied(rt: &HostRuntime, count: u32) -> Option<Timed> {
     let block = vec![in rt.alloc(); 90u8; BLOCK].ok()?;
     let mut row = Vec::new(rt.alloc());
@@ -85,7 +85,7 @@ pub fn copied(rt: &HostRuntime, count: u32) -> Option<Timed> {
     Some((start.elapsed(rt).ok()?.as_nanos(), row.len()))
 }
 
-// Fetches each of that many blocks into one buffer: how many bytes the last one has.
+// Fetches each of these blocks into one buffer: how many bytes the last one has.
 fn fetch_all(
     rt: &HostRuntime,
     cartridge: &mut Cartridge<MemDisk>,
@@ -102,21 +102,21 @@ fn fetch_all(
     Some((start.elapsed(rt).ok()?.as_nanos(), into.len()))
 }
 
-// Stores that many blocks of 262,144 bytes, and gives the cartridge alone.
+// Stores `count` blocks of 262,144 bytes, and returns only the cartridge.
 fn full_cartridge(rt: &HostRuntime, count: u32) -> Option<Cartridge<MemDisk>> {
     let mut known = new_cartridge(rt.alloc())?;
     store_all(rt, &mut known, count, 1, BLOCK)?;
     Some(known.into_cartridge())
 }
 
-/// Fetches each of that many blocks of 262,144 bytes: how many bytes the last one has.
+/// Fetches each of `count` blocks of 262,144 bytes: how many bytes the last one has.
 pub fn fetched(rt: &HostRuntime, count: u32) -> Option<Timed> {
     let mut into = vec![in rt.alloc(); 0u8; BLOCK].ok()?;
     let mut cartridge = full_cartridge(rt, count)?;
     fetch_all(rt, &mut cartridge, count, &mut into)
 }
 
-// The bytes of a side of that many frames, each of one block of 1,024 bytes.
+// The bytes of a side with `count` frames, each of one block of 1,024 bytes.
 fn side_of(alloc: Global, count: u32) -> Option<Vec<u8>> {
     let block = vec![in alloc; 90u8; SMALL].ok()?;
     let mut bytes = Vec::from_slice(alloc, &HEADER).ok()?;
@@ -131,7 +131,7 @@ fn side_of(alloc: Global, count: u32) -> Option<Vec<u8>> {
     Some(bytes)
 }
 
-/// Puts a side of that many frames of one block of 1,024 bytes on a disk: how many bytes it has.
+/// Puts a side with `count` frames of one block of 1,024 bytes on a disk: how many bytes it has.
 pub fn made(rt: &HostRuntime, count: u32) -> Option<Timed> {
     let start = Instant::now(rt).ok()?;
     let bytes = side_of(rt.alloc(), count)?;
@@ -148,8 +148,8 @@ fn open_one(rt: &HostRuntime, shelved: Shelved<MemDisk>) -> Option<Timed> {
     Some((time.ok()?.as_nanos(), count))
 }
 
-/// Opens such a side: how many objects it has. Its bytes stay, so that the memory above that of
-/// `made` is the open cartridge's.
+/// Opens such a side: how many objects it has. Its bytes stay in memory, so the memory above that of `made`
+/// is the open cartridge's.
 pub fn opened(rt: &HostRuntime, count: u32) -> Option<Timed> {
     let bytes = side_of(rt.alloc(), count)?;
     let disk = MemDisk::from_bytes(rt.alloc(), &bytes).ok()?;

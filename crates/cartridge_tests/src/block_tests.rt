@@ -9,8 +9,8 @@ use std::test::Fail;
 use tape_disk::{Disk, MemDisk};
 use vtl_base::PartNo;
 
-// A frame of blocks of one byte and of so many as a block can have, three marks and a block; then a block in the
-// middle, which takes the place of all behind it.
+// A frame of blocks of one byte and of the longest block, three marks and a block; then a block in the
+// middle, which replaces all after it.
 fn store_blocks(
     alloc: Global,
     known: &mut Known<MemDisk>,
@@ -27,10 +27,10 @@ fn store_blocks(
     store_block(alloc, known, last, 4, b"c")
 }
 
-// The capacities of as many partitions as there can be.
+// The capacities of the most partitions that there can be.
 static CAPACITIES: &'static [u64] = &[4_194_304, 4_194_304, 4_194_304, 4_194_304];
 
-// A cartridge of so many partitions, whose last one has two frames.
+// A cartridge of `parts` partitions, whose last one has two frames.
 fn with_blocks(alloc: Global, parts: PartNo, long: &[u8]) -> Result<Cartridge<MemDisk>, Fail> {
     let capacities = &CAPACITIES[..CAPACITIES.len().min(parts as usize)];
     let mut known = made(alloc, capacities)?;
@@ -45,7 +45,7 @@ fn reopened(alloc: Global, known: Known<MemDisk>) -> Result<Cartridge<MemDisk>, 
     }
 }
 
-// What each partition has: its capacity, its objects, and what they take.
+// Each partition: its capacity, its objects, and what they take.
 fn are_parts<D: Disk>(rt: &impl Abort, cartridge: &Cartridge<D>, parts: PartNo) {
     assert_equal!(rt; (cartridge.parts(), cartridge.frames()), (parts, 2));
     for part in 0..5u8 {
@@ -101,7 +101,7 @@ fn store_marks(rt: &impl Abort, alloc: Global, known: &mut Known<MemDisk>) {
     }
 }
 
-// Eight records of 1,048,576 bytes, ten of them the head: 8,388,608.
+// Eight records of 1,048,576 bytes, of which ten are the head: 8,388,608.
 fn store_longest(alloc: Global, known: &mut Known<MemDisk>, long: &[u8]) -> Result<(), Fail> {
     let mut changes = Vec::new(alloc);
     for at in 300..308 {
@@ -116,7 +116,7 @@ fn holds_all(rt: &impl Abort, alloc: Global, cartridge: &mut Cartridge<MemDisk>,
     assert_equal!(rt; has(alloc, cartridge, 0, 307, long), Ok(true));
 }
 
-// A cartridge with all of it, opened again.
+// A cartridge with all of this, opened again.
 fn with_longest(rt: &impl Abort, alloc: Global, long: &[u8]) -> Result<Cartridge<MemDisk>, Fail> {
     let mut known = made(alloc, &[16_777_216])?;
     store_marks(rt, alloc, &mut known);

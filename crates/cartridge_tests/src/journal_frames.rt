@@ -1,4 +1,4 @@
-//! Frames that are spelled in the buffer from which the disk takes them.
+//! Frames that are spelled in the buffer that is written to the disk.
 use crate::journal_samples::{FAULT, FIRST, SECOND, place, spell, written};
 use crate::samples::SIDE;
 use assertions::assert_equal;
@@ -6,8 +6,8 @@ use gate_journal::{Frame, Journal, JournalError};
 use std::test::Fail;
 use tape_disk::{Disk, MemDisk, OnceDisk};
 
-// The room for bodies of so many bytes, one after the other: it never falls, and is no more than the
-// greatest. A block of 1,048,576 bytes has a body of 10 more, and its frame 5 more than that.
+// The room for bodies of these sizes, one after another: it never falls, and is at most the greatest size. A
+// block of 1,048,576 bytes has a body of 10 more, and its frame 5 more than that.
 static ROOMS: &'static [(usize, usize)] = &[
     (0, 0),
     (15, 15),

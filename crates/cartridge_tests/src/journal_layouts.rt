@@ -11,7 +11,7 @@ use std::test::Fail;
 use tape_disk::{Disk, MemDisk};
 use vtl_base::NoMemory;
 
-// The side with so many frames: where its end gate stands, and the room behind it.
+// The side with some frames: the place of its end gate, and the room after it.
 static LENGTHS: &'static [(usize, usize, u64)] = &[
     (0, 35, 1_099_511_627_740),
     (1, 55, 1_099_511_627_720),
@@ -83,7 +83,7 @@ fn bodies_are_read_back(rt: HostRuntime) -> Result<(), Fail> {
     Ok(())
 }
 
-// No room was asked for before.
+// No room was reserved before.
 fn adds_five<D: Disk + Drop>(rt: &impl Abort, journal: &mut Journal<D>) {
     for _ in 0..5 {
         assert_equal!(rt; journal.append(FIRST), Ok(()));
@@ -161,7 +161,7 @@ const CUT: Frames = Err(JournalError::Damaged { at: 35 });
 
 const OTHER: Frames = Err(JournalError::NotOurs);
 
-// The side whole, and cut behind its header: what it is opened as then, by its kind.
+// The side, whole and cut after its header: the result of opening it, by its kind.
 static OPENED: &'static [(usize, SideKind, Frames)] = &[
     (71, SideKind::Cartridge, Ok(2)),
     (71, SideKind::Store, OTHER),

@@ -9,7 +9,7 @@ use vtl_base::{DevFault, NoMemory};
 /// The body of the first frame of the side.
 pub const FIRST: &'static [u8; 15] = b"\x01\0\0\0\0\0\0\0\0\x05hello";
 
-/// That of the second.
+/// The body of the second frame.
 pub const SECOND: &'static [u8; 10] = b"\x02\0\0\0\0\x01\0\0\0\x01";
 
 /// The side with no frames.
@@ -18,10 +18,10 @@ pub const NEW: &'static [u8; 36] = b"\xa5VTLCART1\0\x01T00001L6        \0\0\0\0\
 /// The first fault of a disk.
 pub const FAULT: JournalError = JournalError::Device(DevFault { failures: 1 });
 
-/// What is found on a disk: how many frames, or why it is no side.
+/// What is found on a disk: how many frames, or why it holds no side.
 pub type Frames = Result<usize, JournalError>;
 
-/// A header with so many capacities of 4,096 bytes.
+/// A header with this many capacities of 4,096 bytes.
 pub fn header_of(
     alloc: Global,
     kind: SideKind,
@@ -66,7 +66,7 @@ pub fn in_memory(alloc: Global, header: Header) -> Result<Journal<MemDisk>, Fail
     }
 }
 
-// Adds so many of the frames of the side.
+// Adds the first frames of the side.
 fn add<D: Disk + Drop>(journal: &mut Journal<D>, frames: usize) -> Result<(), JournalError> {
     journal.reserve(frames)?;
     if frames > 0 {
@@ -78,7 +78,7 @@ fn add<D: Disk + Drop>(journal: &mut Journal<D>, frames: usize) -> Result<(), Jo
     Ok(())
 }
 
-/// The side on a new disk, with so many of its frames.
+/// The side on a new disk, with its first frames.
 pub fn written(alloc: Global, frames: usize) -> Result<Journal<MemDisk>, Fail> {
     let header = header_of(alloc, SideKind::Cartridge, *b"T00001L6        ", 1)?;
     let mut journal = in_memory(alloc, header)?;
@@ -123,7 +123,7 @@ pub fn has_body<D: Disk + Drop>(
     Ok((at, body.as_slice() == bytes))
 }
 
-/// The frames of the side that a disk holds, or why it is none.
+/// The frames of the side on a disk, or why it holds none.
 pub fn frames_of(alloc: Global, disk: MemDisk) -> Frames {
     match Journal::open(alloc, disk) {
         Ok(journal) => Ok(journal.frames()),
@@ -131,7 +131,7 @@ pub fn frames_of(alloc: Global, disk: MemDisk) -> Frames {
     }
 }
 
-/// The same of a disk with these bytes.
+/// The same for a disk with these bytes.
 pub fn frames_in(alloc: Global, bytes: &[u8]) -> Result<Frames, NoMemory> {
     Ok(frames_of(alloc, MemDisk::from_bytes(alloc, bytes)?))
 }

@@ -14,8 +14,8 @@ use std::thread::Threads;
 use tape_disk::{Disk, FuseDisk, MemDisk, OnceDisk};
 use vtl_base::NoMemory;
 
-// What is done on a disk: the side is opened and the first body added, as it is or spelled in place; it is
-// opened; or it is made.
+// The work on a disk: the side is opened and the first body added, copied or spelled in place; it is opened;
+// or it is made.
 #[derive(Clone, Copy, Debug, PartialEq, Eq)]
 enum Work {
     Append,
@@ -24,7 +24,7 @@ enum Work {
     Make,
 }
 
-// Whether the work goes through behind its opening or making, and the disk.
+// Whether the work after the opening or making succeeds, and the disk.
 fn done(alloc: Global, work: Work, journal: Journal<FuseDisk<MemDisk>>) -> (MemDisk, bool) {
     let mut journal = journal;
     let ended = match work {
@@ -49,13 +49,13 @@ impl Run for Work {
     }
 }
 
-// Adds the first body, spelled in place: whether that went through.
+// Adds the first body, spelled in place. Returns whether that succeeded.
 fn is_placed<D: Disk + Drop>(alloc: Global, journal: &mut Journal<D>) -> bool {
     let mut frame = Frame::new(alloc);
     spell(&mut frame, FIRST).is_ok() && place(journal, &mut frame).is_ok()
 }
 
-// Whether a stop of this work may leave these frames on a disk that had so many bytes.
+// Whether a stop of this work may leave these frames on a disk that had this many bytes.
 fn may_be_left(work: Work, had: usize, calls: u64, ended: bool, found: Frames) -> bool {
     match work {
         Work::Append | Work::Place if ended => found == Ok(3),
@@ -67,8 +67,8 @@ fn may_be_left(work: Work, had: usize, calls: u64, ended: bool, found: Frames) -
     }
 }
 
-// Six calls to open, four to append, five to make: a stop before each and one behind them all,
-// and nine crashes at each.
+// Six calls to open, four to append, five to make: a stop before each and one after them all, with nine
+// crashes each.
 static STOPS: &'static [(Work, &'static [u8], usize)] = &[
     (Work::Append, SIDE, 99),
     (Work::Place, SIDE, 99),
@@ -137,7 +137,8 @@ static LANDED: &'static [[u8; 2]; 9] = &[
     *b"ab",
 ];
 
-// What the stop of this number leaves: nine are before the write, nine before the sync, and nine behind both.
+// What the stop with this number leaves: nine are before the write, nine before the sync, and nine after
+// both.
 fn left_at(i: usize) -> [u8; 2] {
     match i / 9 {
         0 => *b"..",
@@ -161,8 +162,8 @@ fn what_the_stops_leave(rt: HostRuntime) -> Result<(), Fail> {
     Ok(())
 }
 
-// So many calls, of which opening took a sync, two reads of the header and one of the gate; the bytes
-// that a crash keeps, what it fills the others with, and the frames that are found.
+// How many calls pass, of which an opening takes a sync, two reads of the header and one of the gate; the
+// bytes that a crash leaves, what it fills the others with, and the frames that are found.
 static CRASHES: &'static [(u64, u64, u8, usize)] = &[
     (5, 0, 0xa5, 0),
     (7, 1, 0x00, 1),
@@ -170,7 +171,7 @@ static CRASHES: &'static [(u64, u64, u8, usize)] = &[
     (7, 0, 0xa5, 1),
 ];
 
-// What a crash leaves of a frame that is added, where that stops so.
+// What a crash leaves of a frame that is being added, with this stop.
 fn left_of(alloc: Global, work: Work, calls: u64, keep: u64, fill: u8) -> Result<Frames, NoMemory> {
     let before = MemDisk::from_bytes(alloc, NEW)?;
     match work.run(alloc, FuseDisk::new(before, calls)) {
@@ -190,10 +191,10 @@ fn a_stop_in_an_append(rt: HostRuntime) -> Result<(), Fail> {
     Ok(())
 }
 
-// What an append answers, a read of the first body, and a further append.
+// The results of an append, of a read of the first body, and of another append.
 type Answers = [Result<(), JournalError>; 3];
 
-// Adds a frame, reads a body and adds a frame, and says how many there are then.
+// Adds a frame, reads a body and adds a frame. Returns the results, and how many frames there are then.
 fn answers<D: Disk + Drop>(alloc: Global, journal: &mut Journal<D>) -> (Answers, usize) {
     let added = journal.append(FIRST);
     let read = match has_body(alloc, journal, 0, FIRST) {
@@ -204,7 +205,7 @@ fn answers<D: Disk + Drop>(alloc: Global, journal: &mut Journal<D>) -> (Answers,
     ([added, read, further], journal.frames())
 }
 
-// The same of a side that is opened, on a disk of which the call after so many fails.
+// The same for a side that is opened, on a disk that fails at the call after `calls`.
 fn used(alloc: Global, calls: u64) -> Result<Result<(Answers, usize), JournalError>, NoMemory> {
     let disk = OnceDisk::new(MemDisk::from_bytes(alloc, SIDE)?, calls);
     match Journal::open(alloc, disk) {
@@ -216,8 +217,8 @@ fn used(alloc: Global, calls: u64) -> Result<Result<(Answers, usize), JournalErr
 #[test]
 fn a_fault_at_each_call(rt: HostRuntime) -> Result<(), Fail> {
     let failed = Err(JournalError::Failed);
-    // Six calls open the side, four add a frame, one reads, and four add a frame. One of them
-    // fails, and those behind it would pass.
+    // Six calls open the side, four add a frame, one reads, and four add a frame. One of them fails, and
+    // those after it would pass.
     for calls in 0..16 {
         let found = used(rt.alloc(), calls)?;
         let expected = match calls {
@@ -232,7 +233,7 @@ fn a_fault_at_each_call(rt: HostRuntime) -> Result<(), Fail> {
     Ok(())
 }
 
-// Adds a frame in another thread, and gives the side back.
+// Adds a frame in another thread, and returns the side.
 fn added_elsewhere<D: Disk + Drop + Send, R: Threads>(rt: &R, side: Journal<D>) -> Journal<D> {
     let (side, ()) = thread::join(
         rt,

@@ -6,8 +6,8 @@ use crate::samples::SIDE;
 use tape_disk::Disk;
 use vtl_base::DevFault;
 
-/// It says that it has 71 bytes, gives those of the sample side from another place on at each read,
-/// and forgets what is written. No call of it fails.
+/// It claims 71 bytes, returns those of the sample side from another place on at each read, and forgets what
+/// is written. No call of it fails.
 #[derive(Drop)]
 pub struct Liar {
     pub shift: usize,

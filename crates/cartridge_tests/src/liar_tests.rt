@@ -11,7 +11,7 @@ use vtl_base::Barcode;
 // How much further on each read begins.
 static STEPS: &'static [usize] = &[0, 1, 35, 70];
 
-// What is found does not matter, only that each call ends.
+// The results do not matter, only that each call ends.
 fn answers(rt: &impl Abort, alloc: Global, cartridge: &mut Cartridge<Liar>) {
     for at in 0..3 {
         assert_holds!(rt; has(alloc, cartridge, 0, at, b"").is_ok());

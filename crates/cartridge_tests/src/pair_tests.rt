@@ -1,4 +1,4 @@
-//! Which of two sides counts, and that a cartridge calls the disk alone on which that one lies.
+//! Which of two sides counts, and that a cartridge calls only the disk of that side.
 use crate::samples::{FAULT, SIDE, erased, opened, told};
 use assertions::assert_equal;
 use cartridge::{Cartridge, CartridgeError};
@@ -9,22 +9,23 @@ use std::test::Fail;
 use tape_disk::{MemDisk, OnceDisk};
 use vtl_base::{NoMemory, ObjNo};
 
-// A copy of epoch 1 and base 1. Its one frame has the block `x` and its gate at 47; the end gate stands at 63.
+// A copy of epoch 1 and base 1. Its one frame has the block `x` and its gate at 47; the end gate is at 63.
 const COPY: &'static [u8; 64] = b"\xa5VTLCART1\0\x81T00001L6        \0\0\0\0\0\0\x10\0\
     \0\0\0\0\0\0\0\x01\0\0\0\x01\
     \xa5\0\0\0\x0b\x01\0\0\0\0\0\0\0\0\x01x\
     \0";
 
-// The same of epoch 2, with an open pair gate.
+// The same with epoch 2 and an open pair gate.
 const AGAIN: &'static [u8; 64] = b"\xa5VTLCART1\xa5\x81T00001L6        \0\0\0\0\0\0\x10\0\
     \0\0\0\0\0\0\0\x02\0\0\0\x01\
     \xa5\0\0\0\x0b\x01\0\0\0\0\0\0\0\0\x01x\
     \0";
 
-// Which side counts, its frames, the objects of the first partition and what they take; or why none is opened.
+// Which side counts, its frames, the objects of the first partition and what they take; or why none is
+// opened.
 type Found = Result<(Which, usize, ObjNo, u64), CartridgeError>;
 
-// Bytes of a disk, of which the one at a place is this.
+// Bytes of a disk, with this value at one place.
 type Side = (&'static [u8], usize, u8);
 
 // What is found on two disks.
@@ -140,7 +141,7 @@ fn which_side_counts(rt: HostRuntime) -> Result<(), Fail> {
     Ok(())
 }
 
-// A side, and with a frame behind it that erases all.
+// A side, and the same with a frame after it that erases all.
 static ERASED: &'static [(Side, Side, &'static [u8])] = &[
     (
         (SIDE, 9, 0xa5),
@@ -167,8 +168,8 @@ fn syncs(cartridge: &Cartridge<MemDisk>) -> (u64, u64) {
     (cartridge.disk().syncs(), cartridge.other_disk().syncs())
 }
 
-// Both disks are made sure, the one of the side that counts once more. A store makes that one sure twice, and leaves
-// the other as it was.
+// Both disks are made sure, that of the side that counts once more. A store makes that one sure twice, and
+// does not touch the other.
 fn erases(rt: &impl Abort, cartridge: &mut Cartridge<MemDisk>, other: &[u8], after: &[u8]) {
     assert_equal!(rt; syncs(cartridge), (2, 1));
     assert_equal!(rt; erased(cartridge), Ok(()));
@@ -177,7 +178,7 @@ fn erases(rt: &impl Abort, cartridge: &mut Cartridge<MemDisk>, other: &[u8], aft
     assert_equal!(rt; cartridge.other_disk().bytes(), other);
 }
 
-// The bytes of both disks, in their order.
+// The bytes of both disks, in order.
 fn are_shelved(rt: &impl Abort, cartridge: Cartridge<MemDisk>, first: &[u8], second: &[u8]) {
     let (one, two) = cartridge.shelve().into_disks();
     assert_equal!(rt; one.bytes(), first);
@@ -205,7 +206,7 @@ fn a_store_calls_one_disk(rt: HostRuntime) -> Result<(), Fail> {
     Ok(())
 }
 
-// What an opening answers where one call of each disk fails, which is the first call behind so many.
+// The result of an opening where one call of each disk fails, the first after this many.
 fn opened_over(alloc: Global, one: u64, two: u64) -> Result<Result<(), CartridgeError>, NoMemory> {
     let first = OnceDisk::new(disk_of(alloc, (SIDE, 9, 0xa5))?, one);
     let second = OnceDisk::new(disk_of(alloc, (COPY, 0, 0xa5))?, two);
@@ -215,8 +216,8 @@ fn opened_over(alloc: Global, one: u64, two: u64) -> Result<Result<(), Cartridge
     }
 }
 
-// Of the first disk there are a sync and a read; of the second, whose side counts, the same, then a sync, two reads of
-// the front, two of gates and one of a body.
+// The first disk gets a sync and a read. The second, whose side counts, gets the same, then a sync, two reads
+// of the front, two of gates and one of a body.
 #[test]
 fn a_fault_of_either_disk(rt: HostRuntime) -> Result<(), Fail> {
     let alloc = rt.alloc();

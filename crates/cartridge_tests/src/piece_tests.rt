@@ -7,7 +7,7 @@ use std::process::Abort;
 use std::test::Fail;
 use tape_disk::{FuseDisk, MemDisk};
 
-// The bytes of a side of one frame, of two blocks of so many bytes.
+// The bytes of a side with one frame of two blocks.
 fn side_of_two(alloc: Global, first: &[u8], second: &[u8]) -> Result<MemDisk, Fail> {
     let mut known = made(alloc, &[4_194_304])?;
     known.store(
@@ -18,7 +18,7 @@ fn side_of_two(alloc: Global, first: &[u8], second: &[u8]) -> Result<MemDisk, Fa
     Ok(MemDisk::from_bytes(alloc, first.bytes())?)
 }
 
-// Opened, it read at most 65,536 bytes at a time, and then both blocks are there, which take so many bytes.
+// When it was opened, it read at most 65,536 bytes at a time. Then both blocks are there, with these sizes.
 fn holds_two(
     rt: &impl Abort,
     alloc: Global,
@@ -32,7 +32,7 @@ fn holds_two(
     assert_equal!(rt; has(alloc, cartridge, 0, 1, blocks.1), Ok(true));
 }
 
-// A body of 65,640 bytes. The head of its second record has six bytes in front of the byte 65,536, and four behind.
+// A body of 65,640 bytes. The head of its second record has six bytes before place 65,536, and four after.
 #[test]
 fn a_head_in_two_pieces(rt: HostRuntime) -> Result<(), Fail> {
     let alloc = rt.alloc();
@@ -56,7 +56,7 @@ fn a_block_that_is_passed_over(rt: HostRuntime) -> Result<(), Fail> {
     Ok(())
 }
 
-// Why a side is not opened by so many calls of its disk.
+// The result of opening a side whose disk lets this many calls pass.
 fn opened_by(
     alloc: Global,
     disk: &MemDisk,
@@ -68,7 +68,7 @@ fn opened_by(
     }
 }
 
-// Blocks of so many bytes, and how often an opening asks the disk.
+// The sizes of two blocks, and how often an opening calls the disk.
 static ROWS: &'static [(usize, usize, u64)] = &[
     (131_063, 100, 9),
     (131_062, 100, 10),
@@ -76,10 +76,10 @@ static ROWS: &'static [(usize, usize, u64)] = &[
     (1_048_576, 4_087, 10),
 ];
 
-// Seven calls come before the body: a sync and a read of the front show which side counts; then a sync, two reads of
-// the front, one of the frame's mark, one of the end gate. A first piece has 65,526 bytes of the first block. Where
-// 65,537 of it are left, they are passed over, and the next piece has at most 4,096 bytes. Where 65,536 are left, they
-// are read.
+// Seven calls come before the body: a sync and a read of the front show which side counts; then a sync, two
+// reads of the front, one of the frame's mark, one of the end gate. A first piece has 65,526 bytes of the
+// first block. Where 65,537 of it are left, they are passed over, and the next piece has at most 4,096 bytes.
+// Where 65,536 are left, they are read.
 #[test]
 fn how_often_the_disk_is_asked(rt: HostRuntime) -> Result<(), Fail> {
     let alloc = rt.alloc();

@@ -7,8 +7,8 @@ use tape_disk::{Disk, FuseDisk, MemDisk};
 use volume_core::{Change, Kind};
 use vtl_base::{Bytes, DevFault, NoMemory, ObjNo, PartNo};
 
-/// A cartridge `T00001L6` of one partition of 4,096 bytes, with two frames, whose gates stand at 35,
-/// 55 and 70: the block `hello`, and one mark behind it.
+/// A cartridge `T00001L6` of one partition of 4,096 bytes, with two frames, whose gates are at 35, 55 and 70:
+/// the block `hello`, and one mark after it.
 pub const SIDE: &'static [u8; 71] = b"\xa5VTLCART1\0\x01T00001L6        \0\0\0\0\0\0\x10\0\
     \xa5\0\0\0\x0f\x01\0\0\0\0\0\0\0\0\x05hello\
     \xa5\0\0\0\x0a\x02\0\0\0\0\x01\0\0\0\x01\
@@ -20,18 +20,18 @@ pub const STORE: &'static [u8; 28] = b"\xa5VTLRESV1\0\0DRIVE1          \0";
 /// The first fault of a disk.
 pub const FAULT: CartridgeError = CartridgeError::Device(DevFault { failures: 1 });
 
-/// A block behind the first objects of a partition.
+/// A block after the first objects of a partition.
 pub fn block(alloc: Global, part: PartNo, at: ObjNo, bytes: &[u8]) -> Result<Change, NoMemory> {
     let block = Bytes::from_slice(alloc, bytes)?;
     Ok(Change::Put { part, at, block })
 }
 
-/// Some marks behind the first objects of a partition.
+/// Some marks after the first objects of a partition.
 pub fn marks(part: PartNo, at: ObjNo, count: u32) -> Change {
     Change::Marks { part, at, count }
 }
 
-/// The cartridge that two disks hold, or why they hold none.
+/// The cartridge on two disks, or why they hold none.
 pub fn opened<D: Disk + Drop>(
     alloc: Global,
     first: D,
@@ -54,7 +54,7 @@ pub fn store_block<D: Disk + Drop>(
     known.store(alloc, &[block(alloc, part, at, bytes)?])
 }
 
-/// Stores a block and a mark, a frame each.
+/// Stores a block and a mark, in one frame each.
 pub fn store_side<D: Disk + Drop>(
     alloc: Global,
     known: &mut Known<D>,
@@ -63,7 +63,7 @@ pub fn store_side<D: Disk + Drop>(
     known.store(alloc, &[marks(0, 1, 1)])
 }
 
-/// A new cartridge of these capacities.
+/// A new cartridge with these capacities.
 pub fn made(alloc: Global, capacities: &[u64]) -> Result<Known<MemDisk>, Fail> {
     match Known::made(alloc, MemDisk::new(alloc), MemDisk::new(alloc), capacities) {
         Ok(known) => Ok(known),
@@ -71,7 +71,7 @@ pub fn made(alloc: Global, capacities: &[u64]) -> Result<Known<MemDisk>, Fail> {
     }
 }
 
-/// Stores a block in the place of the mark of the side, and two marks behind it.
+/// Stores a block in place of the mark of the side, and two marks after it.
 pub fn store_two<D: Disk + Drop>(
     alloc: Global,
     known: &mut Known<D>,
@@ -85,18 +85,18 @@ pub fn told<D: Disk>(cartridge: &Cartridge<D>) -> (usize, ObjNo, u64) {
     (cartridge.frames(), count, cartridge.used(0, count))
 }
 
-/// The same of the cartridge on a disk beside an empty one, or why there is none.
+/// The same for the cartridge on a disk with an empty second one, or why there is none.
 pub fn found(alloc: Global, disk: MemDisk) -> Result<(usize, ObjNo, u64), CartridgeError> {
     let cartridge = opened(alloc, disk, MemDisk::new(alloc))?;
     Ok(told(&cartridge))
 }
 
-/// A disk that never fails, with nothing on it.
+/// An empty disk that never fails.
 pub fn spare(alloc: Global) -> FuseDisk<MemDisk> {
     FuseDisk::new(MemDisk::new(alloc), u64::MAX)
 }
 
-/// Whether a block has these bytes; where there is no block, there are none.
+/// Whether a block has these bytes; without a block there are none.
 pub fn has<D: Disk>(
     alloc: Global,
     cartridge: &mut Cartridge<D>,
@@ -127,7 +127,7 @@ pub fn cut(len: usize) -> &'static [u8] {
 
 /// Erases the first partition.
 pub fn erased<D: Disk>(cartridge: &mut Cartridge<D>) -> Result<(), CartridgeError> {
-    // Every cartridge has it: asked for the proof's sake.
+    // Called for the proof: every cartridge has this partition.
     let _ = cartridge.parts();
     cartridge.store(&[Change::Erase { part: 0, at: 0 }])
 }

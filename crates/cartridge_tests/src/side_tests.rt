@@ -12,7 +12,7 @@ use tape_disk::{Disk, MemDisk};
 use volume_core::Kind;
 use vtl_base::{NoMemory, ObjNo};
 
-// Of each object number of the vector the kind of the object, and what those before it take.
+// For each object number of the vector the kind of the object, and what those before it take.
 static OBJECTS: &'static [(ObjNo, Option<Kind>, u64)] = &[
     (0, Some(Kind::Block), 0),
     (1, Some(Kind::Mark), 21),
@@ -48,7 +48,7 @@ static CHANGED: &'static [(usize, u8, Found)] = &[
     (9, 0xa5, Err(CartridgeError::NotOurs)),
 ];
 
-// What an open cartridge says of itself and of its objects.
+// What an open cartridge reports of itself and of its objects.
 fn is_vector<D: Disk>(rt: &impl Abort, cartridge: &Cartridge<D>) {
     assert_equal!(rt; told(cartridge), (2, 2, 37));
     assert_equal!(rt; *cartridge.barcode(), *b"T00001L6        ");
@@ -73,7 +73,7 @@ fn reserves<D: Disk + Drop>(rt: &impl Abort, cartridge: &mut Cartridge<D>) {
     assert_equal!(rt; told(cartridge), (2, 2, 37));
 }
 
-// The first disk of a closed cartridge has the vector, as it is and as it comes out.
+// The first disk of a closed cartridge has the vector, both when borrowed and when returned.
 fn is_shelved(rt: &impl Abort, shelved: Shelved<MemDisk>) {
     shelved.known();
     assert_equal!(rt; shelved.disk().bytes(), SIDE.as_slice());
@@ -95,7 +95,7 @@ fn the_vector_is_read(rt: HostRuntime) -> Result<(), Fail> {
     Ok(())
 }
 
-// The side with no frames, and with a third frame behind its two.
+// The side with no frames, and with a third frame after its two.
 const BEGIN: &'static [u8; 36] = b"\xa5VTLCART1\0\x01T00001L6        \0\0\0\0\0\0\x10\0\0";
 
 const WHOLE: &'static [u8; 97] = b"\xa5VTLCART1\0\x01T00001L6        \0\0\0\0\0\0\x10\0\
@@ -104,7 +104,7 @@ const WHOLE: &'static [u8; 97] = b"\xa5VTLCART1\0\x01T00001L6        \0\0\0\0\0\
     \xa5\0\0\0\x15\x02\0\0\0\0\0\0\0\0\x02\x01\0\0\0\0\x01\0\0\0\x01x\
     \0";
 
-// What stands on the disk of a cartridge that was just made where a longer side stood.
+// The disk of a cartridge that was just made, where a longer side was before.
 fn assert_made(rt: &impl Abort, alloc: Global, disk: MemDisk) {
     match Known::made(alloc, disk, MemDisk::new(alloc), &[4_096]) {
         Ok(known) => assert_equal!(rt; known.cartridge().disk().bytes(), BEGIN.as_slice()),
@@ -119,7 +119,7 @@ fn is_written(rt: &impl Abort, known: &Known<MemDisk>, bytes: &[u8], syncs: u64)
     assert_equal!(rt; known.cartridge().disk().syncs(), syncs);
 }
 
-// Two marks in the place of the block, and a block behind the first.
+// Two marks in place of the block, and a block after the first.
 fn rewrite(alloc: Global, known: &mut Known<MemDisk>) -> Result<(), CartridgeError> {
     let block = block(alloc, 0, 1, b"x")?;
     known.store(alloc, &[marks(0, 0, 2), block])

@@ -15,11 +15,11 @@ use vtl_base::NoMemory;
 // What is found on a disk: frames, objects of the first partition, and what they take.
 type Found = Result<(usize, u32, u64), CartridgeError>;
 
-// A cartridge is made, and stores a frame of one block, one of a mark and one of two changes. It is
-// opened again before the last frame and at the end.
+// A cartridge is made, and stores a frame of one block, one of a mark and one of two changes. It is opened
+// again before the last frame and at the end.
 struct Work;
 
-// Stores the three frames: whether all went through, and the cartridge that was reached.
+// Stores the three frames. Returns whether all succeeded, and the cartridge that was reached.
 fn stored<D: Disk + Drop>(
     alloc: Global,
     known: Known<D>,
@@ -48,9 +48,8 @@ impl Run for Work {
     }
 }
 
-// What the disk may be found to hold after that many calls of the work, before or with what was
-// under way. To make a cartridge takes five calls, to store four, and to open six, with two for
-// each frame.
+// What the disk may be found to hold after that many calls of the work, without the frame in flight or with
+// it. Making a cartridge takes five calls, storing four, and opening six, with two for each frame.
 fn may_be_found(calls: u64, before: Found) -> (Found, Found) {
     let none = Err(CartridgeError::NotOurs);
     let (new, one, two, three) = (
@@ -72,13 +71,13 @@ fn may_be_found(calls: u64, before: Found) -> (Found, Found) {
     }
 }
 
-// What a disk has before the work, and what is found on it then.
+// The bytes of a disk before the work, and what is found on it then.
 static BEFORE: &'static [(&'static [u8], Found)] = &[
     (&[], Err(CartridgeError::NotOurs)),
     (SIDE, Ok((2, 2, 37))),
 ];
 
-// What a stop of the work leaves may be found, and the work has ended just behind its last call.
+// What a stop of the work leaves is allowed, and the work has ended directly after its last call.
 fn is_right(rt: &impl Abort, alloc: Global, stop: Stop, before: Found) {
     let Stop { calls, ended, disk } = stop;
     assert_equal!(rt; ended, calls == 45);
@@ -93,7 +92,7 @@ fn stops_of<R: Run>(alloc: Global, bytes: &[u8], run: &R) -> Result<Vec<Stop>, N
     stop_at_each_call(alloc, &disk, run)
 }
 
-// Before each of 45 calls and behind them all, nine crashes.
+// Before each of 45 calls and after them all, nine crashes.
 fn stopped(rt: &impl Abort, alloc: Global, bytes: &[u8], before: Found) -> Result<(), NoMemory> {
     let stops = stops_of(alloc, bytes, &Work)?;
     assert_equal!(rt; stops.len(), 414);
@@ -123,8 +122,8 @@ impl Run for Opening {
     }
 }
 
-// A sync and a read of the front show which side counts. Then a sync, two reads of the front, three of gates and two of
-// bodies. All leave the side as it is.
+// A sync and a read of the front show which side counts. Then come a sync, two reads of the front, three of
+// gates and two of bodies. All leave the side unchanged.
 fn are_openings(rt: &impl Abort, stops: &[Stop]) {
     assert_equal!(rt; stops.len(), 99);
     for stop in stops {
@@ -140,7 +139,7 @@ fn a_stop_of_an_opening(rt: HostRuntime) -> Result<(), Fail> {
     Ok(())
 }
 
-// The opening of a side that is refused: it has ended where that is not for a fault.
+// The opening of a side that is refused: it has ended where the cause is not a fault.
 struct Refusal;
 
 impl Run for Refusal {
@@ -155,9 +154,9 @@ impl Run for Refusal {
     }
 }
 
-// How many bytes of the side there are, a place and what stands there, how many calls of the disk the opening takes,
-// and why it is refused: a sync and a read of the front, then a sync, two reads of the front, one of each gate, and one
-// of each body.
+// How many bytes of the side there are, a place and its byte, how many calls of the disk the opening takes,
+// and why it is refused: a sync and a read of the front, then a sync, two reads of the front, one of each
+// gate, and one of each body.
 static REFUSED: &'static [(usize, usize, u8, u64, CartridgeError)] = &[
     (26, 0, 0xa5, 2, CartridgeError::NotOurs),
     (34, 0, 0xa5, 2, CartridgeError::NotOurs),
@@ -170,7 +169,7 @@ static REFUSED: &'static [(usize, usize, u8, u64, CartridgeError)] = &[
     (71, 65, 0x03, 10, CartridgeError::BadRecord { at: 55 }),
 ];
 
-// The first bytes of the side, of which one is this.
+// The first bytes of the side, with one byte changed.
 fn damaged(alloc: Global, len: usize, place: usize, value: u8) -> Result<Vec<u8>, NoMemory> {
     let mut bytes = Vec::from_slice(alloc, cut(len))?;
     if let Some(byte) = bytes.get_mut(place) {
@@ -179,7 +178,7 @@ fn damaged(alloc: Global, len: usize, place: usize, value: u8) -> Result<Vec<u8>
     Ok(bytes)
 }
 
-// What such a stop leaves is as it was, and is refused as it would be without the stop.
+// What such a stop leaves is unchanged, and is refused as it would be without the stop.
 fn is_refused(
     rt: &impl Abort,
     alloc: Global,
@@ -207,7 +206,7 @@ fn a_stop_of_an_opening_that_is_refused(rt: HostRuntime) -> Result<(), Fail> {
     Ok(())
 }
 
-// What a store answers, a read of the first block, and an erase.
+// The results of a store, of a read of the first block, and of an erase.
 type Answers = [Result<(), CartridgeError>; 3];
 
 // A cartridge is made, and stores a block.
@@ -245,8 +244,8 @@ fn used(alloc: Global, disk: OnceDisk<MemDisk>) -> Result<(Answers, usize), Cart
 fn a_fault_at_each_call(rt: HostRuntime) -> Result<(), Fail> {
     let alloc = rt.alloc();
     let failed = Err(CartridgeError::Failed);
-    // Five calls make the cartridge, six open it, four store, four store, one reads, four store.
-    // One of them fails, and those behind it would pass.
+    // Five calls make the cartridge, six open it, four store, four store, one reads, four store. One of them
+    // fails, and those after it would pass.
     for calls in 0..25 {
         let expected = match calls {
             0..=14 => Err(FAULT),

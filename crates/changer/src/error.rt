@@ -1,17 +1,17 @@
 //! Why a call on the slots is refused.
 use thiserror::Error;
 
-/// Why a call on the slots is refused (SMC-3, MOVE MEDIUM). The first that holds is reported, and
-/// nothing changes.
+/// Why a call on the slots is refused (SMC-3, MOVE MEDIUM). The first that holds is reported, and nothing
+/// changes.
 #[derive(Clone, Copy, PartialEq, Eq, Debug, Error)]
 pub enum SlotError {
     /// No slot has this element address.
     #[error("no such slot")]
     BadAddress,
-    /// The slot holds something.
+    /// The slot is full.
     #[error("slot full")]
     Full,
-    /// The slot holds nothing.
+    /// The slot is empty.
     #[error("slot empty")]
     Empty,
 }
@@ -21,6 +21,6 @@ pub enum SlotError {
 pub struct NotPlaced<C> {
     /// Why.
     pub error: SlotError,
-    /// The value that was handed in.
+    /// The value that was passed to the call.
     pub value: C,
 }

@@ -1,4 +1,4 @@
-//! All slots of a library, and what each holds.
+//! All slots of a library, with their contents.
 ghost use Rattle.std.specs.Prelude.{◌≡◌, ℕ, ◌<◌, None, Some, Option, option_map, IfOk, IfErr, OnOk, length};
 ghost use Rattle.vtl_base.specs.declared.limits.TheConstants.{SLOTS};
 ghost use Rattle.changer.specs.Slots.{Puts, held_at, is_slot, refusal_of_placing, refusal_of_taking};
@@ -9,8 +9,8 @@ use std::marker::Model;
 use vtl_base::limits::SLOTS;
 use vtl_base::{NoMemory, SlotNo};
 
-/// The 256 slots of a library, whatever is configured: element addresses 1001 to 1256. Their places
-/// are made at once, so that nothing but `new` takes memory.
+/// The 256 slots of a library, whatever is configured: element addresses 1001 to 1256. All places are made at
+/// once, so only `new` takes memory.
 #[derive(Drop)]
 pub struct Slots<C> {
     places: Vec<Option<C>>,
@@ -31,7 +31,7 @@ impl<C> Model for Slots<C> {
 }
 
 impl<C: Drop> Slots<C> {
-    /// Slots that hold nothing.
+    /// Empty slots.
     pub fn new(alloc: Global) -> Result<Slots<C>, NoMemory>
         ensures empty { IfOk result (λ slots. (address : ℕ) → held_at slots address ≡ None) }
     {
@@ -45,7 +45,7 @@ impl<C: Drop> Slots<C> {
         Ok(Slots { places })
     }
 
-    /// Puts a value into the slot of this element address, which holds nothing.
+    /// Puts a value into the empty slot of this element address.
     pub fn place(&mut self, address: u32, value: C) -> Result<(), NotPlaced<C>>
         ensures ok { OnOk result ((refusal_of_placing self.old address ≡ None)
             × Puts address (Some value) self.old self.new) }
@@ -66,7 +66,7 @@ impl<C: Drop> Slots<C> {
         Ok(())
     }
 
-    /// Takes what the slot of this element address holds.
+    /// Takes the content of the slot of this element address.
     pub fn take(&mut self, address: u32) -> Result<C, SlotError>
         ensures ok { IfOk result (λ value. (refusal_of_taking self.old address ≡ None)
             × (held_at self.old address ≡ Some value) × Puts address None self.old self.new) }
@@ -82,8 +82,7 @@ impl<C: Drop> Slots<C> {
         }
     }
 
-    /// What the slot of this element address holds, where there is such a slot and it holds
-    /// something.
+    /// The content of the slot of this element address, if there is such a slot and it is full.
     pub fn held(&self, address: u32) -> Option<&C>
         ensures { option_map (λ value. value.now) result ≡ held_at self.now address }
     {
@@ -91,7 +90,7 @@ impl<C: Drop> Slots<C> {
         self.places[slot.place()].as_ref()
     }
 
-    /// What each slot holds, from element address 1001 on.
+    /// The content of each slot, from element address 1001 on.
     pub fn inventory(&self) -> &[Option<C>]
         ensures row { result.now ≡ self.now }
         ensures all { length result.now ≡ SLOTS }

@@ -3,7 +3,7 @@ ghost use Rattle.std.specs.Prelude.{◌≤◌, length, IfOk};
 
 use file_disk::{CallFailed, RawFile, Stop};
 
-/// A file whose length the system tells only after a call that reads.
+/// A file whose length the system returns only after a call that reads.
 #[derive(Drop)]
 pub struct Untold {
     pub calls: u64,
@@ -59,8 +59,8 @@ impl RawFile for Untold {
     }
 }
 
-/// Another file, of which the bytes are counted that are written, and the places noted from which on.
-/// Bytes that are written again are written: a test sees what the device has to do.
+/// Another file, with a count of the bytes that are written, and the place of the last write. Bytes that are
+/// written again are counted again, so a test sees what the device has to do.
 #[derive(Drop)]
 pub struct Noted<F> {
     file: F,
@@ -68,7 +68,7 @@ pub struct Noted<F> {
     pub bytes: u64,
     /// The place of the last write.
     pub last: u64,
-    /// The syncs that answered Ok.
+    /// The syncs that returned Ok.
     pub syncs: u64,
 }
 

@@ -1,4 +1,4 @@
-//! Disks over real files: what is written is read back, after another opening too.
+//! Disks over real files: what is written is read back, even after another opening.
 use crate::memory::written_elsewhere;
 use crate::openings::side_of;
 use crate::steps::{
@@ -12,7 +12,7 @@ use std::test::Fail;
 use std::thread::Threads;
 use tape_disk::Disk;
 
-// An opening, one call, and then all of the file by the disk.
+// An opening, one call, and then all of the file through the disk.
 fn seen_after(rt: &HostRuntime, path: &str, step: Step) -> Result<[u8; 8], Fail> {
     let mut disk = open(rt, path)?;
     act(&mut disk, step)?;
@@ -21,7 +21,7 @@ fn seen_after(rt: &HostRuntime, path: &str, step: Step) -> Result<[u8; 8], Fail>
     Ok(buffer)
 }
 
-// A call behind an opening, and what the file holds then.
+// A call after an opening, and what the file holds then.
 static READ_BACK: &'static [(Step, &'static [u8; 8])] = &[
     (Step::Sync, b"........"),
     (Step::Put(0, b"abcdef"), b"abcdef.."),
@@ -83,7 +83,7 @@ fn a_gate_is_written_again(rt: HostRuntime) -> Result<(), Fail> {
     taken_away(&rt, &folder)
 }
 
-// The calls of a disk over no file, and what each answers.
+// The calls of a disk over no file, and the failures after each.
 static OVER_NOTHING: &'static [(Step, u64)] = &[
     (Step::Read(0), 0),
     (Step::Sync, 0),

@@ -1,12 +1,12 @@
-//! What a sync that follows one that failed writes again.
+//! What a sync writes again after one that failed.
 use crate::openings::{Row, are_written, leaves, noted};
 use crate::steps::{Step, fails};
 use file_disk::{DiskOver, ForgetfulFile, Turn};
 use std::test::Fail;
 use tape_disk::MemDisk;
 
-// A sync that fails behind writes into sixteen bytes. The good one behind it writes again what was written since the
-// last good one, and no more.
+// A sync that fails after writes into sixteen bytes. The next good one writes exactly what was written since
+// the last good one again.
 static HEALED: &'static [(&'static [Turn], &'static [Row])] = &[
     (
         &[Turn::Whole, Turn::Failed],
@@ -65,7 +65,7 @@ static HEALED: &'static [(&'static [Turn], &'static [Row])] = &[
             (Step::Sync, 0, 4, 3, 1),
         ],
     ),
-    // A second fault is a fault again; the file is then asked for no bytes.
+    // A second fault is a fault again; then the file is asked for no bytes.
     (
         &[
             Turn::Whole,
@@ -85,7 +85,7 @@ static HEALED: &'static [(&'static [Turn], &'static [Row])] = &[
             (Step::Sync, 0, 9, 3, 1),
         ],
     ),
-    // More ranges are not kept: each later sync fails, and asks the file for no bytes.
+    // More ranges are not stored: each later sync fails, and asks the file for no bytes.
     (
         &[Turn::Whole, Turn::Whole, Turn::Whole, Turn::Failed],
         &[
@@ -115,7 +115,7 @@ static FORGOTTEN: &'static [(Step, u64)] = &[
     (Step::Sync, 0),
 ];
 
-// Over a system that forgets what failed, too.
+// The same over a system that forgets what failed.
 #[test]
 fn what_a_system_forgets(rt: HostRuntime) -> Result<(), Fail> {
     let file = ForgetfulFile::new(MemDisk::from_bytes(rt.alloc(), b"old ")?);

@@ -1,4 +1,4 @@
-//! The laws of what accepts, at one kind of thing over one disk, and over two.
+//! The laws of accepting types, for one kind of item over one disk, and over two.
 use accepting::Accepting;
 use accepting::laws::{
     a_crash_leaves_what_was_acknowledged, calls_drop_nothing,
@@ -9,7 +9,8 @@ use accepting::laws::{
 };
 use tape_disk::{Disk, MemDisk};
 
-// Letters on a disk, each of which may be accepted; an image gives its own bytes behind those that went before.
+// Letters on a disk, each of which may be accepted; an image gives its own bytes after those that went
+// before.
 struct Letters<D: Disk> {
     disk: D,
 }

@@ -13,7 +13,7 @@ use std::thread::Threads;
 use tape_disk::{Disk, FuseDisk, MemDisk, OnceDisk};
 use vtl_base::{DevFault, NoMemory};
 
-// Each call of a disk in memory, the bytes behind it, and how many syncs there were.
+// Each call of a disk in memory, the bytes after it, and how many syncs there were.
 static IN_MEMORY: &'static [(Step, &'static [u8], u64)] = &[
     (Step::Put(0, b"abcdef"), b"abcdef", 0),
     (Step::Sync, b"abcdef", 1),
@@ -23,7 +23,7 @@ static IN_MEMORY: &'static [(Step, &'static [u8], u64)] = &[
     (Step::Sync, b"ab", 2),
 ];
 
-// A copy of the disk has these bytes, and so many syncs.
+// A copy of the disk has these bytes and this many syncs.
 fn is_copied(rt: &impl Abort, disk: &MemDisk, bytes: &[u8], syncs: u64) -> Result<(), NoMemory> {
     let copy = disk.copy()?;
     assert_equal!(rt; (copy.bytes(), copy.len(), copy.syncs()), (bytes, bytes.len() as u64, syncs));
@@ -54,14 +54,14 @@ fn a_read(rt: HostRuntime) -> Result<(), Fail> {
     Ok(())
 }
 
-// A read of so many bytes from a place on, as far as the disk has them.
+// A read of `width` bytes from a place on, as far as the disk has them.
 fn read_wide<D: Disk>(disk: &mut D, at: u64, width: usize) -> Result<(), DevFault> {
     let mut buffer = [0u8; 8];
     let width = buffer.len().min(width);
     get(disk, at, &mut buffer[..width])
 }
 
-// Reads of a disk of seven bytes: the place, how many bytes are asked for, and the widest read behind it.
+// Reads of a disk of seven bytes: the place, how many bytes are requested, and the widest read after it.
 static READS: &'static [(u64, usize, usize)] = &[
     (0, 0, 0),
     (6, 1, 1),
@@ -83,7 +83,7 @@ fn reads_wider(rt: &impl Abort, disk: &mut MemDisk) {
     }
 }
 
-// A copy has it from the disk, and goes on alone. What a crash leaves was never read.
+// A copy has it from the disk, and continues by itself. What a crash leaves was never read.
 fn is_kept_by_a_copy(rt: &impl Abort, disk: &MemDisk) -> Result<(), NoMemory> {
     let mut copy = disk.copy()?;
     assert_equal!(rt; (copy.widest_read(), act(&mut copy, Step::Put(7, b"h"))), (7, Ok(())));
@@ -93,7 +93,7 @@ fn is_kept_by_a_copy(rt: &impl Abort, disk: &MemDisk) -> Result<(), NoMemory> {
     Ok(())
 }
 
-// A read that is refused does not count, nor does a call that is no read.
+// A refused read does not count, nor does a call that is no read.
 fn counts_no_other_call(rt: &impl Abort, disk: MemDisk) {
     let mut fuse = FuseDisk::new(disk, 4);
     for step in [Step::Put(0, b"0123456789"), Step::Cut(8), Step::Sync] {
@@ -124,7 +124,7 @@ fn write_half(disk: &mut MemDisk) -> Result<(), DevFault> {
     act(disk, Step::Put(6, b"Z12"))
 }
 
-// A call, how many bytes land, with what the others are filled, and what a crash leaves.
+// A call, how many bytes land, what the others hold, and what a crash leaves.
 static CRASHES: &'static [(Step, u64, u8, &'static [u8])] = &[
     (Step::Read(0), 0, b'.', b"ab..ef..."),
     (Step::Read(0), 1, b'.', b"abX.ef..."),
@@ -218,7 +218,7 @@ fn a_fault_of_the_disk_below(rt: HostRuntime) -> Result<(), Fail> {
     Ok(())
 }
 
-// What a caller knows of a disk in memory, and of one below a fuse.
+// The contract of a disk in memory, and of one below a fuse, for a caller.
 fn synced(disk: &mut MemDisk) -> Result<(), DevFault>
     ensures ok { OnOk result
         (syncs_of (mem_log disk.new).calls ≡ syncs_of (mem_log disk.old).calls + 1) }
@@ -247,7 +247,7 @@ fn what_the_log_has(rt: HostRuntime) -> Result<(), Fail> {
     Ok(())
 }
 
-/// Writes in another thread, and gives the disk back.
+/// Writes in another thread, and returns the disk.
 pub fn written_elsewhere<D: Disk + Drop + Send, R: Threads>(rt: &R, disk: D) -> D {
     let (disk, ()) = thread::join(
         rt,

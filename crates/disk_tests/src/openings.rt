@@ -1,4 +1,4 @@
-//! What the first sync behind an opening writes again.
+//! What the first sync after an opening writes again.
 use crate::doubles::Noted;
 use crate::staged::staged;
 use crate::steps::{Step, act, failures};
@@ -10,7 +10,7 @@ use std::process::Abort;
 use std::test::Fail;
 use tape_disk::{Disk, MemDisk};
 
-/// A store of drive 1 with these bodies. Its gates stand at 0, at 27 and behind each body.
+/// A store of drive 1 with these bodies. Its gates are at 0, at 27 and after each body.
 pub fn side_of(alloc: Global, bodies: &[&[u8]]) -> Result<MemDisk, Fail> {
     let header = Header {
         kind: SideKind::Store,
@@ -46,11 +46,11 @@ pub fn noted(alloc: Global, bytes: &[u8], turns: &[Turn]) -> Result<Noted<Staged
     Ok(Noted::new(staged(alloc, bytes, turns)?))
 }
 
-/// A call, the failures that it tells, and what all calls have then done: the bytes that were written, the place of the
-/// last write, and the good syncs.
+/// A call, the failures that it reports, and the totals of all calls then: the bytes that were written, the
+/// place of the last write, and the good syncs.
 pub type Row = (Step, u64, u64, u64, u64);
 
-/// The calls are made one after another, and do what their rows say.
+/// The calls are made one after another, with the results of their rows.
 pub fn are_written(rt: &impl Abort, disk: &mut DiskOver<Noted<StagedFile>>, rows: &[Row]) {
     for &(step, failed, bytes, last, syncs) in rows {
         assert_equal!(rt; failures(act(disk, step)), failed);
@@ -72,8 +72,8 @@ fn opened(
     Ok(())
 }
 
-// Of a store the last open gate alone, and only before the first good sync, or before a write that comes first: a
-// sync that fails behind it leaves the gate alone.
+// Of a store the last open gate alone, and only before the first good sync, or before a write that comes
+// first. A later sync that fails leaves the gate alone.
 static OF_A_SIDE: &'static [(&'static [&'static [u8]], &'static [Turn], &'static [Row])] = &[
     (
         &[],
@@ -139,7 +139,8 @@ fn an_opening_of_a_store_writes_one_byte(rt: HostRuntime) -> Result<(), Fail> {
     Ok(())
 }
 
-// A cartridge of so many partitions, with one body of four bytes: its last open gate stands behind the capacities.
+// A cartridge with this many partitions, with one body of four bytes: its last open gate is after the
+// capacities.
 fn cartridge_of(alloc: Global, partitions: usize) -> Result<MemDisk, Fail> {
     let header = Header {
         kind: SideKind::Cartridge,
@@ -149,8 +150,8 @@ fn cartridge_of(alloc: Global, partitions: usize) -> Result<MemDisk, Fail> {
     side_with(alloc, header, &[b"body"])
 }
 
-// Of a cartridge the last open gate, and the ten bytes that it begins with, the side's and the pair's gate among them.
-// The pair's gate may be open.
+// Of a cartridge the last open gate, and its first ten bytes, with the gates of the side and of the pair. The
+// gate of the pair may be open.
 #[test]
 fn an_opening_of_a_cartridge_writes_eleven_bytes(rt: HostRuntime) -> Result<(), Fail> {
     for partitions in 1..5 {
@@ -163,7 +164,7 @@ fn an_opening_of_a_cartridge_writes_eleven_bytes(rt: HostRuntime) -> Result<(), 
     Ok(())
 }
 
-// Bytes that a cartridge's side begins with whose own gate is closed, and what stands behind them.
+// The first bytes of a cartridge's side whose own gate is closed, and the bytes after them.
 static CLOSED: &'static [&'static [u8]] = &[
     b"\0VTLCART1\0",
     b"\0VTLCART1\xa5",
@@ -172,7 +173,7 @@ static CLOSED: &'static [&'static [u8]] = &[
     b"\0VTLCART1\0\xa5\xa5\xa5",
 ];
 
-// All of a side whose own gate is closed, and of one that has fewer bytes than a side begins with.
+// All of a side whose own gate is closed, and of one that is shorter than the start of a side.
 #[test]
 fn an_unfinished_side_is_written_again_whole(rt: HostRuntime) -> Result<(), Fail> {
     for &bytes in CLOSED {
@@ -189,7 +190,7 @@ fn an_unfinished_side_is_written_again_whole(rt: HostRuntime) -> Result<(), Fail
     opened(&rt, rt.alloc(), side.bytes(), &[], &rows)
 }
 
-// What a stop in an append left behind the end gate is written again, too.
+// What a stop in an append left after the end gate is written again, too.
 #[test]
 fn what_stands_behind_the_end(rt: HostRuntime) -> Result<(), Fail> {
     let mut side = side_of(rt.alloc(), &[b"body"])?;
@@ -228,8 +229,8 @@ fn a_file_that_is_no_side(rt: HostRuntime) -> Result<(), Fail> {
     )
 }
 
-// The calls of a first sync over a store with one body: five reads for beginning, header and gates, the byte that is
-// read and written again, and the sync.
+// The calls of a first sync over a store with one body: five reads for beginning, header and gates, the byte
+// that is read and written again, and the sync.
 static CALLS: &'static [Turn] = &[
     Turn::Whole,
     Turn::Whole,
@@ -241,7 +242,7 @@ static CALLS: &'static [Turn] = &[
     Turn::Failed,
 ];
 
-// Each call of the first sync fails in turn. The second sync does what the first one did not.
+// Each call of the first sync fails, one after another. The second sync does what the first did not.
 #[test]
 fn a_first_sync_that_fails(rt: HostRuntime) -> Result<(), Fail> {
     let side = side_of(rt.alloc(), &[b"body"])?;
@@ -255,14 +256,14 @@ fn a_first_sync_that_fails(rt: HostRuntime) -> Result<(), Fail> {
     Ok(())
 }
 
-/// What a crash leaves at worst.
+/// What a crash leaves in the worst case.
 pub fn leaves(rt: &impl Abort, disk: &MemDisk, bytes: &[u8]) -> Result<(), Fail> {
     let left = disk.copy()?.crash(0, b'.')?;
     assert_equal!(rt; left.bytes(), bytes);
     Ok(())
 }
 
-// An earlier process wrote a byte over another one, and its sync failed: a later one passes over it.
+// An earlier process overwrote a byte, and its sync failed. The next sync succeeds, but leaves the byte in doubt.
 fn byte_in_doubt(
     rt: &impl Abort,
     alloc: Global,
@@ -303,7 +304,7 @@ fn a_gate_in_doubt(rt: HostRuntime) -> Result<(), Fail> {
     is_made_sure(&rt, file, 2, side.bytes())
 }
 
-// The gates of a cartridge that a reclaim opens: that of the side, that of the pair, that of the last frame.
+// The gates of a cartridge that a reclaim opens: those of the side, of the pair, and of the last frame.
 #[test]
 fn an_open_gate_of_a_cartridge_in_doubt(rt: HostRuntime) -> Result<(), Fail> {
     let side = cartridge_of(rt.alloc(), 1)?;

@@ -22,7 +22,7 @@ fn refusal(answer: Result<FileDisk, FileError>) -> Option<FileError> {
     answer.err()
 }
 
-// What making a file of this name, opening it, and opening it to read it are answered.
+// The results of making a file with this name, opening it, and opening it for reading.
 fn are_answered(
     abort: &impl Abort,
     rt: &HostRuntime,
@@ -39,7 +39,7 @@ fn refused(abort: &impl Abort, rt: &HostRuntime, folder: &Folder) -> Result<(), 
     let kept = &folder.path;
     fs::write(rt, kept, b"kept".as_slice())?;
     are_answered(abort, rt, kept, EXISTS, None);
-    // A folder is nothing that a creation keeps. No test can make a pipe or a device.
+    // A creation does not replace a folder. No test can make a pipe or a device.
     are_answered(abort, rt, &folder.name, NOT_A_FILE, NOT_A_FILE);
     let nowhere = named(rt, &folder.name, "missing/t1.tape")?;
     are_answered(abort, rt, &nowhere, MISSING, MISSING);
@@ -78,7 +78,7 @@ fn not_written(abort: &impl Abort, rt: &HostRuntime, path: &str) -> Result<(), F
     are_answered(abort, rt, path, EXISTS, IN_USE);
     assert_holds!(abort; !is_written(rt, path)?);
     holds(abort, rt, path, b"abc")?;
-    // Nor does it take the lock of the first one.
+    // Nor does it take over the lock of the first one.
     put(&mut disk, 3, b"d")?;
     are_answered(abort, rt, path, EXISTS, IN_USE);
     drop(disk);
@@ -86,7 +86,7 @@ fn not_written(abort: &impl Abort, rt: &HostRuntime, path: &str) -> Result<(), F
     Ok(())
 }
 
-// The lock is asked for before anything is written.
+// The lock is requested before anything is written.
 #[test]
 fn a_refused_opening_writes_nothing(rt: HostRuntime) -> Result<(), Fail> {
     let folder = new_folder(&rt)?;
@@ -108,7 +108,7 @@ fn a_missing_file_is_not_made(rt: HostRuntime) -> Result<(), Fail> {
     taken_away(&rt, &folder)
 }
 
-// The calls that would change a file fail, and the other ones don't.
+// The calls that would change a file fail, and the others do not.
 fn only_read(abort: &impl Abort, disk: &mut FileDisk) {
     assert_equal!(abort; disk.sync(), Ok(()));
     assert_equal!(abort; failures(put(disk, 0, b"x")), 1);

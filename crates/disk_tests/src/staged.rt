@@ -1,4 +1,4 @@
-//! Disks over files in memory whose calls move fewer bytes than were asked for, are interrupted, fail or forget.
+//! Disks over files in memory whose calls move fewer bytes than requested, are interrupted, fail or forget.
 use crate::doubles::Untold;
 use crate::steps::{Step, act, fails, failures, get, put};
 use assertions::assert_equal;
@@ -27,7 +27,7 @@ static SHORT: &'static [&'static [Turn]] = &[
     &[Turn::Part(5), Turn::Interrupted, Turn::Part(1)],
 ];
 
-// Bytes are written, and the file then has these.
+// Bytes are written, and the file has these afterwards.
 fn is_written(
     rt: &impl Abort,
     disk: &mut DiskOver<StagedFile>,
@@ -140,7 +140,7 @@ static ERRORS: &'static [Turn] = &[
     Turn::Failed,
 ];
 
-// A call, the failures that it tells, and the length behind it.
+// A call, the failures that it reports, and the length after it.
 static COUNTED: &'static [(Step, u64, u64)] = &[
     // Two of the bytes are there, and the length is what the file has.
     (Step::Put(3, b"defg"), 1, 5),
@@ -180,7 +180,7 @@ static UNTOLD: &'static [(Step, u64)] = &[
     (Step::Sync, 1),
 ];
 
-// The first call is refused, and the file is asked for no bytes in it.
+// The first call is refused, and asks the file for no bytes.
 #[test]
 fn a_length_that_is_not_told(rt: HostRuntime) {
     for &(step, len) in UNTOLD {
@@ -191,7 +191,7 @@ fn a_length_that_is_not_told(rt: HostRuntime) {
 
 const GREATEST: u64 = 9_223_372_036_854_775_807;
 
-// A place, so many bytes from there on, and whether a file may have them.
+// A place, a number of bytes from there on, and whether a file may have them.
 static ROOM: &'static [(u64, usize, bool)] = &[
     (0, 0, true),
     (GREATEST - 1, 1, true),
@@ -225,7 +225,7 @@ static TURNS: &'static [(Turn, Result<usize, Stop>)] = &[
     (Turn::Failed, Err(Stop::Failed)),
 ];
 
-// Each turn does what its comment says: a test over a file that passes turns over would see nothing.
+// Each turn does what its comment says: a test over a file that ignores turns would see nothing.
 fn is_moved<F: RawFile>(rt: &impl Abort, file: &mut F, moved: Result<usize, Stop>) {
     assert_equal!(rt; file.read_some(0, &mut [0; 4]), moved);
     assert_equal!(rt; file.write_some(0, b"wxyz"), moved);

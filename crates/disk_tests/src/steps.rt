@@ -1,4 +1,4 @@
-//! Calls of a disk at places that are its end at most, and folders for real files.
+//! Calls of a disk at places up to its end, and folders for real files.
 use assertions::assert_equal;
 use std::fs::File;
 use std::hash::{BuildHasher, RandomState};
@@ -39,7 +39,7 @@ pub fn cut_to<D: Disk>(disk: &mut D, len: u64) -> Result<(), DevFault> {
     disk.cut(end.min(len))
 }
 
-/// The answer of one call. A place behind the end is the end.
+/// The result of one call. A place after the end is the end.
 pub fn act<D: Disk>(disk: &mut D, step: Step) -> Result<(), DevFault> {
     match step {
         Step::Get(at) => get(disk, at, &mut [0; 3]),
@@ -50,7 +50,7 @@ pub fn act<D: Disk>(disk: &mut D, step: Step) -> Result<(), DevFault> {
     }
 }
 
-/// How many failures an answer tells: none at Ok.
+/// How many failures a result reports: none at Ok.
 pub fn failures(answer: Result<(), DevFault>) -> u64 {
     match answer {
         Ok(()) => 0,
@@ -58,14 +58,14 @@ pub fn failures(answer: Result<(), DevFault>) -> u64 {
     }
 }
 
-/// Each call tells so many failures.
+/// Each call reports this many failures.
 pub fn fails<D: Disk>(rt: &impl Abort, disk: &mut D, rows: &[(Step, u64)]) {
     for &(step, failed) in rows {
         assert_equal!(rt; failures(act(disk, step)), failed);
     }
 }
 
-/// A folder of a test's own, and the name of a file in it, of which there is none yet.
+/// A folder of a test's own, and the name of a file in it that does not exist yet.
 #[derive(Drop)]
 pub struct Folder {
     pub name: String,
@@ -86,7 +86,7 @@ pub fn named(rt: &HostRuntime, folder: &str, name: &str) -> Result<String, Fail>
     Ok(format!(in rt.alloc(); "{folder}/{name}")?)
 }
 
-/// The folder is gone, and what is in it.
+/// Removes the folder, and what is in it.
 pub fn taken_away(rt: &HostRuntime, folder: &Folder) -> Result<(), Fail> {
     fs::remove_dir_all(rt, &folder.name)?;
     Ok(())

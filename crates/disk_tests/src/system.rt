@@ -1,4 +1,4 @@
-//! Open files of the system that are no regular ones: what it answers for them.
+//! Open files of the system that are no regular ones: the results of their calls.
 use crate::steps::{Step, fails, new_folder, taken_away};
 use assertions::assert_equal;
 use file_disk::{CallFailed, DiskOver, FileDisk, RawFile, Stop, SystemFile};
@@ -25,7 +25,7 @@ fn of_a_folder(abort: &impl Abort, rt: &HostRuntime, name: &str) -> Result<(), F
     Ok(())
 }
 
-// A folder can't be read, written or cut (EISDIR, EBADF, EINVAL), and its names can be made sure.
+// A folder can't be read, written or cut (EISDIR, EBADF, EINVAL), but its names can be made sure.
 #[test]
 fn a_folder_as_a_file(rt: HostRuntime) -> Result<(), Fail> {
     let folder = new_folder(&rt)?;

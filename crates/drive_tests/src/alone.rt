@@ -15,7 +15,8 @@ use std::test::Fail;
 use volume_core::{FaultPlan, StagedMedium, Turn};
 use vtl_base::{Bytes, Nexus, NoMemory};
 
-// The reply to a command, by the hosts' half alone or by both. Where both are needed the data are there still.
+// The reply to a command, by the hosts' half alone or by both. Where both are needed, the data are still
+// there.
 fn run(
     rt: &impl Abort,
     alloc: Global,
@@ -53,8 +54,8 @@ fn assert_halves(
     Ok(())
 }
 
-// A drive with a cartridge whose side has such room. It takes blocks of fewer bytes than this without its disk, which
-// fails so.
+// A drive with a cartridge whose side has this room. It takes blocks with fewer bytes than this without its
+// disk, which fails by this plan.
 fn taking_alone(
     alloc: Global,
     bytes: u32,
@@ -65,7 +66,7 @@ fn taking_alone(
     switched_on(alloc, Some(medium.taking_alone(bytes)))
 }
 
-// What such a drive answers.
+// The answers of such a drive.
 fn assert_over(
     rt: &impl Abort,
     alloc: Global,
@@ -117,10 +118,10 @@ fn a_late_error_is_reported_alone(rt: HostRuntime) -> Result<(), Fail> {
     assert_halves(&rt, alloc, &mut drive, halves::LATE)
 }
 
-// What a host sends, which half answers it, and how.
+// The command of a host, the half that answers it, and the answer.
 type Asked<'a> = (Half, u8, &'a [u8], &'a [u8], Answer<'a>);
 
-// Host 1 reserves the drive, so host 2 is answered at once.
+// Host 1 reserves the drive, so host 2 gets its answer at once.
 static RESERVED: &'static [Asked<'static>] = &[
     (Half::Alone, 1, TEST_UNIT_READY, NONE, asking::POWERED_ON),
     (Half::Alone, 2, TEST_UNIT_READY, NONE, asking::POWERED_ON),

@@ -1,4 +1,4 @@
-//! What hosts ask of a drive, by rows, and orders to its reservations.
+//! Commands of hosts to a drive, as rows, and orders to its reservations.
 use crate::samples::{assert_told, sense_bytes};
 use crate::tables::{NONE, SOUND, TEST_UNIT_READY};
 use drive_core::Drive;
@@ -9,7 +9,7 @@ use std::process::Abort;
 use volume_core::StagedMedium;
 use vtl_base::{Nexus, NoMemory};
 
-// What a host is to be answered: GOOD with these bytes, sense data of a key, code and qualifier alone, or
+// The expected answer to a host: GOOD with these bytes, sense data with only key, code and qualifier, or
 // RESERVATION CONFLICT.
 #[derive(Clone, Copy)]
 pub enum Answer<'a> {
@@ -18,7 +18,7 @@ pub enum Answer<'a> {
     Conflict,
 }
 
-// A host, its command and the bytes that it sends, and how it is answered.
+// A host, its command and the bytes that it sends, and the answer.
 pub type Row<'a> = (u8, &'a [u8], &'a [u8], Answer<'a>);
 
 pub const GOOD: Answer<'static> = Answer::Good(&[]);
@@ -91,14 +91,14 @@ pub fn ask_all<K: Keeper>(rt: &impl Abort, drive: &mut Drive<StagedMedium, K>, r
     }
 }
 
-// These hosts take their power on condition.
+// The power on condition is reported to these hosts.
 pub fn greet<K: Keeper>(rt: &impl Abort, drive: &mut Drive<StagedMedium, K>, hosts: &[u8]) {
     for host in hosts {
         asks(rt, drive, (*host, TEST_UNIT_READY, NONE, POWERED_ON), 0);
     }
 }
 
-// A medium with nothing on it.
+// An empty medium.
 pub fn tape(alloc: Global) -> Result<StagedMedium, NoMemory> {
     StagedMedium::new(alloc, &[4_096], 4_096, SOUND)
 }

@@ -15,7 +15,7 @@ use std::test::Fail;
 use volume_core::{FaultPlan, PlainMedium, StagedMedium, Turn};
 use vtl_base::{Bytes, Nexus};
 
-// A command, and how many changes the drive has accepted once it is answered.
+// A command, and how many changes the drive has accepted after it.
 type Counted<'a> = (Row<'a>, u64);
 
 // The reply to a command whose data are lent, or not.
@@ -67,14 +67,15 @@ const WRITE_TOO_LONG: &'static [u8] = &[0x0a, 0, 0, 0x0f, 0xf1, 0];
 
 const FULL_BY_4081: Wanted<'static> = (Some((0xf0, 0x4d, 4_081, 0, 2)), &[]);
 
-// Behind a block of five bytes, which takes 21, one of 3,804 bytes ends at 3,841; the early zone begins above 3,840.
+// After a block of five bytes, which takes 21, one of 3,804 bytes ends at 3,841; the early zone begins above
+// 3,840.
 const LONG: &'static [u8] = &[0x5a; 3_804];
 
 const WRITE_LONG: &'static [u8] = &[0x0a, 0, 0, 0x0e, 0xdc, 0];
 
 const EARLY_WARNING: Wanted<'static> = (Some((0xf0, 0x40, 0, 0, 2)), &[]);
 
-// One host asks for all that changes a medium, for what does not, and for what is refused.
+// One host sends all commands that change a medium, some that do not, and some that are refused.
 static COUNTS: &'static [Counted<'static>] = &[
     ((1, WRITE_5, b"hello", POWERED_ON), 0),
     ((1, WRITE_5, b"hello", GOOD), 1),
@@ -107,7 +108,7 @@ fn what_is_accepted_is_counted(rt: HostRuntime) -> Result<(), Fail> {
     Ok(())
 }
 
-// An ERASE stores first what is pending, and the device fails: it is not accepted.
+// An ERASE first stores what is pending, and the device fails: the ERASE is not accepted.
 static FAILS_BEFORE: &'static [Counted<'static>] = &[
     ((1, TEST_UNIT_READY, NONE, POWERED_ON), 0),
     ((1, WRITE_5, b"hello", GOOD), 1),
@@ -115,7 +116,7 @@ static FAILS_BEFORE: &'static [Counted<'static>] = &[
     ((1, WRITE_5, b"hello", FAILED), 1),
 ];
 
-// MODE SELECT asks for the unbuffered mode. A block is accepted, and then the device fails.
+// MODE SELECT sets the unbuffered mode. A block is accepted, and then the device fails.
 static FAILS_BEHIND: &'static [Counted<'static>] = &[
     ((1, TEST_UNIT_READY, NONE, POWERED_ON), 0),
     ((1, &[0x15, 0, 0, 0, 4, 0], &[0, 0, 0, 0], GOOD), 0),
@@ -151,7 +152,7 @@ static AFTER_A_LATE_ERROR: &'static [Counted<'static>] = &[
     ((1, TEST_UNIT_READY, NONE, FAILED), 3),
 ];
 
-// The cartridge goes out of the drive, and comes back.
+// The cartridge is moved out of the drive, and back.
 fn move_out_and_in(rt: &impl Abort, drive: &mut Drive<StagedMedium, NoKeeper>) {
     match drive.unload() {
         Ok(medium) => assert_holds!(rt; load(rt, drive, medium).is_none()),

@@ -1,4 +1,4 @@
-//! Each public call once, over a medium whose side has an end and whose device fails.
+//! Each public call once, over a medium whose side is limited and whose device fails.
 use crate::motions::{
     AFTER_A_FAULT, AFTER_A_LATE_FAULT, AFTER_A_MOVE, AFTER_AN_UNLOADING, AFTER_ANOTHER,
     BEFORE_A_FAULT, MANY_MARKS, MOVES, NO_ERASURE, STORED_FIRST,
@@ -23,7 +23,7 @@ use vtl_base::{Bytes, NoMemory};
 // Which storing fails, which reading, and the room of the side.
 type Side = (Option<u32>, Option<u32>, u64);
 
-// What a drive answers: to commands, to a turn, and to commands.
+// The answers of a drive to commands, to a turn, and to commands.
 fn goes_on(
     rt: &impl Abort,
     drive: &mut Drive<StagedMedium, NoKeeper>,
@@ -82,7 +82,7 @@ fn a_drive_answers(rt: HostRuntime) -> Result<(), Fail> {
     assert_course(&rt, alloc, second, BEFORE_A_TURN, Turn::Device, late)
 }
 
-// A medium with a block on it, which was asked to store that and then parked, where this says so.
+// A medium with a block on it, which was stored and the medium then parked, where this says so.
 #[tactic(auto, using(crate::proofs::TestLemmas::accepted_is_awake, crate::proofs::TestLemmas::settles_awake))]
 fn written(
     alloc: Global,
@@ -123,13 +123,13 @@ fn assert_loads(
     }
 }
 
-// A drive has nothing in it, and host 1 learns that.
+// A drive is empty, which is reported to host 1.
 fn has_nothing(rt: &impl Abort, drive: &mut Drive<StagedMedium, NoKeeper>) {
     goes_on(rt, drive, NOTHING_LOADED, Turn::Idle, &[]);
     assert_holds!(rt; drive.medium().is_none());
 }
 
-// What a drive that is loaded with this answers.
+// The answers of a drive that is loaded with this medium.
 fn assert_arrival(
     rt: &impl Abort,
     drive: &mut Drive<StagedMedium, NoKeeper>,
@@ -142,7 +142,7 @@ fn assert_arrival(
     assert_row(rt, drive, (1, READ_5, NONE, loaded), 0);
 }
 
-// What one that is switched on with it answers.
+// The answers of one that is switched on with it.
 fn assert_power_on(rt: &impl Abort, drive: &mut Drive<StagedMedium, NoKeeper>, arrival: &Arrival) {
     assert_row(rt, drive, (1, READ_5, NONE, POWERED_ON), 0);
     assert_row(rt, drive, (1, READ_5, NONE, arrival.5), 1);
@@ -174,8 +174,8 @@ fn a_medium_comes_into_a_drive(rt: HostRuntime) -> Result<(), Fail> {
     Ok(())
 }
 
-// A drive with two partitions, whose side has such room, and whose device fails as it stores for
-// the time of this number.
+// A drive with two partitions, whose side has this room, and whose device fails in the storing with this
+// number.
 fn powered(
     alloc: Global,
     room: u64,
@@ -186,7 +186,7 @@ fn powered(
     Ok(switched_on(alloc, Some(medium))?)
 }
 
-// What a drive of such a side answers to these.
+// The answers of a drive with such a side to these commands.
 fn assert_moves(rt: &impl Abort, alloc: Global, room: u64, rows: &[Row]) -> Result<(), Fail> {
     let mut drive = powered(alloc, room, None)?;
     assert_rows(rt, &mut drive, rows);
@@ -209,12 +209,12 @@ fn a_drive_passes_a_thousand_filemarks(rt: HostRuntime) -> Result<(), Fail> {
     Ok(())
 }
 
-// A drive whose device fails as it stores for the first time.
+// A drive whose device fails in the first storing.
 fn with_a_fault_to_come(alloc: Global) -> Result<Drive<StagedMedium, NoKeeper>, Fail> {
     powered(alloc, 1_000, Some(0))
 }
 
-// This command ends as what is pending is stored.
+// This command ends while what is pending is stored.
 fn stores_first(rt: &impl Abort, drive: &mut Drive<StagedMedium, NoKeeper>, cdb: &[u8]) {
     assert_rows(rt, drive, BEFORE_A_FAULT);
     assert_row(rt, drive, (1, cdb, NONE, WRITE_ERROR), 0);
@@ -237,7 +237,7 @@ fn what_is_pending_is_stored_first(rt: HostRuntime) -> Result<(), Fail> {
     assert_late(&rt, alloc, false, AFTER_ANOTHER)
 }
 
-// The cartridge goes out of the drive, and comes back.
+// The cartridge is moved out of the drive, and back.
 fn move_out_and_in(rt: &impl Abort, drive: &mut Drive<StagedMedium, NoKeeper>) {
     match drive.unload() {
         Ok(medium) => assert_holds!(rt; load(rt, drive, medium).is_none()),
@@ -245,7 +245,7 @@ fn move_out_and_in(rt: &impl Abort, drive: &mut Drive<StagedMedium, NoKeeper>) {
     }
 }
 
-// A turn meets a fault, and the cartridge goes out and comes back or stays; what is told of it.
+// A turn meets a fault, and the cartridge is moved out and back or stays; the conditions that are reported.
 fn is_late(rt: &impl Abort, drive: &mut Drive<StagedMedium, NoKeeper>, moves: bool, rows: &[Row]) {
     goes_on(rt, drive, BEFORE_A_FAULT, Turn::Device, &[]);
     if moves {
@@ -260,7 +260,7 @@ fn assert_late(rt: &impl Abort, alloc: Global, moves: bool, rows: &[Row]) -> Res
     Ok(())
 }
 
-// A deferred error is the drive's: it stays while the cartridge moves.
+// A deferred error belongs to the drive: it stays while the cartridge is moved.
 #[test]
 fn a_deferred_error_outlives_a_cartridge(rt: HostRuntime) -> Result<(), Fail> {
     let alloc = rt.alloc();

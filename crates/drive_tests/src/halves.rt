@@ -10,7 +10,7 @@ use crate::tables::{
     Wanted,
 };
 
-/// What answers a command.
+/// The part of a drive that answers a command.
 #[derive(Clone, Copy, PartialEq, Eq, Debug)]
 pub enum Half {
     // The hosts' half alone.
@@ -19,7 +19,7 @@ pub enum Half {
     Both,
 }
 
-/// A command, and what answers it.
+/// A command, and the half that answers it.
 pub type Halved<'a> = (Half, Row<'a>);
 
 const ALONE: Half = Half::Alone;
@@ -71,7 +71,7 @@ const MODE_CHANGED: Wanted<'static> = (Some((0x70, 6, 0, 0x2a, 1)), &[]);
 
 const MARK_BEHIND: Wanted<'static> = (Some((0xf0, 0x80, 1, 0, 1)), &[]);
 
-/// An empty drive: all checks come first, and LOAD UNLOAD alone is for both.
+/// An empty drive: all checks come first, and only LOAD UNLOAD needs both halves.
 pub static EMPTY: &'static [Halved<'static>] = &[
     (ALONE, (1, &[0xa5; 12], NONE, UNKNOWN)),
     (ALONE, (1, REQUEST_SENSE, NONE, PENDING_POWER_ON)),
@@ -87,8 +87,8 @@ pub static EMPTY: &'static [Halved<'static>] = &[
     (ALONE, (1, SENSE_MODE, NONE, IN_MODE_1)),
 ];
 
-/// A cartridge is loaded, and blocks of fewer than six bytes are taken without the disk. No storing comes before the
-/// first command for both; the first storing fails.
+/// A cartridge is loaded, and blocks of fewer than six bytes are taken without the disk. Nothing is stored
+/// before the first command for both halves; the first storing fails.
 pub static UNTIL_A_FAULT: &'static [Halved<'static>] = &[
     (ALONE, (1, BLOCK_LIMITS, NONE, POWERED_ON)),
     (ALONE, (1, TEST_UNIT_READY, NONE, GOOD)),
@@ -110,7 +110,7 @@ pub static UNTIL_A_FAULT: &'static [Halved<'static>] = &[
     (BOTH, (1, REWIND, NONE, WRITE_ERROR)),
 ];
 
-/// What is loaded has failed: all checks come first still, and LOAD UNLOAD alone is for both.
+/// The loaded medium has failed: all checks still come first, and only LOAD UNLOAD needs both halves.
 pub static FAILED_ROWS: &'static [Halved<'static>] = &[
     (ALONE, (1, TEST_UNIT_READY, NONE, FAILED)),
     (ALONE, (1, WRITE_5, b"hello", FAILED)),
@@ -190,8 +190,8 @@ pub static NONE_TAKEN: &'static [Halved<'static>] = &[
     (BOTH, (1, MARK_AT_ONCE, NONE, GOOD)),
 ];
 
-/// A side of 36 bytes, of which a block of five bytes takes 20. A change that has no room goes by the mode and its
-/// size.
+/// A side of 36 bytes, of which a block of five bytes takes 20. Which half answers a change without room depends
+/// on the mode and the change's size.
 pub static NO_ROOM: &'static [Halved<'static>] = &[
     (ALONE, (1, TEST_UNIT_READY, NONE, POWERED_ON)),
     (ALONE, (1, WRITE_5, b"hello", GOOD)),
@@ -200,7 +200,7 @@ pub static NO_ROOM: &'static [Halved<'static>] = &[
     (BOTH, (1, WRITE_5, b"world", FULL_BY_5)),
 ];
 
-/// What another host establishes for this one is reported first.
+/// The conditions that another host establishes for this one are reported first.
 pub static ATTENTIONS: &'static [Halved<'static>] = &[
     (BOTH, (1, UNLOAD, NONE, GOOD)),
     (BOTH, (1, LOAD, NONE, GOOD)),

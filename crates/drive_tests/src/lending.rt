@@ -1,4 +1,4 @@
-//! Commands whose data are lent: they are taken where they become a block; else they stay.
+//! Commands with lent data: a block takes them; else they stay.
 use crate::asking;
 use crate::asking::{A_NEW, Answer, BY_A, CONFLICT, NO_KEYS, REGISTER, RESERVE_5, assert_answer};
 use crate::samples::{assert_reply, assert_rows, switched_on, with_side};
@@ -16,10 +16,10 @@ use std::test::Fail;
 use volume_core::{FaultPlan, StagedMedium};
 use vtl_base::{Bytes, Nexus};
 
-// A command, and what is left of its data.
+// A command, and the data that are left.
 type Lent<'a> = (Row<'a>, &'a [u8]);
 
-// The reply to a command whose data are lent, of which this is left.
+// The reply to a command with lent data, of which these are left.
 fn run(
     rt: &impl Abort,
     alloc: Global,
@@ -78,8 +78,8 @@ fn a_block_is_taken_where_it_is_accepted(rt: HostRuntime) -> Result<(), Fail> {
     assert_lent(&rt, alloc, &mut drive, WRITES)
 }
 
-// MODE SELECT asks for the unbuffered mode; its list stays. The block is accepted, and the device fails as it is
-// stored. Then nothing more is accepted.
+// MODE SELECT sets the unbuffered mode; its list stays. The block is accepted, and the device fails while it
+// is stored. After that nothing is accepted.
 static STORED_AT_ONCE: &'static [Lent<'static>] = &[
     ((1, TEST_UNIT_READY, NONE, POWERED_ON), NONE),
     (
@@ -110,7 +110,7 @@ fn no_block_is_taken_where_no_medium_is(rt: HostRuntime) -> Result<(), Fail> {
     assert_lent(&rt, alloc, &mut drive, rows)
 }
 
-// What a host sends, how it is answered, and what is left.
+// What a host sends, the answer, and the data that are left.
 type Asked<'a> = (u8, &'a [u8], &'a [u8], Answer<'a>, &'a [u8]);
 
 // Host 1 reserves the drive, so host 2 does not write.

@@ -1,4 +1,4 @@
-//! Loading, unloading and unbuffered writes that meet a fault, and a medium that goes out of the drive.
+//! Loading, unloading and unbuffered writes that meet a fault, and a medium that is moved out of the drive.
 use crate::asking::{
     A_NEW, Answer, BY_A, FAILED, GOOD, NO_MEDIUM, REGISTER, RESERVE_5, Row, ask_all, asks,
     assert_answer, greet,
@@ -30,7 +30,8 @@ const CHANGED: Answer<'static> = Answer::Check(6, 0x28, 0);
 
 const WRITE_ERROR: Answer<'static> = Answer::Check(3, 0x0c, 0);
 
-// A drive with a tape, the first storing of which fails so, if at all; the hosts took their power on.
+// A drive with a tape, whose first storing fails in this way, if at all; the power on was reported to the
+// hosts.
 fn with_tape(
     rt: &impl Abort,
     alloc: Global,
@@ -41,18 +42,18 @@ fn with_tape(
     Ok(drive)
 }
 
-// What both hosts are answered by such a drive.
+// The answers of such a drive to both hosts.
 fn ask_over(rt: &impl Abort, alloc: Global, plan: FaultPlan, rows: &[Row]) -> Result<(), Fail> {
     let mut drive = with_tape(rt, alloc, plan)?;
     ask_all(rt, &mut drive, rows);
     Ok(())
 }
 
-// What a drive answers once an unloading or a loading has met the fault.
+// The answers of a drive after an unloading or a loading has met the fault.
 static AFTER_THE_FAULT: &'static [Row<'static>] = &[
     (1, TEST_UNIT_READY, NONE, FAILED),
     (1, LOAD, NONE, FAILED),
-    // What is pending is given up.
+    // What is pending is discarded.
     (1, UNLOAD, NONE, GOOD),
     (1, TEST_UNIT_READY, NONE, NO_MEDIUM),
     (1, LOAD, NONE, GOOD),
@@ -66,13 +67,13 @@ fn fails_in(rt: &impl Abort, drive: &mut Drive<StagedMedium, NoKeeper>, first: &
     ask_all(rt, drive, AFTER_THE_FAULT);
 }
 
-// Whether the side is found with the frame that was under way.
+// Whether the side is found with the frame in flight.
 fn has_a_block(rt: &impl Abort, drive: &mut Drive<StagedMedium, NoKeeper>) -> bool {
     let nexus = Nexus::new(1).expect(rt, "a nexus");
     drive.execute(nexus, READ_5, NONE).sense.is_none()
 }
 
-// Its frame is under way or not, and is found or not.
+// The frame is in flight or not, and is found or not.
 fn meets_a_fault(
     rt: &impl Abort,
     alloc: Global,
@@ -92,7 +93,7 @@ fn meets_a_fault(
     Ok(())
 }
 
-// Whether the frame is under way as the device fails, and whether it is found.
+// Whether the frame is in flight when the device fails, and whether it is found.
 static FRAMES: &'static [(bool, bool)] = &[(false, false), (true, false), (true, true)];
 
 #[test]
@@ -134,7 +135,7 @@ fn comes_out(rt: &impl Abort, drive: &mut Drive<StagedMedium, NoKeeper>) {
     assert_holds!(rt; drive.is_empty());
 }
 
-// The device fails, and it stays; then what is pending is given up.
+// The device fails, and the cartridge stays; then what is pending is discarded.
 fn one_with_a_fault_goes_out(rt: &impl Abort, drive: &mut Drive<StagedMedium, NoKeeper>) {
     asks(rt, drive, (1, WRITE_5, b"hello", GOOD), 0);
     stays(rt, drive, WRITE_ERROR);
@@ -154,7 +155,7 @@ fn a_cartridge_goes_out(rt: HostRuntime) -> Result<(), Fail> {
     Ok(())
 }
 
-// It is there, not loaded, and nobody is told; then it is loaded.
+// It is there, not loaded, and no condition is established; then it is loaded.
 static PUT_IN: &'static [Row<'static>] = &[
     (2, TEST_UNIT_READY, NONE, NO_MEDIUM),
     (1, TEST_UNIT_READY, NONE, NO_MEDIUM),
@@ -169,7 +170,7 @@ static RESERVED: &'static [Row<'static>] = &[
     (1, RESERVE_5, BY_A, GOOD),
 ];
 
-// It goes out of the drive, and is put in again.
+// It is moved out of the drive, and put in again.
 fn goes_out_and_in(rt: &impl Abort, drive: &mut Drive<StagedMedium, NoKeeper>) {
     match drive.unload() {
         Ok(medium) => drive.insert(medium),
@@ -182,7 +183,7 @@ fn is_put_in(rt: &impl Abort, drive: &mut Drive<StagedMedium, NoKeeper>) {
     goes_out_and_in(rt, drive);
     assert_holds!(rt; !drive.is_empty());
     ask_all(rt, drive, PUT_IN);
-    // A reservation is held from its making on.
+    // A reservation is held after it was made.
     assert_holds!(rt; !drive.held());
     ask_all(rt, drive, RESERVED);
     assert_holds!(rt; drive.held());

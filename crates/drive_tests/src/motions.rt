@@ -21,7 +21,7 @@ pub const MARK_BACK: &'static [u8] = &[0x11, 1, 0xff, 0xff, 0xff, 0];
 
 pub const LOCATE_0: &'static [u8] = &[0x2b, 0, 0, 0, 0, 0, 0, 0, 0, 0];
 
-// The end of data was met, and nothing is told of what is left.
+// The end of data was met, and no residue is reported.
 pub const NO_SUCH_OBJECT: Wanted<'static> = (Some((0x70, 0x08, 0, 0, 5)), &[]);
 
 pub const IS: Wanted<'static> = (
@@ -127,7 +127,7 @@ pub static MANY_MARKS: &'static [Row<'static>] = &[
     (1, POSITION, NONE, AT_THE_BEGINNING),
 ];
 
-// A side of 20 bytes: a block of five bytes takes it all, and an erasing would take 15.
+// A side of 20 bytes: a block of five bytes takes it all, and an erase would take 15.
 pub static NO_ERASURE: &'static [Row<'static>] = &[
     (1, TEST_UNIT_READY, NONE, POWERED_ON),
     (1, WRITE_5, b"block", GOOD),
@@ -137,7 +137,8 @@ pub static NO_ERASURE: &'static [Row<'static>] = &[
     (1, READ_5, NONE, END),
 ];
 
-// A block is pending, and the device fails as it is stored: each command ends so, before its work.
+// A block is pending, and the device fails while it is stored: each command ends in this way, before its
+// work.
 pub static STORED_FIRST: &'static [&'static [u8]] = &[
     MARK_FORWARD,
     &[0x11, 3, 0, 0, 0, 0],
@@ -152,7 +153,7 @@ pub static BEFORE_A_FAULT: &'static [Row<'static>] = &[
     (1, WRITE_5, b"block", GOOD),
 ];
 
-// A medium that has failed does not keep these from being told.
+// Answers after the medium has failed: commands that need no medium are carried out.
 pub static AFTER_A_FAULT: &'static [Row<'static>] = &[
     (1, POSITION, NONE, FAILED),
     (1, ERASE, NONE, FAILED),
@@ -178,7 +179,7 @@ pub static AFTER_ANOTHER: &'static [Row<'static>] = &[
     (2, BLOCK_LIMITS, NONE, POWERED_ON),
 ];
 
-// UNLOAD reports it and does nothing else; then LOAD opens what the side gives, without what was pending.
+// UNLOAD reports it and does nothing else; then LOAD opens what is on the side, without what was pending.
 pub static AFTER_AN_UNLOADING: &'static [Row<'static>] = &[
     (1, UNLOAD, NONE, LATE_ERROR),
     (1, TEST_UNIT_READY, NONE, FAILED),
@@ -190,7 +191,7 @@ pub static AFTER_AN_UNLOADING: &'static [Row<'static>] = &[
     (2, TEST_UNIT_READY, NONE, CHANGED),
 ];
 
-// Where the cartridge went out of the drive and came back before any command.
+// Where the cartridge was moved out of the drive and back before any command.
 pub static AFTER_A_MOVE: &'static [Row<'static>] = &[
     (1, TEST_UNIT_READY, NONE, LATE_ERROR),
     (1, TEST_UNIT_READY, NONE, CHANGED),

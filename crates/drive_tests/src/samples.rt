@@ -57,7 +57,7 @@ pub fn assert_rows(rt: &impl Abort, drive: &mut Drive<StagedMedium, NoKeeper>, r
     }
 }
 
-// A drive that was switched on with this medium in it, if any, and keeps nothing over a loss of power.
+// A drive that was switched on with this medium in it, if any, and saves no reservations.
 pub fn switched_on(
     alloc: Global,
     medium: Option<StagedMedium>,
@@ -65,7 +65,7 @@ pub fn switched_on(
     Drive::power_on(alloc, NoKeeper, Reservations::empty(), medium).map_err(|_| NoMemory)
 }
 
-// One with a cartridge of one partition, whose side has such room and whose device fails so.
+// One with a cartridge of one partition, whose side has this room and whose device fails by this plan.
 pub fn with_side(
     alloc: Global,
     room: u64,
@@ -75,7 +75,7 @@ pub fn with_side(
     switched_on(alloc, Some(medium))
 }
 
-// The drive, which is empty, is loaded with this; what a refusal is told.
+// The empty drive is loaded with this medium; the reply where it is refused.
 pub fn load(
     rt: &impl Abort,
     drive: &mut Drive<StagedMedium, NoKeeper>,

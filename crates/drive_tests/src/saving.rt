@@ -1,4 +1,4 @@
-//! What the keeper of a drive's reservations is asked, and what hosts are answered where it refuses.
+//! The saves of a drive's reservations, and the answers to hosts where the keeper refuses.
 use crate::asking::{
     A_NEW, A_OVER_A, A_WITH_APTPL, Answer, B_NEW, BAD_FIELD, BAD_LENGTH, BY_A, BY_B, CLEAR,
     CLEARED, CONFLICT, FAILED, GOOD, NO_KEYS, OUT_OF_MEMORY, READ_KEYS, READ_RESERVATION, REGISTER,
@@ -14,7 +14,7 @@ use std::test::Fail;
 use volume_core::StagedMedium;
 use vtl_base::{Nexus, NoMemory};
 
-// A drive with a tape, whose keeper holds this and has such room, and a save of which fails.
+// A drive with a tape, whose keeper has saved this state and has this room, and a save of which fails.
 fn with_keeper(
     alloc: Global,
     saved: Reservations,
@@ -26,7 +26,7 @@ fn with_keeper(
     Drive::power_on(alloc, keeper, left, Some(tape(alloc)?)).map_err(|_| NoMemory)
 }
 
-// The save behind so many fails so.
+// The save after this many fails in this way.
 fn failing(
     alloc: Global,
     after: u32,
@@ -45,7 +45,7 @@ const TWO: &'static [u8] = b"\0\0\0\x02\0\0\0\x10\0\0\0\0\0\0\0\xa1\0\0\0\0\0\0\
 
 const HELD: &'static [u8] = b"\0\0\0\x02\0\0\0\x10\0\0\0\0\0\0\0\xa1\0\0\0\0\0\x05\0\0";
 
-// Orders of which each is to be saved, and what stands before each: the keys and the reservation.
+// Orders, each of which is to be saved, and the keys and the reservation before each.
 static SAVED_ORDERS: &'static [(Row<'static>, &'static [u8], &'static [u8])] = &[
     (
         (1, REGISTER, A_NEW, GOOD),
@@ -61,7 +61,7 @@ static SAVED_ORDERS: &'static [(Row<'static>, &'static [u8], &'static [u8])] = &
     ((2, CLEAR, BY_B, GOOD), TWO, HELD),
 ];
 
-// The old reservations stand.
+// The old reservations stay.
 fn assert_stands(
     rt: &impl Abort,
     drive: &mut Drive<StagedMedium, StagedKeeper>,
@@ -78,13 +78,13 @@ fn assert_stands(
     );
 }
 
-// What both hosts are told then.
+// The conditions that are then reported to both hosts.
 static AFTER_A_CLEARING: &'static [Row<'static>] = &[
     (1, TEST_UNIT_READY, NONE, CLEARED),
     (2, TEST_UNIT_READY, NONE, GOOD),
 ];
 
-// The save of this order finds no memory, and succeeds when it is asked for again.
+// Memory runs out in the save of this order, which succeeds when the order is sent again.
 fn runs_out(rt: &impl Abort, drive: &mut Drive<StagedMedium, StagedKeeper>, at: u32) {
     greet(rt, drive, &[1, 2]);
     for (turn, &(row, keys, reservation)) in SAVED_ORDERS.iter().enumerate() {
@@ -112,7 +112,7 @@ fn memory_runs_out_in_a_save(rt: HostRuntime) -> Result<(), Fail> {
     Ok(())
 }
 
-// What is answered once a save has met a device fault.
+// The answers after a save has met a device fault.
 static AFTER_A_FAULT: &'static [Row<'static>] = &[
     (3, CLEAR, BY_A, FAILED),
     (3, REGISTER, NO_KEYS, FAILED),
@@ -142,8 +142,8 @@ fn fails_at(rt: &impl Abort, alloc: Global, at: u32) -> Result<(), NoMemory> {
     Ok(())
 }
 
-// Behind a device fault each order that passes its checks is answered as the one whose save failed, before
-// the machine is asked; nobody is told anything, and reads and the medium go on.
+// After a device fault each order that passes its checks has the answer of the one whose save failed, before
+// the machine is called. No condition is established, and reads and the medium go on.
 #[test]
 fn the_device_fails_in_a_save(rt: HostRuntime) -> Result<(), Fail> {
     for at in 0..4u32 {
@@ -177,7 +177,7 @@ fn a_store_is_full(rt: HostRuntime) -> Result<(), Fail> {
     Ok(())
 }
 
-// Orders that ask for a save, and orders that ask for none.
+// Orders that need a save, and orders that need none.
 static COUNTED: &'static [Row<'static>] = &[
     (2, REGISTER, NO_KEYS, GOOD),
     (1, REGISTER, A_WITH_APTPL, GOOD),
@@ -195,8 +195,8 @@ static COUNTED: &'static [Row<'static>] = &[
     (1, REGISTER, A_OVER_A, GOOD),
 ];
 
-// The second save is the first that fails: what changes nothing but the generation asks for none, and what
-// changes APTPL alone asks for one.
+// The second save is the first that fails: an order that changes only the generation needs none, and one that
+// changes only APTPL needs one.
 #[test]
 fn saves_are_counted(rt: HostRuntime) -> Result<(), Fail> {
     let mut drive = failing(rt.alloc(), 1, SaveFault::NoMemory)?;
@@ -205,7 +205,8 @@ fn saves_are_counted(rt: HostRuntime) -> Result<(), Fail> {
     Ok(())
 }
 
-// Whether APTPL is saved; the keys that a drive begins with then, and what a REWIND of another host is answered.
+// Whether APTPL is saved; the keys with which a drive begins then, and the answer to a REWIND of another
+// host.
 static BEGINNINGS: &'static [(bool, &'static [u8], Answer<'static>)] = &[
     (true, b"\0\0\0\0\0\0\0\x08\0\0\0\0\0\0\0\xa1", CONFLICT),
     (false, &[0; 8], GOOD),

@@ -1,12 +1,12 @@
-//! Tables of commands, with the reply that is wanted of each.
+//! Tables of commands, with the expected reply of each.
 use drive_core::Fault;
 use volume_core::FaultPlan;
 
-// What a reply is wanted to be: its sense data, if any, by bytes 0 and 2, INFORMATION, additional
-// code and qualifier; and the bytes that it gives.
+// The expected reply: its sense data, if any, by bytes 0 and 2, INFORMATION, additional code and qualifier;
+// and its bytes.
 pub type Wanted<'a> = (Option<(u8, u8, u32, u8, u8)>, &'a [u8]);
 
-// A host, its command and the bytes that it sends, and what is wanted of the reply.
+// A host, its command and the bytes that it sends, and the expected reply.
 pub type Row<'a> = (u8, &'a [u8], &'a [u8], Wanted<'a>);
 
 pub const TEST_UNIT_READY: &'static [u8] = &[0; 6];
@@ -49,7 +49,7 @@ pub const FAILED: Wanted<'static> = (Some((0x70, 4, 0, 0x44, 0)), &[]);
 
 pub const NO_MEMORY: Wanted<'static> = (Some((0x70, 0x0b, 0, 0x55, 3)), &[]);
 
-// So much does not fit.
+// This much does not fit.
 pub const FULL: Wanted<'static> = (Some((0x70, 0x4d, 0, 0, 2)), &[]);
 
 pub const FULL_BY_1: Wanted<'static> = (Some((0xf0, 0x4d, 1, 0, 2)), &[]);
@@ -145,7 +145,7 @@ pub static BEFORE_A_TURN: &'static [Row<'static>] = &[
     (1, WRITE_5, b"world", GOOD),
 ];
 
-// The deferred error goes to the first command of a known code, whoever sends it.
+// The deferred error is reported at the first command with a known code, whichever host sends it.
 pub static AFTER_A_LATE_FAULT: &'static [Row<'static>] = &[
     (1, &[0xa5; 12], NONE, UNKNOWN),
     (2, TEST_UNIT_READY, NONE, LATE_ERROR),
@@ -176,8 +176,8 @@ pub static LOADED: &'static [Row<'static>] = &[
     (64, REWIND, NONE, CHANGED),
 ];
 
-// How a medium was made ready; what a loading of it is answered; what a READ is answered then, and
-// after a power on with it.
+// How a medium was made ready; the answer to its loading; the answers to a READ then, and after a power on
+// with it.
 pub type Arrival<'a> = (FaultPlan, bool, bool, Wanted<'a>, Wanted<'a>, Wanted<'a>);
 
 pub static ARRIVALS: &'static [Arrival<'static>] = &[
@@ -188,7 +188,7 @@ pub static ARRIVALS: &'static [Arrival<'static>] = &[
     (TORN_AND_FOUND, true, true, GOOD, HELLO, HELLO),
 ];
 
-// Faults, and what is told of each.
+// Faults, and the report of each.
 pub static FAULTS: &'static [(Fault, Wanted<'static>)] = &[
     (Fault::Writing, WRITE_ERROR),
     (Fault::Reading, READ_ERROR),

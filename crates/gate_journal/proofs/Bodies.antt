@@ -68,7 +68,7 @@ bodies_from front (b ∷ bs) rest at here =
     (omega (arith, here, length-append front (frame b), length-frame b)) in
     λ i. first i ∷ others i
 
--- what the view of a journal has for bodies is what its disk begins with
+-- the bodies in the view of a journal are those with which its disk begins
 pub bodies_are : (d : DiskState) (front : Front) (bodies : List (List ℕ)) (extents : List (ℕ × ℕ)) (end : ℕ)
     (failed : Bool) → StoresSide d front bodies extents end failed → bodies_at d.seen extents ≡ bodies
 bodies_are d front bodies extents end failed on =
@@ -100,7 +100,7 @@ module _ (front : Front) (bodies : List (List ℕ)) (body : List ℕ) (side : Is
   counted rest = sym (ap (λ (l : List ℕ). l ++ 0 ∷ rest) (spell_push front bodies body)
       ∙ regrouped (spell front bodies) (to_be_bytes w32 (length body)) body rest)
 
-  -- the gate behind the spelling decides whether the new body counts
+  -- the gate after the spelling decides whether the new body counts
   pub either : (gate : ℕ) (image : List ℕ) → gate ≢ OPEN →
       BehindOrGated (spell front bodies) gate (tail_of body) image → WithOrWithout front bodies body image
   either gate image shut (inl (rest, is)) = inl (side, (gate, rest, shut, is))

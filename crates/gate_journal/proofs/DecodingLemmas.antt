@@ -6,7 +6,7 @@ use Rattle.std.proofs.Math.Seq.{take-suc}
 use Rattle.gate_journal.specs.Decoding.{HasDecoded, TakesBody}
 use Rattle.gate_journal.specs.Side.{Heading}
 
--- one element more
+-- one more element
 take_more : {A : Type 0} → (xs : List A) (d : A) (k : ℕ) → k < length xs
     → take (k + 1) xs ≡ take k xs ++ slice_index_or xs k d ∷ []
 take_more xs d k inside = ap (λ (n : ℕ). take n xs) (add-one k) ∙ take-suc xs k d inside

@@ -1,4 +1,4 @@
--- The last gates of a side, by where its bodies lie.
+-- The last gates of a side, by the extents of its bodies.
 use Rattle.std.proofs.Common.{◌≡◌, ℕ, suc, ◌+◌, ◌-◌, List, [], ◌∷◌, ◌++◌, length, get_or, take, refl, sym, ◌∙◌, ap, subst, arith, length-append, Ok, Err, Bool, false}
 use Rattle.std.specs.Prelude.{◌≤◌, Result, Some, ◌==◌, if◌then◌else◌}
 use Rattle.std.proofs.Math.Dec.{eqb-suc-zero}
@@ -22,7 +22,7 @@ use Rattle.gate_journal.proofs.Extents.{extents_count}
 use Rattle.gate_journal.proofs.Parts.{place_of}
 use Rattle.gate_journal.proofs.Walks.{damaged_there, fault_since, far_is, stands_for}
 
--- the last open gate is where the last body says
+-- the extent of the last body says where the last open gate is
 pub gate_place : (front : Front) (bodies : List (List ℕ))
     → gate_before (extents_from (length (spell_front front)) bodies) ≡ last_gate front bodies
 gate_place front [] = refl
@@ -40,7 +40,7 @@ gate_place front (body ∷ bodies) =
     ∙ (let less : start + length before + 5 - 5 ≡ start + length before = omega arith in less)
     ∙ sym (length-append (spell_front front) before)
 
--- and so it is where a body is added
+-- the same where a body is added
 pub gate_pushed : (extents : List (ℕ × ℕ)) (at size : ℕ) → gate_before (extents ++ (at + 5, size) ∷ []) ≡ at
 gate_pushed extents at size =
     let more : List (ℕ × ℕ) = extents ++ (at + 5, size) ∷ [] in
@@ -56,7 +56,7 @@ gate_pushed extents at size =
 module _ (d0 d1 d2 : DiskState) (none : NoneFailed d0 d1) (told : ToldFront) (base : ℕ)
     (same : base ≡ base_in told.copied) (stays : d0.honest → d1.honest)
     (begins : d0.honest → TellsFront d0.seen (Some told)) (unwritten : d0.honest → Unwritten d0 d1) where
-  -- the frames behind a front are a side, or break off
+  -- the frames after a front are a side, or break off
   pub whole_found : (result : Result Gates JournalError) → FindsLast result told.size base d1 d2 →
       FindsWhole result d0 d2
   whole_found (Ok gates) found = (
@@ -96,7 +96,7 @@ module _ (d0 d1 d2 : DiskState) (none : NoneFailed d0 d1) (told : ToldFront) (ba
   whole_found (Err SideFull) found = absurd found
   whole_found (Err Failed) found = absurd found
 
--- what is no side has no gates
+-- bytes that are no side have no gates
 pub none_ours : (old : List ℕ) → IsNotOurs old → (f : Front) (bodies : List (List ℕ)) → StandsFor f bodies old → ⊥
 none_ours old never f bodies there =
     never_ours old f bodies (there.1.0 ∷ there.1.1) (stands old f bodies there) never

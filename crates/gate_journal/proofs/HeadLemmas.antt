@@ -15,11 +15,11 @@ use Rattle.gate_journal.specs.Inner.Headings.{few_capacities}
 use Rattle.gate_journal.specs.Inner.Reading.{numbers_of}
 use Rattle.gate_journal.proofs.Numbers.{AreBytes, bytes_behind, bytes_in_front, eight_bytes, four_bytes, numbers_count, numbers_spelled}
 
--- the count of capacities is as long as their bytes say
+-- the count of capacities fits the length of their bytes
 pub counted : (bytes : List ℕ) (n : ℕ) → length bytes ≡ 17 + 8 * n → length (numbers_of (drop 17 bytes)) ≡ n
 counted bytes n sized = numbers_count n (drop 17 bytes) (omega (arith, sized, length-drop 17 bytes))
 
--- what the first byte tells
+-- what the first byte says
 told_plain : (copied : Option Copied) (n byte : ℕ) → byte ≡ count_byte copied n → byte < 128 →
     (is_copy copied ≡ false) × (byte ≡ n) × (copied_size copied ≡ 0)
 told_plain None n byte is few = (refl, is, refl)
@@ -30,7 +30,7 @@ told_copy : (copied : Option Copied) (n byte : ℕ) → n ≤ 4 → byte ≡ cou
 told_copy None n byte short is many = absurd (omega (arith, is, many, short))
 told_copy (Some copied) n byte short is many = (refl, omega (arith, is), refl)
 
--- twelve bytes are those of the epoch and the base that they tell
+-- twelve bytes spell the epoch and the base that are read from them
 twelve_bytes : (bytes : List ℕ) (copied : Copied) → 12 ≤ length bytes → AreBytes bytes →
     Some copied ≡ copied_in true bytes → take 12 bytes ≡ spell_copied (Some copied)
 twelve_bytes bytes copied long fits is =
@@ -67,7 +67,7 @@ module _ (bytes : List ℕ) where
   guess_is : (copy : Bool) (w : BeginsWithHead bytes) → is_copy w.0.copied ≡ copy → head_as Cartridge copy bytes ≡ w.0
   guess_is copy w kind = (let e = sym kind in λ i. head_as Cartridge (e i) (w.4 i)) ∙ head_is w.0 w.1 w.2 w.3
 
-  -- what is read of the front
+  -- what is read from the front
   front_is : (copy : Bool) (n : ℕ) → n ≡ count_in copy byte →
       heading_in (take (17 + 8 * n) bytes) ≡ (head_as Cartridge copy bytes).heading
   front_is copy n is =

@@ -27,7 +27,7 @@ module _ (seen : List ℕ) (at : ℕ) (inside : at < length seen) where
   pub one_byte : drop at seen ≡ get_or seen at 0 ∷ drop (at + 1) seen
   one_byte = drop_more seen at 0 inside
 
-  -- a frame there needs its bytes, and a further one
+  -- a frame there needs its own bytes and a further one
   pub needs : (w : BeginsWithFrame (drop at seen)) → 5 + length w.0 < length seen - at
   needs w = omega (arith, length-drop at seen, ap length w.4, length-append (frame w.0) (w.1 ∷ w.2), length-frame w.0)
 

@@ -1,4 +1,4 @@
--- Where one body lies, and parts of it.
+-- The extent of one body, and parts of it.
 use Rattle.std.proofs.Common.{◌≡◌, ℕ, zero, suc, ◌+◌, ◌-◌, ◌<◌, ◌≤◌, List, [], ◌∷◌, ◌++◌, length, get_or, take, drop, sym, ◌∙◌, ap, subst, arith, length-append, Bool, true}
 use Rattle.std.specs.Prelude.{slice_range}
 use Rattle.std.specs.List.{All, flat_map}

@@ -45,7 +45,7 @@ module _ (body : List ℕ) (from count : ℕ) (inside : from + count ≤ length 
       let part : from + count - from ≡ count = omega arith in
       (λ i. is i ++ (there ∙ ap (λ (n : ℕ). take n (drop from body)) part) i) ∙ take_parts from count body
 
--- what is known of the bytes so far is known over a disk that is as honest, and holds the same body
+-- facts about the bytes so far hold on over a later disk that is as honest and holds the same body
 pub so_far_moves : (so_far : SoFar) (size : ℕ) (honest later : Type 0) (body other : List ℕ) → (later → honest)
     → (later → other ≡ body) → IsSoFar so_far size honest body → IsSoFar so_far size later other
 so_far_moves so_far size honest later body other was same so = record {
@@ -59,7 +59,7 @@ so_far_moves so_far size honest later body other was same so = record {
 module _ {T : Type 0} (has_read : T → Heading → List (ℕ × ℕ) → List (List ℕ) → Type 0)
     (refuses : T → List ℕ → Type 0) (is_within : T → T → ℕ → List ℕ → Type 0) (start old new : T) (extent : ℕ × ℕ)
     (honest : Type 0) (body : List ℕ) (sized : honest → length body ≡ extent.1) where
-  -- it is bad, whatever follows
+  -- the body is bad, whatever follows
   pub bad_taken : (good : Bool) (before after : SoFar) → good ≡ false
       → is_within start old extent.0 before.bytes.bytes
       → TakesNext has_read refuses is_within good old new before after extent honest body
@@ -121,7 +121,7 @@ module _ {T : Type 0} (has_read : T → Heading → List (ℕ × ℕ) → List (
             (λ i. (here_is i, sym bytes_are i)) (takes s there);
       }
 
--- what is taken of a body is taken where the disk is as honest, and holds the same body in the same extent
+-- the same on a later disk that is as honest and holds the same body in the same extent
 pub next_moves : {T : Type 0} (has_read : T → Heading → List (ℕ × ℕ) → List (List ℕ) → Type 0)
     (refuses : T → List ℕ → Type 0) (is_within : T → T → ℕ → List ℕ → Type 0) (good : Bool) (old new : T)
     (before after : SoFar) (extent other : ℕ × ℕ) (honest later : Type 0) (body same : List ℕ) → extent ≡ other

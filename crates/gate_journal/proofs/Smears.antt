@@ -1,14 +1,14 @@
--- What a write leaves of a row of bytes that is split at its place.
+-- What a write leaves of bytes that are split at its place.
 use Rattle.std.proofs.Common.{◌≡◌, ℕ, ◌+◌, ◌<◌, List, [], ◌∷◌, ◌++◌, length, get_or, take, drop, sym, ◌∙◌, ap, arith, append_assoc, length-append, take-append-drop}
 use Rattle.std.proofs.lemmas.List.{take_at, drop_at, drop_more}
 use Rattle.tape_disk.specs.Disk.{Smeared, overwritten}
 
--- the bytes before a place, the one there, and those behind it
+-- the bytes before a place, the byte there, and those after it
 pub split_at : (xs : List ℕ) (at : ℕ) → at < length xs → xs ≡ take at xs ++ get_or xs at 0 ∷ drop (at + 1) xs
 split_at xs at inside = sym (take-append-drop at xs) ∙ ap (λ (l : List ℕ). take at xs ++ l) (drop_more xs at 0 inside)
 
 module _ (front rest : List ℕ) (at : ℕ) (here : length front ≡ at) where
-  -- what stands before the place stays, whatever became of the write
+  -- the bytes before the place stay, however the write ended
   pub keeps_front : (n : ℕ) (new : List ℕ) → Smeared at n (front ++ rest) new → new ≡ front ++ drop at new
   keeps_front n new torn =
       let begins : new ≡ front ++ torn.before.0
@@ -17,7 +17,7 @@ module _ (front rest : List ℕ) (at : ℕ) (here : length front ≡ at) where
       = ap (λ (l : List ℕ). drop at l) begins ∙ drop_at front torn.before.0 at here in
       begins ∙ ap (λ (l : List ℕ). front ++ l) (sym behind)
 
-  -- what a write that answered Ok leaves
+  -- what a write with result Ok leaves
   pub written : (bytes new : List ℕ) → new ≡ overwritten at bytes (front ++ rest) →
       new ≡ front ++ bytes ++ drop (at + length bytes) (front ++ rest)
   written bytes new holds = holds
@@ -40,7 +40,7 @@ module _ (front : List ℕ) (byte : ℕ) (tail : List ℕ) (at : ℕ) (here : le
       = drop_more new at 0 long ∙ ap (λ (l : List ℕ). other ∷ l) after in
       (other, more, keeps_front front (byte ∷ tail) at here 1 new torn ∙ ap (λ (l : List ℕ). front ++ l) rest)
 
-  -- one byte is another, and all others stay
+  -- one byte changes, and all others stay
   pub written_byte : (other : ℕ) (new : List ℕ) → new ≡ overwritten at (other ∷ []) (front ++ byte ∷ tail) →
       new ≡ front ++ other ∷ tail
   written_byte other new holds =

@@ -18,7 +18,7 @@ use Rattle.gate_journal.specs.Inner.Heads.{count_in, is_copy}
 use Rattle.gate_journal.specs.Inner.HeadsRead.{count_again}
 use Rattle.gate_journal.specs.Inner.Reading.{BeginsWithFront, TellsFront, copied_size, heading_told, kind_by_letter, numbers_of, size_behind}
 
--- the letter tells the kind
+-- the letter of the mark decides the kind
 letter_tells : (kind : SideKind) → kind_by_letter (get_or (mark kind) 3 0) ≡ kind
 letter_tells Cartridge = refl
 letter_tells Store = refl
@@ -34,7 +34,7 @@ letter_in Cartridge pair rest = refl
 letter_in Store pair rest = refl
 
 module _ (bytes : List ℕ) where
-  -- fewer bytes than each front has
+  -- bytes shorter than any front
   pub none_short : length bytes < 27 → BeginsWithFront bytes → ⊥
   none_short few w = absurd (omega (
     arith,
@@ -47,7 +47,7 @@ module _ (bytes : List ℕ) where
   kind_told : (w : BeginsWithFront bytes) → kind_by_letter (get_or bytes 4 0) ≡ w.0.head.heading.kind
   kind_told w = ap kind_by_letter (letter_is w.0 w.1 bytes w.3) ∙ letter_tells w.0.head.heading.kind
 
-  -- what stands in a front
+  -- the parts of a front
   reads : (w : BeginsWithFront bytes) → front_as w.0.head.heading.kind (is_copy w.0.head.copied) bytes ≡ w.0
   reads w =
       ap (λ (l : List ℕ). front_as w.0.head.heading.kind (is_copy w.0.head.copied) l) w.3 ∙ front_is w.0 w.1 w.2
@@ -84,7 +84,7 @@ module _ (bytes : List ℕ) where
       ap (λ (l : List ℕ). take 10 l) w.3 ∙ start_of f.head.heading.kind f.pair head w.1
       ∙ (λ i. start OPEN (sym same i) (sym pair i))
 
-  -- bytes that begin with the ten of a side
+  -- bytes that begin with the ten bytes of a side
   module _ (kind : SideKind) (begins : take 10 bytes ≡ start OPEN kind (get_or bytes 9 0)) where
     whole : bytes ≡ start OPEN kind (get_or bytes 9 0) ++ drop 10 bytes
     whole = sym (take-append-drop 10 bytes) ∙ ap (λ (l : List ℕ). l ++ drop 10 bytes) begins
@@ -99,7 +99,7 @@ module _ (bytes : List ℕ) where
     behind w = ap (λ (l : List ℕ). drop 10 l) w.3
         ∙ behind_start w.0.head.heading.kind w.0.pair (spell_side_head w.0.head) w.1
 
-  -- a cartridge's front, by what is told of its head
+  -- a cartridge's front, given what was read from its head
   module _ (begins : take 10 bytes ≡ start OPEN Cartridge (get_or bytes 9 0)) where
     pub front_told : (head : ToldHead) → TellsHead (drop 10 bytes) (Some head) →
         TellsFront bytes (Some (record {
@@ -182,7 +182,7 @@ module _ (bytes : List ℕ) where
           record { kind = refl; pair = shut; copied = refl; size = omega (arith, length_front f well) },
         )
 
--- the heading in bytes is the one that is told
+-- the heading in the bytes is that of the front
 pub heading_is_told : (bytes : List ℕ) (told : ToldFront) (w : TellsFront bytes (Some told)) →
     heading_told told bytes ≡ w.0.head.heading
 heading_is_told bytes told (f, rest, ok, is, same) =
@@ -196,7 +196,7 @@ heading_is_told bytes told (f, rest, ok, is, same) =
       capacities = capacities_told bytes w (told.size - copied_size told.copied) end i;
     }
 
--- a front in memory is the one that is told
+-- a front in memory is the one that was read
 module _ (bytes : List ℕ) (told : ToldFront) (read : ReadFront) (w : TellsFront bytes (Some told))
     (heading : heading_of read.header ≡ heading_told told bytes) (copied : read.copied ≡ told.copied)
     (pair : read.pair ≡ told.pair) where
@@ -239,7 +239,7 @@ module _ (image bytes rest : List ℕ) (sized : length bytes ≡ 27 + size_behin
             ∙ front_there f more image ok ours ∙ sym (append-nil (spell_front f)),
       )
 
--- the front of a buffer has as many bytes as its byte for the count says
+-- the front of a buffer is as long as the byte of its count says
 pub front_sized : (buffer : List ℕ) (len : ℕ) → len ≡ 27 + size_behind (get_or buffer 10 0) → len ≤ length buffer →
     length (take len buffer) ≡ 27 + size_behind (get_or (take len buffer) 10 0)
 front_sized buffer len told fits =

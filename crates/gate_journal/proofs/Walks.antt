@@ -1,4 +1,4 @@
--- A side is walked through frame by frame, and nothing is written.
+-- A side is read frame by frame, and nothing is written.
 use Rattle.std.proofs.Common.{◌≡◌, ◌≢◌, ◌⊎◌, inl, inr, ⊎_elim, ℕ, ◌+◌, ◌-◌, ◌*◌, ◌<◌, ◌≤◌, List, [], ◌∷◌, ◌++◌, length, get_or, take, drop, refl, sym, ◌∙◌, ap, subst, arith, append_assoc, length-append, take-append-drop, false}
 use Rattle.std.specs.Prelude.{slice_range}
 use Rattle.std.specs.List.{flat_map}
@@ -30,7 +30,7 @@ module _ (d0 d1 d2 : DiskState) where
         (weakened d1 d2 d1.may_leave d0.may_leave second.moments first.images);
   }
 
-  -- a fault of a later call is one since the start
+  -- a fault of a later call is a fault since the start
   pub fault_since : (fault : DevFault) → NoneFailed d0 d1 → IsFault fault d1 d2 → IsFault fault d0 d2
   fault_since fault none is = record { cause = omega (arith, none, is.cause); told = is.told }
 
@@ -66,7 +66,7 @@ one_call d0 d1 disk same time = record {
 }
 
 module _ (seen : List ℕ) (start : ℕ) where
-  -- nothing was walked yet, and nothing is there
+  -- nothing was read yet, and no byte is there
   pub nothing_there : (base : ℕ) → length seen ≤ start → BreaksOff seen start base start
   nothing_there base short = (
     [],
@@ -110,7 +110,7 @@ module _ (seen : List ℕ) (start : ℕ) where
     pub as_many : length extents ≡ length bodies
     as_many = ap length walked.extents_are ∙ extents_count start bodies
 
-    -- a gate is closed before there are as many frames as the base
+    -- a gate is closed before as many frames as the base
     pub too_few : (base : ℕ) → length extents < base →
         (gate : ℕ) × (rest : List ℕ) × (gate ≢ OPEN) × (drop at seen ≡ gate ∷ rest) → BreaksOff seen start base at
     too_few base few closed = (bodies, extents, walked, inr (omega (arith, few, as_many), closed))
@@ -181,7 +181,7 @@ module _ (d0 d1 d2 d3 : DiskState) (sure : Only d0.seen d1.may_leave) (disk1 : I
   pub only_3 : Only d0.seen d3.may_leave
   only_3 image left = sure image (first.images image (second.images image left))
 
--- an open gate without a whole frame stands where the walk has come
+-- an open gate without a whole frame stands at the place that was reached
 pub broken_there : (seen seen1 : List ℕ) → seen1 ≡ seen →
     (start base : ℕ) (bodies : List (List ℕ)) (extents : List (ℕ × ℕ)) (at place : ℕ) →
     Walked seen start bodies extents at → place ≡ at
@@ -195,7 +195,7 @@ broken_there seen seen1 same start base bodies extents at place walked here brok
       (subst (λ (l : List ℕ). IsBroken bodies (drop at l)) same (inr broken))),
 )
 
--- two reads in a row have the front of what is there
+-- two reads, one after another, return the first bytes of the disk
 front_two : (image start capacities : List ℕ) (n : ℕ) → start ≡ slice_range image 0 27 →
     capacities ≡ slice_range image 27 (27 + n) → start ++ capacities ≡ take (27 + n) image
 front_two image start capacities n first second =
@@ -204,7 +204,7 @@ front_two image start capacities n first second =
     ∙ (λ i. sym (take-take 27 (27 + n) image (omega arith)) i ++ sym (drop-take 27 n image) i)
     ∙ take-append-drop 27 (take (27 + n) image)
 
--- an image that is too short for its count begins with no front, nor does one whose count takes too many bytes
+-- no front begins an image that is too short for its count, or whose count takes too many bytes
 pub too_short : (image : List ℕ) (count : ℕ) → count ≡ get_or image 10 0 →
     (length image - 27 < size_behind count) ⊎ (44 < size_behind count) → IsNotOurs image
 too_short image count told short f rest ok is =
@@ -216,7 +216,7 @@ too_short image count told short f rest ok is =
     (λ (more : 44 < size_behind count). omega (arith, same, more, sized_by f rest image ok begins, short_front f ok))
     short
 
--- two reads in a row filled the front of a buffer: with what the image begins
+-- two reads filled a buffer with the first bytes of the image
 module _ (image first second : List ℕ) (count : ℕ) (first_is : first ≡ slice_range image 0 27)
     (second_is : second ≡ slice_range image 27 (27 + count)) where
   pub begins_with : (front : List ℕ) → front ≡ first ++ second → (rest : List ℕ) × (image ≡ front ++ rest)

@@ -1,4 +1,4 @@
--- What a crash leaves while bytes are put behind a gate and the gate is opened.
+-- What a crash leaves while bytes are written after a gate and the gate is opened.
 use Rattle.std.proofs.Common.{◌≡◌, inl, inr, ℕ, ◌+◌, ◌<◌, List, [], ◌∷◌, ◌++◌, length, get_or, take, drop, sym, ◌∙◌, ap, subst, arith, append_assoc, length-append, take-append-drop, Result}
 use Rattle.std.proofs.lemmas.List.{append-nil, length-take-le}
 use Rattle.tape_disk.specs.Disk.{DiskState, IsDisk, Elapses, Smeared, Only, Writes, Syncs, overwritten}

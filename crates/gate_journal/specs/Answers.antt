@@ -1,4 +1,4 @@
--- What holds after each answer of a call.
+-- What holds after each result of a call.
 use Rattle.std.specs.Prelude.{◌≡◌, ◌<◌, ◌≤◌, ◌^◌, ◌+◌, ◌-◌, List, [], ◌∷◌, ◌++◌, ℕ, length, true, false, min, Result, Ok, Err}
 use Rattle.vtl_base.specs.declared.faults.DevFault.{DevFault}
 use Rattle.tape_disk.specs.Disk.{DiskState, Only}
@@ -13,12 +13,12 @@ use Rattle.gate_journal.specs.Side.{IsNotOurs, IsNotOf, IsDamagedAt, IsDamagedOf
 abbrev pub NoneFailed : DiskState → DiskState → Type 0
 NoneFailed old new = new.failures ≡ old.failures
 
--- a call of the disk failed since the old moment, and the fault says how many have so far (own)
+-- a call of the disk failed since the old moment, and the fault has the count of failures so far (own)
 pub record IsFault (fault : DevFault) (old new : DiskState) : Type 0 where
   pub cause : old.failures < new.failures
   pub told : fault.failures ≡ min new.failures (2 ^ 64 - 1)
 
--- A fact for each answer of a call on an open side: done, out of memory, a full side, a fault, a fault in an earlier
+-- A fact for each result of a call on an open side: Ok, out of memory, a full side, a fault, or a fault in an earlier
 -- call (own).
 abbrev pub MatchWrite : Result Unit JournalError → Type 0 → Type 0 → Type 0 → (DevFault → Type 0) → Type 0 → Type 0
 MatchWrite (Ok done) ok memory full device failed = ok
@@ -29,7 +29,7 @@ MatchWrite (Err Failed) ok memory full device failed = failed
 MatchWrite (Err NotOurs) ok memory full device failed = ⊥
 MatchWrite (Err (Damaged at)) ok memory full device failed = ⊥
 
--- an append of that many bytes was done (own)
+-- an append of `count` bytes was done (own)
 pub record Appended {D : Type 0} (old new : OpenSide D) (count : ℕ) : Type 0 where
   pub was_fine : old.failed ≡ false
   pub fitted : count + 5 ≤ room_behind old.end
@@ -39,7 +39,7 @@ pub record Appended {D : Type 0} (old new : OpenSide D) (count : ℕ) : Type 0 w
   pub reserved : old.reserved ≤ new.reserved + 1
   pub reserved_extents : old.reserved_extents ≤ new.reserved_extents + 1
 
--- the disk failed in an append of that many bytes (own)
+-- the disk failed in an append of `count` bytes (own)
 pub record Broke {D : Type 0} (old new : OpenSide D) (count : ℕ) : Type 0 where
   pub was_fine : old.failed ≡ false
   pub fitted : count + 5 ≤ room_behind old.end
@@ -49,13 +49,13 @@ pub record Broke {D : Type 0} (old new : OpenSide D) (count : ℕ) : Type 0 wher
   pub reserved : old.reserved ≤ new.reserved
   pub reserved_extents : old.reserved_extents ≤ new.reserved_extents
 
--- the disk that a call returns, in an open side or beside its refusal (own)
+-- the disk that a call returns, in an open side or in its error (own)
 abbrev pub disk_after : {D : Type 0} → Result (OpenSide D) (Refused D) → D
 disk_after (Ok side) = side.disk
 disk_after (Err refused) = refused.disk
 
--- Why a side is not opened, by which bytes are not ours and which are damaged: these; a fault; or memory ran out,
--- where there are the 27 bytes of a heading. But for a fault no call failed, and what stands is sure (own).
+-- Why a side is not opened, given which bytes are not ours and which are damaged: one of these; a fault; or memory ran
+-- out, over at least the 27 bytes of a heading. Except for a fault, no call failed and the disk's bytes are sure (own).
 abbrev pub NotOpenedBy : (List ℕ → Type 0) → (List ℕ → ℕ → Type 0) → JournalError → DiskState → DiskState → Type 0
 NotOpenedBy not_ours damaged NotOurs old new =
     NoneFailed old new × (old.honest → not_ours old.seen × Only old.seen new.may_leave)
@@ -71,11 +71,11 @@ NotOpenedBy not_ours damaged Failed old new = ⊥
 abbrev pub NotOpened : JournalError → DiskState → DiskState → Type 0
 NotOpened = NotOpenedBy IsNotOurs IsDamagedAt
 
--- why a side of this kind is not opened (own)
+-- why a side is not opened as one of this kind (own)
 abbrev pub NotOpenedAs : SideKind → JournalError → DiskState → DiskState → Type 0
 NotOpenedAs kind = NotOpenedBy (IsNotOf kind) (IsDamagedOf kind)
 
--- why a side is not made: memory ran out, and the disk was not touched; or a fault (own)
+-- why a side is not made: memory ran out and the disk was not touched, or a fault (own)
 abbrev pub NotMade : JournalError → Type 0 → (DevFault → Type 0) → Type 0
 NotMade NoMemory memory device = memory
 NotMade (Device fault) memory device = device fault

@@ -9,30 +9,29 @@ use Rattle.gate_journal.specs.Side.{Front, Heading, IsDamagedOf, IsNotOf, Stands
 use Rattle.gate_journal.specs.State.{OpenSide}
 use Rattle.gate_journal.specs.Answers.{IsFault, NoneFailed}
 
--- the disk that an opening returns, in an open side or beside its refusal (own)
+-- the disk that an opening returns, in an open side or in its error (own)
 abbrev pub disk_decoded : {D T : Type 0} → Result (OpenSide D × T) (NotDecoded D) → D
 disk_decoded (Ok opened) = opened.0.disk
 disk_decoded (Err refused) = refused.disk
 
--- by what a decoder has read, and what it refuses
+-- for a decoder: what it has read, and what it refuses
 module _ {T : Type 0} (has_read : T → Heading → List (ℕ × ℕ) → List (List ℕ) → Type 0)
     (refuses : T → List ℕ → Type 0) where
-  -- what a decoder makes of the next body, which lies at that place: it has read it behind the others, or it is bad
-  -- (own)
+  -- the result of giving a decoder the next body, at that place: it has read it after the others, or refuses it (own)
   abbrev pub TakesBody : Bool → T → T → Heading → List (ℕ × ℕ) → List (List ℕ) → ℕ → List ℕ → Type 0
   TakesBody true old new heading extents bodies at body =
       has_read new heading (extents ++ (at, length body) ∷ []) (bodies ++ body ∷ [])
   TakesBody false old new heading extents bodies at body = refuses old body
 
-  -- What a decoder makes of a body at that place, of which these bytes came since the first decoder had read others: it
-  -- has them, or the body is bad, whatever follows (own).
+  -- The result of giving a decoder a piece of a body at that place, whose bytes so far are these: it has them, or the
+  -- body is bad, whatever follows (own).
   abbrev pub TakesPiece : (T → T → ℕ → List ℕ → Type 0) → Bool → T → T → ℕ → List ℕ → Type 0
   TakesPiece is_within true start new at bytes = is_within start new at bytes
   TakesPiece is_within false start new at bytes =
       (heading : Heading) (extents : List (ℕ × ℕ)) (bodies : List (List ℕ)) → has_read start heading extents bodies
       → (more : List ℕ) → refuses start (bytes ++ more)
 
-  -- a decoder has read the first so many bodies and refuses the next, whose frame has its gate at that place (own)
+  -- a decoder has read the first `good` bodies and refuses the next, whose frame has its gate at that place (own)
   pub record IsRefused (decoder : T) (good : ℕ) (extents : List (ℕ × ℕ)) (front : Front)
       (bodies : List (List ℕ)) (at : ℕ) : Type 0 where
     pub inside : good < length bodies
@@ -40,19 +39,19 @@ module _ {T : Type 0} (has_read : T → Heading → List (ℕ × ℕ) → List (
     pub bad : refuses decoder (slice_index_or bodies good [])
     pub gate : at ≡ length (spell front (take good bodies))
 
-  -- some decoder refuses the first body that is bad, and the gate of its frame has that place (own)
+  -- some decoder refuses the first bad body, whose frame has its gate at that place (own)
   abbrev pub HasBadBody : Front → List (List ℕ) → ℕ → Type 0
   HasBadBody front bodies at =
       (decoder : T) × (good : ℕ) × (extents : List (ℕ × ℕ)) × IsRefused decoder good extents front bodies at
 
-  -- the image stands for a side of this kind whose first bad body has its frame's gate at that place (own)
+  -- the image stands for a side of this kind, and the frame of its first bad body has its gate at that place (own)
   abbrev pub HasBadBodyAt : SideKind → List ℕ → ℕ → Type 0
   HasBadBodyAt kind image at =
       (front : Front) × (bodies : List (List ℕ)) × (front.head.heading.kind ≡ kind) × StandsFor front bodies image
       × HasBadBody front bodies at
 
-  -- Why a side of this kind is not opened and decoded: what the old bytes are; a fault; or memory ran out, where there
-  -- are the 27 bytes of a heading. But for a fault no call failed, and what stands is sure (own).
+  -- Why a side of this kind is not opened and decoded: what the old bytes are; a fault; or memory ran out, over at
+  -- least the 27 bytes of a heading. Except for a fault, no call failed and the disk's bytes are sure (own).
   abbrev pub IsNotDecoded : SideKind → OpenError → DiskState → DiskState → Type 0
   IsNotDecoded kind NotOurs old new =
       NoneFailed old new × (old.honest → IsNotOf kind old.seen × Only old.seen new.may_leave)
@@ -64,15 +63,15 @@ module _ {T : Type 0} (has_read : T → Heading → List (ℕ × ℕ) → List (
   IsNotDecoded kind NoMemory old new =
       NoneFailed old new × (old.honest → (27 ≤ length old.seen) × Only old.seen new.may_leave)
 
--- by what a decoder has read
+-- for a decoder: what it has read
 module _ {T : Type 0} (has_read : T → Heading → List (ℕ × ℕ) → List (List ℕ) → Type 0) where
-  -- A decoder has read bodies that lie in these extents of a side with this heading: these bodies, where the disk is
-  -- honest (own).
+  -- A decoder has read bodies that lie in these extents of a side with this heading. They are these bodies where the
+  -- disk is honest (own).
   abbrev pub HasDecoded : T → Heading → List (ℕ × ℕ) → List (List ℕ) → Type 0 → Type 0
   HasDecoded decoder heading extents bodies honest =
       (read : List (List ℕ)) × has_read decoder heading extents read × (honest → read ≡ bodies)
 
--- a body is under way at that place, and so many bytes more of it end before the last place there is (own)
+-- a body at that place is being read, and `count` more bytes of it end before place 2^64 (own)
 abbrev pub IsUnderWay : {T : Type 0} → (T → T → ℕ → List ℕ → Type 0) → T → ℕ → ℕ → Type 0
 IsUnderWay {T} is_within decoder at count =
     (start : T) × (so_far : List ℕ) × is_within start decoder at so_far × (at + (length so_far + count) < 2 ^ 64)

@@ -1,4 +1,4 @@
--- What a side says of itself that is no copy, and the ten bytes that stand before it.
+-- The heading of a side, and the ten bytes before it.
 use Rattle.std.specs.Prelude.{◌≡◌, ◌≤◌, ℕ, ◌+◌, ◌-◌, List, [], ◌∷◌, ◌++◌, length, replicate, codes, if◌then◌else◌, nat_lt, IsTrue}
 use Rattle.std.specs.List.{All}
 use Rattle.vtl_base.specs.Barcode.{IsBarcode}
@@ -9,16 +9,16 @@ use Rattle.gate_journal.specs.declared.header.SideKind.{SideKind}
 use Rattle.gate_journal.specs.declared.header.SideKind.TheVariants.{Cartridge, Store}
 use Rattle.gate_journal.specs.declared.header.TheConstants.{NAME_BYTES}
 
--- an open gate; every other byte is a closed one (own)
+-- the byte of an open gate; any other byte is a closed gate (own)
 abbrev pub OPEN : ℕ
 OPEN = 165
 
--- a closed gate, as it is written (own)
+-- the byte that is written for a closed gate (own)
 abbrev pub CLOSED : ℕ
 CLOSED = 0
 
--- What a side says of itself: its kind, its name, and of a cartridge the capacity of each partition. It is what a
--- contract sees of a `Header`, with no word of how that is kept in memory (own).
+-- The heading of a side: its kind, its name, and for a cartridge the capacity of each partition. Contracts see it in
+-- place of a `Header`, whose form in memory they do not show (own).
 pub record Heading : Type 0 where
   pub kind : SideKind
   pub name : List ℕ
@@ -28,7 +28,7 @@ pub record Heading : Type 0 where
 abbrev pub heading_of : Header → Heading
 heading_of header = record { kind = header.kind; name = header.name; capacities = header.capacities.items }
 
--- a text, and spaces behind it up to the length of a name (own)
+-- a text, filled up with spaces to the length of a name (own)
 abbrev pub padded : List ℕ → List ℕ
 padded text = text ++ replicate (NAME_BYTES - length text) 32
 
@@ -40,12 +40,12 @@ digits n = if nat_lt n 10 then (48 + n) ∷ [] else 49 ∷ (38 + n) ∷ []
 abbrev pub drive_name : ℕ → List ℕ
 drive_name n = padded (codes "DRIVE" ++ digits n)
 
--- the names that a side of this kind may have: a barcode, or that of a drive (own)
+-- the names that a side of this kind may have: a barcode, or the name of a drive (own)
 abbrev pub IsName : SideKind → List ℕ → Type 0
 IsName Cartridge name = (text : List ℕ) × IsBarcode text × (name ≡ padded text)
 IsName Store name = (n : ℕ) × (1 ≤ n) × (n ≤ DRIVES) × (name ≡ drive_name n)
 
--- how many capacities a side of this kind may have: one for each partition, or none (own)
+-- the counts of capacities that a side of this kind may have: one for each partition, or none (own)
 abbrev pub IsCount : SideKind → ℕ → Type 0
 IsCount Cartridge n = (1 ≤ n) × (n ≤ MAX_PARTITIONS)
 IsCount Store n = n ≡ 0

@@ -1,23 +1,23 @@
--- Calls of a disk that only read it.
+-- Runs of a disk in which it is only read.
 use Rattle.std.specs.Prelude.{◌≡◌, ℕ, zero, suc, Result}
 use Rattle.std.proofs.Common.{refl, subst, sym}
 use Rattle.vtl_base.specs.declared.faults.DevFault.{DevFault}
 use Rattle.tape_disk.specs.Disk.{DiskCall, ReadAt}
 
 module _ {D : Type 0} (effect : DiskCall → Result Unit DevFault → D → D → Type 0) where
-  -- that many reads in a row, each with the effect that the disk says of it (own)
+  -- a number of reads, one after another, each with the effect that the disk states (own)
   abbrev pub ReadsInRow : ℕ → D → D → Type 0
   ReadsInRow zero old new = new ≡ old
   ReadsInRow (suc calls) old new =
       (mid : D) × (at : ℕ) × (count : ℕ) × (result : Result Unit DevFault) × ReadsInRow calls old mid
       × effect (ReadAt at count) result mid new
 
-  -- from old to new nothing was called but reads (own)
+  -- from old to new only reads were called (own)
   pub record OnlyReads (old new : D) : Type 0 where
     pub calls : ℕ
     pub reads : ReadsInRow calls old new
 
-  -- nothing was called
+  -- no call at all
   pub reads_none : (disk : D) → OnlyReads disk disk
   reads_none disk = record { calls = zero; reads = refl }
 
@@ -27,7 +27,7 @@ module _ {D : Type 0} (effect : DiskCall → Result Unit DevFault → D → D �
   reads_one at count result old new did =
       record { calls = suc zero; reads = (old, at, count, result, refl, did) }
 
-  -- reads behind reads
+  -- reads after reads
   pub reads_then : (old mid new : D) → OnlyReads old mid → OnlyReads mid new → OnlyReads old new
   reads_then old mid new first second = by second.calls new second.reads
     where

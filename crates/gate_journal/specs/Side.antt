@@ -11,7 +11,7 @@ pub use Rattle.gate_journal.specs.Headings.{OPEN, CLOSED, Heading, IsCount, IsHe
 pub use Rattle.gate_journal.specs.Headings.{heading_of, mark, padded, start}
 pub use Rattle.gate_journal.specs.Heads.{Head, IsHead, base_of, spell_side_head}
 
--- What stands before a side's frames: its head, and the byte of its pair gate (own).
+-- What stands before the frames of a side: its head, and the byte of its pair gate (own).
 pub record Front : Type 0 where
   pub head : Head
   pub pair : ℕ
@@ -20,15 +20,15 @@ pub record Front : Type 0 where
 abbrev pub plain : Heading → Front
 plain heading = record { head = record { heading = heading; copied = None }; pair = CLOSED }
 
--- the front of a header in memory, of what is said of a copy, and of the pair gate's byte (own)
+-- the front of a header in memory, with the epoch and base of a copy and the byte of the pair gate (own)
 abbrev pub front_of : Header → Option Copied → ℕ → Front
 front_of header copied pair = record { head = record { heading = heading_of header; copied = copied }; pair = pair }
 
--- a front in bytes: the ten bytes with an open side gate, and the head (own)
+-- the bytes of a front: the ten bytes with an open side gate, and the head (own)
 abbrev pub spell_front : Front → List ℕ
 spell_front front = start OPEN front.head.heading.kind front.pair ++ spell_side_head front.head
 
--- what the pair gate may be: of a cartridge every byte, and of a store a closed gate as it is written (own)
+-- the pair gate that a side of this kind may have: any byte for a cartridge, the written closed gate for a store (own)
 abbrev pub IsPairGate : SideKind → ℕ → Type 0
 IsPairGate Cartridge pair = Unit {0}
 IsPairGate Store pair = pair ≡ CLOSED
@@ -38,31 +38,31 @@ pub record IsFront (front : Front) : Type 0 where
   pub head : IsHead front.head
   pub pair : IsPairGate front.head.heading.kind front.pair
 
--- what a frame may hold (own)
+-- what a frame may hold: 1 to 8,388,608 bytes (own)
 abbrev pub IsBody : List ℕ → Type 0
 IsBody body = (1 ≤ length body) × (length body ≤ MAX_BODY)
 
--- a body in bytes: the open gate before it, its length, itself (own)
+-- the bytes of a frame: its open gate, the length of its body, the body (own)
 abbrev pub frame : List ℕ → List ℕ
 frame body = OPEN ∷ to_be_bytes w32 (length body) ++ body
 
--- a side in bytes: its front, and one frame after the other (own)
+-- the bytes of a side: its front, and its frames one after another (own)
 abbrev pub spell : Front → List (List ℕ) → List ℕ
 spell front bodies = spell_front front ++ flat_map frame bodies
 
--- A front and bodies that can be spelled; of a copy there are no fewer bodies than its base (own).
+-- A front and bodies that can be spelled; a copy has at least as many bodies as its base (own).
 pub record IsSide (front : Front) (bodies : List (List ℕ)) : Type 0 where
   pub begins : IsFront front
   pub holds : All IsBody bodies
   pub base : base_of front.head ≤ length bodies
 
--- the image begins with the spelling, and a closed gate follows (own)
+-- the image begins with the spelling, followed by a closed gate (own)
 abbrev pub StandsFor : Front → List (List ℕ) → List ℕ → Type 0
 StandsFor front bodies image =
     IsSide front bodies
     × ((gate : ℕ) × (rest : List ℕ) × (gate ≢ OPEN) × (image ≡ spell front bodies ++ gate ∷ rest))
 
--- the image begins with no front's spelling (own)
+-- the image does not begin with the spelling of a front (own)
 abbrev pub IsNotOurs : List ℕ → Type 0
 IsNotOurs image = (front : Front) (rest : List ℕ) → IsFront front → image ≡ spell front [] ++ rest → ⊥
 
@@ -72,31 +72,31 @@ BeginsAs kind image =
     (front : Front) × (rest : List ℕ) × IsFront front × (front.head.heading.kind ≡ kind)
     × (image ≡ spell front [] ++ rest)
 
--- the image is no side of this kind: it begins with no front's spelling, or with that of another kind (own)
+-- the image is no side of this kind: it begins with no front, or with the front of another kind (own)
 abbrev pub IsNotOf : SideKind → List ℕ → Type 0
 IsNotOf kind image = IsNotOurs image ⊎ ((other : SideKind) × (other ≢ kind) × BeginsAs other image)
 
--- a whole frame, and a further byte (own)
+-- the bytes begin with a whole frame and a further byte (own)
 abbrev pub BeginsWithFrame : List ℕ → Type 0
 BeginsWithFrame bytes =
     (body : List ℕ) × (further : ℕ) × (more : List ℕ) × IsBody body × (bytes ≡ frame body ++ further ∷ more)
 
--- what lies behind the last whole frame of a damaged side: nothing at all, where there is no frame, or an open gate
--- without a whole frame and a further byte (own)
+-- What follows the last whole frame of a damaged side: no byte at all, where it has no frame; or an open gate without a
+-- whole frame and a further byte (own).
 abbrev pub IsBroken : List (List ℕ) → List ℕ → Type 0
 IsBroken bodies rest =
     ((bodies ≡ []) × (rest ≡ [])) ⊎ (((tail : List ℕ) × (rest ≡ OPEN ∷ tail)) × (BeginsWithFrame rest → ⊥))
 
--- fewer frames than that stand before a closed gate (own)
+-- there are fewer frames than `base`, and a closed gate follows (own)
 abbrev pub AreTooFew : ℕ → List (List ℕ) → List ℕ → Type 0
 AreTooFew base bodies behind =
     (length bodies < base) × ((gate : ℕ) × (more : List ℕ) × (gate ≢ OPEN) × (behind ≡ gate ∷ more))
 
--- fewer frames than the base stand before a closed gate (own)
+-- there are fewer frames than the base of the head, and a closed gate follows (own)
 abbrev pub LacksFrames : Head → List (List ℕ) → List ℕ → Type 0
 LacksFrames head = AreTooFew (base_of head)
 
--- The image begins with a spelling of that length, and what follows is broken, or is a closed gate that comes too early
+-- The image begins with a spelling of length `at`. What follows is broken, or is a closed gate that comes too early
 -- (own).
 abbrev pub IsDamagedAt : List ℕ → ℕ → Type 0
 IsDamagedAt image at =

@@ -1,19 +1,19 @@
--- The side that an image stands for, as a function: what a law decides of each image.
+-- The side that an image stands for, as a function.
 use Rattle.std.specs.Prelude.{◌≡◌, ℕ, List, ◌∷◌, Option, None, Some}
 use Rattle.std.proofs.Common.{inl, inr, ap, subst}
 use Rattle.gate_journal.specs.Side.{Front, StandsFor, IsDecided}
 use Rattle.gate_journal.specs.Inner.Sides.{decided, one_side, sound, never_ours, stands}
 
--- the front and the bodies, where the decision is that the image stands for a side (own)
+-- the front and the bodies, where the image was decided to stand for a side (own)
 abbrev pub side_decided : {image : List ℕ} → IsDecided image → Option (Front × List (List ℕ))
 side_decided (inl side) = Some (side.0, side.1)
 side_decided (inr other) = None
 
--- the front and the bodies that an image stands for, if it stands for some (own)
+-- the front and the bodies that an image stands for, if any (own)
 abbrev pub side_on : List ℕ → Option (Front × List (List ℕ))
 side_on image = side_decided (decided image)
 
--- what an image stands for is the side on it (own)
+-- where an image stands for a side, the function gives that side (own)
 pub side_on_is : (image : List ℕ) (front : Front) (bodies : List (List ℕ)) →
     StandsFor front bodies image → side_on image ≡ Some (front, bodies)
 side_on_is image front bodies is = by (decided image)
@@ -24,7 +24,7 @@ side_on_is image front bodies is = by (decided image)
         absurd (never_ours image front bodies (is.1.0 ∷ is.1.1) (stands image front bodies is) never)
     by (inr (inr broken)) = absurd (sound image front bodies broken.0 is broken.1)
 
--- an image stands for the side on it (own)
+-- where the function gives a side, the image stands for it (own)
 pub side_on_stands : (image : List ℕ) (front : Front) (bodies : List (List ℕ)) →
     side_on image ≡ Some (front, bodies) → StandsFor front bodies image
 side_on_stands image front bodies = by (decided image)

@@ -8,17 +8,17 @@ use Rattle.gate_journal.specs.declared.header.SideKind.TheVariants.{Cartridge, S
 use Rattle.gate_journal.specs.declared.heads.Copied.{Copied}
 use Rattle.gate_journal.specs.Side.{Front, Heading, IsSide, StandsFor, spell, spell_front}
 
--- an open side: its disk, what stands on it, and how far appends may go (own)
+-- an open side: its disk, its front and frames, and how many appends can follow without memory (own)
 pub record OpenSide (D : Type 0) : Type 0 where
   pub disk : D
   pub front : Front
-  -- the bodies of its frames, in order; over a dishonest disk these are nobody's promise
+  -- the bodies of its frames, in order; nothing is promised of them over a dishonest disk
   pub bodies : List (List ℕ)
   -- where each body lies: its place and its length
   pub extents : List (ℕ × ℕ)
-  -- the place of the gate behind the last frame
+  -- the place of the gate after the last frame
   pub end : ℕ
-  -- the disk failed, and nothing more is written
+  -- the disk has failed, and nothing more is written
   pub failed : Bool
   -- how many appends take no memory
   pub reserved : ℕ
@@ -33,20 +33,20 @@ room_behind end = MAX_SIDE - (end + 1)
 abbrev pub bodies_at : List ℕ → List (ℕ × ℕ) → List (List ℕ)
 bodies_at bytes extents = map (λ extent. slice_range bytes extent.0 (extent.0 + extent.1)) extents
 
--- where the bodies lie whose first gate is at that place (own)
+-- the extents of bodies of which the first has its gate at that place (own)
 abbrev pub extents_from : ℕ → List (List ℕ) → List (ℕ × ℕ)
 extents_from at [] = []
 extents_from at (body ∷ bodies) = (at + 5, length body) ∷ extents_from (at + 5 + length body) bodies
 
--- a body that lies before the end, behind a gate and a length (own)
+-- the extent of a body that lies before the end, after a gate and a length (own)
 pub record IsExtent (end : ℕ) (extent : ℕ × ℕ) : Type 0 where
   pub gate : 5 ≤ extent.0
   pub some : 1 ≤ extent.1
   pub short : extent.1 ≤ MAX_BODY
   pub within : extent.0 + extent.1 ≤ end
 
--- The disk of an open side begins with its spelling, which ends at the end gate, and each body lies in its extent;
--- where nothing has failed it stands for the side, and that is sure (own).
+-- The disk of an open side begins with its spelling, which ends at the end gate, and each body lies in its extent.
+-- Where nothing has failed, the bytes stand for the side and are sure (own).
 pub record StoresSide (disk : DiskState) (front : Front) (bodies : List (List ℕ)) (extents : List (ℕ × ℕ))
     (end : ℕ) (failed : Bool) : Type 0 where
   pub side : IsSide front bodies
@@ -55,27 +55,27 @@ pub record StoresSide (disk : DiskState) (front : Front) (bodies : List (List �
   pub end_is : end ≡ length (spell front bodies)
   pub at_rest : failed ≡ false → StandsFor front bodies disk.seen × Only disk.seen disk.may_leave
 
--- the body of that frame lies there: behind its gate, where a read gives it (own)
+-- the body of that frame lies in the extent: after its gate, where a read returns it (own)
 pub record IsBodyAt (seen : List ℕ) (front : Front) (bodies : List (List ℕ)) (frame : ℕ) (extent : ℕ × ℕ)
     : Type 0 where
   pub gate : extent.0 ≡ length (spell front (take frame bodies)) + 5
   pub sized : extent.1 ≡ length (slice_index_or bodies frame [])
   pub there : slice_index_or bodies frame [] ≡ slice_range seen extent.0 (extent.0 + extent.1)
 
--- that many bytes from that place on lie inside one body (own)
+-- `count` bytes from that place on lie inside one body (own)
 abbrev pub LiesInBody : List (ℕ × ℕ) → ℕ → ℕ → Type 0
 LiesInBody extents at count =
     (i : ℕ) × (i < length extents) × ((slice_index_or extents i (0, 0)).0 ≤ at)
     × (at + count ≤ (slice_index_or extents i (0, 0)).0 + (slice_index_or extents i (0, 0)).1)
 
--- where the place lies so far into a body that has that many bytes more, they are the body's from there on (own)
+-- where the place lies within a body that has that many more bytes, these are the bytes of the body from there (own)
 abbrev pub IsBodyPart : List (List ℕ) → List (ℕ × ℕ) → ℕ → List ℕ → Type 0
 IsBodyPart bodies extents at bytes =
     (i into : ℕ) → i < length extents → at ≡ (slice_index_or extents i (0, 0)).0 + into
     → into + length bytes ≤ (slice_index_or extents i (0, 0)).1
     → bytes ≡ slice_range (slice_index_or bodies i []) into (into + length bytes)
 
--- a kind as a bit, and back (own)
+-- a kind as a bit, and the kind of a bit (own)
 abbrev is_cartridge : SideKind → Bool
 is_cartridge Cartridge = true
 is_cartridge Store = false
@@ -88,20 +88,20 @@ side_kind_of false = Store
 abbrev kind_code : Coded SideKind
 kind_code = code_by Bool coded_bool is_cartridge side_kind_of (elim [ Cartridge ↦ refl | Store ↦ refl ])
 
--- a heading as plain data, for the view of a type that has one (own)
+-- a heading as plain data, for the view of a type that contains one (own)
 abbrev pub heading_code : Coded Heading
 heading_code =
     code_by (SideKind × (List ℕ × List ℕ)) (coded× kind_code (coded× (coded_list coded_ℕ) (coded_list coded_ℕ)))
     (λ h. (h.kind, (h.name, h.capacities)))
     (λ p. record { kind = p.0; name = p.1.0; capacities = p.1.1 }) (λ _. refl)
 
--- what a side says of a copy as plain data (own)
+-- epoch and base of a copy as plain data (own)
 abbrev copied_code : Coded Copied
 copied_code =
     code_by (ℕ × ℕ) (coded× coded_ℕ coded_ℕ) (λ c. (c.epoch, c.base))
     (λ p. record { epoch = p.0; base = p.1 }) (λ _. refl)
 
--- a front as plain data, for the view of a type that has one (own)
+-- a front as plain data, for the view of a type that contains one (own)
 abbrev pub front_code : Coded Front
 front_code =
     code_by (Heading × (Option Copied × ℕ)) (coded× heading_code (coded× (coded_option copied_code) coded_ℕ))

@@ -1,4 +1,4 @@
-//! A body is added to an open side, as a frame.
+//! Adding a body to an open side, as a frame.
 ghost use Rattle.std.specs.Prelude.{◌≡◌, ◌+◌, ◌<◌, ◌≤◌, ◌++◌, [], ◌∷◌, length, true, false, OnOk, IfErr, if◌then◌else◌, is_ok};
 ghost use Rattle.tape_disk.specs.Disk.{Each, Keeps};
 ghost use Rattle.tape_disk.specs.Moments.{LeavesOnly};
@@ -13,8 +13,8 @@ use tape_disk::Disk;
 use vtl_base::limits::MAX_SIDE;
 
 impl<D: Disk> Journal<D> {
-    /// Makes room in memory for that many appends, which then take none: 16 bytes for the extent of
-    /// each, and once 8,388,613 for the longest frame.
+    /// Makes room in memory for that many appends, which then take none: 16 bytes for the extent of each, and
+    /// once 8,388,613 for the longest frame.
     pub fn reserve(&mut self, frames: usize) -> Result<(), JournalError>
         ensures ok { OnOk result ((frames ≤ self.new.reserved)
             × (self.old.reserved ≤ self.new.reserved)
@@ -29,9 +29,9 @@ impl<D: Disk> Journal<D> {
         Ok(())
     }
 
-    /// Adds a frame with this body of 1 to 8,388,608 bytes. At Ok it is sure, and the room is less
-    /// by 5 and the body's bytes. After `Device` it may be there or not, and nothing more is
-    /// written; after every other error nothing changed.
+    /// Adds a frame with this body of 1 to 8,388,608 bytes. At Ok the frame is sure, and the room is less by
+    /// 5 and the body's bytes. After `Device` the frame may be there or not, and nothing more is written.
+    /// After every other error nothing has changed.
     pub fn append(&mut self, body: &[u8]) -> Result<(), JournalError>
         requires { IsBody body.now }
         ensures disk { Keeps (D.state self.old.disk) (D.state self.new.disk) }

@@ -1,4 +1,4 @@
-//! A side is opened, and what its bodies spell is decoded as they are read.
+//! Opening a side and decoding its bodies as they are read.
 ghost use Rattle.std.specs.Prelude.{◌≡◌, ◌≤◌, [], length, Some, OnOk, IfOk, IfErr, true, false, is_some};
 ghost use Rattle.tape_disk.specs.Disk.{Keeps, Only};
 ghost use Rattle.tape_disk.specs.Moments.{LeavesOnly};
@@ -17,11 +17,11 @@ use std::alloc::Global;
 use tape_disk::Disk;
 
 impl<D: Disk> Journal<D> {
-    /// Opens the side of the decoder's kind that the disk holds, as `open_as` does. Then the bodies are
-    /// given to a new decoder, each once and in order, in pieces of at most 65,536 bytes. Where it need
-    /// not see more than 65,536 bytes, these are not read; the piece behind them has at most 4,096. The
-    /// first body that it refuses is `BadRecord`, also where later ones are good. Room is made in memory
-    /// for that many frames that are spelled in place, and for one piece while it works.
+    /// Opens the side of the decoder's kind on the disk, as `open_as` does. Then a new decoder gets the
+    /// bodies, each once and in order, in pieces of at most 65,536 bytes. Bytes that it does not need to see
+    /// are not read where they are more than 65,536; the piece after them has at most 4,096. The first body
+    /// that it refuses is `BadRecord`, even where later ones are good. Room is made in memory for that many
+    /// frames that are spelled in place, and for one piece during the call.
     pub fn open_decoded<T: Decodes>(
         alloc: Global,
         disk: D,
@@ -61,7 +61,7 @@ impl<D: Disk> Journal<D> {
     }
 }
 
-// The same cause, of an opening that decodes.
+// The same cause, for an opening that decodes.
 pub(crate) fn of_opening(error: JournalError) -> OpenError
     requires { is_some (opening_cause error) ≡ true }
     ensures { opening_cause error ≡ Some result }
@@ -76,7 +76,7 @@ pub(crate) fn of_opening(error: JournalError) -> OpenError
     }
 }
 
-// What the frames of a side spell that was just opened. Room is made for that many frames more.
+// Decodes the frames of a side that was just opened. Room is made for that many more frames.
 fn decode_frames<D: Disk, T: Decodes>(
     alloc: Global,
     journal: &mut Journal<D>,
@@ -108,7 +108,7 @@ fn decode_frames<D: Disk, T: Decodes>(
     Ok(decoder)
 }
 
-// How many bytes of memory serve for pieces: the longest body's, and no more than a piece has.
+// How many bytes of memory serve for pieces: as many as the longest body has, at most those of a piece.
 fn room_for_pieces<D: Disk>(journal: &Journal<D>) -> usize
     ensures { (1 ≤ result) × (result ≤ PIECE_BYTES) }
 {
@@ -120,7 +120,7 @@ fn room_for_pieces<D: Disk>(journal: &Journal<D>) -> usize
     room.min(PIECE_BYTES).max(1)
 }
 
-// Gives the bodies of a side to the decoder, which has read none. A piece of each is in the buffer.
+// Gives the bodies of a side to a decoder that has read none. The buffer takes one piece at a time.
 fn decode_each<D: Disk, T: Decodes>(
     journal: &mut Journal<D>,
     decoder: &mut T,

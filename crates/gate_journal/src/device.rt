@@ -1,4 +1,4 @@
-//! The calls of the disk that write a side: at most two in a function of its own, five in a row.
+//! The calls of the disk that write a side: at most two in one function, five one after another.
 ghost use Rattle.std.specs.Prelude.{◌≡◌, ◌+◌, ◌<◌, ◌≤◌, ◌^◌, [], ◌∷◌, ◌++◌, ℕ, length, take, drop, slice_index, OnOk};
 ghost use Rattle.tape_disk.specs.Disk.{DiskState, Only, Passes, Smeared, overwritten};
 ghost use Rattle.tape_disk.specs.Moments.{LeavesOnly};
@@ -9,7 +9,7 @@ use crate::spelling::OPEN;
 use tape_disk::Disk;
 use vtl_base::DevFault;
 
-// Writes the bytes at that place. At Ok they are sure.
+// Writes the bytes at that place, and syncs. At Ok they are sure.
 fn store_at<D: Disk>(disk: &mut D, at: u64, bytes: &[u8]) -> Result<(), DevFault>
     requires { (D.state disk.old).honest → at ≤ length (D.state disk.old).seen }
     ensures passes { Passes (D.state disk.old) (D.state disk.new) result }
@@ -24,7 +24,7 @@ fn store_at<D: Disk>(disk: &mut D, at: u64, bytes: &[u8]) -> Result<(), DevFault
     disk.sync()
 }
 
-// Opens the gate at that place. What stands behind it has to be sure.
+// Opens the gate at that place. What lies after it must be sure.
 fn open_gate<D: Disk>(disk: &mut D, at: u64) -> Result<(), DevFault>
     requires gate { (D.state disk.old).honest → at < length (D.state disk.old).seen }
     requires sure { (D.state disk.old).honest →
@@ -40,7 +40,7 @@ fn open_gate<D: Disk>(disk: &mut D, at: u64) -> Result<(), DevFault>
     store_at(disk, at, &[OPEN])
 }
 
-// Puts bytes behind the gate at the end, and then opens the gate.
+// Writes bytes after the gate at the end, and then opens the gate.
 pub(crate) fn write_frame<D: Disk>(disk: &mut D, end: u64, bytes: &[u8]) -> Result<(), DevFault>
     requires room { end + 1 < 2 ^ 64 }
     requires gate { (D.state disk.old).honest → end < length (D.state disk.old).seen }
@@ -59,7 +59,7 @@ pub(crate) fn write_frame<D: Disk>(disk: &mut D, end: u64, bytes: &[u8]) -> Resu
     open_gate(disk, end)
 }
 
-// Makes the disk hold these bytes alone, and then opens the gate that is the first of them.
+// Makes the disk hold exactly these bytes, and then opens the gate that is the first of them.
 pub(crate) fn write_new<D: Disk>(disk: &mut D, bytes: &[u8]) -> Result<(), DevFault>
     requires { 0 < length bytes.now }
     ensures passes { Passes (D.state disk.old) (D.state disk.new) result }

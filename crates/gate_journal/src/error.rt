@@ -13,8 +13,8 @@ pub enum JournalError {
     /// The bytes begin with no header of a side.
     #[error("not a side")]
     NotOurs,
-    /// The first frame that is not whole has its gate at this place, counted in bytes; or the closed gate
-    /// stands there before which there are fewer frames than the side's copy has.
+    /// The first frame that is not whole has its gate at this place, counted in bytes. Or a closed gate
+    /// stands there, before as many frames as the copy of the side has.
     #[error("damaged at {at}")]
     Damaged {
         /// The place of the gate.
@@ -23,12 +23,11 @@ pub enum JournalError {
     /// The frame would pass the longest side.
     #[error("side full")]
     SideFull,
-    /// The disk failed in this call. What stands there then is the call's to say: after `append` the
-    /// side with the frame or without it, after `open` and `read_body` what stood there before, and
-    /// after `create` anything.
+    /// The disk failed in this call. Each call says what its disk holds then: after `append` the side with
+    /// the frame or without it, after `open` and `read_body` what it held before, after `create` anything.
     #[error("device fault")]
     Device(DevFault),
-    /// The disk failed in an earlier call. The side has to be opened again.
+    /// The disk failed in an earlier call. The side must be opened again.
     #[error("failed before")]
     Failed,
     /// Memory ran out. Nothing was written, and no call of the disk failed.
@@ -57,18 +56,18 @@ impl From<DevFault> for JournalError {
 pub struct Refused<D> {
     /// Why.
     pub error: JournalError,
-    /// The disk that was given.
+    /// The disk that was passed to the call.
     pub disk: D,
 }
 
-/// Why a side is not opened, or what its bodies spell is not decoded (own). Nothing was written.
+/// Why a side is not opened, or its bodies are not decoded (own). Nothing was written.
 #[derive(Clone, Copy, PartialEq, Eq, Debug, Error)]
 pub enum OpenError {
-    /// The bytes begin with no header of a side of the kind.
+    /// The bytes begin with no header of a side of this kind.
     #[error("not a side of the kind")]
     NotOurs,
-    /// The first frame that is not whole has its gate at this place, counted in bytes; or the closed gate
-    /// stands there before which there are fewer frames than the side's copy has.
+    /// The first frame that is not whole has its gate at this place, counted in bytes. Or a closed gate
+    /// stands there, before as many frames as the copy of the side has.
     #[error("damaged at {at}")]
     Damaged {
         /// The place of the gate.
@@ -109,6 +108,6 @@ impl From<NoMemory> for OpenError {
 pub struct NotDecoded<D> {
     /// Why.
     pub error: OpenError,
-    /// The disk that was given.
+    /// The disk that was passed to the call.
     pub disk: D,
 }

@@ -1,4 +1,4 @@
-//! A frame is spelled in the buffer from which the disk takes it.
+//! A frame, spelled in the buffer that is written to the disk.
 ghost use Rattle.std.specs.Prelude.{◌≡◌, ◌≤◌, ◌<◌, ◌+◌, ◌^◌, [], ◌∷◌, ◌++◌, length, take, drop, max, slice_index, OnOk, OnErr, vec_len, vec_capacity};
 ghost use Rattle.tape_disk.specs.Disk.{DiskState, Only, Passes};
 ghost use Rattle.tape_disk.specs.Moments.{LeavesOnly};
@@ -17,14 +17,14 @@ use vtl_base::DevFault;
 /// The bytes of a body's length.
 pub(crate) const LENGTH_BYTES: usize = 4;
 
-/// The bytes around a body in its buffer: its length before it, and the next gate behind it.
+/// The bytes around a body in its buffer: its length before it, and the next gate after it.
 pub(crate) const AROUND: usize = 5;
 
-/// A frame's body, spelled in the buffer from which the disk takes the frame: the length's 4 bytes
-/// stand before it, and there is room for the next gate behind it. A frame is used again and again.
+/// The body of a frame, spelled in the buffer that is written to the disk: the 4 bytes of its length stand
+/// before it, and there is room for the next gate after it. A frame is reused for many bodies.
 #[derive(Drop, Debug)]
 pub struct Frame {
-    // None, or the bytes for the length and the body.
+    // Empty, or the bytes of the length and the body.
     bytes: Vec<u8>,
 }
 
@@ -73,15 +73,15 @@ impl Frame {
         &self.bytes[LENGTH_BYTES..]
     }
 
-    /// Takes the body away. The memory stays.
+    /// Removes the body. The memory stays.
     pub fn clear(&mut self)
         ensures { self.new ≡ body_taken self.old }
     {
         self.bytes.truncate(LENGTH_BYTES);
     }
 
-    /// Takes the body away, and makes room in memory for one of so many bytes and for the 5 around
-    /// it, where there is less. It asks for that and no more.
+    /// Removes the body, and makes room in memory for one of that many bytes and for the 5 around it, where
+    /// there is less. It asks for exactly that much.
     pub fn reserve(&mut self, body: usize) -> Result<(), AllocError>
         ensures body { self.new.body ≡ [] }
         ensures grows { self.old.room ≤ self.new.room }
@@ -101,7 +101,7 @@ impl Frame {
         Ok(())
     }
 
-    /// Puts bytes behind the body, for which there is room. It takes no memory.
+    /// Appends bytes to the body, for which there is room. It takes no memory.
     pub fn extend_reserved(&mut self, bytes: &[u8])
         requires { length self.old.body + length bytes.now ≤ self.old.room }
         ensures body { self.new.body ≡ self.old.body ++ bytes.now }
@@ -115,8 +115,8 @@ impl Frame {
         };
     }
 
-    // Puts length, body and the next gate, closed, behind the gate at the end by one write, and
-    // then opens that gate. The frame comes back empty.
+    // Writes length, body and the next gate, closed, after the gate at the end in one write, and then opens
+    // that gate. The frame is empty afterwards.
     pub(crate) fn write_behind<D: Disk>(&mut self, disk: &mut D, end: u64) -> Result<(), DevFault>
         requires body { IsBody self.old.body }
         requires room { end + 1 < 2 ^ 64 }
@@ -140,7 +140,7 @@ impl Frame {
     }
 }
 
-// Puts four bytes for a length into a buffer that has room for them, and nothing beside them.
+// Puts four bytes for a length into a buffer that has room for them, and nothing else.
 fn put_length(bytes: &mut Vec<u8>)
     requires { LENGTH_BYTES ≤ vec_capacity bytes.old }
     ensures bytes { bytes.new.items ≡ 0 ∷ 0 ∷ 0 ∷ 0 ∷ [] }
@@ -153,7 +153,7 @@ fn put_length(bytes: &mut Vec<u8>)
     bytes.push_reserved(0);
 }
 
-// Puts the length of a body into the four bytes before it, and the next gate, closed, behind it.
+// Puts the length of a body into the four bytes before it, and the next gate, closed, after it.
 fn close(bytes: &mut Vec<u8>)
     requires length { LENGTH_BYTES ≤ length bytes.old.items }
     requires body { IsBody (drop 4 bytes.old.items) }

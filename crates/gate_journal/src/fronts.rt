@@ -1,4 +1,4 @@
-//! What stands before a side's frames: its ten bytes, and its head.
+//! What stands before the frames of a side: its ten bytes, and its head.
 ghost use Rattle.std.specs.Prelude.{◌≡◌, ◌↔◌, ◌≤◌, IsTrue, Option, Some, length, take, slice_index};
 ghost use Rattle.gate_journal.specs.Heads.{base_in};
 ghost use Rattle.gate_journal.specs.Side.{CLOSED, IsName, OPEN, start};
@@ -8,14 +8,14 @@ use crate::header::{NAME_BYTES, SideKind, is_name};
 use crate::heads::{COPIED_BYTES, Copied, told_head};
 use crate::spelling::{BEGUN_BYTES, CLOSED, START_BYTES, kind_by_letter, name_in, start};
 
-// What of a front tells where the frames begin, and how many there are at least.
+// What is read from a front: where the frames begin, and how many there are at least.
 #[derive(Clone, Copy)]
 pub(crate) struct ToldFront {
     pub kind: SideKind,
     // The byte of its pair gate.
     pub pair: u8,
     pub copied: Option<Copied>,
-    // How many bytes it takes.
+    // Its length in bytes.
     pub size: usize,
 }
 
@@ -29,7 +29,7 @@ pub(crate) fn base_in(copied: Option<Copied>) -> u32
     }
 }
 
-// How many bytes say of a copy how it came about.
+// The bytes that epoch and base take in the front of a copy.
 pub(crate) fn copied_size(copied: Option<Copied>) -> usize
     ensures { result ≡ copied_size copied }
 {
@@ -39,7 +39,7 @@ pub(crate) fn copied_size(copied: Option<Copied>) -> usize
     }
 }
 
-// The front that these bytes begin with, where they begin with one. It takes no memory.
+// The front at the start of these bytes, if there is one. It takes no memory.
 pub(crate) fn told_front(bytes: &[u8]) -> Option<ToldFront>
     ensures { TellsFront bytes.now result }
 {
@@ -56,7 +56,7 @@ pub(crate) fn told_front(bytes: &[u8]) -> Option<ToldFront>
     }
 }
 
-// Whether the bytes begin with the ten of an open side of this kind, whatever its pair gate is.
+// Whether the bytes begin with the ten bytes of an open side of this kind, with any pair gate.
 fn begin_as(kind: SideKind, bytes: &[u8]) -> bool
     requires { 27 ≤ length bytes.now }
     ensures { IsTrue result ↔ (take 10 bytes.now ≡ start OPEN kind (slice_index bytes.now 9)) }
@@ -66,7 +66,7 @@ fn begin_as(kind: SideKind, bytes: &[u8]) -> bool
     begun == start(kind, bytes[9])
 }
 
-// The front of a cartridge's side that begins with its ten bytes.
+// The front of a cartridge's side, whose ten bytes are there.
 fn told_cartridge(bytes: &[u8]) -> Option<ToldFront>
     requires some { 27 ≤ length bytes.now }
     requires begins { take 10 bytes.now ≡ start OPEN SideKind.Cartridge (slice_index bytes.now 9) }
@@ -83,7 +83,7 @@ fn told_cartridge(bytes: &[u8]) -> Option<ToldFront>
     }
 }
 
-// The front of a store's side that begins with its ten bytes.
+// The front of a store's side, whose ten bytes are there.
 fn told_store(bytes: &[u8]) -> Option<ToldFront>
     requires some { 27 ≤ length bytes.now }
     requires begins { take 10 bytes.now ≡ start OPEN SideKind.Store (slice_index bytes.now 9) }
@@ -101,8 +101,8 @@ fn told_store(bytes: &[u8]) -> Option<ToldFront>
     })
 }
 
-// Whether pair gate, count and name are those of a store: it is no copy, and its pair gate is closed as it is
-// written.
+// Whether pair gate, count and name are those of a store: it is no copy, and its pair gate is the written
+// closed gate.
 fn are_of_store(pair: u8, count: u8, name: &[u8; NAME_BYTES]) -> bool
     ensures { IsTrue result ↔ (pair ≡ CLOSED) × (count ≡ 0) × IsName SideKind.Store name.now }
 {

@@ -14,14 +14,14 @@ use vtl_base::DevFault;
 /// The last gates of a side, by their places in bytes.
 #[derive(Clone, Copy, PartialEq, Eq, Debug)]
 pub struct Gates {
-    /// The last open one: that of the last frame, or of the side where there is no frame.
+    /// The last open gate: that of the last frame, or of the side where it has no frame.
     pub last: u64,
-    /// The closed one behind the last frame.
+    /// The closed gate after the last frame.
     pub end: u64,
 }
 
-/// The last gates of the side that the disk holds, of either kind. None where it holds no side, or a
-/// damaged one. The disk is only read, and nothing is made sure. It takes no memory.
+/// The last gates of the side on the disk, of either kind. None where the disk holds no side, or a damaged
+/// one. The disk is only read, and nothing is made sure. It takes no memory.
 pub fn last_gates<D: Disk>(disk: &mut D) -> Result<Option<Gates>, DevFault>
     ensures disk { Keeps (D.state disk.old) (D.state disk.new) }
     ensures reads { OnlyReads D.effect disk.old disk.new }
@@ -39,7 +39,7 @@ pub fn last_gates<D: Disk>(disk: &mut D) -> Result<Option<Gates>, DevFault>
     }
 }
 
-// The last gates of the side that the disk holds, or why it holds none.
+// The last gates of the side on the disk, or why it holds none.
 fn find_gates<D: Disk>(disk: &mut D) -> Result<Gates, JournalError>
     ensures disk { Keeps (D.state disk.old) (D.state disk.new) }
     ensures reads { OnlyReads D.effect disk.old disk.new }
@@ -49,7 +49,7 @@ fn find_gates<D: Disk>(disk: &mut D) -> Result<Gates, JournalError>
     walk_frames(disk, front.size as u64, base_in(front.copied))
 }
 
-// The last gates of a side whose first frame has its gate at that place, and that has no fewer frames than the base.
+// The last gates of a side whose first frame has its gate at that place, with at least `base` frames.
 fn walk_frames<D: Disk>(disk: &mut D, start: u64, base: u32) -> Result<Gates, JournalError>
     requires { (D.state disk.old).honest → start ≤ length (D.state disk.old).seen }
     ensures disk { Keeps (D.state disk.old) (D.state disk.new) }

@@ -1,4 +1,4 @@
-//! What a side says of itself, and when that can be spelled.
+//! The header of a side, and when it can be spelled.
 ghost use Rattle.std.specs.Prelude.{◌≡◌, ◌↔◌, ◌<◌, ◌≤◌, ◌≢◌, ℕ, IsTrue, length, take, slice_index};
 ghost use Rattle.std.specs.List.{All};
 ghost use Rattle.gate_journal.specs.Side.{IsCount, IsHeading, IsName, drive_name, heading_of, mark};
@@ -10,7 +10,7 @@ use vtl_base::limits::{DRIVES, MAX_CAPACITY, MAX_PARTITIONS, MIN_CAPACITY};
 /// The bytes of a side's name.
 pub const NAME_BYTES: usize = 16;
 
-/// What a side is kept for (own).
+/// What a side is used for (own).
 #[derive(Clone, Copy, Debug, PartialEq, Eq)]
 pub enum SideKind {
     /// The contents of a cartridge.
@@ -31,12 +31,12 @@ impl SideKind {
     }
 }
 
-/// What a side says of itself, at its beginning (own).
+/// The header of a side, at its beginning (own).
 #[derive(Debug, Drop)]
 pub struct Header {
-    /// What it is kept for.
+    /// What the side is used for.
     pub kind: SideKind,
-    /// A cartridge's barcode, or `DRIVE` and the drive's number, with spaces behind it.
+    /// The barcode of a cartridge, or `DRIVE` and the drive's number, filled up with spaces.
     pub name: [u8; NAME_BYTES],
     /// The capacity of each partition of a cartridge, in bytes. A store has none.
     pub capacities: Vec<u64>,

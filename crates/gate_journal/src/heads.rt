@@ -1,5 +1,4 @@
-//! What a cartridge's side says of itself behind its ten bytes: its heading, and of a copy its
-//! epoch and its base.
+//! The head of a cartridge's side, after its ten bytes: its heading, and for a copy its epoch and its base.
 //!
 //! | Place | Content |
 //! |---|---|
@@ -20,7 +19,7 @@ use crate::header::{NAME_BYTES, SideKind, is_count, is_name};
 use crate::spelling::hold_capacities;
 use byteorder::{BigEndian, ByteOrder};
 
-/// What a side that is a copy says of that.
+/// The epoch and the base of a side that is a copy.
 #[derive(Clone, Copy, Debug, PartialEq, Eq)]
 pub struct Copied {
     /// How often the cartridge was reclaimed.
@@ -29,12 +28,12 @@ pub struct Copied {
     pub base: u32,
 }
 
-/// What of a head tells where the frames begin, and which of two sides counts.
+/// What is read from a head: where the frames begin, and which of two sides counts.
 #[derive(Clone, Copy, Debug, PartialEq, Eq)]
 pub struct ToldHead {
-    /// What it says of a copy.
+    /// Epoch and base, where it is the head of a copy.
     pub copied: Option<Copied>,
-    /// How many bytes it takes.
+    /// Its length in bytes.
     pub size: usize,
 }
 
@@ -69,8 +68,7 @@ pub(crate) const COPIED_BYTES: usize = 12;
 /// The byte that is added to the count of a copy.
 pub(crate) const COPY_BIT: u8 = 0x80;
 
-/// The head of a cartridge's side that these bytes begin with, where they begin with one. It takes
-/// no memory.
+/// The head of a cartridge's side at the start of these bytes, if there is one. It takes no memory.
 pub fn told_head(bytes: &[u8]) -> Option<ToldHead>
     ensures { TellsHead bytes.now result }
 {
@@ -85,7 +83,7 @@ pub fn told_head(bytes: &[u8]) -> Option<ToldHead>
     }
 }
 
-// A head that is no copy's.
+// The head of a side that is no copy.
 fn told_plain(bytes: &[u8]) -> Option<ToldHead>
     requires some { 1 ≤ length bytes.now }
     requires plain { slice_index bytes.now 0 < 128 }
@@ -125,7 +123,7 @@ fn are_fields(bytes: &[u8], count: u8) -> bool
         && hold_capacities(&bytes[FRONT_BYTES..])
 }
 
-// The name that stands behind the count.
+// The name after the count.
 fn name_at(bytes: &[u8]) -> [u8; NAME_BYTES]
     requires { 17 ≤ length bytes.now }
     ensures { result ≡ take 16 (drop 1 bytes.now) }
@@ -135,7 +133,7 @@ fn name_at(bytes: &[u8]) -> [u8; NAME_BYTES]
     name
 }
 
-// Epoch and base at the front of these bytes.
+// Epoch and base at the start of these bytes.
 fn copied_at(bytes: &[u8]) -> Copied
     requires { 12 ≤ length bytes.now }
     ensures is { Some result ≡ copied_in true bytes.now }

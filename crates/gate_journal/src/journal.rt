@@ -1,4 +1,4 @@
-//! An open side: frames are read from it and added to it.
+//! An open side: its frames are read, and frames are added.
 ghost use Rattle.std.specs.Prelude.{◌≡◌, ◌⊎◌, ◌+◌, ◌*◌, ◌^◌, ◌<◌, ◌≤◌, ◌++◌, [], ◌∷◌, ℕ, List, length, true, false, OnOk, OnErr, IfOk, IfErr, slice_range, slice_index_or, if◌then◌else◌, is_ok};
 ghost use Rattle.tape_disk.specs.Disk.{Each, Keeps, Only};
 ghost use Rattle.tape_disk.specs.Moments.{LeavesOnly};
@@ -25,7 +25,7 @@ pub struct Journal<D: Disk> {
     // The byte of the pair gate.
     pub(crate) pair: u8,
     pub(crate) extents: Vec<(u64, u32)>,
-    // The frames of `append` are spelled here.
+    // `append` spells its frames here.
     pub(crate) buffer: Frame,
     // How many frames that are spelled in place have their extents reserved.
     pub(crate) reserved_extents: usize,
@@ -64,10 +64,9 @@ impl<D: Disk> Model for Journal<D> {
 }
 
 impl<D: Disk> Journal<D> {
-    /// Makes a side with no frames, whatever the disk held, of a header that can be spelled. It is no
-    /// copy, and its pair gate is closed. At Ok
-    /// the disk holds its spelling, one closed gate and nothing behind; after a device fault
-    /// anything may stand there; after `NoMemory` the disk was not touched.
+    /// Makes a side with no frames from a header that can be spelled, whatever the disk held. It is no copy,
+    /// and its pair gate is closed. At Ok the disk holds its spelling, one closed gate and nothing after
+    /// that. After a device fault anything may be there; after `NoMemory` the disk was not touched.
     pub fn create(alloc: Global, disk: D, header: Header) -> Result<Journal<D>, Refused<D>>
         requires { IsHeading (heading_of header) }
         ensures disk { Keeps (D.state disk) (D.state (disk_after result)) }
@@ -109,9 +108,9 @@ impl<D: Disk> Journal<D> {
         }
     }
 
-    /// The end is where the spelling ends, of a side that has failed too. Where nothing has failed,
-    /// each image that a crash may leave stands for the side. Over any disk it has a front that can be
-    /// spelled, and no fewer frames than its base.
+    /// The end is where the spelling ends, even of a side that has failed. Where nothing has failed, each
+    /// image that a crash may leave stands for the side. Over any disk it has a front that can be spelled,
+    /// and at least as many frames as its base.
     pub fn known(&self)
         ensures front { IsFront self.now.front }
         ensures base { base_of self.now.front.head ≤ length self.now.extents }
@@ -120,11 +119,11 @@ impl<D: Disk> Journal<D> {
         ensures sure { (D.state self.now.disk).honest → self.now.failed ≡ false →
             Each (D.state self.now.disk) (StandsFor self.now.front self.now.bodies) }
     {
-        // Looked at for the proof's sake: the facts are the type's.
+        // Read for the proof: the facts are the type's invariant.
         let _ = &self.end;
     }
 
-    /// What the side says of itself.
+    /// The header of the side.
     pub fn header(&self) -> &Header
         ensures value { heading_of result.now ≡ self.now.front.head.heading }
         ensures valid { IsHeading self.now.front.head.heading }
@@ -132,7 +131,7 @@ impl<D: Disk> Journal<D> {
         &self.header
     }
 
-    /// What the side says of a copy, if it is one.
+    /// The epoch and the base, where the side is a copy.
     pub fn copied(&self) -> Option<Copied>
         ensures value { result ≡ self.now.front.head.copied }
         ensures valid { IsFront self.now.front }
@@ -148,7 +147,7 @@ impl<D: Disk> Journal<D> {
         self.extents.len()
     }
 
-    /// The extent of that frame's body: its place and its length. The frame's gate stands 5 bytes
+    /// The extent of the body of that frame: its place and its length. The gate of the frame stands 5 bytes
     /// before it.
     pub fn body_at(&self, frame: usize) -> (u64, u32)
         requires { frame < length self.now.extents }
@@ -162,8 +161,8 @@ impl<D: Disk> Journal<D> {
         self.extents[frame]
     }
 
-    /// Fills the buffer with bytes of a body, from that place of the disk on. After a device fault
-    /// the side has failed.
+    /// Fills the buffer with bytes of a body, from that place of the disk on. After a device fault the side
+    /// has failed.
     pub fn read_body(&mut self, at: u64, buffer: &mut [u8]) -> Result<(), JournalError>
         requires { LiesInBody self.old.extents at (length buffer.old) }
         ensures disk { Keeps (D.state self.old.disk) (D.state self.new.disk) }
@@ -196,29 +195,29 @@ impl<D: Disk> Journal<D> {
         }
     }
 
-    /// Whether the disk failed: then nothing more is read or written.
+    /// Whether the disk has failed: then nothing more is read or written.
     pub fn has_failed(&self) -> bool
         ensures { result ≡ self.now.failed }
     {
         self.failed
     }
 
-    /// The bytes that may still be added, up to 1,099,511,627,776 in all with the end gate. A frame
-    /// takes 5 and its body's.
+    /// The bytes that may still be added, up to 1,099,511,627,776 in all with the end gate. A frame takes 5
+    /// and those of its body.
     pub fn room(&self) -> u64
         ensures { result ≡ room_behind self.now.end }
     {
         MAX_SIDE.saturating_sub(self.end + 1)
     }
 
-    /// Gives the disk back.
+    /// Closes the side, and returns the disk.
     pub fn close(self) -> D
         ensures { result ≡ self.disk }
     {
         self.disk
     }
 
-    /// The disk, to be looked at.
+    /// The disk, for reading.
     pub fn disk(&self) -> &D
         ensures { result.now ≡ self.now.disk }
     {

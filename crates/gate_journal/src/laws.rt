@@ -11,7 +11,7 @@ pub fn each_image_is_decided()
     ensures { (image : List ℕ) → IsDecided image }
 {}
 
-/// No image is two of the three, stands for two sides, or is damaged at two places.
+/// No image is two of the three. It stands for at most one side, and is damaged at one place at most.
 pub fn no_image_is_decided_twice()
     ensures one_side { (image : List ℕ) (f g : Front) (bs cs : List (List ℕ)) →
         StandsFor f bs image → StandsFor g cs image → (f ≡ g) × (bs ≡ cs) }
@@ -30,8 +30,8 @@ pub fn the_side_on_an_image()
         (side_on image ≡ Some (f, bs)) ↔ StandsFor f bs image }
 {}
 
-/// The lengths that this crate names itself: of a name, of a body's length, of all that stands around
-/// a body, of the longest piece of a body, and of the longest behind bytes that were passed over.
+/// The lengths that this crate names: of a name, of a body's length, of all bytes around a body, of the longest
+/// piece of a body, and of the longest piece after bytes passed over.
 pub fn the_lengths()
     ensures name { NAME_BYTES ≡ 16 }
     ensures length { LENGTH_BYTES ≡ 4 }

@@ -1,4 +1,4 @@
-//! Bytes that proofs alone note, and that take no memory: of a body that is read in pieces.
+//! Bytes that only proofs see, and that take no memory: those of a body that is read in pieces.
 ghost use Rattle.std.specs.Prelude.{◌≡◌, ◌++◌, ℕ, List, [], drop, slice_index_or};
 ghost use Rattle.gate_journal.specs.Inner.Padding.{padded_to};
 ghost use Rattle.std.specs.Coded.{coded_list, coded_ℕ};
@@ -7,7 +7,7 @@ use crate::journal::Journal;
 use std::marker::{Model, PhantomData};
 use tape_disk::Disk;
 
-/// Bytes that are noted.
+/// The noted bytes.
 #[derive(Drop)]
 pub struct NotedBytes {
     marker: PhantomData<()>,
@@ -29,15 +29,15 @@ impl NotedBytes {
         made(&0)
     }
 
-    // With these behind them.
+    // The noted bytes, followed by these.
     pub(crate) fn with(&self, bytes: &[u8]) -> NotedBytes
         ensures { result.bytes ≡ self.now.bytes ++ bytes.now }
     {
         by_bytes(self, bytes)
     }
 
-    // With so many behind them that are not read: those of a body from that place of it on, filled up with
-    // 00h where there are fewer.
+    // The noted bytes, followed by `count` bytes of a body from that place on, which are not read. They are
+    // filled up with 00h where there are fewer.
     pub(crate) fn with_unread<D: Disk>(
         &self,
         journal: &Journal<D>,
@@ -52,7 +52,7 @@ impl NotedBytes {
     }
 }
 
-// What the caller names, which may speak of what was noted and of bytes.
+// The bytes that the caller names, by what was noted and by bytes.
 fn by_bytes(_noted: &NotedBytes, _bytes: &[u8]) -> NotedBytes
     ghost bytes: { List ℕ }
     ensures { result.bytes ≡ bytes }
@@ -60,7 +60,7 @@ fn by_bytes(_noted: &NotedBytes, _bytes: &[u8]) -> NotedBytes
     made(&0)
 }
 
-// What the caller names, which may speak of what was noted and of a body.
+// The bytes that the caller names, by what was noted and by a body.
 fn by_body<D: Disk>(
     _noted: &NotedBytes,
     _journal: &Journal<D>,
@@ -74,7 +74,7 @@ fn by_body<D: Disk>(
     made(&0)
 }
 
-// What the caller names.
+// The bytes that the caller names.
 fn made(_any: &u64) -> NotedBytes
     ghost bytes: { List ℕ }
     ensures { result.bytes ≡ bytes }

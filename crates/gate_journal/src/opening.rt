@@ -1,4 +1,4 @@
-//! A side is opened.
+//! Opening a side.
 ghost use Rattle.std.specs.Prelude.{◌≡◌, Some, false, IfOk, IfErr};
 ghost use Rattle.tape_disk.specs.Disk.{Keeps, Only};
 ghost use Rattle.tape_disk.specs.Moments.{LeavesOnly};
@@ -13,9 +13,9 @@ use std::alloc::Global;
 use tape_disk::Disk;
 
 impl<D: Disk> Journal<D> {
-    /// Opens the side that the disk holds. It begins with a sync, and writes nothing: at every
-    /// moment of it, and after every error, the disk stands for what it stood for. After `NotOurs`,
-    /// `Damaged` and `NoMemory` that is sure too.
+    /// Opens the side on the disk. It begins with a sync, and writes nothing: at every moment of it, and
+    /// after every error, the disk stands for what it stood for. After `NotOurs`, `Damaged` and `NoMemory`
+    /// that is sure too.
     pub fn open(alloc: Global, disk: D) -> Result<Journal<D>, Refused<D>>
         ensures disk { Keeps (D.state disk) (D.state (disk_after result)) }
         ensures ok { IfOk result (λ journal. (journal.failed ≡ false)
@@ -30,8 +30,8 @@ impl<D: Disk> Journal<D> {
         Self::open_asked(alloc, disk, None)
     }
 
-    /// Opens the side of this kind that the disk holds, as `open` does. The front is read before
-    /// any frame, so a side of the other kind is `NotOurs`, also where it is damaged.
+    /// Opens the side of this kind on the disk, as `open` does. The front is read before any frame, so a side
+    /// of the other kind is `NotOurs`, even where it is damaged.
     pub fn open_as(alloc: Global, disk: D, kind: SideKind) -> Result<Journal<D>, Refused<D>>
         ensures disk { Keeps (D.state disk) (D.state (disk_after result)) }
         ensures ok { IfOk result (λ journal. (journal.front.head.heading.kind ≡ kind) × (journal.failed ≡ false)
@@ -46,7 +46,7 @@ impl<D: Disk> Journal<D> {
         Self::open_asked(alloc, disk, Some(kind))
     }
 
-    // Opens the side that the disk holds, where it is of the kind that is asked for.
+    // Opens the side on the disk, where it is of the required kind.
     fn open_asked(alloc: Global, disk: D, asked: Option<SideKind>) -> Result<Journal<D>, Refused<D>>
         ensures disk { Keeps (D.state disk) (D.state (disk_after result)) }
         ensures ok { IfOk result (λ journal. IsAsked asked journal.front.head.heading.kind

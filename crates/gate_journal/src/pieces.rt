@@ -1,4 +1,4 @@
-//! A body is given to a decoder in pieces. What the decoder need not see is not read.
+//! Giving a body to a decoder in pieces. Bytes that the decoder does not need to see are not read.
 ghost use Rattle.std.specs.Prelude.{◌≡◌, ◌<◌, ◌≤◌, ℕ, List, [], length, slice_index_or, IfOk, IfErr, false};
 ghost use Rattle.tape_disk.specs.Disk.{Keeps};
 ghost use Rattle.gate_journal.specs.Answers.{NoneFailed};
@@ -15,14 +15,14 @@ use crate::journal::Journal;
 use crate::noted::NotedBytes;
 use tape_disk::Disk;
 
-/// So many bytes of a body are read at a time, at most. What a decoder need not see is passed over
-/// where it is more.
+/// The most bytes of a body that are read at a time. Where the decoder does not need to see more than these,
+/// they are passed over.
 pub(crate) const PIECE_BYTES: usize = 65_536;
 
-/// So many bytes are read behind those that were passed over, at most.
+/// The most bytes that are read after bytes that were passed over.
 pub(crate) const JUMP_BYTES: usize = 4_096;
 
-// How many bytes of a body were taken so far, how many are read next, at most, and which they were.
+// How many bytes of a body were taken so far, how many are read next at most, and the bytes so far.
 #[derive(Drop)]
 struct SoFar {
     from: usize,
@@ -30,7 +30,7 @@ struct SoFar {
     bytes: NotedBytes,
 }
 
-// Gives the body of that frame to the decoder. False is that it is bad.
+// Gives the body of that frame to the decoder. False: the body is bad.
 pub(crate) fn decode_body<D: Disk, T: Decodes>(
     journal: &mut Journal<D>,
     frame: usize,
@@ -70,7 +70,7 @@ pub(crate) fn decode_body<D: Disk, T: Decodes>(
     Ok(decoder.end_body(at, &so_far.bytes))
 }
 
-// Gives the next bytes of the body to the decoder, or passes over them. False is that it is bad.
+// Gives the next bytes of the body to the decoder, or passes over them. False: the body is bad.
 fn take_next<D: Disk, T: Decodes>(
     journal: &mut Journal<D>,
     frame: usize,
@@ -109,7 +109,7 @@ fn take_next<D: Disk, T: Decodes>(
     }
 }
 
-// Passes over what the decoder need not see of the body, which is more than a piece.
+// Passes over the bytes that the decoder does not need to see, which are more than a piece.
 fn pass_over<D: Disk, T: Decodes>(
     journal: &Journal<D>,
     frame: usize,
@@ -139,7 +139,7 @@ fn pass_over<D: Disk, T: Decodes>(
     Ok(good)
 }
 
-// Reads the next bytes of the body, and gives them to the decoder, which need not see more than a piece.
+// Reads the next bytes of the body and gives them to the decoder. At most a piece of them could be passed over.
 fn read_on<D: Disk, T: Decodes>(
     journal: &mut Journal<D>,
     frame: usize,

@@ -1,4 +1,4 @@
-//! A frame that was spelled in place is added to an open side.
+//! Adding a frame that was spelled in place to an open side.
 ghost use Rattle.std.specs.Prelude.{◌≡◌, ◌+◌, ◌<◌, ◌≤◌, ◌++◌, [], ◌∷◌, length, true, false, OnOk, IfErr, if◌then◌else◌, is_ok};
 ghost use Rattle.tape_disk.specs.Disk.{Each, Keeps};
 ghost use Rattle.tape_disk.specs.Moments.{LeavesOnly};
@@ -30,8 +30,8 @@ impl<D: Disk> Journal<D> {
         Ok(())
     }
 
-    /// Adds the frame that was spelled, as `append` adds one with its body, and copies nothing. At
-    /// Ok and after `Device` the frame is empty; after every other error it is as it was.
+    /// Adds a spelled frame, as `append` adds one with its body, and copies nothing. At Ok and after `Device`
+    /// the frame is empty; after every other error it is unchanged.
     pub fn append_frame(&mut self, frame: &mut Frame) -> Result<(), JournalError>
         requires { IsBody frame.old.body }
         ensures disk { Keeps (D.state self.old.disk) (D.state self.new.disk) }

@@ -1,4 +1,4 @@
-//! A side is read: its front, then gate and length of each frame. No byte is read twice, no body.
+//! Reading a side: its front, then gate and length of each frame. No byte is read twice, and no body is read.
 ghost use Rattle.std.specs.Prelude.{◌≡◌, ◌+◌, ◌<◌, ◌≤◌, ◌∷◌, length, IfOk, slice_index};
 ghost use Rattle.tape_disk.specs.Disk.{Elapses, Keeps, Passes, Syncs};
 ghost use Rattle.gate_journal.specs.Side.{OPEN, heading_of};
@@ -20,14 +20,14 @@ use tape_disk::Disk;
 use vtl_base::DevFault;
 use vtl_base::limits::MAX_BODY;
 
-// The bytes that a front has, before others, and how many they are.
+// The bytes of a front, before others, and how many they are.
 #[derive(Clone, Copy)]
 struct FrontBytes {
     bytes: [u8; HEADER_BYTES],
     len: usize,
 }
 
-/// A side's front, as it was read, and the place behind it.
+/// The front of a side, as it was read, and the place after it.
 #[derive(Drop)]
 pub(crate) struct ReadFront {
     pub header: Header,
@@ -43,8 +43,7 @@ pub(crate) struct Frames {
     pub end: u64,
 }
 
-// The side that the disk holds, where it is of the kind that is asked for. It begins with a sync,
-// so that what is read is sure.
+// The side on the disk, where it is of the required kind. It begins with a sync, so what is read is sure.
 pub(crate) fn read_side<D: Disk>(
     alloc: Global,
     disk: &mut D,
@@ -62,7 +61,7 @@ pub(crate) fn read_side<D: Disk>(
     Ok((front, frames))
 }
 
-// From now on a crash leaves what a read gives.
+// Syncs the disk: from then on a crash leaves what reads return.
 fn make_sure<D: Disk>(disk: &mut D) -> Result<(), DevFault>
     ensures passes { Passes (D.state disk.old) (D.state disk.new) result }
     ensures time { (D.state disk.old).honest → Elapses (D.state disk.old) (D.state disk.new) }
@@ -71,7 +70,7 @@ fn make_sure<D: Disk>(disk: &mut D) -> Result<(), DevFault>
     disk.sync()
 }
 
-// The front that the disk begins with, where it is of the kind that is asked for.
+// The front at the start of the disk, where it is of the required kind.
 pub(crate) fn read_asked<D: Disk>(
     alloc: Global,
     disk: &mut D,
@@ -90,7 +89,7 @@ pub(crate) fn read_asked<D: Disk>(
     }
 }
 
-// The front that the disk begins with.
+// The front at the start of the disk.
 fn read_front<D: Disk>(alloc: Global, disk: &mut D) -> Result<ReadFront, JournalError>
     ensures disk { Keeps (D.state disk.old) (D.state disk.new) }
     ensures unwritten { (D.state disk.old).honest →
@@ -108,7 +107,7 @@ fn read_front<D: Disk>(alloc: Global, disk: &mut D) -> Result<ReadFront, Journal
     })
 }
 
-// What is read of the front that the disk begins with, of either kind. It takes no memory.
+// What is read from the front at the start of the disk, of either kind. It takes no memory.
 pub(crate) fn find_start<D: Disk>(disk: &mut D) -> Result<ToldFront, JournalError>
     ensures disk { Keeps (D.state disk.old) (D.state disk.new) }
     ensures unwritten { (D.state disk.old).honest →
@@ -120,7 +119,7 @@ pub(crate) fn find_start<D: Disk>(disk: &mut D) -> Result<ToldFront, JournalErro
     Ok(told)
 }
 
-// The bytes of the front that the disk begins with, and what is read in them.
+// The bytes of the front at the start of the disk, and what is read from them.
 fn read_told<D: Disk>(disk: &mut D) -> Result<(FrontBytes, ToldFront), JournalError>
     ensures disk { Keeps (D.state disk.old) (D.state disk.new) }
     ensures unwritten { (D.state disk.old).honest →
@@ -135,7 +134,7 @@ fn read_told<D: Disk>(disk: &mut D) -> Result<(FrontBytes, ToldFront), JournalEr
     }
 }
 
-// The bytes that the disk begins with, as many as a front with their byte for its count has.
+// The first bytes of the disk, as many as the byte of their count says a front has.
 fn read_bytes<D: Disk>(disk: &mut D) -> Result<FrontBytes, JournalError>
     ensures disk { Keeps (D.state disk.old) (D.state disk.new) }
     ensures unwritten { (D.state disk.old).honest →
@@ -161,7 +160,7 @@ fn read_bytes<D: Disk>(disk: &mut D) -> Result<FrontBytes, JournalError>
     Ok(FrontBytes { bytes, len })
 }
 
-// How many bytes of a front stand behind its first 27, by the byte of its count.
+// The length of a front after its first 27 bytes, by the byte of its count.
 fn size_behind(count: u8) -> usize
     ensures { result ≡ size_behind count }
 {
@@ -172,7 +171,7 @@ fn size_behind(count: u8) -> usize
     }
 }
 
-// The header in the bytes of a front, of which this was read.
+// The header in the bytes of a front, given what was read from it.
 fn header_told(alloc: Global, bytes: &[u8], told: ToldFront) -> Result<Header, AllocError>
     requires some { 27 + copied_size told.copied ≤ told.size }
     requires inside { told.size ≤ length bytes.now }
@@ -186,7 +185,7 @@ fn header_told(alloc: Global, bytes: &[u8], told: ToldFront) -> Result<Header, A
     })
 }
 
-// Eight bytes at a time as numbers.
+// The numbers in groups of eight bytes.
 fn numbers(alloc: Global, bytes: &[u8]) -> Result<Vec<u64>, AllocError>
     ensures { IfOk result (λ numbers. numbers.items ≡ numbers_of bytes.now) }
 {
@@ -199,8 +198,8 @@ fn numbers(alloc: Global, bytes: &[u8]) -> Result<Vec<u64>, AllocError>
     Ok(numbers)
 }
 
-// Gate and length at that place, which lies inside the disk: the body's length, or None where the
-// gate is closed.
+// Gate and length at that place, which lies inside the disk: the length of the body, or None where the gate
+// is closed.
 pub(crate) fn read_mark<D: Disk>(
     disk: &mut D,
     at: u64,
@@ -235,7 +234,7 @@ pub(crate) fn read_mark<D: Disk>(
     Ok(Some(size))
 }
 
-// The length that stands behind an open gate.
+// The length after an open gate.
 fn length_behind(mark: &[u8; 5]) -> u32
     requires { slice_index mark.now 0 ≡ OPEN }
     ensures { mark.now ≡ OPEN ∷ to_be_bytes w32 result }
@@ -243,7 +242,7 @@ fn length_behind(mark: &[u8; 5]) -> u32
     BigEndian::read_u32(&mark[1..])
 }
 
-// The frames from that place on, up to the first closed gate, before which stand no fewer than the base.
+// The frames from that place on, up to the first closed gate; there must be at least `base`.
 pub(crate) fn read_frames<D: Disk>(
     alloc: Global,
     disk: &mut D,

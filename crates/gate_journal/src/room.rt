@@ -7,7 +7,7 @@ use crate::frame::Frame;
 use std::alloc::AllocError;
 use vtl_base::limits::MAX_BODY;
 
-// Makes room for that many frames. Where memory runs out the room stays as it was.
+// Makes room for that many frames. Where memory runs out, the room stays.
 pub(crate) fn make_room(
     extents: &mut Vec<(u64, u32)>,
     buffer: &mut Frame,

@@ -1,4 +1,4 @@
-//! How a side is laid out (own). Numbers are big-endian.
+//! The layout of a side (own). Numbers are big-endian.
 //!
 //! A gate is one byte. It is open at A5h and closed at every other value; a closed one is written
 //! 00h.
@@ -9,22 +9,22 @@
 //! | 1 to 8 | `VTLCART1` of a cartridge, `VTLRESV1` of a drive's saved reservations |
 //! | 9 | the pair gate: of a cartridge any byte, 00h where it was made; of a store 00h |
 //! | 10 | N, the count of capacities: 1 to 4 of a cartridge, of a copy with 80h added; 0 of a store |
-//! | 11 to 26 | the barcode, or `DRIVE` and the drive's number, with spaces behind it |
+//! | 11 to 26 | the barcode, or `DRIVE` and the drive's number, filled up with spaces |
 //! | 27 on | N capacities in bytes, each a number of 8 bytes from 4,096 to 1,099,511,627,776 |
 //! | 27 + 8N | of a copy: its epoch, a number of 8 bytes |
 //! | 35 + 8N | of a copy: its base, a number of 4 bytes |
 //! | 27 + 8N | the gate of the first frame; of a copy at 39 + 8N |
 //!
-//! What stands before the first gate is the side's front. The ten bytes up to the pair gate are its
-//! own, and the head stands behind them, from place 10 on, and holds no gate (`heads.rt`). Whether the
-//! pair gate is open, and which of two sides counts, is no question here: a side is read in the same way.
+//! What stands before the first gate is the side's front: the ten bytes up to the pair gate, and from place
+//! 10 on the head, which holds no gate (`heads.rt`). This crate does not ask whether the pair gate is open,
+//! or which of two sides counts: a side is read in the same way.
 //!
-//! A frame is its gate (1), the length of its body (4; 1 to 8,388,608) and its body, and is
-//! followed by the gate of the next frame. A side is read from the first gate on, and reading ends
-//! at the first closed one: what lies behind it counts for nothing. Of a copy no fewer frames than its
-//! base stand before that one; else it is damaged there. So a frame is added in four
-//! calls of the disk: behind the gate at the end, which stands closed, go length, body and the next
-//! closed gate in one write; a sync; A5h into the gate; a sync.
+//! A frame is its gate (1), the length of its body (4; 1 to 8,388,608) and its body. The gate of the next
+//! frame follows it. A side is read from the first gate on, and reading ends at the first closed one: what
+//! lies after it does not count. A copy has at least as many frames as its base before that gate; else it is
+//! damaged there. A frame is added in four calls of the disk. Length, body and the next closed gate are
+//! written after the closed gate at the end, in one write; a sync follows. Then A5h is written into the gate,
+//! and a sync follows.
 ghost use Rattle.std.specs.Prelude.{◌≡◌, ◌↔◌, ◌≤◌, [], ◌∷◌, ◌++◌, length, take, drop, IfOk, IsTrue};
 ghost use Rattle.std.specs.List.{All, flat_map};
 ghost use Rattle.std.specs.Int.{to_be_bytes, w64};
@@ -53,7 +53,7 @@ pub(crate) const START_BYTES: usize = 27;
 /// The bytes of the longest front: of a copy with the most capacities.
 pub(crate) const HEADER_BYTES: usize = START_BYTES + 8 * MAX_PARTITIONS as usize + COPIED_BYTES;
 
-// The ten bytes that a side of this kind begins with, where its gate is open and its pair gate is this byte.
+// The ten bytes at the start of a side of this kind, where its gate is open and its pair gate is this byte.
 pub(crate) fn start(kind: SideKind, pair: u8) -> [u8; BEGUN_BYTES]
     ensures { result ≡ start OPEN kind pair }
 {
@@ -63,7 +63,7 @@ pub(crate) fn start(kind: SideKind, pair: u8) -> [u8; BEGUN_BYTES]
     bytes
 }
 
-// The front of a side that is no copy and whose pair gate is closed, in bytes.
+// The bytes of the front of a side that is no copy and whose pair gate is closed.
 pub(crate) fn spell_header(alloc: Global, header: &Header) -> Result<Vec<u8>, AllocError>
     requires { length header.now.capacities.items ≤ 4 }
     ensures { IfOk result (λ bytes. bytes.items ≡ spell_front (plain (heading_of header.now))) }
@@ -76,7 +76,7 @@ pub(crate) fn spell_header(alloc: Global, header: &Header) -> Result<Vec<u8>, Al
     Ok(bytes)
 }
 
-// Eight bytes for each number, behind what is there.
+// Appends eight bytes for each number.
 fn spell_capacities(bytes: &mut Vec<u8>, capacities: &[u64]) -> Result<(), AllocError>
     ensures { IfOk result (λ _.
         bytes.new.items ≡ bytes.old.items ++ flat_map (to_be_bytes w64) capacities.now) }
@@ -89,7 +89,7 @@ fn spell_capacities(bytes: &mut Vec<u8>, capacities: &[u64]) -> Result<(), Alloc
     Ok(())
 }
 
-// The same with the side's gate closed, and a closed gate behind it.
+// The same with the side's gate closed, followed by a closed gate.
 pub(crate) fn spell_closed(alloc: Global, header: &Header) -> Result<Vec<u8>, AllocError>
     requires { length header.now.capacities.items ≤ 4 }
     ensures { IfOk result (λ bytes.
@@ -101,7 +101,7 @@ pub(crate) fn spell_closed(alloc: Global, header: &Header) -> Result<Vec<u8>, Al
     Ok(bytes)
 }
 
-// The kind that this byte of a mark tells.
+// The kind, by this byte of its mark.
 pub(crate) fn kind_by_letter(byte: u8) -> SideKind
     ensures { result ≡ kind_by_letter byte }
 {
@@ -112,7 +112,7 @@ pub(crate) fn kind_by_letter(byte: u8) -> SideKind
     }
 }
 
-// The name that stands in a header's bytes.
+// The name in the bytes of a header.
 pub(crate) fn name_in(bytes: &[u8]) -> [u8; NAME_BYTES]
     requires { 27 ≤ length bytes.now }
     ensures { result ≡ take 16 (drop 11 bytes.now) }
@@ -122,7 +122,7 @@ pub(crate) fn name_in(bytes: &[u8]) -> [u8; NAME_BYTES]
     name
 }
 
-// Whether eight bytes at a time are capacities.
+// Whether each group of eight bytes is a capacity.
 pub(crate) fn hold_capacities(bytes: &[u8]) -> bool
     ensures { IsTrue result ↔ All (λ bytes. IsTrue (is_capacity bytes)) (numbers_of bytes.now) }
 {

@@ -1,31 +1,31 @@
-//! A run over a disk is stopped at each of its calls, for the tests of the crates above.
+//! Stops a run over a disk at each of its calls, for the tests of the crates above.
 ghost use Rattle.std.specs.Prelude.{◌+◌, ◌≤◌, IfOk, vec_len};
 
 use std::alloc::Global;
 use tape_disk::{FuseDisk, MemDisk};
 use vtl_base::NoMemory;
 
-/// Something that is done on a disk.
+/// A run of calls on a disk.
 pub trait Run {
-    /// Does it, and gives the disk that was reached and whether all of it went through. A later
-    /// call of it does the same.
+    /// Runs, and returns the disk that was reached and whether all calls succeeded. A later call of it does
+    /// the same.
     fn run(&self, alloc: Global, disk: FuseDisk<MemDisk>) -> (MemDisk, bool);
 }
 
 /// What one crash left.
 #[derive(Drop)]
 pub struct Stop {
-    /// How many calls of the disk passed before it stopped.
+    /// How many calls of the disk passed before the stop.
     pub calls: u64,
-    /// Whether the run went through.
+    /// Whether the run came to its end.
     pub ended: bool,
-    /// The disk as it is found again.
+    /// The disk as it is found after the crash.
     pub disk: MemDisk,
 }
 
-/// Stops the run before its first call of the disk, before its second, and so on until it goes
-/// through. At each stop none, one or all of the bytes that are not sure have landed, and the
-/// others are 00h, A5h or FFh.
+/// Stops the run before its first call of the disk, before its second, and so on until it comes to its end.
+/// At each stop none, one or all of the bytes that are not sure have landed, and the others are 00h, A5h or
+/// FFh.
 pub fn stop_at_each_call<R: Run>(
     alloc: Global,
     disk: &MemDisk,
@@ -44,7 +44,7 @@ pub fn stop_at_each_call<R: Run>(
     Ok(stops)
 }
 
-// Nine crashes after that many calls, and whether the run went through.
+// Adds nine crashes after that many calls. Returns whether the run came to its end.
 fn add_stops<R: Run>(
     alloc: Global,
     stops: &mut Vec<Stop>,

@@ -1,4 +1,4 @@
-//! A side of 1,099,511,627,776 bytes, up to its last one.
+//! A side of 1,099,511,627,776 bytes, up to its last byte.
 use assertions::assert_equal;
 use gate_journal::{Journal, JournalError};
 use std::alloc::Global;
@@ -16,15 +16,15 @@ const GATE: &'static [u8; 5] = b"\xa5\0\x80\0\0";
 
 const FRAMES: u64 = 131_071;
 
-// What a frame takes.
+// The bytes of a frame.
 const FRAME: u64 = 8_388_613;
 
-// The place of the closed gate behind them: 35 + 131,071 * 8,388,613.
+// The place of the closed gate after them: 35 + 131,071 * 8,388,613.
 const END: u64 = 1_099_503_894_558;
 
 const SIDE: u64 = 1_099_511_627_776;
 
-// The body that takes all that is left, but for the gate and the length of its frame.
+// The body that takes all the remaining bytes, except the gate and the length of its frame.
 const LAST: usize = 7_733_212;
 
 // What is found: how many frames, and how much room.
@@ -58,7 +58,7 @@ fn found(journal: &Journal<SparseDisk>) -> Found {
     (journal.frames(), journal.room())
 }
 
-// A body of so many bytes, zeros but for the first and the last, is added, or refused.
+// A body of this size, zeros except the first and the last byte, is added, or refused.
 fn append(
     alloc: Global,
     journal: &mut Journal<SparseDisk>,
@@ -73,7 +73,7 @@ fn append(
     Ok(journal.append(&body))
 }
 
-// What each body of so many bytes is answered, and what is found behind it.
+// The result for each body of this size, and what is found after it.
 static BODIES: &'static [(usize, Result<(), JournalError>, Found)] = &[
     (8_388_608, Err(JournalError::SideFull), (131_071, 7_733_217)),
     (LAST + 1, Err(JournalError::SideFull), (131_071, 7_733_217)),
@@ -81,7 +81,7 @@ static BODIES: &'static [(usize, Result<(), JournalError>, Found)] = &[
     (1, Err(JournalError::SideFull), (131_072, 0)),
 ];
 
-// A place, and the byte that stands there at the end: around the gate of the last frame, and where it ends.
+// A place, and its byte at the end: around the gate of the last frame, and where it ends.
 static BYTES: &'static [(u64, u8)] = &[
     (END - 1, 0),
     (END, 0xa5),

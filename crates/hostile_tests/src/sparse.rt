@@ -1,4 +1,4 @@
-//! A disk that keeps what was written, and has zeros elsewhere.
+//! A disk that stores written bytes, and has zeros elsewhere.
 use assertions::assert_equal;
 use std::process::Abort;
 use tape_disk::{Disk, SparseDisk};
@@ -10,13 +10,13 @@ enum Step {
     Put(u64, &'static [u8]),
     Cut(u64),
     Sync,
-    // It reads four bytes, and these are they.
+    // It reads four bytes, which are these.
     Get(u64, [u8; 4]),
 }
 
 const FAR: u64 = 1_099_511_627_776;
 
-// Each call, how long the disk is behind it, and how many failures it tells; none at Ok.
+// Each call, the length of the disk after it, and the failures that it reports; none at Ok.
 static STEPS: &'static [(Step, u64, u64)] = &[
     (Step::Sync, 0, 0),
     (Step::Put(0, b"abcdef"), 6, 0),
@@ -26,20 +26,20 @@ static STEPS: &'static [(Step, u64, u64)] = &[
     (Step::Put(5, b"Z12"), 8, 0),
     (Step::Get(0, *b"abXY"), 8, 0),
     (Step::Get(4, *b"eZ12"), 8, 0),
-    // far behind the end: zeros stand between
+    // far after the end: zeros between
     (Step::Put(FAR, b"\xa5\x01"), FAR + 2, 0),
     (Step::Get(6, *b"12\0\0"), FAR + 2, 0),
     (Step::Get(8, [0; 4]), FAR + 2, 0),
     (Step::Get(FAR - 2, *b"\0\0\xa5\x01"), FAR + 2, 0),
-    // zeros over what stands
+    // zeros over other bytes
     (Step::Put(FAR, b"\0"), FAR + 2, 0),
     (Step::Get(FAR - 2, *b"\0\0\0\x01"), FAR + 2, 0),
-    // reads that pass the end, and a write that passes each place that there is
+    // reads that pass the end, and a write that passes the last place
     (Step::Get(FAR - 1, [9; 4]), FAR + 2, 1),
     (Step::Get(u64::MAX - 3, [9; 4]), FAR + 2, 2),
     (Step::Put(u64::MAX - 1, b"ab"), FAR + 2, 3),
     (Step::Sync, FAR + 2, 0),
-    // a cut behind the end, one in the middle, and what then comes behind it
+    // a cut after the end, one in the middle, and bytes written after it
     (Step::Cut(FAR + 9), FAR + 2, 0),
     (Step::Cut(3), 3, 0),
     (Step::Get(0, [9; 4]), 3, 4),
@@ -51,7 +51,7 @@ static STEPS: &'static [(Step, u64, u64)] = &[
     (Step::Get(0, [0; 4]), 4, 0),
 ];
 
-// How many failures an answer tells.
+// How many failures a result reports.
 fn failures(answer: Result<(), DevFault>) -> u64 {
     match answer {
         Ok(()) => 0,
@@ -59,7 +59,7 @@ fn failures(answer: Result<(), DevFault>) -> u64 {
     }
 }
 
-// The answer of a call.
+// The result of a call.
 fn act(rt: &impl Abort, disk: &mut SparseDisk, step: Step) -> Result<(), DevFault> {
     match step {
         Step::Put(at, bytes) => disk.write_at(at, bytes),

@@ -1,4 +1,4 @@
-//! Work for a clock: frames are added to a side, as many bytes are copied, and a side is opened.
+//! A timed program: frames are added to a side, as many bytes are copied, and a side is opened.
 #![tactic(auto)]
 
 mod work;
@@ -9,10 +9,10 @@ use std::process::ExitCode;
 use std::time::Instant;
 use work::{appended, copied, opened, side_of, written};
 
-// The words of which a little is done where none is given.
+// The words for which a little work is done where none is given.
 static WORDS: &'static [&'static str] = &["append", "copy", "write", "side", "open"];
 
-// What the word asks, done so often: how many bytes or frames came of it.
+// The work of the word, done `count` times: how many bytes or frames are the result.
 fn done(alloc: Global, word: &str, count: u32) -> Option<usize> {
     match word {
         "append" => appended(alloc, count),
@@ -23,7 +23,7 @@ fn done(alloc: Global, word: &str, count: u32) -> Option<usize> {
     }
 }
 
-// The microseconds that the work took, and what came of it. To open a side is timed alone.
+// The microseconds of the work, and its result. The opening of a side is timed alone.
 fn timed(rt: &HostRuntime, word: &str, count: u32) -> Option<(u128, usize)> {
     let alloc = rt.alloc();
     if word == "open" {
@@ -37,7 +37,7 @@ fn timed(rt: &HostRuntime, word: &str, count: u32) -> Option<(u128, usize)> {
     Some((start.elapsed(rt).ok()?.as_micros(), count))
 }
 
-// Does a little of each of these words, and tells what came of it.
+// Does a little work for each of these words, and prints the results.
 fn a_little_of_all(rt: &HostRuntime) -> ExitCode {
     for &word in WORDS {
         match timed(rt, word, 3) {
@@ -50,8 +50,8 @@ fn a_little_of_all(rt: &HostRuntime) -> ExitCode {
     ExitCode::from(0)
 }
 
-/// With `append N`, `copy N`, `write N`, `side N` or `open N` it tells the microseconds and what
-/// came of it; with no words it does a little of each and tells that alone.
+/// With `append N`, `copy N`, `write N`, `side N` or `open N` it prints the microseconds and the result.
+/// Without words it does a little of each and prints only the results.
 fn main(rt: HostRuntime) -> ExitCode {
     let Ok(words) = env::args(&rt) else {
         return ExitCode::from(1);

@@ -1,4 +1,4 @@
-//! What is timed.
+//! The work that is timed.
 ghost use Rattle.gate_journal.specs.Side.{IsBody};
 
 use gate_journal::{Header, Journal, JournalError, SideKind};
@@ -22,8 +22,8 @@ fn new_side(alloc: Global) -> Option<Journal<MemDisk>> {
     Journal::create(alloc, MemDisk::new(alloc), header).ok()
 }
 
-// Adds a frame. Where memory ran out it is tried once more, since nothing changed; after a fault of
-// the disk the side is opened again, and has the frame or not.
+// Adds a frame. Where memory ran out it is tried once more, since nothing changed. After a fault of the disk
+// the side is opened again, and has the frame or not.
 fn add(alloc: Global, side: Journal<MemDisk>, body: &[u8]) -> Option<Journal<MemDisk>>
     requires { IsBody body.now }
 {
@@ -41,7 +41,7 @@ fn add(alloc: Global, side: Journal<MemDisk>, body: &[u8]) -> Option<Journal<Mem
     Some(side)
 }
 
-// Adds that many frames of this body.
+// Adds `count` frames with this body.
 fn filled(
     alloc: Global,
     side: Journal<MemDisk>,
@@ -63,8 +63,8 @@ pub fn appended(alloc: Global, count: u32) -> Option<usize> {
     Some(filled(alloc, new_side(alloc)?, count, &body)?.frames())
 }
 
-/// Writes that many pieces of 1,000 bytes at the end of a disk, and as many of 10 bytes over them:
-/// how many bytes it has.
+/// Writes `count` pieces of 1,000 bytes at the end of a disk, and as many of 10 bytes over them: how many
+/// bytes it has.
 pub fn written(alloc: Global, count: u32) -> Option<usize> {
     let piece = [90; 1_000];
     let mut disk = MemDisk::new(alloc);
@@ -74,7 +74,7 @@ pub fn written(alloc: Global, count: u32) -> Option<usize> {
     }
     for i in 0..count {
         let place = u64::from(i) * 1_000;
-        // True of each piece: it is asked for the proof's sake.
+        // Called for the proof: it is true of each piece.
         if place <= disk.len() {
             disk.write_at(place, &piece[..10]).ok()?;
         }
@@ -83,7 +83,7 @@ pub fn written(alloc: Global, count: u32) -> Option<usize> {
     Some(disk.bytes().len())
 }
 
-/// Copies the bytes of as many bodies into one row: how many bytes it has.
+/// Copies the bytes of as many bodies into one vector: how many bytes it has.
 pub fn copied(alloc: Global, count: u32) -> Option<usize> {
     let body = vec![in alloc; 90u8; BODY].ok()?;
     let mut row = Vec::new(alloc);
@@ -93,7 +93,7 @@ pub fn copied(alloc: Global, count: u32) -> Option<usize> {
     Some(row.len())
 }
 
-/// The disk of a side with that many frames of 100 bytes.
+/// The disk of a side with `count` frames of 100 bytes.
 pub fn side_of(alloc: Global, count: u32) -> Option<MemDisk> {
     let body = vec![in alloc; 90u8; SMALL].ok()?;
     let mut side = new_side(alloc)?;

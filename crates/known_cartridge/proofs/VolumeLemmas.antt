@@ -15,7 +15,7 @@ use Rattle.tape_disk.specs.TwoDisks.{Images}
 use Rattle.record_index.specs.Records.{spell_all, spell_change, spell_head}
 use Rattle.cartridge.specs.Contents.{Contents, GivesContents, ShowsContents, changes_in, volume_made, with_frames}
 
--- a cartridge that is opened holds the volume that it held when it was closed
+-- a cartridge that is opened holds the same volume as when it was closed
 pub same_volume : (volume : List Part) (closed opened : Contents) (torn : List (List Change)) (images : Images)
     → torn ≡ [] → volume ≡ volume_made closed → ShowsContents closed torn images → GivesContents opened images
     → ((images : Images) (a b : Contents) → GivesContents a images → GivesContents b images → a ≡ b)
@@ -29,7 +29,7 @@ same_volume volume closed opened torn images whole is (inr shown) found one =
     (append-nil closed.frames) in
     is ∙ ap volume_made (sym none ∙ one images (with_frames closed torn) opened shown found)
 
--- one change more
+-- one more change
 pub taken_next : (changes : List Change) (i : ℕ) (change : Change) → i < length changes
     → change ≡ slice_index_or changes i change → take (i + 1) changes ≡ take i changes ++ change ∷ []
 taken_next changes i change inside is =
@@ -49,7 +49,7 @@ frame_of_one (Put part at block) = omega (arith, length-append (spell_head 1 par
 frame_of_one (Marks part at count) = refl
 frame_of_one (Erase part at) = refl
 
--- the bytes of one change more
+-- the bytes of one more change
 pub spelled_next : (done : List Change) (change : Change)
     → length (spell_all (done ++ change ∷ [])) + 5 ≡ length (spell_all done) + frame_size change
 spelled_next done change =
@@ -61,7 +61,7 @@ spelled_next done change =
       ap (λ (l : List ℕ). length l) (append-nil (spell_change change)),
     )
 
--- the volume of one frame more
+-- the volume after one more frame
 pub volume_more : (contents : Contents) (changes : List Change)
     → volume_made (with_frames contents (changes ∷ [])) ≡ after (volume_made contents) changes
 volume_more contents changes =

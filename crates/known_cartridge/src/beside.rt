@@ -1,4 +1,4 @@
-//! A cartridge, and beside it in memory the volume that it holds, which tells whether changes apply.
+//! A cartridge, with the volume that it holds beside it in memory, which decides whether changes apply.
 ghost use Rattle.std.specs.Prelude.{◌≡◌, ◌≤◌, [], ◌∷◌, length, true, IfSome, OnOk};
 ghost use Rattle.volume_core.specs.Volume.{AllApply, after};
 ghost use Rattle.tape_disk.specs.TwoDisks.{AreHonest};
@@ -16,8 +16,8 @@ use volume_core::{Change, Volume, are_capacities};
 use vtl_base::Barcode;
 use vtl_base::limits::MAX_BODY;
 
-/// An open cartridge `T00001L6`, and the volume that it holds. After a store that did not go through
-/// no volume stands beside it. To a contract it is the cartridge.
+/// An open cartridge `T00001L6`, and the volume that it holds. After a failed store there is no volume beside
+/// it. A contract sees the cartridge.
 #[derive(Drop)]
 pub struct Known<D: Disk> {
     cartridge: Cartridge<D>,
@@ -42,7 +42,7 @@ impl<D: Disk> Model for Known<D> {
 }
 
 impl<D: Disk + Drop> Known<D> {
-    /// Makes a cartridge of these capacities, and opens it.
+    /// Makes a cartridge with these capacities, and opens it.
     pub fn made(
         alloc: Global,
         first: D,
@@ -115,8 +115,8 @@ impl<D: Disk + Drop> Known<D> {
         }
     }
 
-    /// Stores changes as one frame. `BadRecord` at 0 is that they do not apply, or that no volume
-    /// stands beside the cartridge.
+    /// Stores changes as one frame. It returns `BadRecord` at 0 where they do not apply, or where there is no
+    /// volume beside the cartridge.
     pub fn store(&mut self, alloc: Global, changes: &[Change]) -> Result<(), CartridgeError> {
         let Some(volume) = self.volume.take() else {
             return Err(CartridgeError::BadRecord { at: 0 });
@@ -129,7 +129,7 @@ impl<D: Disk + Drop> Known<D> {
         Ok(())
     }
 
-    /// Stores changes as one frame, and tells the time that the store took.
+    /// Stores changes as one frame, and returns the time that the store took.
     pub fn store_by_the_clock(&mut self, rt: &HostRuntime, changes: &[Change]) -> Option<Duration> {
         let Some(volume) = self.volume.take() else {
             return None;
@@ -146,7 +146,7 @@ impl<D: Disk + Drop> Known<D> {
         Some(time)
     }
 
-    /// The cartridge, to be looked at.
+    /// The cartridge, for reading.
     pub fn cartridge(&self) -> &Cartridge<D> {
         &self.cartridge
     }
@@ -162,7 +162,7 @@ impl<D: Disk + Drop> Known<D> {
     }
 }
 
-// Stores changes as one frame. Where memory ran out it is tried once more, since nothing changed.
+// Stores changes as one frame. Where memory ran out it tries once more, since nothing changed.
 fn store_frame<D: Disk>(
     cartridge: &mut Cartridge<D>,
     changes: &[Change],

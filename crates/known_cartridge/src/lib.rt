@@ -1,4 +1,4 @@
-//! A cartridge, and beside it in memory the volume that it holds, for programs and tests that store changes.
+//! A cartridge, with the volume that it holds beside it in memory, for programs and tests that store changes.
 #![tactic(auto)]
 
 mod beside;

@@ -26,7 +26,7 @@ impl<L: Parties> Model for OpenBook<L> {
 }
 
 impl<L: Parties> OpenBook<L> {
-    /// Of a ledger in which nothing is entered.
+    /// The open book of a blank ledger.
     pub(crate) fn open(blank: Blank) -> OpenBook<L>
         requires { IsBlankOf blank L.name L.parts L.all }
         ensures { result ≡ record { total = 0; left = L.all } }
@@ -35,7 +35,7 @@ impl<L: Parties> OpenBook<L> {
         OpenBook { book, left }
     }
 
-    /// Gives one party its share.
+    /// A share for one more party.
     pub(crate) fn give(&mut self) -> PartyShare<L>
         requires { 0 < self.old.left }
         ensures share { result ≡ 0 }
@@ -54,7 +54,7 @@ impl<L: Parties> OpenBook<L> {
         share.enter(&mut self.book);
     }
 
-    /// Nothing is entered any more.
+    /// Closes the book: nothing is entered any more.
     pub(crate) fn gather(self) -> ClosedBook<L>
         ensures { result ≡ record { total = self.total; gathered = no_share } }
     {
@@ -85,7 +85,7 @@ impl<L: Parties> Model for ClosedBook<L> {
 }
 
 impl<L: Parties> ClosedBook<L> {
-    /// Takes a party's share back.
+    /// Takes back a party's share.
     pub(crate) fn take(&mut self, share: PartyShare<L>)
         ensures taken { self.new ≡ record self.old { gathered = and_share self.old.gathered share } }
         ensures bound { self.new.gathered.changes ≤ self.new.total }
@@ -94,7 +94,7 @@ impl<L: Parties> ClosedBook<L> {
         self.book.audit(&mut self.part);
     }
 
-    /// Shows how what was gathered stands to the total.
+    /// Shows how the gathered shares relate to the total.
     pub(crate) fn audit(&mut self)
         ensures same { self.new ≡ self.old }
         ensures bound { self.new.gathered.changes ≤ self.new.total }

@@ -9,20 +9,18 @@ use crate::shares::PartyShare;
 use std::marker::Model;
 use thiserror::Error;
 
-/// The seats that were gathered have fewer changes than were entered, so one at least is missing.
-/// Own.
+/// The gathered seats have fewer changes than were entered, so at least one is missing. Own.
 #[derive(Clone, Copy, PartialEq, Eq, Debug, Error)]
 #[error("seats with {seats} of {total} changes")]
 pub struct SeatsMissing {
     /// How many changes were entered in either ledger.
     pub total: u64,
-    /// How many of them were entered for the seats that were gathered.
+    /// How many of them were entered for the gathered seats.
     pub seats: u64,
 }
 
-/// The ledger of the bays and that of the hosts at the end. The shares of the bays and the seats of
-/// the hosts come back in any order, and then both are compared with the total. It takes no memory.
-/// Own.
+/// The ledger of the bays and that of the hosts at the end. The shares of the bays and the seats of the hosts
+/// are returned in any order, and then both are compared with the total. It takes no memory. Own.
 #[derive(Drop)]
 pub struct Gathering<B: Parties, H: Parties> {
     total: u64,
@@ -44,7 +42,7 @@ impl<B: Parties, H: Parties> Model for Gathering<B, H> {
 }
 
 impl<B: Parties, H: Parties> Gathering<B, H> {
-    // Of ledgers of this total, of whose shares none is gathered.
+    // The gathering of ledgers with this total, without any share yet.
     pub(crate) fn of(total: u64, bays: ClosedBook<B>, hosts: ClosedBook<H>) -> Gathering<B, H>
         requires totals { (bays.total ≡ total) × (hosts.total ≡ total) }
         requires none { (bays.gathered ≡ no_share) × (hosts.gathered ≡ no_share) }
@@ -74,9 +72,8 @@ impl<B: Parties, H: Parties> Gathering<B, H> {
         self.seats += amount;
     }
 
-    /// How many changes were entered in either ledger, if the seats that were gathered have all of
-    /// them. With the shares of all bays these have all of them, and with the seats of all hosts the
-    /// answer is Ok.
+    /// How many changes were entered in either ledger, if the gathered seats have all of them. The shares of
+    /// all bays have all of them. With the seats of all hosts the result is Ok.
     pub fn compare(self) -> Result<u64, SeatsMissing>
         ensures within { (self.bays.changes ≤ self.total) × (self.hosts.changes ≤ self.total) }
         ensures bays { self.bays.shares ≡ B.all → self.bays.changes ≡ self.total }

@@ -7,8 +7,8 @@ use crate::shares::PartyShare;
 use std::marker::Model;
 use vtl_base::Nexus;
 
-/// A host's place in a library: its nexus, and its share of the ledger of the hosts. It goes where
-/// the host goes, to another thread too. A seat that is dropped is missing at the end. Own.
+/// A host's place in a library: its nexus, and its share of the ledger of the hosts. It goes where the host
+/// goes, to another thread too. A seat that is dropped is missing at the end. Own.
 #[derive(Drop)]
 pub struct Seat<H: Parties> {
     nexus: Nexus,
@@ -31,13 +31,13 @@ impl<H: Parties> Seat<H> {
         self.nexus
     }
 
-    /// How many changes its commands had accepted, as they were entered for it.
+    /// How many changes of its commands were accepted, as entered for it.
     pub fn amount(&self) -> u64
         ensures { result ≡ self.now.amount }
     {
         self.share.amount()
     }
-    // The seat of the host of this nexus.
+    // The seat of the host with this nexus.
     pub(crate) fn of(nexus: Nexus, share: PartyShare<H>) -> Seat<H>
         ensures { result ≡ record { nexus = nexus; amount = share } }
     {
@@ -54,7 +54,7 @@ impl<H: Parties> Seat<H> {
         hosts.enter(&mut self.share);
     }
 
-    // Its share, which stands at its amount.
+    // Its share, which has its amount.
     pub(crate) fn into_share(self) -> PartyShare<H>
         ensures { result ≡ self.amount }
     {

@@ -5,9 +5,9 @@ use crate::parties::Parties;
 use std::marker::Model;
 use std::sync::ledger::{Book, Share};
 
-/// A party's share of its ledger: how many changes were entered for it, below 2^64. Only
-/// `Tally::enter` raises it, and it has no copy. A bay's stands beside the bay, a host's in its
-/// `Seat`. A share that is dropped is missing at the end. Own.
+/// A party's share of its ledger: how many changes were entered for it, below 2^64. Only `Tally::enter`
+/// raises it, and it cannot be copied. A bay's share is kept with the bay, a host's in its `Seat`. A share
+/// that is dropped is missing at the end. Own.
 #[derive(Drop)]
 pub struct PartyShare<L: Parties> {
     amount: u64,
@@ -32,7 +32,7 @@ impl<L: Parties> PartyShare<L> {
         self.amount
     }
 
-    // The share of this part, for which nothing was entered.
+    // The share of this part, without entries.
     pub(crate) fn of(part: Share<L>) -> PartyShare<L>
         requires { (part.parts ≡ 1) × (part.amount ≡ 0) }
         ensures { result ≡ 0 }
@@ -52,7 +52,7 @@ impl<L: Parties> PartyShare<L> {
         self.amount += 1;
     }
 
-    // Its part, which stands at its amount.
+    // Its part, which has its amount.
     pub(crate) fn into_part(self) -> Share<L>
         ensures { (result.parts ≡ 1) × (result.amount ≡ self) }
     {

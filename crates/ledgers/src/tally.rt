@@ -12,8 +12,8 @@ use std::sync::Wait;
 use std::sync::ledger::Blank;
 use vtl_base::Nexus;
 
-/// The ledger of the bays and that of the hosts, for a lock of its own. Both totals are always
-/// equal, since a change is entered in both by one call. Own.
+/// The ledger of the bays and that of the hosts, for a lock of its own. Both totals are always equal, since
+/// one call enters a change in both. Own.
 #[derive(Drop)]
 pub struct Tally<B: Parties, H: Parties> {
     total: u64,
@@ -46,7 +46,7 @@ impl<B: Parties, H: Parties> Tally<B, H> {
         }
     }
 
-    /// Gives one of the bays its share.
+    /// The share of one more bay.
     pub fn add_bay(&mut self) -> PartyShare<B>
         requires { 0 < self.old.bays_left }
         ensures share { result ≡ 0 }
@@ -55,8 +55,7 @@ impl<B: Parties, H: Parties> Tally<B, H> {
         self.bays.give()
     }
 
-    /// Gives the host of this nexus its seat. That different seats have different nexuses is left to
-    /// the caller.
+    /// The seat of the host with this nexus. The caller ensures that different seats have different nexuses.
     pub fn add_host(&mut self, nexus: Nexus) -> Seat<H>
         requires { 0 < self.old.hosts_left }
         ensures seat { result ≡ record { nexus = nexus; amount = 0 } }
@@ -65,8 +64,8 @@ impl<B: Parties, H: Parties> Tally<B, H> {
         Seat::of(nexus, self.hosts.give())
     }
 
-    /// Enters one change that a bay accepted of a host, in both ledgers. With 2^64 - 1 changes
-    /// entered it never returns.
+    /// Enters one change that a bay accepted from a host, in both ledgers. With 2^64 - 1 changes entered it
+    /// never returns.
     pub fn enter<R: Wait>(&mut self, rt: &R, bay: &mut PartyShare<B>, seat: &mut Seat<H>)
         ensures bay { bay.new ≡ bay.old + 1 }
         ensures seat { seat.new ≡ record seat.old { amount = seat.old.amount + 1 } }
@@ -82,7 +81,7 @@ impl<B: Parties, H: Parties> Tally<B, H> {
         self.total += 1;
     }
 
-    /// Nothing is entered any more: the shares are gathered from now on.
+    /// Ends the entries: from now on the shares are gathered.
     pub fn gather(self) -> Gathering<B, H>
         ensures { result ≡ record { total = self.total; bays = no_share; hosts = no_share } }
     {

@@ -1,4 +1,4 @@
--- What a count of changes says of those that were made, and what a seat grows by.
+-- The count of changes that were made, and the growth of a seat.
 use Rattle.std.proofs.Common.{zero, suc, ◌≡◌, ◌≢◌, ◌≤◌, ◌<◌, ◌+◌, ◌^◌, ◌⊎◌, inl, inr, ℕ, List, [], ◌∷◌, length, ◌∙◌, ap, arith}
 use Rattle.std.proofs.Math.Nat.{min-eq_left}
 use Rattle.tape_disk.specs.Disk.{DiskState}
@@ -23,7 +23,7 @@ count_rises old new (change ∷ []) few counted below =
     counted ∙ min-eq_left (omega (arith, below))
 count_rises old new (change ∷ other ∷ changes) few counted below = absurd (omega (arith, few))
 
--- what is entered where a count has risen is what it rose by
+-- where a count has risen, the entry is what it rose by
 pub rises_by : (before after held held' n : ℕ) → after ≡ before + n → n ≤ 1 → (before ≡ after → held' ≡ held)
     → (before ≢ after → held' ≡ held + 1) → held' ≡ held + n
 rises_by before after held held' zero is few same risen = omega (arith, same (omega (arith, is)))
@@ -44,7 +44,7 @@ few_changes before after zero is few = inl (omega (arith, is))
 few_changes before after (suc zero) is few = inr (omega (arith, is))
 few_changes before after (suc (suc n)) is few = absurd (omega (arith, few))
 
--- a seat that grew by the changes that were made grew as the reply tells
+-- a seat that grew by the changes that were made grew as the reply says
 pub grows_as_told : (cdb : List ℕ) (reply : Reply) (changes : List Change) (before after : ℕ)
     → TellsChanges cdb reply changes → after ≡ before + length changes → GrowsAsTold cdb reply before after
 grows_as_told cdb reply changes before after told grown =
@@ -86,7 +86,7 @@ module _ {D : Type 0} (state : D → DiskState) where
         grows_as_told request.cdb reply changes before.amount after.amount told grown,
       )
 
-  -- what its share stands at then
+  -- the share of the drive then
   pub share_stands : (old : BayState D) (request : Request) (reply : Reply) (new : BayState D) (low high held held' : ℕ)
       → (step : Answers (state_of state) (buffer_below state) store_kept (store_below state) old request reply new)
       → TellsChanges request.cdb reply step.taken.made.changes

@@ -1,4 +1,4 @@
--- Seats of hosts that are answered.
+-- Seats of hosts whose commands are answered.
 use Rattle.std.proofs.Common.{zero, suc, ◌≡◌, ◌≢◌, ◌≤◌, ◌<◌, ◌+◌, ◌⊎◌, ◌==◌, nat_lt, inl, inr, ℕ, List, [], ◌∷◌, ◌++◌, length, get_or, set, map, Some, Result, Ok, Err, IfOk, Bool, true, false, refl, sym, ap, ◌∙◌, subst, arith}
 use Rattle.std.proofs.lemmas.Bool.Decides.{nat_tests}
 use Rattle.std.proofs.lemmas.List.{append-nil, get_or-set_other, get_or-set_same, length-set, map-append}
@@ -21,7 +21,7 @@ use Rattle.library.specs.MovesAt.{IsMovedAmong}
 use Rattle.library.specs.Served.{IsServed}
 
 module _ {X : Type 0} where
-  -- what stands at a place
+  -- the value at a place
   get_at : (xs : List X) (i : ℕ) (d : X) → i < length xs → slice_get xs i ≡ Some (get_or xs i d)
   get_at [] i d within = absurd (omega (arith, within))
   get_at (x ∷ xs) zero d within = refl
@@ -40,7 +40,7 @@ same_or_not a b = by (a == b) refl
     by true is = inl (grind (arith, nat_tests))
     by false is = inr (λ same. let no : (a == b) ≡ true = grind (arith, nat_tests) in absurd (cc))
 
--- what is below the next number is below this one, or is this one
+-- a number below the next one is below this one, or is this one
 pub below_or_at : (k n : ℕ) → k < n + 1 → (k < n) ⊎ (k ≡ n)
 below_or_at k n less = by (nat_lt k n) refl
   where
@@ -48,7 +48,7 @@ below_or_at k n less = by (nat_lt k n) refl
     by true is = inl (grind (arith, nat_tests))
     by false is = let no : n ≤ k = grind (arith, nat_tests) in inr (omega (arith, no, less))
 
--- where a call fails and leaves what is seen as it was, nothing of the item was run
+-- where a call fails and the crew is unchanged, nothing of the item was run
 pub none_seen : {P Q T E : Type 0} (see : P → Q) (answers : Q → List Item → List Reply → Q → Type 0) (old new : P)
     (item : Item) (result : Result T E) → answers (see old) (Phase [] ∷ []) [] (see old)
     → OnErr result (see new ≡ see old)
@@ -109,7 +109,7 @@ module _ {D : Type 0} (state : D → DiskState) where
           ap (λ (s : SeatState). s.nexus) (get_or-set_other old one.place i one.after d other)
           ∙ places.each i d less
 
-  -- the lines that were answered go on by one more
+  -- the answered lines, and one more
   pub lines_on : (drives : List Bool) (old mid new : List SeatState) (lines : List Line) (line : Line)
       (replies : List Reply) (reply : Reply)
       → AnswersAllAmong state drives old (map Command lines) replies mid → AnswersLine state mid line reply new

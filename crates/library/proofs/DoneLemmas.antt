@@ -13,13 +13,13 @@ use Rattle.library.specs.Inner.Jobs.{AreDone, IsDealt, IsReady, JobState, lines_
 use Rattle.library.proofs.JobLemmas.{lines_pass}
 use Rattle.library.proofs.SessionLemmas.{session_host}
 
--- what a call left of all of a vector
+-- what a call left of all values of a vector
 pub refilled : {X : Type 0} (n : ℕ) (xs ys : List X) → length xs ≡ n → take n (xs ++ drop (length xs) ys) ≡ xs
 refilled n xs ys same =
     subst (λ (k : ℕ). take k (xs ++ drop (length xs) ys) ≡ xs) same (take-append_seam xs (drop (length xs) ys))
 
 module _ {D : Type 0} (state : D → DiskState) where
-  -- each seat is in its place still
+  -- each seat is still in its place
   pub done_in_place : (old new : List JobState) → length new ≡ length old → AreDone state old new
       → AreInPlace (seats_of old) → AreInPlace (seats_of new)
   done_in_place old new long done places = record {
@@ -38,7 +38,7 @@ module _ {D : Type 0} (state : D → DiskState) where
         ∙ places.each i d less;
   }
 
--- jobs with lines of their hosts, for drives that there are, are ready
+-- jobs with lines of their hosts, for configured drives, are ready
 pub dealt_ready : (drives : List Bool) (jobs : List JobState) → All IsDealt jobs
     → list_all (λ line. has_drive drives line.drive) (lines_of jobs) ≡ true → All (IsReady drives) jobs
 dealt_ready drives jobs dealt configured k d less = record {

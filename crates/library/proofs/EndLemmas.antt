@@ -45,7 +45,7 @@ module _ {D : Type 0} (state : D → DiskState) where
   none_ended (x ∷ shared) bays gathered none nor is = absurd (omega (arith, none))
   none_ended [] (bay ∷ bays) gathered none nor is = absurd (omega (arith, nor))
 
-  -- one drive more has ended, before the others in the row
+  -- one more drive has ended, before the others in the list
   pub one_ended : {X : Type 0} (x : Option X) (shared : List (Option X)) (bay : Option (BayState D))
       (bays : List (Option (BayState D))) (old new : Gathered) (one all : Result Unit Unwritten)
       → is_some bay ≡ is_some x → new.shares ≡ old.shares + one_if_there x
@@ -84,7 +84,7 @@ module _ {D : Type 0} (state : D → DiskState) where
       )
 
 module _ {D : Type 0} (P : Option (BayState D) → Type 0) (none : P None) where
-  -- what is true of each drive of a row, and of a place that has none, is so by their numbers
+  -- a fact of each drive in a list, and of an empty place, holds by number
   each_at : (bays : List (Option (BayState D))) (place : ℕ) → OfEach P bays → P (get_or bays place None)
   each_at [] place all = none
   each_at (bay ∷ bays) zero all = all.0

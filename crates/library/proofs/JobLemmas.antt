@@ -23,7 +23,7 @@ no_lines (job ∷ jobs) none =
     ap (λ (l : List Line). l ++ lines_of jobs) (none zero job (omega arith))
     ∙ no_lines jobs (λ k d less. none (suc k) d (omega (arith, less)))
 
--- a line that is added to a job stands behind all others, where no job behind that one has a line
+-- a line that is added to a job comes after all others, where no later job has a line
 pub lines_set : (jobs : List JobState) (i : ℕ) (job d : JobState) (line : Line)
     → i < length jobs → job.lines ≡ (get_or jobs i d).lines ++ line ∷ []
     → ((k : ℕ) (d : JobState) → i < k → k < length jobs → (get_or jobs k d).lines ≡ [])
@@ -41,7 +41,7 @@ lines_set (first ∷ jobs) (suc i) job d line within grown none =
     (λ k d more less. none (suc k) d (omega (arith, more)) (omega (arith, less))))
     ∙ sym (append_assoc first.lines (lines_of jobs) (line ∷ []))
 
--- the replies of one job more
+-- the replies of one more job
 pub replies_more : (jobs : List JobState) (i : ℕ) (d : JobState) → i < length jobs
     → replies_of (take (i + 1) jobs) ≡ replies_of (take i jobs) ++ (get_or jobs i d).replies
 replies_more jobs i d within =
@@ -50,7 +50,7 @@ replies_more jobs i d within =
     ∙ flat_map-append (λ (j : JobState). j.replies) (take i jobs) (job ∷ [])
     ∙ ap (λ (l : List Reply). replies_of (take i jobs) ++ l) (append-nil job.replies)
 
--- and there are no more of them than of all jobs
+-- and they are no more than those of all jobs
 pub replies_within : (jobs : List JobState) (i : ℕ) (d : JobState) → i < length jobs
     → length (replies_of (take i jobs)) + length (get_or jobs i d).replies ≤ length (replies_of jobs)
 replies_within jobs i d within =
@@ -65,7 +65,7 @@ replies_within jobs i d within =
       length-append (replies_of (take i jobs)) (get_or jobs i d).replies,
     )
 
--- two tests that pass together pass
+-- two tests that are true together
 both_pass : (a b : Bool) → (a && b) ≡ true → (a ≡ true) × (b ≡ true)
 both_pass true b is = (refl, is)
 both_pass false b is = absurd (cc)

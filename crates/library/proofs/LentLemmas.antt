@@ -1,4 +1,4 @@
--- What was lent to a move where nothing is.
+-- A move for which no drive is lent.
 use Rattle.std.specs.Borrow.{MutBor}
 use Rattle.std.specs.Option.{option_copied_mut}
 use Rattle.std.proofs.Common.{◌≡◌, ◌⊎◌, Option, None, Some}
@@ -11,7 +11,7 @@ module _ {X : Type 0} where
   none_lent None left none Q q = q
   none_lent (Some given) left none Q q = absurd (cc)
 
-  -- the same of two
+  -- the same for two drives
   pub neither_lent : (r s : Option (MutBor X)) (left still : Unit {0} ⊎ ((MutBor X × Unit {0}) ⊎ ⊥))
       → option_copied_mut r ≡ None → option_copied_mut s ≡ None
       → (Q : Option X → Option X → Option X → Option X → Type 0) → Q (lent r) (lent s) (back r left) (back s still)

@@ -1,4 +1,4 @@
--- Rows that are gone through one place after another.
+-- Loops over the places of a list.
 use Rattle.std.proofs.Common.{◌≡◌, ◌≤◌, ◌<◌, ◌+◌, ℕ, List, [], ◌∷◌, ◌++◌, length, get_or, set, take, drop, Option, None, Result, Ok, sym, ap, ◌∙◌, subst, arith}
 use Rattle.std.proofs.lemmas.List.{append-nil, append_assoc, drop_all, get_or-map, length-map, take_more, take_more_set}
 use Rattle.std.proofs.lemmas.Grind.{drop-set_at}
@@ -16,7 +16,7 @@ use Rattle.library.specs.Kept.{IsLeftAt}
 use Rattle.library.proofs.EndLemmas.{none_ended, one_ended}
 
 module _ {Y : Type 0} where
-  -- what is left before what was taken off the end
+  -- the rest before an element that was taken off the end
   pub popped : (all items : List Y) (x : Y) (rest : List Y) → all ≡ (items ++ x ∷ []) ++ rest → all ≡ items ++ x ∷ rest
   popped all items x rest is = is ∙ append_assoc items (x ∷ []) rest
 
@@ -38,7 +38,7 @@ module _ {Y : Type 0} where
   whole : (n : ℕ) (l : List Y) → length l ≡ n → take n l ≡ l
   whole n l is = subst (λ (k : ℕ). take k l ≡ l) is (take-length l)
 
-  -- two rows that are alike as far as they go
+  -- two lists that are the same as far as they go
   pub alike : (n : ℕ) (xs ys : List Y) → length xs ≡ n → length ys ≡ n → take n xs ≡ take n ys → xs ≡ ys
   alike n xs ys one two same = sym (whole n xs one) ∙ same ∙ whole n ys two
 
@@ -52,7 +52,7 @@ module _ {D : Type 0} (state : D → DiskState) where
       none_ended state (drop n shared) (drop n row) gathered (ap length (drop_all n shared most))
       (ap length (drop_all n row many)) is
 
-  -- one drive more has ended, and stands in the row
+  -- one more drive has ended, and is in the list
   pub ended_on : {X : Type 0} (all items : List (Option X)) (x : Option X) (row row' : List (Option (BayState D)))
       (k n at : ℕ) (bay : Option (BayState D)) (old new : Gathered) (one before after : Result Unit Unwritten)
       → all ≡ (items ++ x ∷ []) ++ drop n all → length items ≡ k → k + 1 ≡ n → at ≡ k → n ≤ 16 → length row ≡ 16
@@ -76,7 +76,7 @@ module _ {D : Type 0} (state : D → DiskState) where
       (sym second) done))
 
 module _ {D : Type 0} where
-  -- one count more of a row
+  -- one more count of a list
   pub counted_on : (counts : List (Option ℕ)) (row : List (Option (BayState D))) (place : ℕ) (count : Option ℕ)
       → length counts ≡ 16 → length row ≡ 16 → place < 16 → count ≡ count_of_drive (get_or row place None)
       → take place counts ≡ take place (counts_of row)

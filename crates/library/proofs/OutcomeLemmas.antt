@@ -1,4 +1,4 @@
--- What the answer at the end of a library tells.
+-- What the result at the end of a library says.
 use Rattle.std.proofs.Common.{◌≡◌, ◌≢◌, ◌<◌, ◌≤◌, ℕ, List, Option, Result, Ok, Err, refl, sym, ap, ◌∙◌, subst, arith}
 use Rattle.std.specs.Prelude.{IfErr, IfOk, OnErr, OnOk}
 use Rattle.ledgers.specs.declared.gathering.SeatsMissing.{SeatsMissing}
@@ -16,7 +16,7 @@ module _ (P : Type 0) where
   of_unwritten (Ok done) counts (Ok total) is failed = absurd (cc)
   of_unwritten (Ok done) counts (Err missing) is failed = absurd (cc)
 
-  -- where not all is written out, it is told so
+  -- where not all is written out, that is reported
   pub tells_unwritten : (written : Result Unit Unwritten) (counts : List (Option ℕ)) (compared : Result ℕ SeatsMissing)
       (result : Result (List (Option ℕ)) FinishError) → result ≡ outcome_of written counts compared
       → OnErr written P → result ≡ Err Errors.Unwritten → P
@@ -28,7 +28,7 @@ module _ (P : Type 0) where
   of_written (Err unwritten) counts compared differs fine = absurd (differs refl)
   of_written (Ok done) counts compared differs fine = fine
 
-  -- and else all is
+  -- and else all is written out
   pub tells_written : (written : Result Unit Unwritten) (counts : List (Option ℕ)) (compared : Result ℕ SeatsMissing)
       (result : Result (List (Option ℕ)) FinishError) → result ≡ outcome_of written counts compared
       → OnOk written P → result ≢ Err Errors.Unwritten → P
@@ -70,7 +70,7 @@ module _ {D : Type 0} (bays : List (Option (BayState D))) (total sum : ℕ)
       IfErr r (λ e. IsShort e (sum_of_counts (counts_of bays)) sum))
       (sym is) (of_missing written counts compared short)
 
--- where the seats have all, none is missing
+-- where the seats have all changes, none is missing
 of_all : (total sum : ℕ) (written : Result Unit Unwritten) (counts : List (Option ℕ))
     (compared : Result ℕ SeatsMissing) → sum ≡ total
     → IfErr compared (λ m. (m.total ≡ total) × (m.seats ≡ sum) × (m.seats < m.total))
@@ -102,7 +102,7 @@ balances seats hosts counted held total sum written counts compared result is al
   all = λ every. tells_all total sum written counts compared result is (same every) short;
 }
 
--- of a good end the counts alone
+-- a good end reports the counts alone
 pub told_of : (result : Result (List (Option ℕ)) FinishError) (counts : List (Option ℕ)) (sum : ℕ)
     → IfOk result (λ c. (c ≡ counts) × (sum_of_counts c ≡ sum)) → IfOk result (λ c. c ≡ counts)
 told_of (Ok found) counts sum both = both.0

@@ -1,4 +1,4 @@
--- Rows of places: which have something, how many do, and what stands at one.
+-- Lists of places: which are filled, how many are, and what is at one.
 use Rattle.std.proofs.Common.{◌≡◌, ◌≤◌, ◌<◌, ◌+◌, ◌-◌, ◌⊎◌, inl, inr, ℕ, nat_le, Bool, true, false, List, [], ◌∷◌, ◌++◌, length, get_or, take, Option, None, Some, is_some, cond, refl, ◌∙◌, ap, sym, arith}
 use Rattle.std.proofs.lemmas.Bool.Decides.{nat_tests}
 use Rattle.std.proofs.lemmas.List.{get_or-map, length-map, map-append, take_more}
@@ -6,13 +6,13 @@ use Rattle.std.proofs.lemmas.List.Sums.{sum_by-cons, sum_by_more_le, sum_by_push
 use Rattle.std.proofs.Math.ListN.{get_or-eq_default}
 use Rattle.library.specs.Counts.{has_drive, one_if_there, places_filled, which_are_there}
 
--- what a row says of a number
+-- the entry of a number in a list
 pub said_at : (row : List Bool) (number : ℕ) → 1 ≤ number → has_drive row number ≡ get_or row (number - 1) false
 said_at row number least =
     let is : nat_le 1 number ≡ true = grind (arith, nat_tests) in
     ap (λ (b : Bool). cond b (get_or row (number - 1) false) false) is
 
--- a row has no drive of a number that no place has
+-- a list has no drive for a number without a place
 pub said_nowhere : (row : List Bool) (number : ℕ) → (number ≡ 0) ⊎ (length row < number) → has_drive row number ≡ false
 said_nowhere row number (inl zero) =
     let is : nat_le 1 number ≡ false = grind (arith, nat_tests) in
@@ -29,14 +29,14 @@ rest_of [] = []
 rest_of (b ∷ bs) = bs
 
 module _ {X : Type 0} where
-  -- there is a drive of a number if something stands at its place
+  -- there is a drive of a number if its place is filled
   pub there_at : (row : List (Option X)) (number : ℕ) → 1 ≤ number → number ≤ length row
       → has_drive (which_are_there row) number ≡ is_some (get_or row (number - 1) None)
   there_at row number least most =
       said_at (which_are_there row) number least
       ∙ get_or-map (is_some {T = X}) row (number - 1) None false (omega (arith, least, most))
 
-  -- the same of a place
+  -- the same for a place
   pub there_in : (row : List (Option X)) (place : ℕ) → place < length row
       → has_drive (which_are_there row) (place + 1) ≡ is_some (get_or row place None)
   there_in row place within =
@@ -44,7 +44,7 @@ module _ {X : Type 0} where
       there_at row (place + 1) (omega arith) (omega (arith, within))
       ∙ ap (λ (at : ℕ). is_some (get_or row at None)) is
 
-  -- one place more of a row that is gone through
+  -- one more place of a list that is gone through
   pub more_there : (row : List (Option X)) (place : ℕ) → place < length row
       → which_are_there (take (place + 1) row)
       ≡ which_are_there (take place row) ++ is_some (get_or row place None) ∷ []
@@ -62,14 +62,14 @@ module _ {X : Type 0} where
       → places_filled (take place row) + one_if_there (get_or row place None) ≤ places_filled row
   room_for row place within = sum_by_more_le (one_if_there {X = X}) row place None within
 
-  -- where places have something alike, as many have
+  -- where the same places are filled, as many are
   pub same_one : {Y : Type 0} (x : Option X) (y : Option Y) → is_some x ≡ is_some y → one_if_there x ≡ one_if_there y
   same_one None None same = refl
   same_one (Some x) (Some y) same = refl
   same_one None (Some y) same = absurd (cc)
   same_one (Some x) None same = absurd (cc)
 
-  -- rows that have something at the same places are equally long, and have as many
+  -- lists with the same places filled are equally long, and have as many filled
   pub same_length : {Y : Type 0} (xs : List (Option X)) (ys : List (Option Y)) → which_are_there xs ≡ which_are_there ys
       → length xs ≡ length ys
   same_length {Y = Y} xs ys same =
@@ -90,7 +90,7 @@ module _ {X : Type 0} where
   same_filled [] (y ∷ ys) same = absurd (cc)
   same_filled (x ∷ xs) [] same = absurd (cc)
 
-  -- there is no drive at an address that is none's
+  -- there is no drive at an address that is no drive's
   pub nowhere_there : (row : List (Option X)) (number : ℕ) → length row ≡ 16 → (number ≡ 0) ⊎ (16 < number)
       → has_drive (which_are_there row) number ≡ false
   nowhere_there row number long (inl zero) = said_nowhere (which_are_there row) number (inl zero)

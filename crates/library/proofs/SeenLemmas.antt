@@ -1,4 +1,4 @@
--- Rows of elements that are looked at one after another.
+-- Lists of elements that are looked at one after another.
 use Rattle.std.proofs.Common.{◌≡◌, ◌<◌, ◌+◌, ◌⊎◌, inl, inr, ℕ, Bool, true, List, Option, None, Some, length, get_or, set, ◌∙◌, ap, sym, arith}
 use Rattle.std.proofs.lemmas.List.{get_or-set_other, get_or_default}
 use Rattle.std.proofs.lemmas.Grind.{get_or-set_at}
@@ -9,12 +9,12 @@ use Rattle.library.specs.declared.inventories.Element.{Element}
 use Rattle.library.specs.declared.inventories.Element.TheVariants.{Missing}
 
 module _ {X : Type 0} where
-  -- there is a slot that is seen as it is
+  -- a slot exists, and its element is what it holds
   pub slot_there : (one : Element) (x : Option X) → one ≡ seen_at x → is_place_seen one ≡ true
   slot_there one None is = ap is_place_seen is
   slot_there one (Some x) is = ap is_place_seen is
 
-  -- one slot more is seen
+  -- one more slot
   pub seen_on : (seen : List Element) (row : List (Option X)) (at : ℕ) (one : Element) (x d : Option X)
       → at < length seen → at < length row → get_or row at d ≡ x → one ≡ seen_at x
       → ((k : ℕ) → k < at → get_or seen k Missing ≡ seen_at (get_or row k None))
@@ -29,7 +29,7 @@ module _ {X : Type 0} where
       by (inr lower) =
           get_or-set_other seen at k one Missing (λ same. absurd (omega (arith, same, lower))) ∙ so k lower
 
--- one drive more is seen
+-- one more drive
 pub drives_on : (seen : List Element) (row : List Bool) (at : ℕ) (one : Element) → at < length seen
     → is_place_seen one ≡ has_drive row (at + 1)
     → ((k : ℕ) → k < at → is_place_seen (get_or seen k Missing) ≡ has_drive row (k + 1))

@@ -21,12 +21,12 @@ passes_at p lines i line all within is = by (p line) refl
     by false fails =
         let none : list_all p lines ≡ false = list_all_at p lines i line within (ap p (sym is) ∙ fails) in absurd (cc)
 
--- numbers that are found equal are
+-- numbers that are found equal are equal
 pub equal_if : (a b : ℕ) → nat_eq a b ≡ true → a ≡ b
 equal_if a b is = grind (arith, nat_tests)
 
 module _ {D : Type 0} (state : D → DiskState) where
-  -- a session goes on by one line more
+  -- a session with one more line
   pub session_on : (before mid after : SeatState) (lines : List Line) (line : Line) (replies : List Reply)
       (reply : Reply)
       → AnswersSession state before lines replies mid → IsServed state (line_request line) mid reply after

@@ -1,11 +1,11 @@
--- What a function leaves of each of some values.
+-- What a function leaves of each value in a list.
 use Rattle.std.proofs.Common.{zero, suc, ◌≡◌, ◌<◌, ℕ, List, [], ◌∷◌, ◌++◌, length, get_or, arith}
 use Rattle.std.specs.Fork.{ChangesAt}
 use denote.Ref.{MutBor}
 use denote.Param.Members.{Shared}
 use Rattle.library.specs.Inner.Threads.{ChangesAll}
 
--- what holds of the values at each place of two rows holds of these rows behind each other
+-- what holds of the values of two lists holds of the two lists appended
 joined : {T : Type 0} (R : T → T → Type 0) (xs ys xs' ys' : List T) → length xs' ≡ length xs
     → ((i : ℕ) (d : T) → i < length xs → R (get_or xs i d) (get_or xs' i d))
     → ((i : ℕ) (d : T) → i < length ys → R (get_or ys i d) (get_or ys' i d))

@@ -1,4 +1,4 @@
--- What the hosts of a library are answered whose drives threads share.
+-- The replies to the hosts of a library whose drives threads share.
 use Rattle.std.specs.Prelude.{◌≡◌, ℕ, Bool, List, [], ◌∷◌, Some, flat_map, slice_get, slice_set}
 use Rattle.tape_disk.specs.Disk.{DiskState}
 use Rattle.ledgers.specs.Ledgers.{SeatState}
@@ -9,14 +9,13 @@ use Rattle.bays.specs.Runs.{Order, Command, Carry, line_request, orders_of}
 use Rattle.library.specs.MovesAt.{IsMovedAmong}
 use Rattle.library.specs.Served.{IsServed}
 
--- the hosts of a library: whether there is a drive, by its number, and the seat of each host (own)
+-- the hosts of a library: for each drive number whether there is a drive, and the seat of each host (own)
 pub record CrewState : Type 0 where
   pub drives : List Bool
   pub seats : List SeatState
 
 module _ {D : Type 0} (state : D → DiskState) where
-  -- A line is answered for its host, whose seat, which has some place, grows by what the reply tells. The other seats
-  -- stay (own).
+  -- A line is answered for its host, whose seat grows as the reply says. The other seats stay (own).
   pub record AnswersLine (old : List SeatState) (line : Line) (reply : Reply) (new : List SeatState) : Type 0 where
     pub place : ℕ
     pub before : SeatState
@@ -31,7 +30,7 @@ module _ {D : Type 0} (state : D → DiskState) where
   AnswersAmong drives old (Command line) reply new = AnswersLine old line reply new
   AnswersAmong drives old (Carry from to) reply new = IsMovedAmong state drives from to reply × (new ≡ old)
 
-  -- orders are answered one after another, each from where the one before left the seats (own)
+  -- orders are answered one after another, each with the seats that the last one left (own)
   abbrev pub AnswersAllAmong : List Bool → List SeatState → List Order → List Reply → List SeatState → Type 0
   AnswersAllAmong drives old [] [] new = new ≡ old
   AnswersAllAmong drives old (order ∷ orders) (reply ∷ replies) new =
@@ -39,7 +38,8 @@ module _ {D : Type 0} (state : D → DiskState) where
   AnswersAllAmong drives old [] (reply ∷ replies) new = ⊥
   AnswersAllAmong drives old (order ∷ orders) [] new = ⊥
 
-  -- the hosts of a library are answered some items so, one after another, and its drives stay in their places (own)
+  -- the hosts of a library get these replies to these items, one after another, and the same drives are configured
+  -- (own)
   pub record AnswersCrew (old : CrewState) (items : List Item) (replies : List Reply) (new : CrewState) : Type 0 where
     pub drives : new.drives ≡ old.drives
     pub orders : AnswersAllAmong old.drives old.seats (flat_map orders_of items) replies new.seats

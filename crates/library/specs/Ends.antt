@@ -6,7 +6,7 @@ use Rattle.library.specs.Counts.{count_of_drive, or_none}
 use Rattle.library.specs.declared.finishing.FinishError.{FinishError}
 use Rattle.library.specs.declared.finishing.FinishError.TheVariants.{Unwritten, SeatsMissing}
 
--- the sum of what the seats grew by (own)
+-- the sum of the amounts of all seats (own)
 abbrev pub sum_of_seats : List SeatState → ℕ
 sum_of_seats seats = sum_by (λ seat. seat.amount) seats
 
@@ -19,8 +19,8 @@ module _ {D : Type 0} where
 abbrev pub sum_of_counts : List (Option ℕ) → ℕ
 sum_of_counts counts = sum_by or_none counts
 
--- What the seats that were given back have together is not above what the drives counted. With as many seats as there
--- are hosts it is just as much, also where not all is written out, and no seat is missing (own).
+-- The returned seats have together at most what the drives counted. With as many seats as hosts it is exactly that,
+-- even where not all is written out, and no seat is missing (own).
 pub record Balances (seats hosts counted held : ℕ) (counts : Result (List (Option ℕ)) FinishError) : Type 0 where
   pub within : held ≤ counted
   pub same : seats ≡ hosts → counted ≡ held

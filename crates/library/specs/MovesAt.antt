@@ -10,8 +10,8 @@ use Rattle.library.specs.Counts.{has_drive}
 use Rattle.library.specs.Kept.{KeepsLent}
 
 module _ {D : Type 0} (state : D → DiskState) where
-  -- In each library that has these slots, and these drives where the addresses name them, a cartridge is moved, and
-  -- none is lost. The types keep slots and drives, before the move and behind it (own).
+  -- In each library that has these slots, and these drives at the two addresses, a cartridge is moved, and none is
+  -- lost. Slots and drives have their invariants before the move and after it (own).
   pub record MovesEach
       (from to : ℕ) (slots : List (Option (BufferState D))) (source destination : Option (BayState D)) (reply : Reply)
       (slots' : List (Option (BufferState D))) (source' destination' : Option (BayState D)) : Type 0 where
@@ -24,8 +24,8 @@ module _ {D : Type 0} (state : D → DiskState) where
     pub known : KeepsLent state slots source destination
     pub left : KeepsLent state slots' source' destination'
 
-  -- A move is answered as MOVE MEDIUM by some slots, and by a drive in some state at each address that is the number of
-  -- a drive of this row. A drive that both addresses name is lent once (SMC-3, MOVE MEDIUM; the rest own).
+  -- A move is answered as MOVE MEDIUM by some slots, and by some drive at each address that is the number of a drive in
+  -- this list. A drive at both addresses is lent once (SMC-3, MOVE MEDIUM; the rest own).
   pub record IsMovedAmong (row : List Bool) (from to : ℕ) (reply : Reply) : Type 0 where
     pub slots : List (Option (BufferState D))
     pub source : Option (BayState D)

@@ -15,9 +15,9 @@ use Rattle.library.specs.declared.finishing.FinishError.{FinishError}
 use Rattle.library.specs.declared.finishing.FinishError.TheVariants.{Unwritten}
 
 module _ {D : Type 0} (state : D → DiskState) where
-  -- A script was run for hosts whose seats were new, over a library with these drives, and then the library ended: the
-  -- sum of what its drives counted then is that of what the seats grew by in the run, however it ended; and where it
-  -- ended well, what each drive counted is returned (own).
+  -- A script was run for hosts with new seats, over a library with these drives, and then the library ended. However
+  -- the run ended, the sum of the drives' counts is that of the seats' amounts. Where the library ended well, the count
+  -- of each drive is returned (own).
   pub record RunsShared (bays : List (Option (BayState D))) (hosts : List ℕ) (left before now : Option (List ℕ))
       (outcome : Result (Unit {0}) ScriptFault) (bays' : List (Option (BayState D)))
       (counts : Result (List (Option ℕ)) FinishError) : Type 0 where
@@ -29,9 +29,9 @@ module _ {D : Type 0} (state : D → DiskState) where
     pub told : IfOk counts (λ counted. counted ≡ counts_of bays')
     pub sums : sum_of_counts (counts_of bays') ≡ sum_of_seats seats
 
-  -- A library ended with these slots and drives: it has the drives that it had. Each took a turn at the end, and the
-  -- types keep slots and drives. Nothing is left to be written, or a medium has failed, and that is reported; no seat
-  -- is missing (own).
+  -- A library with the same drives as before ended with these slots and drives. Each drive took a turn at the end, and
+  -- slots and drives have their invariants. Nothing is left to write, or a medium has failed, and that is reported; no
+  -- seat is missing (own).
   pub record EndsShared
       (bays bays' : List (Option (BayState D))) (slots' : List (Option (BufferState D)))
       (counts : Result (List (Option ℕ)) FinishError) : Type 0 where

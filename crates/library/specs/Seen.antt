@@ -1,4 +1,4 @@
--- What is seen at the element addresses of a library.
+-- What an inventory shows at the element addresses of a library.
 use Rattle.std.specs.Prelude.{Bool, true, false, Option, None, Some}
 use Rattle.drive_core.specs.State.{medium_in}
 use Rattle.bays.specs.Elements.{BayState}
@@ -6,18 +6,18 @@ use Rattle.library.specs.declared.inventories.Element.{Element}
 use Rattle.library.specs.declared.inventories.Element.TheVariants.{Missing, Empty, Full}
 
 module _ {X : Type 0} where
-  -- what is seen where there is a place (own)
+  -- the element of a place that exists (own)
   abbrev pub seen_at : Option X → Element
   seen_at None = Empty
   seen_at (Some x) = Full
 
 module _ {D : Type 0} where
-  -- what is seen of a drive, where there is one (own)
+  -- the element of a drive, if there is one (own)
   abbrev pub seen_of_drive : Option (BayState D) → Element
   seen_of_drive None = Missing
   seen_of_drive (Some bay) = seen_at (medium_in bay.bay)
 
--- whether there is such a place, by what is seen (own)
+-- the element shows that the place exists (own)
 abbrev pub is_place_seen : Element → Bool
 is_place_seen Missing = false
 is_place_seen _ = true

@@ -1,4 +1,4 @@
--- What a command of a host is answered at a drive that threads share, and what its seat grows by.
+-- The reply to a host's command at a drive that threads share, and by how much the host's seat grows.
 use Rattle.std.specs.Prelude.{◌≡◌, ◌⊎◌, ◌+◌, ℕ, List, length}
 use Rattle.tape_disk.specs.Disk.{DiskState}
 use Rattle.ledgers.specs.Ledgers.{SeatState}
@@ -15,9 +15,8 @@ use Rattle.bays.specs.Bays.{AnswersInEvent, IsSafeIn}
 use Rattle.bays.specs.Elements.{BayState}
 use Rattle.library.specs.Kept.{KeepsDrive}
 
--- A seat has grown from one amount to the other by what the reply to its host's command tells: by one where a WRITE of
--- some bytes, a WRITE FILEMARKS of some or an ERASE is acknowledged; by one or not where it is a write error; and else
--- it is what it was (own).
+-- A seat grows as the reply to its host's command says. An acknowledged WRITE of at least one byte, WRITE FILEMARKS of
+-- at least one, or ERASE adds one; a write error adds one or nothing; every other reply adds nothing (own).
 pub record GrowsAsTold (cdb : List ℕ) (reply : Reply) (before after : ℕ) : Type 0 where
   pub few : (after ≡ before) ⊎ (after ≡ before + 1)
   pub one : IsChanging cdb → Acknowledges reply → after ≡ before + 1
@@ -25,9 +24,9 @@ pub record GrowsAsTold (cdb : List ℕ) (reply : Reply) (before after : ℕ) : T
   pub other : (IsChanging cdb → ⊥) → after ≡ before
 
 module _ {D : Type 0} (state : D → DiskState) where
-  -- A drive that its type keeps answers the host of a seat, and its type keeps it. At each moment inside the command a
-  -- crash leaves what the command's event says. The seat grows by one for each change that the drive accepted with it,
-  -- which is what the reply says. Before it acknowledges a synchronizing command, all is stored, and all that its
+  -- A drive with its invariant answers the host of a seat, and has its invariant afterwards. At each moment inside the
+  -- command a crash leaves what the command's event says. The seat grows by one for each change that the drive accepted
+  -- with it, as the reply says. Before the drive acknowledges a synchronizing command, all is stored, and all that its
   -- cartridge accepted is safe (own).
   pub record AnswersSeat
       (old : BayState D) (request : Request) (before : SeatState) (reply : Reply) (new : BayState D) (after : SeatState)
@@ -47,7 +46,7 @@ module _ {D : Type 0} (state : D → DiskState) where
     pub grown : after.amount ≡ before.amount + length event.step.taken.made.changes
     pub told : GrowsAsTold request.cdb reply before.amount after.amount
 
-  -- the host of a seat is answered so by a drive in some state (own)
+  -- some drive answers the host of a seat in this way (own)
   pub record IsServed (request : Request) (before : SeatState) (reply : Reply) (after : SeatState) : Type 0 where
     pub old : BayState D
     pub new : BayState D

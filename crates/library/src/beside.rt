@@ -1,4 +1,4 @@
-//! Flushers beside what is done.
+//! Flushers beside other work.
 ghost use Rattle.std.specs.Prelude.{◌≤◌};
 ghost use Rattle.vtl_base.specs.declared.limits.TheConstants.{DRIVES};
 ghost use denote.Param.Send.{IsSend, IsSync};
@@ -13,9 +13,9 @@ use std::thread::Threads;
 use tape_disk::Disk;
 use vtl_base::DriveNo;
 
-/// Does some work while a flusher of each configured drive, from this number on, takes turns in a thread of its own,
-/// and waits until all have ended. The work ends with `close`. A flusher for which no thread can be made comes after
-/// the work, and so ends at once.
+/// Does some work while a flusher of each configured drive, from this number on, takes turns in a thread of
+/// its own. Waits until all have ended. The work ends with `close`. A flusher for which no thread can be made
+/// is called after the work, and so ends at once.
 pub(crate) fn beside_flushers<
     D: Disk + Drop + Send,
     B: Parties + Send + Sync,

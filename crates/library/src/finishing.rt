@@ -23,38 +23,38 @@ use tape_disk::Disk;
 use thiserror::Error;
 use vtl_base::limits::DRIVES;
 
-/// Why a library does not end well.
+/// Why a library did not end well.
 #[derive(Clone, Copy, PartialEq, Eq, Debug, Error)]
 pub enum FinishError {
-    /// What is loaded in a drive has failed, before or as it was written out, so that not all is stored.
+    /// The loaded medium of a drive has failed, before it was written out or in that, so not all is stored.
     #[error("not all is written out")]
     Unwritten,
-    /// The seats that were given have fewer changes than the drives accepted, so one at least is missing.
+    /// The returned seats have fewer changes than the drives accepted, so at least one seat is missing.
     #[error("seats with {seats} of {total} changes")]
     SeatsMissing { total: u64, seats: u64 },
 }
 
-/// What is left of a library, however it ends.
+/// The parts of a library, however it ended.
 #[derive(Drop)]
 pub struct Finished<D: Disk> {
     /// The slots.
     pub slots: Slots<Parked<D>>,
     /// The drives, from number 1 on.
     pub bays: Vec<Option<Bay<D>>>,
-    /// How many changes each drive accepted, from number 1 on, which the seats have together.
+    /// How many changes each drive accepted, from number 1 on; the seats have the same sum.
     pub counts: Result<[Option<u64>; 16], FinishError>,
 }
 
 impl<D: Disk + Drop, B: Parties, H: Parties> Library<D, B, H> {
-    /// Writes every buffer out, by a turn of each drive, and compares the drives' counts with the seats. It is for the
-    /// end, when nobody else shares the library, and takes no memory. A medium that has failed is reported before seats
-    /// that are missing.
+    /// Writes every buffer out, by a turn of each drive, and compares the drives' counts with the seats. It
+    /// is for the end, when nobody else shares the library, and takes no memory. A failed medium is reported
+    /// before missing seats.
     pub fn finish<R: Wait>(self, _rt: &R, seats: Vec<Seat<H>>) -> Finished<D>
         ensures drives { which_are_there result.bays.items ≡ self }
         ensures counts { IfOk result.counts (λ counts. (counts ≡ counts_of result.bays.items)
             × (sum_of_counts counts ≡ sum_of_seats seats.items)) }
 
-        // A refusal has its cause: a medium has failed, or else the seats have less than the drives.
+        // An error has its cause: a medium has failed, or else the seats have less than the drives.
         ensures unwritten { result.counts ≡ Err FinishError.Unwritten
             → (number : ℕ) × HasFailedAt D.state (bay_at result.bays.items number) }
         ensures written { result.counts ≢ Err FinishError.Unwritten
@@ -62,7 +62,7 @@ impl<D: Disk + Drop, B: Parties, H: Parties> Library<D, B, H> {
         ensures missing { IfErr result.counts (λ error.
             IsShort error (sum_of_counts (counts_of result.bays.items)) (sum_of_seats seats.items)) }
 
-        // The two sums, whatever is answered.
+        // The two sums, whatever the result is.
         ensures sums { Balances (vec_len seats) H.all (sum_of_counts (counts_of result.bays.items))
             (sum_of_seats seats.items) result.counts }
         ensures left { AreLeft D.state result.slots result.bays.items }
@@ -90,7 +90,7 @@ impl<D: Disk + Drop, B: Parties, H: Parties> Library<D, B, H> {
     }
 }
 
-// How a library ends: what is not written out comes first.
+// The result at the end of a library: what is not written out comes first.
 fn outcome(
     written: Result<(), Unwritten>,
     counts: [Option<u64>; 16],
@@ -129,21 +129,21 @@ fn end_drives<D: Disk + Drop, B: Parties, H: Parties>(
     written
 }
 
-// A drive at the end, where there is one, and whether all is written out.
+// A drive at the end, if there is one, and whether all is written out.
 #[derive(Drop)]
 struct DriveEnd<D: Disk> {
     bay: Option<Bay<D>>,
     written: Result<(), Unwritten>,
 }
 
-// The first of two refusals.
+// The first of two errors, if there is one.
 fn worse(first: Result<(), Unwritten>, second: Result<(), Unwritten>) -> Result<(), Unwritten>
     ensures { result ≡ worse_of first second }
 {
     if first.is_err() { first } else { second }
 }
 
-// Takes a drive out from behind its lock, where there is one, has it take a turn, and gathers its share.
+// Takes a drive, if there is one, out from behind its lock, has it take a turn, and gathers its share.
 fn end_drive<D: Disk + Drop, B: Parties, H: Parties>(
     bay: Option<SharedBay<D, B>>,
     gathering: &mut Gathering<B, H>,
@@ -186,7 +186,7 @@ fn counts_in<D: Disk + Drop>(row: &Row<D>) -> [Option<u64>; 16]
     counts
 }
 
-// Takes the seats back.
+// Takes back the seats.
 fn take_seats<B: Parties, H: Parties>(seats: Vec<Seat<H>>, gathering: &mut Gathering<B, H>)
     ensures shares { gathering.new.hosts.shares ≡ gathering.old.hosts.shares + vec_len seats }
     ensures changes { gathering.new.hosts.changes ≡ gathering.old.hosts.changes + sum_of_seats seats.items }

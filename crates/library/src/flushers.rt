@@ -1,4 +1,4 @@
-//! What a flusher does: the thread that stores what is pending in a drive.
+//! A flusher: the thread that stores what is pending in a drive.
 use crate::libraries::Library;
 use ledgers::Parties;
 use std::sync::Wait;
@@ -7,19 +7,19 @@ use tape_disk::Disk;
 use volume_core::Turn;
 use vtl_base::DriveNo;
 
-/// What a flusher asks before each turn, and whom it tells of it.
+/// What a flusher asks before each turn, and informs after it.
 pub trait Gate {
-    /// Whether there is to be one more turn. No lock is held.
+    /// Whether there is to be another turn. No lock is held.
     fn before_turn(&self) -> bool;
 
-    /// The turn begins: the drive's lock is held.
+    /// A turn begins: the drive's lock is held.
     fn in_turn(&self);
 
-    /// The turn has ended so. No lock is held.
+    /// A turn has ended with this result. No lock is held.
     fn after_turn(&self, turn: Turn);
 }
 
-/// A gate that is always open, and tells nobody.
+/// A gate that is always open, and does nothing.
 #[derive(Clone, Copy, Debug, Drop)]
 pub struct OpenGate;
 
@@ -34,9 +34,9 @@ impl Gate for OpenGate {
 }
 
 impl<D: Disk + Drop, B: Parties, H: Parties> Library<D, B, H> {
-    /// Takes turns at a drive until the library is closed, or the gate answers that there is to be none. After a turn
-    /// that stored something comes the next; after another it waits until a command has accepted a change. Where the
-    /// drive is not configured it does nothing.
+    /// Takes turns at a drive until the library is closed, or the gate says that there is to be none. After a
+    /// turn that stored something the next one follows; after any other it waits until a command has accepted
+    /// a change. Where the drive is not configured, it does nothing.
     pub fn flusher<R: Wait, G: Gate>(&self, rt: &R, drive: DriveNo, gate: &G) {
         let Some(bay) = &self.bays[drive.place()] else {
             return;

@@ -1,4 +1,4 @@
-//! What stands at the element addresses of a library.
+//! The contents of the element addresses of a library.
 ghost use Rattle.std.specs.Prelude.{◌≡◌, ◌<◌, ◌+◌, ℕ, None, Some, slice_index_or, true};
 ghost use Rattle.vtl_base.specs.declared.limits.TheConstants.{DRIVES, SLOTS};
 ghost use Rattle.library.specs.Counts.{has_drive};
@@ -14,7 +14,7 @@ use std::sync::Wait;
 use tape_disk::Disk;
 use vtl_base::limits::{DRIVES, SLOTS};
 
-/// What is seen at an element address.
+/// The content of an element address.
 #[derive(Clone, Copy, PartialEq, Eq, Debug)]
 pub enum Element {
     /// No drive of this number is configured.
@@ -25,7 +25,7 @@ pub enum Element {
     Full,
 }
 
-/// What was seen at each element address of a library.
+/// The content of each element address of a library.
 #[derive(Clone, Copy, Debug)]
 pub struct Inventory {
     /// The slots, from address 1001 on.
@@ -34,7 +34,7 @@ pub struct Inventory {
     pub drives: [Element; 16],
 }
 
-// What the types keep of the cartridges in the slots, in one fact.
+// The invariants of the cartridges in the slots, in one fact.
 pub(crate) fn known_slots<D: Disk + Drop>(slots: &Slots<Parked<D>>)
     ensures { KeepsSlots D.state slots.now }
 {
@@ -44,7 +44,7 @@ pub(crate) fn known_slots<D: Disk + Drop>(slots: &Slots<Parked<D>>)
     }
 }
 
-// The same of what a slot holds, where it holds something.
+// The same for the content of a slot, if it is full.
 fn known_slot<D: Disk>(slot: &Option<Parked<D>>)
     ensures { KeepsShelvedIn D.state slot.now }
 {
@@ -53,7 +53,7 @@ fn known_slot<D: Disk>(slot: &Option<Parked<D>>)
     }
 }
 
-/// What is seen in each slot, from element address 1001 on.
+/// The content of each slot, from element address 1001 on.
 pub fn seen_in_slots<D: Disk + Drop>(slots: &Slots<Parked<D>>) -> [Element; 256]
     ensures { (place : ℕ) → place < SLOTS
         → slice_index_or result place Element.Missing ≡ seen_at (slice_index_or slots.now place None) }
@@ -70,8 +70,9 @@ pub fn seen_in_slots<D: Disk + Drop>(slots: &Slots<Parked<D>>) -> [Element; 256]
 }
 
 impl<D: Disk + Drop, B: Parties, H: Parties> Library<D, B, H> {
-    /// What stands at each element address. The drives are looked at one after another, while the slots' lock is held:
-    /// nothing is moved meanwhile, so no cartridge is seen twice, and none is missed. It takes no memory.
+    /// The content of each element address. The drives are looked at one after another, while the slots' lock
+    /// is held. Nothing is moved meanwhile, so no cartridge is seen twice, and none is missed. It takes no
+    /// memory.
     pub fn inventory<R: Wait>(&self, rt: &R) -> Inventory
         ensures drives { (number : ℕ) → number < DRIVES
             → is_place_seen (slice_index_or result.drives number Element.Missing) ≡ has_drive self.now (number + 1) }
@@ -89,7 +90,7 @@ impl<D: Disk + Drop, B: Parties, H: Parties> Library<D, B, H> {
         }
     }
 
-    // What is seen of the drive in this place.
+    // The content of the drive in this place.
     fn seen_in_drive<R: Wait>(&self, rt: &R, place: usize) -> Element
         requires { place < DRIVES }
         ensures { is_place_seen result ≡ has_drive self.now (place + 1) }

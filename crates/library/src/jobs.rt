@@ -16,7 +16,7 @@ use tape_disk::Disk;
 use vtl_base::NoMemory;
 use vtl_script::Line;
 
-/// A host's seat, and its lines of a phase with room for their replies.
+/// The seat of a host, and its lines of a phase with room for their replies.
 #[derive(Drop)]
 pub(crate) struct Job<H: Parties> {
     seat: Seat<H>,
@@ -41,7 +41,7 @@ impl<H: Parties> Idle for Job<H> {
 }
 
 impl<H: Parties> Job<H> {
-    /// The job of the host of a seat. It takes no memory.
+    /// The job of a seat's host. It takes no memory.
     pub(crate) fn of(alloc: Global, seat: Seat<H>) -> Job<H>
         ensures { result.seat ≡ seat }
     {
@@ -52,7 +52,7 @@ impl<H: Parties> Job<H> {
         }
     }
 
-    /// Begins a phase: there is no line, and no reply.
+    /// Begins a phase without lines and replies.
     pub(crate) fn begin(&mut self)
         ensures seat { self.new.seat ≡ self.old.seat }
         ensures none { (self.new.lines ≡ []) × (self.new.replies ≡ []) }
@@ -80,7 +80,7 @@ impl<H: Parties> Job<H> {
         Ok(())
     }
 
-    /// Carries its lines out, in order.
+    /// Carries out its lines, in order.
     pub(crate) fn serve<D: Disk + Drop, B: Parties, R: Wait>(
         &mut self,
         rt: &R,
@@ -97,7 +97,7 @@ impl<H: Parties> Job<H> {
         library.session(rt, seat, lines.as_mut_slice(), replies);
     }
 
-    /// Carries one line out at once. Its data are taken where they become a block.
+    /// Carries out one line at once. A block takes its data without copying.
     pub(crate) fn serve_line<D: Disk + Drop, B: Parties, R: Wait>(
         &mut self,
         rt: &R,
@@ -111,7 +111,7 @@ impl<H: Parties> Job<H> {
         library.serve_line(rt, &mut self.seat, line)
     }
 
-    /// Moves its replies behind others.
+    /// Appends its replies to others.
     pub(crate) fn give(&mut self, replies: &mut Vec<Reply>)
         requires { length replies.old.items + length self.old.replies ≤ vec_capacity replies.old }
         ensures replies { replies.new.items ≡ replies.old.items ++ self.old.replies }

@@ -19,16 +19,17 @@ use std::sync::{Mutex, Wait};
 use tape_disk::Disk;
 use vtl_base::{Bytes, DriveNo};
 
-/// Slots and drives, and two ledgers of the changes that the drives accepted: each drive behind a lock of its own, the
-/// slots behind one, and the ledgers behind one, which is taken last, inside a drive's, for one entry. The number of
-/// drives is `B::all`, that of hosts `H::all`. To a contract it is whether there is a drive, by its number.
+/// Slots and drives, and two ledgers of the changes that the drives accepted. Each drive is behind a lock of
+/// its own, the slots are behind one, and the ledgers behind one. The last is taken inside a drive's lock,
+/// for one entry. The number of drives is `B::all`, that of hosts `H::all`. A contract sees for each drive
+/// number whether there is a drive.
 #[derive(Drop)]
 pub struct Library<D: Disk, B: Parties, H: Parties> {
     pub(crate) alloc: Global,
     pub(crate) bays: Vec<Option<SharedBay<D, B>>>,
     pub(crate) slots: Mutex<Slots<Parked<D>>>,
     pub(crate) tally: Mutex<Tally<B, H>>,
-    // Where the drives go at the end. It has a lock so that threads may share it, and none takes it.
+    // Where the drives go at the end. It has a lock so that threads may share it; no thread takes the lock.
     pub(crate) row: Mutex<Row<D>>,
     pub(crate) closed: AtomicBool,
 }
@@ -53,8 +54,8 @@ impl<D: Disk + Drop, B: Parties, H: Parties> Library<D, B, H> {
         self.bays[drive.place()].is_some()
     }
 
-    /// Answers a command of a seat's host to a configured drive. The change that it made, if it did, is entered for the
-    /// drive and for the seat.
+    /// Answers a command of a seat's host to a configured drive. The change that the command made, if any, is
+    /// entered for the drive and for the seat.
     pub fn command<R: Wait>(
         &self,
         rt: &R,
@@ -72,8 +73,8 @@ impl<D: Disk + Drop, B: Parties, H: Parties> Library<D, B, H> {
         }
     }
 
-    /// Answers a command of a seat's host to a configured drive, as `command` does. Its data are lent: where they
-    /// become a block they are taken, and not copied; else they stay.
+    /// Answers a command of a seat's host to a configured drive, as `command` does. Its data are lent: a
+    /// block takes them without copying; else they stay.
     pub fn command_lent<R: Wait>(
         &self,
         rt: &R,
@@ -102,12 +103,12 @@ impl<D: Disk + Drop, B: Parties, H: Parties> Library<D, B, H> {
         }
     }
 
-    // The drive of this element address, where it is a drive's and that is configured.
+    // The drive of this element address, if it is a drive's address and the drive is configured.
     pub(crate) fn drive_at(&self, address: u32) -> Option<&SharedBay<D, B>>
         ensures there { is_some result ≡ has_drive self.now address }
         ensures address { IfSome result (λ bay. IsDriveAddress address) }
     {
-        // Looked at for the proof's sake: there are places for all drives.
+        // Read for the proof: there are places for all drives.
         let _ = &self.bays;
         match drive_of(address) {
             Some(drive) => self.bays[drive.place()].as_ref(),

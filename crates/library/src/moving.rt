@@ -27,7 +27,7 @@ fn between_slots<D: Disk + Drop>(
 {
     let mut none = None;
     let mut nor = None;
-    // What is known before and after, here and below, for the proof alone.
+    // The facts before and after, here and below, for the proof alone.
     known_slots(slots);
     let reply = move_lent(alloc, slots, none.as_mut(), nor.as_mut(), from, to);
     known_slots(slots);
@@ -37,8 +37,8 @@ fn between_slots<D: Disk + Drop>(
 }
 
 impl<D: Disk + Drop, B: Parties, H: Parties> Library<D, B, H> {
-    /// Moves a cartridge from one element address to another, as `move_lent` does: under the slots' lock, and inside it
-    /// under the locks of the drives that the addresses name, that of the lower number first.
+    /// Moves a cartridge from one element address to another, as `move_lent` does. It takes the slots' lock,
+    /// and inside it the locks of the drives at the two addresses, that of the lower number first.
     pub fn move_medium<R: Wait>(&self, rt: &R, from: u32, to: u32) -> Reply
         ensures { IsMovedAmong D.state self.now from to result }
     {
@@ -63,7 +63,7 @@ impl<D: Disk + Drop, B: Parties, H: Parties> Library<D, B, H> {
         }
     }
 
-    // The drive that a cartridge is moved to, unless it is the one that it comes from.
+    // The drive at the destination, unless it is the one at the source.
     fn other_drive_at(&self, from: u32, to: u32) -> Option<&SharedBay<D, B>>
         ensures there { from ≢ to → is_some result ≡ has_drive self.now to }
         ensures apart { IfSome result (λ bay. IsDriveAddress to × (from ≢ to)) }

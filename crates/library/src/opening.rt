@@ -1,4 +1,4 @@
-//! A library is opened: its drives go behind their locks, and its hosts get their seats.
+//! Opening a library: its drives go behind their locks, and its hosts get their seats.
 ghost use Rattle.std.specs.Prelude.{◌≡◌, ◌+◌, ◌≤◌, [], is_some, nat_eq, length, map, All, IfOk, IfErr, vec_capacity};
 ghost use Rattle.std.specs.List.{IsDistinct};
 ghost use Rattle.vtl_base.specs.declared.limits.TheConstants.{DRIVES};
@@ -20,7 +20,7 @@ use tape_disk::Disk;
 use vtl_base::Nexus;
 use vtl_base::limits::DRIVES;
 
-/// What was given for a library that was not opened, since memory ran out.
+/// The parts of a library that was not opened, since memory ran out.
 #[derive(Drop)]
 pub struct NotOpened<D: Disk> {
     /// The drives, from number 1 on.
@@ -34,9 +34,9 @@ pub struct NotOpened<D: Disk> {
 }
 
 impl<D: Disk + Drop, B: Parties, H: Parties> Library<D, B, H> {
-    /// A library of these drives, each in the place of its number, and of these slots, with a seat for each host. Its
-    /// drives accepted no change yet, and its hosts differ; either may be none. Each ledger has a party for each of
-    /// them. Where memory runs out all comes back.
+    /// A library with these slots, and these drives, each in the place of its number, and with a seat for
+    /// each host. The drives have accepted no change yet, and the hosts differ; either may be empty. Each
+    /// ledger has a party for each of them. Where memory runs out, all parts are returned.
     pub fn new(
         alloc: Global,
         bays: Vec<Option<Bay<D>>>,
@@ -109,7 +109,7 @@ fn share_all<D: Disk + Drop, B: Parties, H: Parties>(
     shared
 }
 
-// Puts a drive, where there is one, behind a lock, with its share.
+// Puts a drive, if there is one, behind a lock, with its share.
 fn share_one<D: Disk + Drop, B: Parties, H: Parties>(
     bay: Option<Bay<D>>,
     tally: &mut Tally<B, H>,

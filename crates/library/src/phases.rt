@@ -19,7 +19,7 @@ use tape_disk::Disk;
 use vtl_base::NoMemory;
 use vtl_script::Line;
 
-/// Whether these lines are of several hosts, and none stands behind one of a higher host.
+/// Whether these lines are of several hosts, and none comes after one of a higher host.
 pub(crate) fn are_of_rising_hosts(lines: &[Line]) -> bool
     ensures { result ≡ true → IsNonDecreasingBy (λ line. line.host) lines.now }
 {
@@ -42,7 +42,7 @@ fn job_place(line: &Line) -> usize
     usize::from(line.host.number()) - 1
 }
 
-/// Carries the lines out one after another. Where memory runs out nothing is carried out.
+/// Carries out the lines one after another. Where memory runs out, no line is carried out.
 pub(crate) fn serve_in_turn<D: Disk + Drop, B: Parties, H: Parties, R: Wait>(
     rt: &R,
     alloc: Global,
@@ -92,7 +92,7 @@ pub(crate) fn deal_all<H: Parties>(jobs: &mut [Job<H>], lines: &mut [Line]) -> R
     Ok(())
 }
 
-/// Puts the replies of all jobs behind each other.
+/// Appends the replies of all jobs, one after another.
 pub(crate) fn give_all<H: Parties>(jobs: &mut [Job<H>], replies: &mut Vec<Reply>)
     requires { (replies.old.items ≡ []) × (length (replies_of jobs.old) ≤ vec_capacity replies.old) }
     ensures replies { replies.new.items ≡ replies_of jobs.old }

@@ -1,4 +1,4 @@
-//! What stands behind a drive's lock. Nothing else reaches the drive.
+//! The drive behind a lock. Nothing else reaches the drive.
 ghost use Rattle.std.specs.Prelude.{◌≡◌, ◌≢◌, ◌+◌, ◌^◌, ◌<◌, [], length, Some, IfNone, OnErr, OnOk};
 ghost use Rattle.drive_core.specs.Data.{data_left};
 ghost use Rattle.drive_core.specs.Execute.{asked};
@@ -29,8 +29,8 @@ use tape_disk::Disk;
 use volume_core::Turn;
 use vtl_base::Bytes;
 
-/// A drive, and beside it its share of the ledger of drives, which stands at the count of the changes that the drive
-/// accepted. To a contract it is the drive.
+/// A drive, with its share of the ledger of drives, which is the count of the changes that the drive
+/// accepted. A contract sees the drive.
 #[derive(Drop)]
 pub struct Place<D: Disk, B: Parties> {
     bay: Bay<D>,
@@ -48,18 +48,18 @@ impl<D: Disk, B: Parties> Model for Place<D, B> {
     ghost invariant = { λ p. p.share ≡ p.bay.accepted };
 }
 
-/// What stood behind a drive's lock, at the end of a library.
+/// A drive and its share at the end of a library, without the lock.
 #[derive(Drop)]
 pub struct EndedPlace<D: Disk, B: Parties> {
     /// The drive.
     pub bay: Bay<D>,
     /// Its share of the ledger of drives.
     pub share: PartyShare<B>,
-    /// Whether all that it accepted is written out.
+    /// Whether all that the drive accepted is written out.
     pub written: Result<(), Unwritten>,
 }
 
-// What the type of a drive keeps, in one fact.
+// The invariant of a drive, in one fact.
 fn known_drive<D: Disk>(bay: &Bay<D>)
     ensures { KeepsDrive D.state bay.now }
 {
@@ -85,7 +85,7 @@ fn enter_if_risen<B: Parties, H: Parties, R: Wait>(
 }
 
 impl<D: Disk, B: Parties> Place<D, B> {
-    /// Carries out a command of the host of a seat, and enters the change that the drive accepted with it, if it did,
+    /// Carries out a command of a seat's host, and enters the change that the drive accepted with it, if any,
     /// in both ledgers. Where 2^64 - 1 changes were accepted or entered before, it waits for good.
     pub fn execute<H: Parties, R: Wait>(
         &mut self,
@@ -98,7 +98,7 @@ impl<D: Disk, B: Parties> Place<D, B> {
         ensures { AnswersSeat D.state self.old (asked seat.old.nexus cdb.now sent.now) seat.old
             result self.new seat.new }
     {
-        // The law, and what is known of the drive before and after, for the proof alone.
+        // The law, and the facts of the drive before and after, for the proof alone.
         drive_laws::replies_tell_changes::<Buffered<D>, AptplStore<D>>();
         let before = self.count_below_limit(rt);
         known_drive(&self.bay);
@@ -109,7 +109,7 @@ impl<D: Disk, B: Parties> Place<D, B> {
         reply
     }
 
-    /// The same with data that are lent: where they become a block they are taken, and not copied; else they stay.
+    /// The same with data that are lent: a block takes them without copying; else they stay.
     pub fn execute_lent<H: Parties, R: Wait>(
         &mut self,
         rt: &R,
@@ -136,7 +136,7 @@ impl<D: Disk, B: Parties> Place<D, B> {
     pub fn turn(&mut self) -> Turn
         ensures turned { TakesTurn (state_of D.state) (buffer_below D.state) store_kept self.old result self.new }
 
-        // At every moment inside the call a crash leaves what that says.
+        // At every moment inside the call a crash leaves what this says.
         ensures moments { EveryMoment D.state self.old (Turned result) made_nothing (medium_in self.old.bay)
             (medium_in self.new.bay) self.new }
     {
@@ -150,7 +150,8 @@ impl<D: Disk, B: Parties> Place<D, B> {
         self.bay.accepted()
     }
 
-    // The same, below 2^64 - 1: where the count would stay, its share could not follow it, and the call waits for good.
+    // The same, below 2^64 - 1. At the limit the share could not follow the count, and the call waits for
+    // good.
     fn count_below_limit<R: Wait>(&self, rt: &R) -> u64
         ensures count { result ≡ self.now.accepted }
         ensures below { result + 1 < 2 ^ 64 }
@@ -163,7 +164,7 @@ impl<D: Disk, B: Parties> Place<D, B> {
         count
     }
 
-    /// A drive that accepted no change yet, with the share of a party for which nothing was entered.
+    /// A drive that has accepted no change yet, with the share of a party without entries.
     pub fn new(bay: Bay<D>, share: PartyShare<B>) -> Place<D, B>
         requires { share ≡ bay.accepted }
         ensures { result ≡ bay }
@@ -171,7 +172,7 @@ impl<D: Disk, B: Parties> Place<D, B> {
         Place { bay, share }
     }
 
-    /// What is seen of the drive.
+    /// The drive as an inventory shows it.
     pub fn seen(&self) -> Element
         ensures { result ≡ seen_of_drive (Some self.now) }
     {
@@ -182,7 +183,7 @@ impl<D: Disk, B: Parties> Place<D, B> {
         }
     }
 
-    /// The drive once it took a turn, with its share, and whether all is written out. It takes no memory.
+    /// The drive after a turn, with its share, and whether all is written out. It takes no memory.
     pub fn end(self) -> EndedPlace<D, B>
         ensures left { IsLeftBy D.state self result.bay }
         ensures share { result.share ≡ result.bay.accepted }
@@ -190,7 +191,7 @@ impl<D: Disk, B: Parties> Place<D, B> {
         ensures err { OnErr result.written (HasFailedAt D.state (Some result.bay)) }
     {
         let (mut bay, share) = self.into_parts();
-        // What is known of it before its turn and after, for the proof alone.
+        // The facts of the drive before its turn and after, for the proof alone.
         known_drive(&bay);
         let written = bay.write_out();
         known_drive(&bay);
@@ -201,7 +202,7 @@ impl<D: Disk, B: Parties> Place<D, B> {
         }
     }
 
-    /// The drive, and its share, which stands at its count.
+    /// The drive and its share, which is the drive's count.
     pub fn into_parts(self) -> (Bay<D>, PartyShare<B>)
         ensures bay { result.0 ≡ self }
         ensures share { result.1 ≡ self.accepted }

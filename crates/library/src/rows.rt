@@ -1,4 +1,4 @@
-//! The row in which the drives of a library come, and in which they are given back.
+//! The row in which the drives of a library are passed in and returned.
 ghost use Rattle.std.specs.Prelude.{◌≡◌, ◌<◌, None, Some, length, slice_index_or, slice_set};
 ghost use Rattle.vtl_base.specs.declared.limits.TheConstants.{DRIVES};
 ghost use Rattle.library.specs.Counts.{count_of_drive};
@@ -7,7 +7,7 @@ use bays::Bay;
 use std::marker::Model;
 use tape_disk::Disk;
 
-/// A place for each drive that a library may have.
+/// One place for each drive that a library may have.
 #[derive(Drop)]
 pub(crate) struct Row<D: Disk> {
     places: Vec<Option<Bay<D>>>,
@@ -33,15 +33,15 @@ impl<D: Disk + Drop> Row<D> {
         Row { places }
     }
 
-    // There is a place for each drive, which the type keeps.
+    // There is a place for each drive: the type's invariant.
     pub(crate) fn known(&self)
         ensures { length self.now ≡ DRIVES }
     {
-        // Looked at for the proof's sake.
+        // Read for the proof.
         let _ = &self.places;
     }
 
-    // Takes the drive of this place out, where there is one.
+    // Takes the drive, if there is one, out of this place.
     pub(crate) fn take(&mut self, place: usize) -> Option<Bay<D>>
         requires { place < DRIVES }
         ensures out { result ≡ slice_index_or self.old place None }
@@ -58,7 +58,7 @@ impl<D: Disk + Drop> Row<D> {
         self.places[place] = bay;
     }
 
-    // The count of the drive in this place, where there is one.
+    // The count of the drive in this place, if there is one.
     pub(crate) fn count(&self, place: usize) -> Option<u64>
         requires { place < DRIVES }
         ensures { result ≡ count_of_drive (slice_index_or self.now place None) }

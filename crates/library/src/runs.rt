@@ -1,4 +1,4 @@
-//! A script that is run over a library whose drives threads share.
+//! Running a script over a library whose drives threads share.
 ghost use Rattle.std.specs.Prelude.{◌≡◌, ◌≢◌, ◌≤◌, [], Err, IfOk, IfErr, length, All, vec_capacity};
 ghost use Rattle.std.specs.List.{range_with_len};
 ghost use Rattle.vtl_base.specs.declared.limits.TheConstants.{DRIVES, NEXUSES};
@@ -34,7 +34,7 @@ use vtl_base::limits::NEXUSES;
 use vtl_base::{Nexus, NoMemory};
 use vtl_script::{Runner, ScriptFault, run_script};
 
-/// What is left of a library over which a script was run.
+/// The parts of a library over which a script was run.
 #[derive(Drop)]
 pub struct Ran<D: Disk> {
     /// Slots, drives and counts.
@@ -43,7 +43,7 @@ pub struct Ran<D: Disk> {
     pub outcome: Result<(), ScriptFault>,
 }
 
-// Runs the script, and then has every flusher end.
+// Runs the script, and then ends every flusher.
 fn run_and_close<D: Disk + Drop, B: Parties, H: Parties, R: Wait, P: Runner, I: Read, O: Write>(
     rt: &R,
     alloc: Global,
@@ -99,14 +99,14 @@ fn run_beside<
     beside_flushers(rt, library, gate, 1, &mut work)
 }
 
-// The seats as a script over a library has left them, and how it ended.
+// The seats after a script over a library, and how the script ended.
 #[derive(Drop)]
 struct RanFor<H: Parties> {
     seats: Vec<Seat<H>>,
     outcome: Result<(), ScriptFault>,
 }
 
-// Room for the parts of all hosts, and for their seats once they are given back.
+// Room for the jobs of all hosts, and for their seats when they are returned.
 #[derive(Drop)]
 struct Rooms<H: Parties> {
     jobs: Vec<Job<H>>,
@@ -124,7 +124,7 @@ fn make_rooms<H: Parties>(alloc: Global) -> Result<Rooms<H>, NoMemory>
     })
 }
 
-// Runs the script over a library that was opened, for the hosts of these seats.
+// Runs the script over an open library, for the hosts of these seats.
 fn run_opened<
     'a,
     D: Disk + Drop + Send,
@@ -169,11 +169,12 @@ fn run_opened<
     }
 }
 
-/// Runs a script over these drives, each in the place of its number, and these slots, for hosts that have the numbers
-/// from 1 to 64, and writes a line for each reply. The items run one after another. The lines of a phase of several
-/// hosts run in a thread of its own for each host, in order, those of one host in the caller's thread; each drive has a
-/// flusher beside them, in a thread of its own. At the end all threads are joined, and every buffer is written out.
-/// Where memory runs out before the script begins all comes back, and nothing is read or written.
+/// Runs a script over these slots, and these drives, each in the place of its number. The hosts have the
+/// numbers 1 to 64. A line is written for each reply. The items run one after another. In a phase of several
+/// hosts the lines of each host run in order in a thread of its own; those of a single host run in the
+/// caller's thread. Each drive has a flusher beside them, in a thread of its own. At the end all threads are
+/// joined, and every buffer is written out. Where memory runs out before the script begins, all parts are
+/// returned, and nothing is read or written.
 pub fn run_library<
     D: Disk + Drop + Send,
     B: Parties + Send + Sync,

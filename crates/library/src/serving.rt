@@ -13,7 +13,8 @@ use std::sync::Wait;
 use std::thread::Threads;
 use tape_disk::Disk;
 
-/// Carries each host's lines out. Each host that has lines has a thread of its own; of these the last has the caller's.
+/// Carries out the lines of each host. Each host that has lines has a thread of its own; the last has the
+/// caller's.
 pub(crate) fn serve_all<
     'a,
     D: Disk + Drop + Send,
@@ -29,7 +30,7 @@ pub(crate) fn serve_all<
     serve_jobs(rt, library, stage.jobs.as_mut_slice());
 }
 
-// Carries the lines of each job out.
+// Carries out the lines of each job.
 fn serve_jobs<
     D: Disk + Drop + Send,
     B: Parties + Send + Sync,

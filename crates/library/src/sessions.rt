@@ -16,8 +16,9 @@ use vtl_base::NoMemory;
 use vtl_script::Line;
 
 impl<D: Disk + Drop, B: Parties, H: Parties> Library<D, B, H> {
-    /// Carries out the commands of these lines for the host of a seat, in order, each by the drive that it names, and
-    /// gives their replies. Data that become a block are taken. Where memory runs out nothing is carried out.
+    /// Carries out the commands of these lines for the host of a seat, in order, each on the drive that it
+    /// names, and returns their replies. A block takes its data without copying. Where memory runs out, no
+    /// line is carried out.
     pub fn host_session<R: Wait>(
         &self,
         rt: &R,
@@ -36,7 +37,7 @@ impl<D: Disk + Drop, B: Parties, H: Parties> Library<D, B, H> {
         Ok(replies)
     }
 
-    // The same where there is room for the replies. It takes no memory.
+    // The same, with room for the replies. It takes no memory.
     pub(crate) fn session<R: Wait>(
         &self,
         rt: &R,
@@ -55,7 +56,7 @@ impl<D: Disk + Drop, B: Parties, H: Parties> Library<D, B, H> {
         }
     }
 
-    // Carries the command of a line out, by the drive that it names. Its data are taken where they become a block.
+    // Carries out the command of a line, on the drive that it names. A block takes its data without copying.
     pub(crate) fn serve_line<R: Wait>(&self, rt: &R, seat: &mut Seat<H>, line: &mut Line) -> Reply
         requires host { line.old.host ≡ seat.old.nexus }
         requires configured { has_drive self.now line.old.drive ≡ true }

@@ -14,7 +14,7 @@ use tape_disk::Disk;
 use volume_core::Turn;
 use vtl_base::Bytes;
 
-/// A drive behind its lock, and the bell that tells its flusher of a change.
+/// A drive behind its lock, and the condition variable that wakes its flusher after a change.
 #[derive(Drop)]
 pub struct SharedBay<D: Disk, B: Parties> {
     pub(crate) lock: Mutex<Place<D, B>>,
@@ -29,7 +29,7 @@ impl<D: Disk, B: Parties> SharedBay<D, B> {
         }
     }
 
-    // What stands behind the lock, once nobody else shares it.
+    // The drive behind the lock, when nobody else shares it.
     pub(crate) fn into_place(self) -> Place<D, B> {
         self.lock.into_inner()
     }
@@ -71,8 +71,8 @@ impl<D: Disk, B: Parties> SharedBay<D, B> {
         reply
     }
 
-    // Takes a flusher's turn under the lock. The count of changes is that before the turn, so that a change which comes
-    // in meanwhile is one more.
+    // Takes a flusher's turn under the lock. The count of changes is that before the turn, so a change that
+    // comes meanwhile is one more.
     pub(crate) fn take_turn<R: Wait, G: Gate>(&self, rt: &R, gate: &G) -> (Turn, u64) {
         let mut place = self.lock.lock(rt);
         gate.in_turn();
@@ -81,7 +81,7 @@ impl<D: Disk, B: Parties> SharedBay<D, B> {
         (turn, count)
     }
 
-    // Waits until a command accepted a change that is not in this count, or the library is closed.
+    // Waits until a command has accepted a change that is not in this count, or the library is closed.
     pub(crate) fn wait<R: Wait>(&self, rt: &R, count: u64, closed: &AtomicBool) {
         let held = self.lock.lock(rt);
         let _ = self.bell.wait_while(rt, held, |place| {
@@ -89,13 +89,14 @@ impl<D: Disk, B: Parties> SharedBay<D, B> {
         });
     }
 
-    // Wakes who waits for a change. The lock is taken first, so that nobody is between the look and the sleep.
+    // Wakes the thread that waits for a change. The lock is taken first, so that no thread is between look
+    // and sleep.
     pub(crate) fn ring<R: Wait>(&self, rt: &R) {
         let _held = self.lock.lock(rt);
         self.bell.notify_all();
     }
 
-    // Wakes who waits for a change, if a seat's amount has risen.
+    // Wakes the thread that waits for a change, if a seat's amount has risen.
     fn ring_if_risen(&self, before: u64, after: u64) {
         if before != after {
             self.bell.notify_all();

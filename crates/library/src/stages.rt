@@ -21,7 +21,8 @@ use tape_disk::Disk;
 use vtl_base::{DriveNo, NoMemory};
 use vtl_script::Line;
 
-/// The hosts of a library, from number 1 on. To a contract they are which drives there are, and the job of each host.
+/// The hosts of a library, from number 1 on. A contract sees which drives there are, and the job of each
+/// host.
 #[derive(Drop)]
 pub(crate) struct Stage<'a, D: Disk, B: Parties, H: Parties, R> {
     pub(crate) rt: &'a R,
@@ -40,7 +41,7 @@ impl<'a, D: Disk, B: Parties, H: Parties, R> Model for Stage<'a, D, B, H, R> {
     ghost invariant = { λ s. AreInPlace (seats_of s.jobs.items) };
 }
 
-// Gives each seat a job.
+// A job for each seat.
 fn jobs_of<H: Parties>(alloc: Global, room: Vec<Job<H>>, seats: Vec<Seat<H>>) -> Vec<Job<H>>
     requires { (room.items ≡ []) × (length seats.items ≤ vec_capacity room) }
     ensures { seats_of result.items ≡ seats.items }
@@ -65,7 +66,7 @@ fn seats_in<H: Parties>(room: Vec<Seat<H>>, jobs: Vec<Job<H>>) -> Vec<Seat<H>>
 }
 
 impl<'a, D: Disk + Drop, B: Parties, H: Parties, R> Stage<'a, D, B, H, R> {
-    /// The hosts of these seats, with room for their parts. It takes no memory.
+    /// The hosts of these seats, with room for their jobs. It takes no memory.
     pub(crate) fn of(
         rt: &'a R,
         alloc: Global,

@@ -1,4 +1,4 @@
-//! Work that is done for each of some, in threads of their own.
+//! Work on several values, in threads of their own.
 ghost use Rattle.std.specs.Prelude.{◌≡◌, All, length};
 ghost use Rattle.std.specs.Fork.{AcceptsAt, ChangesAt};
 ghost use Rattle.library.specs.Inner.Threads.{ChangesAll};
@@ -8,14 +8,14 @@ use std::marker::{Send, Sync};
 use std::thread;
 use std::thread::Threads;
 
-/// What may have nothing to do.
+/// A value that may have nothing to do.
 pub(crate) trait Idle {
-    /// Whether it has nothing to do, so that a thread would be too much.
+    /// Whether it has nothing to do and needs no thread.
     fn is_idle(&self) -> bool;
 }
 
-/// Calls a function at each of these, in order of their places. Each that has something to do has a thread of its own;
-/// of these the last has the caller's.
+/// Calls a function on each of these, in order of their places. Each that has something to do has a thread of
+/// its own; the last has the caller's.
 #[cycle(each)]
 pub(crate) fn each_beside<R: Threads + Sync, T: Idle + Send, F: Fn(usize, &mut T) + Sync>(
     rt: &R,
@@ -37,7 +37,7 @@ pub(crate) fn each_beside<R: Threads + Sync, T: Idle + Send, F: Fn(usize, &mut T
     }
 }
 
-// Calls it at one in a new thread, and at the others beside it.
+// Calls it on the first one in a new thread, and on the others beside it.
 #[cycle(each)]
 fn first_beside<R: Threads + Sync, T: Idle + Send, F: Fn(usize, &mut T) + Sync>(
     rt: &R,
@@ -62,7 +62,7 @@ fn first_beside<R: Threads + Sync, T: Idle + Send, F: Fn(usize, &mut T) + Sync>(
     thread::join_mut(rt, &mut one, &mut others);
 }
 
-// Calls it at the only one of these.
+// Calls it on the only one of these.
 fn at_first<T, F: Fn(usize, &mut T)>(f: &F, first: &mut [T])
     requires one { length first.old ≡ 1 }
     requires first { All (AcceptsAt F.Fn f.now 0) first.old }
@@ -71,7 +71,7 @@ fn at_first<T, F: Fn(usize, &mut T)>(f: &F, first: &mut [T])
     at_one(f, &mut first[0]);
 }
 
-// Calls it here.
+// Calls it in this thread.
 fn at_one<T, F: Fn(usize, &mut T)>(f: &F, item: &mut T)
     requires { AcceptsAt F.Fn f.now 0 item.old }
     ensures { ChangesAt F.Fn f.now 0 item.old item.new }

@@ -1,4 +1,4 @@
--- Rows of drives that have accepted no change.
+-- Lists of drives that have accepted no change.
 use Rattle.std.proofs.Common.{◌≡◌, ◌≤◌, ◌<◌, ◌+◌, ◌∙◌, ℕ, List, length, get_or, take, sum_by, Option, None, Some, Fits, w64, ap, sym, subst, arith}
 use Rattle.std.proofs.lemmas.List.{get_or_default, take_more}
 use Rattle.std.proofs.lemmas.List.Elements.{All-push}
@@ -13,7 +13,7 @@ pub counts_fit : (at count more one all : ℕ) → count ≤ at → at < all →
 counts_fit at count more one all few within sixteen is most = omega arith
 
 module _ {D : Type 0} where
-  -- of the places of a row up to one so many have a drive, and none of these has accepted a change
+  -- of the places of a list up to one, `count` have a drive, and none of these has accepted a change
   pub record AreFresh (row : List (Option (BayState D))) (at count : ℕ) : Type 0 where
     pub filled : sum_by one_if_there (take at row) ≡ count
     pub fresh : All (λ bay. AcceptedNone bay) (take at row)

@@ -3,7 +3,7 @@ use Rattle.std.proofs.Common.{◌≡◌, ℕ, zero, suc, ◌+◌, ◌<◌, nat_e
 use Rattle.std.proofs.lemmas.Bool.Decides.{nat_tests}
 use Rattle.std.specs.List.{AllByRecursion, IsDistinct, range_with_len}
 
--- a number differs from all behind it
+-- a number differs from all after it
 behind : (number from count : ℕ) → number < from
     → AllByRecursion (λ (other : ℕ). nat_eq number other ≡ false) (range_with_len from count)
 behind number from zero below = tt

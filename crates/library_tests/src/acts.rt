@@ -1,4 +1,4 @@
-//! What a thread of a test does, act by act.
+//! The acts of a thread in a test.
 use crate::commands::{asks, asks_either, lends, session};
 use crate::counts::pause;
 use crate::gates::{StageGate, Stands};
@@ -14,44 +14,45 @@ use std::sync::Wait;
 use std::time::Clock;
 use tape_disk::Disk;
 
-/// What a thread does at once. It has the seat of a host.
+/// One act of a thread. It has the seat of a host.
 #[derive(Clone, Copy)]
 pub enum Act {
-    /// Its commands are answered so, one after another.
+    /// Its commands have these answers, one after another.
     Asks(&'static [Step]),
-    /// The same so many times, each time with a pause behind it.
+    /// The same a number of times, each time followed by a pause.
     Repeats(u32, &'static [Step]),
     /// The same in one session.
     Session(&'static [Step]),
-    /// Its command is answered so, or so.
+    /// Its command has one of two answers.
     Either(Step, Answer),
-    /// Its data are lent with a command, which is answered so, and so much of them is left.
+    /// Its data are lent with a command, with this answer, and this many bytes of them are left.
     Lends(Step, usize),
     /// Blocks are written at a drive while cartridges are moved about.
     Writes(u8),
     /// Cartridges are moved about.
     MovesAbout,
-    /// Cartridges are moved, which is answered so.
+    /// Cartridges are moved, with these answers.
     Moves(&'static [(u32, u32, Answer)]),
-    /// So many addresses are seen as full.
+    /// This many addresses are seen as full.
     Sees(usize),
     /// It is the flusher of a drive.
     Flushes(u8, Stands),
     /// The library is closed.
     Closes,
-    /// A sign has to come to a number.
+    /// Waits until a sign has come to a number.
     Awaits(Sign, u64),
     /// A sign is raised.
     Raises(Sign),
-    /// A sign stands at a number.
+    /// A sign is at a number.
     Counts(Sign, u64),
-    /// The turns at a drive that began, stored nothing, and stored something or failed, and the changes stored.
+    /// The turns at a drive that began, that stored nothing, and that stored something or failed; and the
+    /// stored changes.
     Turns(u8, (u64, u64, u64, u64)),
     /// Other threads run.
     Pauses,
 }
 
-// It is the flusher of a drive until that ends.
+// Runs as the flusher of a drive until that ends.
 fn flushes<D: Disk + Drop, B: Parties, H: Parties, R: Wait + Abort + Clock>(
     rt: &R,
     library: &Library<D, B, H>,
@@ -69,7 +70,7 @@ fn flushes<D: Disk + Drop, B: Parties, H: Parties, R: Wait + Abort + Clock>(
     stage.count(Sign::Ended).raise();
 }
 
-// The same commands are answered so, many times.
+// The same commands have the same answers, many times.
 fn repeats<D: Disk + Drop, B: Parties, H: Parties, R: Wait + Abort + Clock>(
     rt: &R,
     library: &Library<D, B, H>,
@@ -83,7 +84,7 @@ fn repeats<D: Disk + Drop, B: Parties, H: Parties, R: Wait + Abort + Clock>(
     }
 }
 
-// What is done with signs alone.
+// The acts with signs alone.
 fn signals<R: Abort + Clock>(rt: &R, stage: &Stage, act: Act) {
     match act {
         Act::Awaits(sign, wanted) => {
@@ -98,7 +99,7 @@ fn signals<R: Abort + Clock>(rt: &R, stage: &Stage, act: Act) {
     }
 }
 
-// What is done with a library and without the seat of a host, and what is done with signs.
+// The acts with a library and without the seat of a host, and those with signs.
 fn does<D: Disk + Drop, B: Parties, H: Parties, R: Wait + Abort + Clock>(
     rt: &R,
     library: &Library<D, B, H>,

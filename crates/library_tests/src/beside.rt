@@ -12,7 +12,8 @@ use std::test::Fail;
 
 const HOSTS: u32 = 16;
 
-// Each host asks whether the drive of its number is ready, and then, in one phase, each writes a filemark there.
+// Each host sends TEST UNIT READY to the drive of its number; then, in one phase, each writes a filemark
+// there.
 fn script(alloc: Global) -> Result<String, Fail> {
     let mut script = String::new(alloc);
     for host in 0..HOSTS {
@@ -25,7 +26,7 @@ fn script(alloc: Global) -> Result<String, Fail> {
     Ok(script)
 }
 
-// What it is to be answered.
+// The expected answers.
 fn wanted(alloc: Global) -> Result<String, Fail> {
     let mut wanted = String::new(alloc);
     for _ in 0..HOSTS {
@@ -38,8 +39,8 @@ fn wanted(alloc: Global) -> Result<String, Fail> {
     Ok(wanted)
 }
 
-// The first sync of each filemark lasts until those of all sixteen have begun, so each host has to be in its command
-// while all the others are.
+// The first sync of each filemark lasts until those of all sixteen have begun, so each host must be in its
+// command while all others are.
 #[test]
 fn sixteen_hosts_of_a_phase_meet(rt: HostRuntime) -> Result<(), Fail> {
     let alloc = rt.alloc();
@@ -55,7 +56,7 @@ fn sixteen_hosts_of_a_phase_meet(rt: HostRuntime) -> Result<(), Fail> {
     Ok(())
 }
 
-// Adds a command of each of 64 hosts to drive 1, and behind each one of that host to another drive.
+// Adds a command of each of 64 hosts to drive 1, and after each one of that host to another drive.
 fn add_crowd(alloc: Global, script: &mut String, command: &str) -> Result<(), Fail> {
     for place in 0..64u32 {
         let host = place + 1;
@@ -66,7 +67,7 @@ fn add_crowd(alloc: Global, script: &mut String, command: &str) -> Result<(), Fa
     Ok(())
 }
 
-// Each host asks whether its two drives are ready, and then, in one phase, each writes a filemark to both.
+// Each host sends TEST UNIT READY to its two drives; then, in one phase, each writes a filemark to both.
 fn crowd_script(alloc: Global) -> Result<String, Fail> {
     let mut script = String::new(alloc);
     add_crowd(alloc, &mut script, "000000000000")?;
@@ -75,7 +76,7 @@ fn crowd_script(alloc: Global) -> Result<String, Fail> {
     Ok(script)
 }
 
-// What it is to be answered.
+// The expected answers.
 fn crowd_wanted(alloc: Global) -> Result<String, Fail> {
     let mut wanted = String::new(alloc);
     for _ in 0..128u32 {
@@ -88,8 +89,8 @@ fn crowd_wanted(alloc: Global) -> Result<String, Fail> {
     Ok(wanted)
 }
 
-// A filemark takes two syncs. Those at the other drives last until there were 128 at drive 1, so no host ends before
-// each of the 64 has begun.
+// A filemark takes two syncs. Those at the other drives last until there were 128 at drive 1, so no host ends
+// before each of the 64 has begun.
 #[test]
 fn all_hosts_of_a_phase_meet(rt: HostRuntime) -> Result<(), Fail> {
     let alloc = rt.alloc();
@@ -106,8 +107,8 @@ fn all_hosts_of_a_phase_meet(rt: HostRuntime) -> Result<(), Fail> {
     Ok(())
 }
 
-// Behind a phase of two hosts, host 2 writes a block to drive 2, and then host 1 a filemark to drive 1. The sync of
-// that lasts until a flusher has stored the block.
+// After a phase of two hosts, host 2 writes a block to drive 2, and then host 1 a filemark to drive 1. The
+// sync of the filemark lasts until a flusher has stored the block.
 const STORED_BETWEEN: &str = "1 1 000000000000\n2 2 000000000000\n--\n\
     2 2 0a0000000100 78\n--\n1 1 100000000100\n";
 

@@ -1,4 +1,4 @@
-//! Commands to a library, and what is answered.
+//! Commands to a library, and their answers.
 ghost use Rattle.std.specs.Prelude.{◌≡◌, nat_eq};
 ghost use Rattle.std.specs.List.{list_all};
 ghost use Rattle.library.specs.Counts.{has_drive};
@@ -25,12 +25,12 @@ pub fn reply_to<D: Disk + Drop, B: Parties, H: Parties, R: Wait + Abort>(
     sent: &[u8],
 ) -> Reply {
     let number = drive(rt, number);
-    // `std`'s, since `command` asks for what it says.
+    // The `assert!` of `std`, since `command` requires this.
     assert!(rt; library.configured(number));
     library.command(rt, seat, number, cdb, sent)
 }
 
-/// The commands of a seat's host are answered so, one after another.
+/// The commands of a seat's host have these answers, one after another.
 pub fn asks<D: Disk + Drop, B: Parties, H: Parties, R: Wait + Abort>(
     rt: &R,
     library: &Library<D, B, H>,
@@ -43,7 +43,7 @@ pub fn asks<D: Disk + Drop, B: Parties, H: Parties, R: Wait + Abort>(
     }
 }
 
-/// A command of a seat's host is answered so, or so.
+/// A command of a seat's host has one of two answers.
 pub fn asks_either<D: Disk + Drop, B: Parties, H: Parties, R: Wait + Abort>(
     rt: &R,
     library: &Library<D, B, H>,
@@ -61,7 +61,8 @@ pub fn asks_either<D: Disk + Drop, B: Parties, H: Parties, R: Wait + Abort>(
     is_answer(rt, &reply, wanted, 0);
 }
 
-/// The data of a command of a seat's host are lent to a drive that is there. It is answered so, and so much is left.
+/// The data of a command of a seat's host are lent to a drive that is there. It has this answer, and this
+/// many bytes of the data are left.
 pub fn lends<D: Disk + Drop, B: Parties, H: Parties, R: Wait + Abort>(
     rt: &R,
     alloc: Global,
@@ -73,7 +74,7 @@ pub fn lends<D: Disk + Drop, B: Parties, H: Parties, R: Wait + Abort>(
     let (number, cdb, sent, wanted) = step;
     let number = drive(rt, number);
     let mut lent = Bytes::from_slice(alloc, sent).expect(rt, "memory");
-    // `std`'s, since `command_lent` asks for what it says.
+    // The `assert!` of `std`, since `command_lent` requires this.
     assert!(rt; library.configured(number));
     let reply = library.command_lent(rt, seat, number, cdb, &mut lent);
     is_answer(rt, &reply, wanted, 0);
@@ -127,7 +128,7 @@ fn replies_to<D: Disk + Drop, B: Parties, H: Parties, R: Wait + Abort>(
     lines: Vec<Line>,
 ) -> Vec<Reply> {
     let mut lines = lines;
-    // `std`'s, since `host_session` asks for what they say.
+    // The `assert!` of `std`, since `host_session` requires these.
     assert!(rt; are_of(lines.as_slice(), seat.nexus()));
     assert!(rt; are_configured(library, lines.as_slice()));
     library
@@ -135,7 +136,7 @@ fn replies_to<D: Disk + Drop, B: Parties, H: Parties, R: Wait + Abort>(
         .expect(rt, "memory")
 }
 
-/// The lines of a seat's host are answered so.
+/// The lines of a seat's host have these answers.
 pub fn session<D: Disk + Drop, B: Parties, H: Parties, R: Wait + Abort>(
     rt: &R,
     alloc: Global,

@@ -38,7 +38,7 @@ impl Count {
         self.value.load(Ordering::SeqCst)
     }
 
-    /// Whether it is so high within 1,000 looks.
+    /// Whether it reaches this number within 1,000 looks.
     pub fn reaches<R: Clock>(&self, rt: &R, wanted: u64) -> bool {
         for _ in 0..LOOKS {
             if self.value() >= wanted {

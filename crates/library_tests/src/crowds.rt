@@ -13,7 +13,7 @@ use std::sync::{Arc, Wait};
 use std::test::Fail;
 use std::thread::Threads;
 
-// How often the hosts come and cartridges are moved, and how many lines that is: 64, 128 and 3 each time.
+// How often the hosts come and cartridges are moved, and how many lines that takes: 64, 128 and 3 each time.
 const ROUNDS: u32 = 4;
 
 const LINES: u32 = 780;
@@ -23,7 +23,8 @@ const CHANGED: &str = "CHECK 700006000000000a00000000280000000000";
 
 const GOOD: &str = "GOOD";
 
-// A script that ends after so many lines more, what it is to be answered, and how many changes each drive accepts.
+// A script that ends after this many more lines, its expected answers, and how many changes each drive
+// accepts.
 #[derive(Drop)]
 struct Script {
     text: String,
@@ -55,7 +56,7 @@ impl Script {
         Ok(true)
     }
 
-    // Adds a line of a host to its drive, which accepts so many changes with it.
+    // Adds a line of a host to its drive, which accepts this many changes with it.
     fn asks(
         &mut self,
         alloc: Global,
@@ -83,8 +84,8 @@ impl Script {
     }
 }
 
-// What is reported to the hosts of a drive at the beginning of a round: at the first that it was switched on, and later
-// that its cartridge is new where it was moved before.
+// The condition that is reported to the hosts of a drive at the beginning of a round: in the first its power
+// on, and later its new cartridge where one was moved before.
 fn told(round: u32, drive: u32) -> &'static str {
     let moved = 2 * (round % 8);
     if round == 0 {
@@ -96,7 +97,7 @@ fn told(round: u32, drive: u32) -> &'static str {
     }
 }
 
-// All hosts ask whether their drives are ready.
+// All hosts send TEST UNIT READY to their drives.
 fn add_asking(alloc: Global, script: &mut Script, round: u32) -> Result<(), Fail> {
     for place in 0..64u32 {
         let answer = told(round, place % 16 + 1);
@@ -127,7 +128,7 @@ fn add_moves(alloc: Global, script: &mut Script, round: u32) -> Result<(), Fail>
     Ok(())
 }
 
-// A script of so many lines.
+// A script with this many lines.
 fn script_of(alloc: Global, lines: u32) -> Result<Script, Fail> {
     let mut script = Script::new(alloc, lines);
     for round in 0..ROUNDS {
@@ -138,7 +139,7 @@ fn script_of(alloc: Global, lines: u32) -> Result<Script, Fail> {
     Ok(script)
 }
 
-// The script of so many lines is answered so, and the library ends with these counts.
+// The script with this many lines has these answers, and the library ends with these counts.
 fn ends_after<R: Threads + Wait + Abort + Sync>(
     rt: &R,
     alloc: Global,

@@ -26,16 +26,16 @@ use std::time::Clock;
 use tape_disk::Disk;
 use vtl_base::Nexus;
 
-/// What the hosts of a library do, and how it ends.
+/// The acts of a library's hosts, and how the library ends.
 #[derive(Clone, Copy)]
 pub struct Day {
-    /// What each host does, from number 1 on, each in a thread of its own.
+    /// The acts of each host, from number 1 on, each in a thread of its own.
     pub hosts: &'static [&'static [Act]],
-    /// How many changes their seats then have.
+    /// How many changes their seats have afterwards.
     pub amounts: &'static [u64],
-    /// The place of the seat that is kept back at the end, if one is.
+    /// The place of the seat that is not returned at the end, if there is one.
     pub kept: Option<usize>,
-    /// The counts of drives 1 and 2, or why the library does not end well.
+    /// The counts of drives 1 and 2, or why the library did not end well.
     pub end: Result<(u64, u64), FinishError>,
 }
 
@@ -76,7 +76,7 @@ fn all_play<
     );
 }
 
-// The seats are those of the hosts from number 1 on, and have these amounts.
+// The seats are those of the hosts from number 1 on, with these amounts.
 fn have_amounts<H: Parties>(rt: &impl Abort, seats: &[Seat<H>], amounts: &[u64]) {
     for (place, (seat, amount)) in seats.iter().zip(amounts.iter()).enumerate() {
         assert_equal!(rt; usize::from(seat.nexus().number()), place.saturating_add(1));
@@ -84,7 +84,7 @@ fn have_amounts<H: Parties>(rt: &impl Abort, seats: &[Seat<H>], amounts: &[u64])
     }
 }
 
-// The seats but that which is kept back.
+// All seats but the one that is not returned.
 fn handed_in<H: Parties>(seats: Vec<Seat<H>>, kept: Option<usize>) -> Vec<Seat<H>> {
     let mut seats = seats;
     if let Some(place) = kept {
@@ -180,8 +180,8 @@ pub fn spend_well<D: Disk + Drop + Send, R: Threads + Wait + Abort + Clock + Syn
     Ok(())
 }
 
-/// The same with cartridges 1 and 2 in drives 1 and 2. This call of the first disk of cartridge 1 fails, and a sync of
-/// it that is to last waits until so much is freed.
+/// The same with cartridges 1 and 2 in drives 1 and 2. This call of the first disk of cartridge 1 fails, and
+/// a sync of it that is to last waits until this much is freed.
 pub fn spend_loaded<R: Threads + Wait + Abort + Clock + Sync>(
     rt: &R,
     alloc: Global,

@@ -1,4 +1,4 @@
-//! Disks in memory, of whose calls one may fail, and whose syncs may last.
+//! Disks in memory, of which one call may fail, and whose syncs may last.
 use crate::stages::Stage;
 use std::alloc::Global;
 use std::sync::Arc;
@@ -9,7 +9,7 @@ use vtl_base::DevFault;
 /// No call of a disk is this one.
 pub const NEVER: u64 = u64::MAX;
 
-/// A disk whose syncs may last, or free those that last, where it has a stage.
+/// A disk whose syncs may last, or free those that last, if it has a stage.
 #[derive(Drop)]
 pub struct SlowDisk<D> {
     below: D,
@@ -68,7 +68,7 @@ pub fn disk(alloc: Global) -> TestDisk {
     }
 }
 
-/// A new disk of which the call of this number fails, and whose syncs may last.
+/// A new disk that fails at the call with this number, and whose syncs may last.
 pub fn staged_disk(
     alloc: Global,
     fails: u64,

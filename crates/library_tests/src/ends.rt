@@ -13,7 +13,7 @@ pub fn are_counts<D: Disk + Drop>(
     assert_equal!(rt; finished.counts, Ok(counts));
 }
 
-/// So many drives have come back, from number 1 on, and the slots.
+/// This many drives are returned, from number 1 on, and the slots.
 pub fn are_back<D: Disk + Drop>(rt: &impl Abort, finished: &Finished<D>, drives: usize) {
     assert_equal!(rt; finished.bays.len(), 16);
     for (place, bay) in finished.bays.iter().enumerate() {

@@ -25,7 +25,7 @@ const FAILED: Answer = (
 // A block is written, and waits for the flusher.
 const WRITES: Act = Act::Asks(&[(1, READY, b"", POWERED_ON), (1, WRITE_1, b"x", GOOD)]);
 
-// What is reported of a turn that failed, once, and then of the cartridge.
+// The reports after a failed turn: the turn once, and then the cartridge.
 const IS_TOLD: Act = Act::Asks(&[
     (1, READY, b"", DEFERRED),
     (1, READY, b"", FAILED),
@@ -78,7 +78,7 @@ static FAILS: Day = Day {
     end: Err(FinishError::Unwritten),
 };
 
-// Then the cartridge is loaded again: the tape is what it was before the turn, or that with the block.
+// Then the cartridge is loaded again: the tape is unchanged since before the turn, or has the block.
 static LOADED_AGAIN: Day = Day {
     hosts: &[
         &[
@@ -97,8 +97,8 @@ static LOADED_AGAIN: Day = Day {
     end: Ok((1, 0)),
 };
 
-// The creation of a cartridge makes five calls of its first disk, and its opening six. A turn makes four more: a write,
-// a sync, the write of the gate, and a sync.
+// Creating a cartridge makes five calls of its first disk, and opening it six. A turn makes four more: a
+// write, a sync, the write of the gate, and a sync.
 #[test]
 fn a_turn_in_which_the_device_fails(rt: HostRuntime) -> Result<(), Fail> {
     for fails in 11..15u64 {

@@ -16,8 +16,8 @@ const WITHOUT_CHANGE: &'static [Step] = &[
     (1, &[0x10, 0, 0, 0, 0, 0], b"", GOOD),
 ];
 
-// A thousand commands that accept no change leave the flusher at rest, also over a while; one that accepts a change
-// wakes it, and then it rests again, until the library is closed.
+// A thousand commands that accept no change leave the flusher at rest, even over a while. One that accepts a
+// change wakes it, and then it rests again, until the library is closed.
 static RESTS: Day = Day {
     hosts: &[
         &[
@@ -48,7 +48,7 @@ fn a_flusher_rests_until_a_change_is_accepted(rt: HostRuntime) -> Result<(), Fai
     spend_loaded(&rt, rt.alloc(), NEVER, 0, &RESTS)
 }
 
-// A gate that is shut ends a flusher, a drive that is not there has none, and in a library that is closed none begins.
+// A shut gate ends a flusher; a drive that is not there has none; and in a closed library none begins.
 static ENDS_AT_ONCE: Day = Day {
     hosts: &[&[
         Act::Asks(&[(1, READY, b"", POWERED_ON), (1, WRITE_1, b"x", GOOD)]),

@@ -1,4 +1,4 @@
-//! The gate of a flusher in a test: it counts turns, and may stand.
+//! The gate of a flusher in a test: it counts turns, and may wait.
 use crate::stages::{Sign, Stage};
 use assertions::assert_holds;
 use library::Gate;
@@ -6,7 +6,7 @@ use std::process::Abort;
 use std::time::Clock;
 use volume_core::Turn;
 
-/// Where a flusher stands until a sign has come to a number.
+/// Where a flusher waits until a sign has come to a number.
 #[derive(Clone, Copy, Debug)]
 pub enum Stands {
     Nowhere,
@@ -14,7 +14,7 @@ pub enum Stands {
     Before(Sign, u64),
     /// In each turn, where the drive's lock is held.
     Inside(Sign, u64),
-    /// It is to take no turn.
+    /// It takes no turn.
     Shut,
 }
 

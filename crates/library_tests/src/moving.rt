@@ -17,7 +17,7 @@ use std::sync::Wait;
 use std::test::Fail;
 use tape_disk::Disk;
 
-// How often each thread does what it does.
+// How often each thread does its part.
 const ROUNDS: u32 = 60;
 
 // How many addresses are seen as full, and how many as missing.
@@ -34,7 +34,7 @@ fn seen(inventory: &Inventory) -> (usize, usize) {
     (full, missing)
 }
 
-/// So many cartridges are seen, and fourteen drives are missing.
+/// This many cartridges are seen, and fourteen drives are missing.
 pub fn has_seen<D: Disk + Drop, B: Parties, H: Parties, R: Wait + Abort>(
     rt: &R,
     library: &Library<D, B, H>,
@@ -43,7 +43,7 @@ pub fn has_seen<D: Disk + Drop, B: Parties, H: Parties, R: Wait + Abort>(
     assert_equal!(rt; seen(&library.inventory(rt)), (full, 14));
 }
 
-/// Cartridges are moved, which is answered so.
+/// Cartridges are moved, with these answers.
 pub fn moves<D: Disk + Drop, B: Parties, H: Parties, R: Wait + Abort>(
     rt: &R,
     library: &Library<D, B, H>,
@@ -54,7 +54,7 @@ pub fn moves<D: Disk + Drop, B: Parties, H: Parties, R: Wait + Abort>(
     }
 }
 
-// Moves to and fro: each comes to pass or not, as the other threads let it.
+// Moves to and fro: each succeeds or not, depending on the other threads.
 static AROUND: &'static [(u32, u32)] = &[
     (1001, 1),
     (1, 2),
@@ -68,7 +68,7 @@ static AROUND: &'static [(u32, u32)] = &[
     (2, 1001),
 ];
 
-// A move: GOOD, nothing is at the source, or something is at the destination.
+// A move: GOOD, the source is empty, or the destination is full.
 static OF_A_MOVE: &'static [Told] = &[
     (Status::Good, 0, 0, 0),
     (Status::Check, 5, 0x3b, 0x0e),
@@ -96,7 +96,7 @@ pub fn moves_about<D: Disk + Drop, B: Parties, H: Parties, R: Wait + Abort>(
     }
 }
 
-// A WRITE: GOOD, no cartridge, one that is new in the drive, or a drive that was switched on.
+// A WRITE: GOOD, no cartridge, a new one in the drive, or a drive that was switched on.
 static OF_A_WRITE: &'static [Told] = &[
     (Status::Good, 0, 0, 0),
     (Status::Check, 2, 0x3a, 0),
@@ -139,8 +139,8 @@ const NO_ROOM: Answer = (
     b"",
 );
 
-// Moves that lend no drive, one as destination, one as source, or both. The drive that a cartridge was moved to is
-// ready, and the other one is not.
+// Moves that lend no drive, one as destination, one as source, or both. The drive to which a cartridge was
+// moved is ready, and the other one is not.
 const ROUND: &'static [Act] = &[
     Act::Asks(&[(1, READY, b"", POWERED_ON), (2, READY, b"", POWERED_ON)]),
     Act::Moves(&[

@@ -5,7 +5,7 @@ use library::Finished;
 use std::process::Abort;
 use tape_buffer::Buffered;
 
-// The number in the barcode of a cartridge, whose two digits stand in its file behind the place 14.
+// The number in the barcode of a cartridge, whose two digits are in its file after place 14.
 fn number_of(medium: &Buffered<TestDisk>) -> usize {
     match medium.disk().inner().inner().bytes().get(15..17) {
         Some([tens, ones]) => usize::from(*tens % 16) * 10 + usize::from(*ones % 16),
@@ -13,14 +13,14 @@ fn number_of(medium: &Buffered<TestDisk>) -> usize {
     }
 }
 
-// One cartridge more of this number.
+// One more cartridge with this number.
 fn add_one(counts: &mut [u8; 17], number: usize) {
     if number < 17 {
         counts[number] = counts[number].saturating_add(1);
     }
 }
 
-// How often there is a cartridge of each number up to 16.
+// How often there is a cartridge with each number up to 16.
 fn count_numbers(finished: &Finished<TestDisk>) -> [u8; 17] {
     let mut counts = [0u8; 17];
     for parked in finished.slots.inventory().iter().flatten() {

@@ -1,4 +1,4 @@
-//! What is asked of drives and hosts before a library is opened.
+//! What is required of drives and hosts before a library is opened.
 ghost use Rattle.std.specs.Prelude.{◌≡◌, ◌+◌, ◌<◌, length, vec_len, All, IfOk, OnOk};
 ghost use Rattle.std.specs.List.{range_with_len};
 ghost use Rattle.vtl_base.specs.declared.limits.TheConstants.{DRIVES};
@@ -11,7 +11,7 @@ use std::test::Fail;
 use tape_disk::Disk;
 use vtl_base::Nexus;
 
-// One for a drive that has accepted no change, and none where there is no drive.
+// 1 for a drive that has accepted no change, and 0 where there is no drive.
 fn one_fresh<D: Disk>(bay: &Option<Bay<D>>) -> Result<u64, Fail>
     ensures count { IfOk result (λ count. count ≡ one_if_there bay.now) }
     ensures fresh { OnOk result (AcceptedNone bay.now) }
@@ -28,7 +28,7 @@ fn one_fresh<D: Disk>(bay: &Option<Bay<D>>) -> Result<u64, Fail>
     }
 }
 
-/// How many drives there are in a row of sixteen places, if none has accepted a change.
+/// How many drives there are in sixteen places, if none has accepted a change.
 pub fn count_fresh<D: Disk>(bays: &[Option<Bay<D>>]) -> Result<u64, Fail>
     ensures places { OnOk result (length bays.now ≡ DRIVES) }
     ensures count { IfOk result (λ count. count ≡ places_filled bays.now) }
@@ -45,7 +45,7 @@ pub fn count_fresh<D: Disk>(bays: &[Option<Bay<D>>]) -> Result<u64, Fail>
     Ok(count)
 }
 
-// The host behind this number of others.
+// The host after this many others.
 fn host_behind(rt: &impl Abort, others: u8) -> Nexus
     requires { others < 255 }
     ensures { result ≡ others + 1 }
@@ -53,7 +53,7 @@ fn host_behind(rt: &impl Abort, others: u8) -> Nexus
     Nexus::new(others + 1).expect(rt, "a host")
 }
 
-/// So many hosts, from number 1 on.
+/// `count` hosts, from number 1 on.
 pub fn hosts(rt: &impl Abort, alloc: Global, count: u8) -> Result<Vec<Nexus>, Fail>
     ensures { IfOk result (λ hosts. (hosts.items ≡ range_with_len 1 count) × (vec_len hosts ≡ count)) }
 {

@@ -13,15 +13,15 @@ use std::sync::{Arc, Wait};
 use std::test::Fail;
 use std::thread::Threads;
 
-// How many hosts there are, how many blocks each writes, and how many that is.
+// How many hosts there are, how many blocks each writes, and how many that makes.
 const HOSTS: usize = 8;
 
 const EACH: usize = 10;
 
 const ALL: usize = 80;
 
-// The hosts ask whether drive 1 is ready. Then each writes its blocks, of one byte each, all different, and asks behind
-// each where the drive stands. At last host 1 reads the tape.
+// The hosts send TEST UNIT READY to drive 1. Then each writes its blocks, of one byte each, all different,
+// and reads the position after each. At last host 1 reads the tape.
 fn script(alloc: Global) -> Result<String, Fail> {
     let mut script = String::new(alloc);
     for host in 1..9u32 {
@@ -77,7 +77,7 @@ fn byte_at(line: &[u8], place: usize) -> u8 {
     }
 }
 
-// Where the drive stood behind each block, as its host read it.
+// The position of the drive after each block, as its host read it.
 fn told(rt: &impl Abort, alloc: Global, answers: &mut Answers<'_>) -> Result<[u8; 80], Fail> {
     let mut told = [0u8; 80];
     for block in 0..ALL {
@@ -91,7 +91,7 @@ fn told(rt: &impl Abort, alloc: Global, answers: &mut Answers<'_>) -> Result<[u8
     Ok(told)
 }
 
-// Where each block stands on the tape: each stands there once.
+// The place of each block on the tape: each is there once.
 fn places(rt: &impl Abort, alloc: Global, answers: &mut Answers<'_>) -> Result<[u8; 80], Fail> {
     let mut places = [255u8; 80];
     for place in 0..80u8 {
@@ -106,8 +106,9 @@ fn places(rt: &impl Abort, alloc: Global, answers: &mut Answers<'_>) -> Result<[
     Ok(places)
 }
 
-// Each host reads a place behind its block, and not behind its next one. So the blocks in the order of the tape, and
-// each question behind as many blocks as were read, are an order of all commands that gives these answers.
+// Each host reads a place after its block, and not after its next one. So the blocks in the order of the
+// tape, with each question after as many blocks as were read, are an order of all commands that gives these
+// answers.
 fn is_some_order(rt: &impl Abort, told: &[u8; 80], places: &[u8; 80]) {
     for block in 0..ALL {
         let next = if block % EACH + 1 < EACH {

@@ -1,4 +1,4 @@
-//! What is answered to commands, byte by byte.
+//! The answers to commands, byte by byte.
 use assertions::{assert_equal, assert_holds};
 use scsi_sense::{Reply, Status};
 use std::process::Abort;
@@ -58,7 +58,7 @@ pub const MARK: &'static [u8] = &[0x10, 0, 0, 0, 1, 0];
 
 pub const REWIND: &'static [u8] = &[0x01, 0, 0, 0, 0, 0];
 
-/// The number of a drive, and what it is asked: a command block, what is sent with it, and the answer.
+/// The number of a drive, and a command to it: a command block, the data sent with it, and the answer.
 pub type Step = (u8, &'static [u8], &'static [u8], Answer);
 
 /// A reply is this answer.
@@ -95,7 +95,7 @@ fn is_allowed(told: Told, allowed: &[Told]) -> bool {
     false
 }
 
-/// What a reply says is one of these.
+/// The status and codes of a reply are one of these.
 pub fn is_one_of(rt: &impl Abort, reply: &Reply, allowed: &[Told]) {
     let told = told_by(reply);
     assert_holds!(rt; is_allowed(told, allowed); told);

@@ -37,13 +37,13 @@ const BESIDE: &'static [Step] = &[
 
 const ALONE: &'static [&'static [Act]] = &[&[Act::Session(WRITTEN_AND_READ)]];
 
-// Host 2 writes behind host 1.
+// Host 2 writes after host 1.
 const BOTH: &'static [&'static [Act]] = &[
     &[Act::Session(WRITTEN_AND_READ), Act::Raises(Sign::Said)],
     &[Act::Awaits(Sign::Said, 1), Act::Session(BESIDE)],
 ];
 
-// The seat of a host that had changes accepted is missed; another is not.
+// The seat of a host is missed if changes of its commands were accepted; another is not.
 static ENDS: &'static [Day] = &[
     Day {
         hosts: ALONE,
@@ -122,7 +122,7 @@ const KEYS: Answer = (
     b"\x00\x00\x00\x02\x00\x00\x00\x10\x00\x00\x00\x00\x00\x00\x00\xa1\x00\x00\x00\x00\x00\x00\x00\xb2",
 );
 
-// Host 1 has a reservation, and host 2 registers. Each says when the other is to go on.
+// Host 1 has a reservation, and host 2 registers. Each signals when the other is to go on.
 static RESERVED: Day = Day {
     hosts: &[
         &[

@@ -20,7 +20,7 @@ pub fn drive(rt: &impl Abort, number: u8) -> DriveNo {
     DriveNo::new(number).expect(rt, "a drive")
 }
 
-/// What a library is made of.
+/// The parts of a library.
 #[derive(Drop)]
 pub struct Sample<D: Disk> {
     /// The drives, from number 1 on.
@@ -28,8 +28,8 @@ pub struct Sample<D: Disk> {
     pub slots: Slots<Parked<D>>,
 }
 
-// A new cartridge of 16,777,216 bytes on these two disks, whose barcode has this number. Its creation makes five calls
-// of the first.
+// A new cartridge of 16,777,216 bytes on these two disks, with this number in its barcode. Creating it makes
+// five calls of the first disk.
 fn cartridge<D: Disk + Drop>(alloc: Global, number: u8, disks: (D, D)) -> Result<Parked<D>, Fail> {
     let (first, second) = disks;
     let mut barcode = *b"T00000L6";
@@ -44,7 +44,7 @@ fn cartridge<D: Disk + Drop>(alloc: Global, number: u8, disks: (D, D)) -> Result
     }
 }
 
-// This disk, and a second one, which is empty.
+// This disk, and an empty second one.
 fn beside(alloc: Global, first: TestDisk) -> (TestDisk, TestDisk) {
     (first, disk(alloc))
 }
@@ -59,7 +59,7 @@ fn store<D: Disk + Drop>(alloc: Global, number: DriveNo, disk: D) -> Result<Aptp
     }
 }
 
-// A drive that is just switched on, with this in it.
+// A drive that was just switched on, with this cartridge in it.
 fn switched_on<D: Disk + Drop>(
     alloc: Global,
     store: AptplStore<D>,
@@ -73,7 +73,7 @@ fn switched_on<D: Disk + Drop>(
     }
 }
 
-// A drive that is just switched on, with its store on this disk and this in it.
+// A drive that was just switched on, with its store on this disk and this cartridge in it.
 fn bay<D: Disk + Drop>(
     rt: &impl Abort,
     alloc: Global,
@@ -85,7 +85,7 @@ fn bay<D: Disk + Drop>(
     switched_on(alloc, store, cartridge)
 }
 
-// Adds a drive of this number, with a new cartridge of it on these two disks.
+// Adds a drive with this number, with a new cartridge of that number on these two disks.
 fn add_loaded<D: Disk + Drop>(
     rt: &impl Abort,
     alloc: Global,
@@ -100,7 +100,7 @@ fn add_loaded<D: Disk + Drop>(
     Ok(())
 }
 
-// Adds a drive of this number, with no cartridge.
+// Adds an empty drive with this number.
 fn add_empty<D: Disk + Drop>(
     rt: &impl Abort,
     alloc: Global,
@@ -113,7 +113,7 @@ fn add_empty<D: Disk + Drop>(
     Ok(())
 }
 
-// Puts a new cartridge of this number, on these two disks, into the slot behind 1000 others.
+// Puts a new cartridge with this number, on these two disks, into the slot 1000 + number.
 fn shelve<D: Disk + Drop>(
     alloc: Global,
     sample: &mut Sample<D>,
@@ -127,7 +127,7 @@ fn shelve<D: Disk + Drop>(
     }
 }
 
-// Fills the places for drives up with none.
+// Fills the other places for drives with None.
 fn fill<D: Disk + Drop>(sample: &mut Sample<D>) -> Result<(), Fail> {
     for _ in sample.bays.len()..16 {
         sample.bays.push(None)?;
@@ -135,8 +135,8 @@ fn fill<D: Disk + Drop>(sample: &mut Sample<D>) -> Result<(), Fail> {
     Ok(())
 }
 
-/// So many drives, in each a new cartridge of its number. The first disk of cartridge 1 fails at this call, and its
-/// syncs may last.
+/// `count` drives, in each a new cartridge with its number. The first disk of cartridge 1 fails at this call,
+/// and its syncs may last.
 pub fn loaded(
     rt: &impl Abort,
     alloc: Global,
@@ -159,7 +159,7 @@ pub fn loaded(
     Ok(sample)
 }
 
-/// So many drives, in each a new cartridge of its number. The syncs of their first disks may last.
+/// `count` drives, in each a new cartridge with its number. The syncs of their first disks may last.
 pub fn staged(
     rt: &impl Abort,
     alloc: Global,
@@ -178,8 +178,8 @@ pub fn staged(
     Ok(sample)
 }
 
-/// Sixteen drives, in each a new cartridge of its number. The syncs of the others last until those of cartridge 1 free
-/// them.
+/// Sixteen drives, in each a new cartridge with its number. The syncs of the others last until those of
+/// cartridge 1 free them.
 pub fn freed_by_first(
     rt: &impl Abort,
     alloc: Global,

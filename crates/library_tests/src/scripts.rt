@@ -18,7 +18,7 @@ use tape_disk::Disk;
 /// The answer to a command of a host at a drive that was switched on.
 pub const POWERED_ON: &str = "CHECK 700006000000000a00000000290000000000";
 
-/// What a script wrote, and what is left.
+/// What a script wrote, and the parts that are left.
 #[derive(Drop)]
 pub struct Written<D: Disk> {
     pub text: Vec<u8>,
@@ -64,7 +64,7 @@ pub fn held_text<D: Disk + Drop>(
     script: &str,
 ) -> Vec<u8> {
     let Sample { bays, slots } = sample;
-    // `std`'s, since `from_parts` asks for what it says.
+    // The `assert!` of `std`, since `from_parts` requires this.
     assert!(rt; bays.len() == 16);
     let mut held = Held::from_parts(alloc, bays, slots);
     let mut reader = script.as_bytes();

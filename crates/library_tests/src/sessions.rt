@@ -1,4 +1,4 @@
-//! A long script of two hosts: it is answered as by a library of one thread.
+//! A long script of two hosts: its answers are those of a library of one thread.
 use crate::disks::NEVER;
 use crate::ends::are_back;
 use crate::samples::loaded;
@@ -10,10 +10,10 @@ use std::alloc::Global;
 use std::sync::Arc;
 use std::test::Fail;
 
-// How many lines each host gives.
+// How many lines each host has.
 const LINES: u32 = 1_000;
 
-// The command block that a number picks, of those that have nothing of it.
+// The command block for a number, of those without fields for it.
 fn block_of(number: u32) -> &'static str {
     match number / 16 % 8 {
         1 => "100000000100",
@@ -37,7 +37,8 @@ fn add_write(alloc: Global, script: &mut String, number: u32) -> Result<(), Fail
     Ok(())
 }
 
-// The line of a host to the drive of its number that a number makes: a WRITE, a LOCATE or one of six other commands.
+// The line of a host to the drive of its number, for a number: a WRITE, a LOCATE or one of six other
+// commands.
 fn add_line(alloc: Global, script: &mut String, host: u32, number: u32) -> Result<(), Fail> {
     script.push_str(format!(in alloc; "{host} {host} ")?.as_str())?;
     match number / 16 % 8 {
@@ -52,7 +53,7 @@ fn add_line(alloc: Global, script: &mut String, host: u32, number: u32) -> Resul
     Ok(())
 }
 
-// A thousand lines of a host. Each number makes the next.
+// A thousand lines of a host. Each number gives the next.
 fn add_lines(alloc: Global, script: &mut String, host: u32) -> Result<(), Fail> {
     let mut number = host;
     for _ in 0..LINES {
@@ -62,7 +63,7 @@ fn add_lines(alloc: Global, script: &mut String, host: u32) -> Result<(), Fail> 
     Ok(())
 }
 
-// To both hosts it is reported that the drives were switched on, and then give their lines in one phase.
+// The power on of the drives is reported to both hosts, which then send their lines in one phase.
 fn script(alloc: Global) -> Result<String, Fail> {
     let mut script = String::new(alloc);
     script.push_str("1 1 000000000000\n2 2 000000000000\n--\n")?;

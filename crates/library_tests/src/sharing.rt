@@ -46,7 +46,7 @@ const SECOND: &'static [Step] = &[
     (2, READ_1, b"", END_OF_DATA),
 ];
 
-// Host 1 at drive 2, once host 2 is done: one change.
+// Host 1 at drive 2, after host 2 is done: one change.
 const AFTERWARDS: &'static [Step] = &[(2, WRITE_1, b"w", POWERED_ON), (2, WRITE_1, b"w", GOOD)];
 
 // Two hosts at two drives, and a flusher of drive 1.
@@ -72,7 +72,7 @@ fn two_hosts_at_two_drives(rt: HostRuntime) -> Result<(), Fail> {
     spend_loaded(&rt, rt.alloc(), NEVER, 0, &TWO_HOSTS)
 }
 
-// One of 64 hosts, once all are there, writes a block.
+// One of 64 hosts, when all are there, writes a block.
 const COMES: &'static [Act] = &[
     Act::Raises(Sign::Said),
     Act::Awaits(Sign::Said, 64),

@@ -12,11 +12,11 @@ pub enum Sign {
     Failed(u8),
     /// Changes that turns stored.
     Stored(u8),
-    /// Flushers that came to the place where they stand.
+    /// Flushers that reached the place where they wait.
     Stood,
     /// Flushers that ended.
     Ended,
-    /// What threads say to each other, in its order.
+    /// What threads signal to each other, in order.
     Said,
     /// Syncs that are to last.
     Armed,
@@ -28,7 +28,7 @@ pub enum Sign {
     Late,
 }
 
-/// What the flushers of a drive did.
+/// The turns of a drive's flushers.
 #[derive(Drop)]
 pub struct Turns {
     begun: Count,
@@ -54,7 +54,7 @@ impl Turns {
         self.begun.raise();
     }
 
-    /// A turn has ended so.
+    /// A turn has ended with this result.
     pub fn end(&self, turn: Turn) {
         match turn {
             Turn::Idle => self.idle.raise(),
@@ -69,7 +69,8 @@ impl Turns {
         }
     }
 
-    /// How many turns began, stored nothing, and stored something or failed, and how many changes were stored.
+    /// How many turns began, stored nothing, and stored something or failed; and how many changes were
+    /// stored.
     pub fn seen(&self) -> (u64, u64, u64, u64) {
         (
             self.begun.value(),
@@ -93,19 +94,19 @@ pub struct Stage {
     held: Count,
     freed: Count,
     late: Count,
-    // How much has to be freed before a sync ends.
+    // How much must be freed before a sync ends.
     wanted: u64,
     // Whether each sync that lasts frees the others.
     meets: bool,
 }
 
 impl Stage {
-    /// A sync that is to last waits until so much is freed.
+    /// A sync that is to last waits until this much is freed.
     pub fn new(wanted: u64) -> Stage {
         Stage::of(wanted, false)
     }
 
-    /// A sync that is to last waits until so many have begun.
+    /// A sync that is to last waits until this many have begun.
     pub fn meeting(wanted: u64) -> Stage {
         Stage::of(wanted, true)
     }
@@ -154,8 +155,8 @@ impl Stage {
         }
     }
 
-    /// A sync. If it is to last, it does so until enough is freed, or for five million looks, or until another one was
-    /// late.
+    /// A sync. If it is to last, it lasts until enough is freed, or for five million looks, or until another
+    /// one was late.
     pub fn sync(&self) {
         if self.armed.value() <= self.held.value() {
             return;

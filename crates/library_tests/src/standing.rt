@@ -1,4 +1,4 @@
-//! Flushers and disks that stand: what goes on at other drives meanwhile, and at their own.
+//! Flushers and disks that wait: what goes on at other drives meanwhile, and at their own.
 use crate::acts::Act;
 use crate::days::{Day, spend_loaded};
 use crate::disks::NEVER;
@@ -7,8 +7,8 @@ use crate::replies::{GOOD, MARK, POWERED_ON, READY, REWIND, WRITE_1};
 use crate::stages::Sign;
 use std::test::Fail;
 
-// The flusher of drive 1 stands in its first turn, with the drive's lock, until all blocks at drive 2 are stored. Host
-// 1 writes one of these and rewinds drive 1, host 2 writes twenty.
+// The flusher of drive 1 waits in its first turn, with the drive's lock, until all blocks at drive 2 are
+// stored. Host 1 writes one of these and rewinds drive 1, host 2 writes twenty.
 static STANDS_IN_ITS_TURN: Day = Day {
     hosts: &[
         &[
@@ -43,7 +43,7 @@ fn a_drive_works_while_another_stands_in_its_turn(rt: HostRuntime) -> Result<(),
     spend_loaded(&rt, rt.alloc(), NEVER, 0, &STANDS_IN_ITS_TURN)
 }
 
-// The flusher of drive 1 stands before its first turn until a block is answered there, and then stores it.
+// The flusher of drive 1 waits before its first turn until a block was written there, and then stores it.
 static STANDS_BEFORE_ITS_TURN: Day = Day {
     hosts: &[
         &[
@@ -69,7 +69,8 @@ fn a_block_is_answered_before_a_turn_stores_it(rt: HostRuntime) -> Result<(), Fa
     spend_loaded(&rt, rt.alloc(), NEVER, 0, &STANDS_BEFORE_ITS_TURN)
 }
 
-// Host 1 has drive 1 store its block, which lasts until host 2 has written a block to drive 2, which is entered.
+// Host 1 has drive 1 store its block, which lasts until host 2 has written a block to drive 2, which is
+// entered.
 static LASTS: Day = Day {
     hosts: &[
         &[

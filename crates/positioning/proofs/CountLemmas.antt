@@ -1,4 +1,4 @@
--- Walks over filemarks, by how many stand before a place.
+-- Walks over filemarks, by how many come before a place.
 use Rattle.std.proofs.Common.{◌≡◌, ◌≤◌, ◌<◌, ◌+◌, ◌-◌, ℕ, List, length, take, inl, inr, refl, ap, arith, ⊎_elim}
 use Rattle.std.proofs.lemmas.Bool.{cases_lt}
 use Rattle.std.proofs.lemmas.List.{take_all}
@@ -20,21 +20,21 @@ module _ (volume : List Part) (part : ℕ) where
       let same : n ≡ n - 0 = omega arith in
       ap (λ (m : ℕ). marks_in (take m objects)) same
 
-  -- those before a place, and those up to a later one
+  -- those before a place, and those from there to a later one
   pub parted : (from to : ℕ) → from ≤ to → upto to ≡ upto from + marks_between objects from to
   parted from to later =
       omega (arith, from_start from, from_start to, marks_split objects 0 from to (omega arith) later)
 
-  -- no fewer stand before a later place
+  -- at least as many come before a later place
   pub no_fewer : (from to : ℕ) → from ≤ to → upto from ≤ upto to
   no_fewer from to later = omega (arith, parted from to later)
 
-  -- one more stands before the place behind a filemark
+  -- one more comes before the place after a filemark
   one_more : (at : ℕ) → IsMarkAt objects at → upto (at + 1) ≡ upto at + 1
   one_more at mark =
       omega (arith, from_start at, from_start (at + 1), mark_behind objects 0 at (omega arith) mark)
 
-  -- no more stand before a place than there are
+  -- before a place come at most as many as there are
   pub no_more : (n : ℕ) → n ≤ count_of volume part → upto n ≤ mark_count volume part
   no_more n within =
       omega (arith, no_fewer n (length objects) within, ap marks_in (take_whole objects))
@@ -42,7 +42,7 @@ module _ (volume : List Part) (part : ℕ) where
       take_whole : (row : List Object) → take (length row) row ≡ row
       take_whole row = take_all (length row) row (omega arith)
 
-  -- a filemark of a number stands on the tape
+  -- a filemark with a number is on the tape
   pub stands : (k at : ℕ) → IsMarkOf volume part k at → at < count_of volume part
   stands k at mark = mark_inside objects at mark.mark
 

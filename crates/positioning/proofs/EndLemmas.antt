@@ -109,7 +109,7 @@ backward_start objects from count inside short none =
       (short, refl, refl, refl),
     )
 
--- Where a walk to the first filemark ends, a motion over blocks ends: forward
+-- The walk to the first filemark ends where a motion over blocks ends: forward
 pub walk_to_mark : (objects : List Object) (from count most at left end : ℕ) (stop : Stop) (rest : ℕ)
     → WalksForward objects from (from + most) 1 at left → most ≤ count → left ≡ 0
     → end ≡ at → stop ≡ AtMark → rest ≡ count - (at - from - 1)

@@ -1,4 +1,4 @@
--- No motion has a second end, and no cause but those that suit it.
+-- No motion has a second end, and each has only suitable causes.
 use Rattle.std.proofs.Common.{◌≡◌, ◌≤◌, ◌<◌, ◌+◌, ◌-◌, ◌⊎◌, ◌↔◌, ℕ, pos, negsuc, suc, zero, List, length, count_by, take, drop, inl, inr, refl, ap, sym, ◌∙◌, arith}
 use Rattle.std.proofs.lemmas.Bool.{cases_lt}
 use Rattle.volume_core.specs.declared.objects.Object.{Object}
@@ -54,7 +54,7 @@ same_backward objects from count m n end AtMark left other AtMark rest e a b =
 same_backward objects from count m n end AtEnd left other cause rest e a b = absurd a
 same_backward objects from count m n end stop left other AtEnd rest e a b = absurd b
 
--- a place further on, directly behind a filemark, has more filemarks before it
+-- a place further on, directly after a filemark, has more filemarks before it
 none_back : (objects : List Object) (from to : ℕ) → to ≤ from → marks_between objects from to ≡ 0
 none_back objects from to back =
     let none : to - from ≡ 0 = omega arith in
@@ -85,7 +85,7 @@ more_before objects from near far count ahead less mark a b =
       marks_split objects (far + 1) near from (omega arith) ahead,
     )
 
--- a place that so many filemarks lie before is ahead
+-- a place that has this many filemarks before it is ahead
 ahead_of : (objects : List Object) (from to count : ℕ) → marks_between objects from to ≡ count → 1 ≤ count → from ≤ to
 ahead_of objects from to count counted some =
     let which : (to < from) ⊎ (from ≤ to) = cases_lt to from in
@@ -112,7 +112,7 @@ one_before objects from a b count some first second counted again =
     λ h. more_before objects from a b count (ahead_of objects a from count counted some) h second counted again in
     omega (arith, less, more)
 
--- where so many filemarks lie before a place, no fewer lie before the end of data, or behind the start
+-- where this many filemarks come before a place, at least as many come before the end of data, or after the start
 enough_ahead : (objects : List Object) (from a count left : ℕ) → 1 ≤ count → 1 ≤ left → IsBehindMark objects a
     → marks_between objects from a ≡ count → marks_between objects from (length objects) + left ≡ count → ⊥
 enough_ahead objects from a count left some rest behind counted short =

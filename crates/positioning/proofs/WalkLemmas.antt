@@ -11,7 +11,7 @@ use Rattle.positioning.specs.Laws.{EachSpaceEnds}
 use Rattle.positioning.proofs.MarkLemmas.{block_or_mark, none_between, mark_behind, block_behind, mark_before, block_before}
 use Rattle.positioning.proofs.EndLemmas.{walk_to_mark, walk_of_all, walk_to_end, walk_back_to_mark, walk_back_of_all, walk_back_to_start}
 
--- a walk with a limit of one object more
+-- a walk with a limit one object further
 one_further : (objects : List Object) (from limit marks at left : ℕ) → from ≤ limit → limit < length objects
     → WalksForward objects from limit marks at left
     → (end : ℕ) × (rest : ℕ) × WalksForward objects from (limit + 1) marks end rest

@@ -13,7 +13,7 @@ EachSpaceEnds =
     (objects : List Object) (from : ℕ) (code : SpaceCode) (count : ℤ) → from ≤ length objects
     → (end : ℕ) × (stop : Stop) × (left : ℕ) × SpacesTo objects from code count end stop left
 
--- and it has no second one (own)
+-- SPACE has at most one end (own)
 abbrev pub NoSpaceEndsTwice : Type 0
 NoSpaceEndsTwice =
     (objects : List Object) (from : ℕ) (code : SpaceCode) (count : ℤ)
@@ -34,13 +34,13 @@ BackwardMeetsNoEnd =
     (objects : List Object) (from : ℕ) (code : SpaceCode) (size end left : ℕ)
     → SpacesTo objects from code (negsuc size) end AtEnd left → ⊥
 
--- over filemarks it never stops at one (own)
+-- over filemarks it never stops because of one (own)
 abbrev pub FilemarksStopNone : Type 0
 FilemarksStopNone =
     (objects : List Object) (from : ℕ) (count : ℤ) (end left : ℕ)
     → SpacesTo objects from Filemarks count end AtMark left → ⊥
 
--- nothing is left exactly where it came to what it was sent for (own)
+-- nothing of the count is left exactly where the motion was completed (own)
 abbrev pub OnlyDoneLeavesNothing : Type 0
 OnlyDoneLeavesNothing =
     (objects : List Object) (from : ℕ) (code : SpaceCode) (count : ℤ) (end : ℕ) (stop : Stop) (left : ℕ)
@@ -52,7 +52,7 @@ EachLocateEnds =
     (objects : List Object) (to : ℕ)
     → (end : ℕ) × (stop : Stop) × (left : ℕ) × LocatesTo objects to end stop left
 
--- and it has no second one (own)
+-- LOCATE has at most one end (own)
 abbrev pub NoLocateEndsTwice : Type 0
 NoLocateEndsTwice =
     (objects : List Object) (to end : ℕ) (stop : Stop) (left other : ℕ) (cause : Stop) (rest : ℕ)

@@ -1,5 +1,5 @@
 -- Where a motion over the objects of a partition ends. A place is the number of an object, or the end of data, which is
--- the number behind the last.
+-- the number after the last.
 use Rattle.std.specs.Prelude.{◌≡◌, ◌≤◌, ◌<◌, ◌+◌, ◌-◌, ℕ, ℤ, pos, negsuc, suc, zero, List, length, count_by, slice_get, slice_range, Some}
 use Rattle.volume_core.specs.declared.objects.Object.{Object}
 use Rattle.volume_core.specs.declared.objects.Kind.TheVariants as Kinds
@@ -10,17 +10,17 @@ use Rattle.vtl_base.specs.declared.space_codes.SpaceCode.TheVariants.{Blocks, Fi
 use Rattle.positioning.specs.declared.positions.Stop.{Stop}
 use Rattle.positioning.specs.declared.positions.Stop.TheVariants.{Done, AtMark, AtEnd, AtStart}
 
--- the volume has the partition, and the position stands before one of its objects or at the end of data
--- (SSC-4, logical position)
+-- the volume has the partition, and the position is before one of its objects or at the end of data (SSC-4, logical
+-- position)
 pub record IsOnTape (volume : List Part) (position : Pos) : Type 0 where
   pub part : position.part < length volume
   pub object : position.obj ≤ count_of volume position.part
 
--- a block stands at a place (SSC-4, logical objects)
+-- there is a block at a place (SSC-4, logical objects)
 abbrev pub IsBlockAt : List Object → ℕ → Type 0
 IsBlockAt objects at = kind_in (slice_get objects at) ≡ Some Kinds.Block
 
--- a filemark stands at a place (SSC-4, logical objects)
+-- there is a filemark at a place (SSC-4, logical objects)
 abbrev pub IsMarkAt : List Object → ℕ → Type 0
 IsMarkAt objects at = kind_in (slice_get objects at) ≡ Some Kinds.Mark
 
@@ -46,8 +46,8 @@ AreBlocksFrom objects from number = AreBlocks objects from (from + number)
 abbrev pub AreBlocksBefore : List Object → ℕ → ℕ → Type 0
 AreBlocksBefore objects from number = (number ≤ from) × AreBlocks objects (from - number) from
 
--- a motion forward over blocks that passed this many ends so: all are passed; or there is no further
--- object; or the next one is a filemark, and it ends behind it (SSC-4, SPACE(6))
+-- the end of a motion forward over blocks that passed this many: all are passed; or there is no further object; or the
+-- next one is a filemark, and the motion ends after it (SSC-4, SPACE(6))
 abbrev pub EndsForward : List Object → ℕ → ℕ → ℕ → ℕ → Stop → ℕ → Type 0
 EndsForward objects from count passed end Done left =
     (passed ≡ count) × (end ≡ from + count) × (left ≡ 0)
@@ -59,8 +59,8 @@ EndsForward objects from count passed end AtMark left =
     × (left ≡ count - passed)
 EndsForward objects from count passed end AtStart left = ⊥
 
--- a motion backward over blocks that passed this many ends so: all are passed; or there is no object
--- before; or the one before is a filemark, and it ends before it (SSC-4, SPACE(6))
+-- the end of a motion backward over blocks that passed this many: all are passed; or there is no object before; or the
+-- one before is a filemark, and the motion ends before it (SSC-4, SPACE(6))
 abbrev pub EndsBackward : List Object → ℕ → ℕ → ℕ → ℕ → Stop → ℕ → Type 0
 EndsBackward objects from count passed end Done left =
     (passed ≡ count) × (end + count ≡ from) × (left ≡ 0)
@@ -70,12 +70,12 @@ EndsBackward objects from count passed end AtMark left =
     (passed < count) × IsMarkAt objects end × (end + passed + 1 ≡ from) × (left ≡ count - passed)
 EndsBackward objects from count passed end AtEnd left = ⊥
 
--- a place is directly behind a filemark (own)
+-- a place is directly after a filemark (own)
 abbrev pub IsBehindMark : List Object → ℕ → Type 0
 IsBehindMark objects at = (mark : ℕ) × (at ≡ mark + 1) × IsMarkAt objects mark
 
--- a motion forward over filemarks ends so: directly behind one, and as many as the count lie between;
--- or at the end of data, and fewer do (SSC-4, SPACE(6))
+-- the end of a motion forward over filemarks: directly after one, with as many between as the count; or at the end of
+-- data, with fewer (SSC-4, SPACE(6))
 abbrev pub ForwardOverMarks : List Object → ℕ → ℕ → ℕ → Stop → ℕ → Type 0
 ForwardOverMarks objects from count end Done left =
     IsBehindMark objects end × (marks_between objects from end ≡ count) × (left ≡ 0)
@@ -84,8 +84,8 @@ ForwardOverMarks objects from count end AtEnd left =
 ForwardOverMarks objects from count end AtMark left = ⊥
 ForwardOverMarks objects from count end AtStart left = ⊥
 
--- a motion backward over filemarks ends so: directly before one, and as many as the count lie between;
--- or at the beginning of the partition, and fewer do (SSC-4, SPACE(6))
+-- the end of a motion backward over filemarks: directly before one, with as many between as the count; or at the
+-- beginning of the partition, with fewer (SSC-4, SPACE(6))
 abbrev pub BackwardOverMarks : List Object → ℕ → ℕ → ℕ → Stop → ℕ → Type 0
 BackwardOverMarks objects from count end Done left =
     IsMarkAt objects end × (marks_between objects end from ≡ count) × (left ≡ 0)
@@ -94,26 +94,26 @@ BackwardOverMarks objects from count end AtStart left =
 BackwardOverMarks objects from count end AtMark left = ⊥
 BackwardOverMarks objects from count end AtEnd left = ⊥
 
--- forward over blocks a motion passes the greatest number of objects, up to the count, that from the place
--- on exist and are blocks (SSC-4, SPACE(6))
+-- forward over blocks a motion passes the greatest number of objects, up to the count, that follow the place, exist and
+-- are blocks (SSC-4, SPACE(6))
 abbrev pub ForwardOverBlocks : List Object → ℕ → ℕ → ℕ → Stop → ℕ → Type 0
 ForwardOverBlocks objects from count end stop left =
     (passed : ℕ) × IsGreatest count (AreBlocksFrom objects from) passed
     × EndsForward objects from count passed end stop left
 
--- backward over blocks it passes the greatest number of objects, up to the count, that before the place
--- exist and are blocks (SSC-4, SPACE(6))
+-- backward over blocks it passes the greatest number of objects, up to the count, that precede the place, exist and are
+-- blocks (SSC-4, SPACE(6))
 abbrev pub BackwardOverBlocks : List Object → ℕ → ℕ → ℕ → Stop → ℕ → Type 0
 BackwardOverBlocks objects from count end stop left =
     (passed : ℕ) × IsGreatest count (AreBlocksBefore objects from) passed
     × EndsBackward objects from count passed end stop left
 
--- a motion ends at this place, having done what it was sent for (own)
+-- a motion ends at this place, and was completed (own)
 abbrev pub Reaches : ℕ → ℕ → Stop → ℕ → Type 0
 Reaches place end stop left = (end ≡ place) × (stop ≡ Done) × (left ≡ 0)
 
--- SPACE from a place, with this code and count, ends at this place, for this cause, and with this much
--- of the count left; a count below 0 goes backward, and code 3 has none (SSC-4, SPACE(6))
+-- SPACE from a place, with this code and count, ends at this place, for this cause, with this much of the count left; a
+-- count below 0 goes backward, and code 3 has none (SSC-4, SPACE(6))
 abbrev pub SpacesTo : List Object → ℕ → SpaceCode → ℤ → ℕ → Stop → ℕ → Type 0
 SpacesTo objects from EndOfData count end stop left = Reaches (length objects) end stop left
 SpacesTo objects from Blocks (pos zero) end stop left = Reaches from end stop left
@@ -127,8 +127,8 @@ SpacesTo objects from Filemarks (pos (suc n)) end stop left =
 SpacesTo objects from Filemarks (negsuc n) end stop left =
     BackwardOverMarks objects from (n + 1) end stop left
 
--- LOCATE to an object ends before it, or at the end of data where there are fewer objects; none is left
--- (SSC-4, LOCATE(10))
+-- LOCATE to an object ends before it, or at the end of data where there are fewer objects; none is left (SSC-4,
+-- LOCATE(10))
 abbrev pub LocatesTo : List Object → ℕ → ℕ → Stop → ℕ → Type 0
 LocatesTo objects to end Done left = (to ≤ length objects) × (end ≡ to) × (left ≡ 0)
 LocatesTo objects to end AtEnd left =

@@ -8,7 +8,7 @@ use Rattle.positioning.specs.declared.positions.Pos.{Pos}
 abbrev pub is_beginning : Pos → Bool
 is_beginning position = position.obj == 0
 
--- EOP: what the objects before the position take reaches into the last sixteenth of the capacity
+-- EOP: the objects before the position reach into the last sixteenth of the capacity
 -- (SSC-4, READ POSITION; the zone own)
 abbrev pub is_near_end : List Part → Pos → Bool
 is_near_end volume position =
@@ -24,8 +24,8 @@ flags_of volume position =
 abbrev pub object_number : Pos → List ℕ
 object_number position = to_be_bytes w32 position.obj
 
--- the 20 bytes: flags, partition, 2 reserved; first and last logical object location, which are one where
--- nothing is buffered; a reserved byte, and the objects and bytes in the buffer (SSC-4, READ POSITION)
+-- the 20 bytes: flags, partition, 2 reserved; first and last logical object location, which are the same where nothing
+-- is buffered; a reserved byte, and the objects and bytes in the buffer (SSC-4, READ POSITION)
 abbrev pub report_of : List Part → Pos → List ℕ
 report_of volume position =
     flags_of volume position ∷ position.part ∷ 0 ∷ 0 ∷ []

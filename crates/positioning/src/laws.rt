@@ -1,20 +1,20 @@
 //! Laws of motions. Each is a function that does nothing, and its contract is the law.
 ghost use Rattle.positioning.specs.Laws.{BackwardMeetsNoEnd, EachLocateEnds, EachSpaceEnds, FilemarksStopNone, ForwardMeetsNoStart, NoLocateEndsTwice, NoSpaceEndsTwice, OnlyDoneLeavesNothing};
 
-/// From each place on a tape, with any code and count, SPACE has an end, and no second one.
+/// From each place on a tape, with any code and count, SPACE has exactly one end.
 pub fn each_space_has_one_end()
     ensures some { EachSpaceEnds }
     ensures one { NoSpaceEndsTwice }
 {}
 
-/// LOCATE to any object has an end, and no second one.
+/// LOCATE to any object has exactly one end.
 pub fn each_locate_has_one_end()
     ensures some { EachLocateEnds }
     ensures one { NoLocateEndsTwice }
 {}
 
-/// Forward SPACE never stops at the beginning, backward never at the end of data, over filemarks never at
-/// one; and it leaves nothing of the count exactly where it came to what it was sent for.
+/// Forward SPACE never stops at the beginning, backward never at the end of data, over filemarks never
+/// because of one. Nothing of the count is left exactly where the motion was completed.
 pub fn each_stop_suits()
     ensures forward { ForwardMeetsNoStart }
     ensures backward { BackwardMeetsNoEnd }

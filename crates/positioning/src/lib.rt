@@ -1,4 +1,4 @@
-//! Where on a tape the next command works, where SPACE and LOCATE end, and what READ POSITION says.
+//! The position on a tape of the next command, where SPACE and LOCATE end, and the data of READ POSITION.
 #![tactic(auto)]
 
 pub mod laws;

@@ -97,8 +97,8 @@ fn marks_backward<C: Catalog>(catalog: &C, pos: Pos, count: u32) -> Moved
     moved(pos, walk.at, stop, walk.left)
 }
 
-/// Goes over so many blocks or filemarks, backward where the count is below 0, or to the end of data.
-/// It always succeeds, and looks at no object.
+/// Moves over blocks or filemarks, backward where the count is below 0, or to the end of data. It always
+/// succeeds, and looks at no object.
 pub fn space<C: Catalog>(catalog: &C, pos: Pos, code: SpaceCode, count: i32) -> Moved
     requires awake { (C.state catalog.now).awake ≡ true }
     requires on_tape { IsOnTape (volume_of (C.state catalog.now)) pos }
@@ -118,8 +118,8 @@ pub fn space<C: Catalog>(catalog: &C, pos: Pos, code: SpaceCode, count: i32) -> 
     }
 }
 
-/// Goes to an object of the partition that the position is in, or to the end of data where there are
-/// fewer. It always succeeds, and looks at no object.
+/// Moves to an object of the position's partition, or to the end of data where there are fewer. It always
+/// succeeds, and looks at no object.
 pub fn locate<C: Catalog>(catalog: &C, pos: Pos, to: ObjNo) -> Moved
     requires awake { (C.state catalog.now).awake ≡ true }
     requires on_tape { IsOnTape (volume_of (C.state catalog.now)) pos }

@@ -1,8 +1,8 @@
-//! Positions, and the words of a motion.
+//! Positions, and the result of a motion.
 use vtl_base::{ObjNo, PartNo};
 
-/// Where the next command works: a partition, and the number of the object in it that the position
-/// stands before (SSC-4, logical position).
+/// The position of the next command: a partition, and the number of the object in it before which it works
+/// (SSC-4, logical position).
 #[derive(Clone, Copy, PartialEq, Eq, Debug)]
 pub struct Pos {
     pub part: PartNo,
@@ -12,7 +12,7 @@ pub struct Pos {
 /// Why a motion ended where it did (SSC-4, SPACE(6) and LOCATE(10)).
 #[derive(Clone, Copy, PartialEq, Eq, Debug)]
 pub enum Stop {
-    /// It came to where it was sent.
+    /// It was completed.
     Done,
     /// It met a filemark on its way over blocks.
     AtMark,
@@ -27,6 +27,6 @@ pub enum Stop {
 pub struct Moved {
     pub pos: Pos,
     pub stop: Stop,
-    /// The size of the count without what was passed (SSC-4, INFORMATION of SPACE(6)).
+    /// The size of the count without the objects that were passed (SSC-4, INFORMATION of SPACE(6)).
     pub left: u32,
 }

@@ -1,4 +1,4 @@
-//! What READ POSITION says.
+//! The data of READ POSITION.
 ghost use Rattle.std.specs.Prelude.{◌≡◌, true};
 ghost use Rattle.volume_core.specs.Medium.{volume_of};
 ghost use Rattle.positioning.specs.Motion.{IsOnTape};

@@ -1,5 +1,5 @@
-//! Over filemarks by their numbers. A motion looks at no object: it asks how many filemarks stand before a place, and
-//! where the one of a number stands.
+//! Moving over filemarks by their numbers. A motion looks at no object: it asks how many filemarks come
+//! before a place, and for the place of the filemark with a number.
 ghost use Rattle.std.specs.Prelude.{◌≡◌, ◌≤◌, true};
 ghost use Rattle.volume_core.specs.Volume.{count_of, objects_of};
 ghost use Rattle.volume_core.specs.Medium.{volume_of};
@@ -15,7 +15,7 @@ pub(crate) struct Walk {
     pub(crate) left: u32,
 }
 
-// Goes on until so many filemarks are passed, but no further than the limit.
+// Moves forward until `marks` filemarks are passed, but no further than the limit.
 pub(crate) fn forward<C: Catalog>(
     catalog: &C,
     part: PartNo,
@@ -45,7 +45,7 @@ pub(crate) fn forward<C: Catalog>(
     }
 }
 
-// Goes back until so many filemarks are passed, but no further than the limit.
+// Moves backward until `marks` filemarks are passed, but no further than the limit.
 pub(crate) fn backward<C: Catalog>(
     catalog: &C,
     part: PartNo,

@@ -1,4 +1,4 @@
--- What keeps the rules, said of registrations as a map and of a reservation.
+-- The rules of a state, for registrations as a map and for a reservation.
 use Rattle.std.proofs.Common.{◌≡◌, ◌≤◌, ◌==◌, ◌&&◌, ℕ, zero, suc, Bool, true, false, List, length, Option, None, Some, is_some, is_none, refl, sym, ◌∙◌, ap, subst, inl, inr, arith, if◌then◌else◌}
 use Rattle.std.proofs.lemmas.Bool.{and_from, and_parts, cases_lt, false≢true}
 use Rattle.std.proofs.lemmas.List.{get_or_past}
@@ -13,26 +13,26 @@ use Rattle.pr_core.specs.Sound.{IsSound, is_held_rightly}
 use Rattle.pr_core.specs.Effects.{Brings, Effect, stays}
 use Rattle.pr_core.proofs.SetLemmas.{nobody_in, none_in, some_in, who_in}
 
--- somebody is registered
+-- some nexus is registered
 abbrev pub SomeRegistered : (ℕ → Option ℕ) → Type 0
 SomeRegistered keys = (nexus : ℕ) × IsNexus nexus × (is_some (keys nexus) ≡ true)
 
--- a reservation of a type for all, or with one holder, is held rightly
+-- the holder of a reservation is valid, where all registered nexuses hold it, or one
 abbrev pub HeldAs : Bool → (ℕ → Option ℕ) → Option ℕ → Type 0
 HeldAs true keys holder = (holder ≡ None) × SomeRegistered keys
 HeldAs false keys holder = (nexus : ℕ) × IsNexus nexus × (holder ≡ Some nexus) × (is_some (keys nexus) ≡ true)
 
--- a reservation, if there is one, is held rightly
+-- the holder of the reservation, if there is one, is valid
 abbrev pub Held : (ℕ → Option ℕ) → Option Reservation → Type 0
 Held keys None = Unit {0}
 Held keys (Some held) = HeldAs (is_for_all held.kind) keys held.holder
 
--- registrations and reservation keep the rules
+-- registrations and reservation meet the rules
 pub record Keeps (keys : ℕ → Option ℕ) (reservation : Option Reservation) : Type 0 where
   pub no_zero : (nexus : ℕ) → IsNexus nexus → is_number (keys nexus) 0 ≡ false
   pub held : Held keys reservation
 
--- what an order does keeps the rules
+-- the effect of an order meets the rules
 abbrev pub Kept : Effect → Type 0
 Kept effect = Keeps effect.keys effect.reservation
 
@@ -70,7 +70,7 @@ pub held_from :
 held_from state None long right = tt
 held_from state (Some held) long right = held_as_from (is_for_all held.kind) state held.holder long right
 
--- a sound state keeps the rules
+-- a sound state meets the rules
 pub from_sound : (state : PrState) → IsSound state → Keeps (key_of state) state.reservation
 from_sound state sound = record {
   no_zero = nobody_in (has_key state 0) sound.keys;
@@ -95,7 +95,7 @@ pub held_of :
 held_of new keys None same held = refl
 held_of new keys (Some made) same held = held_as_of (is_for_all made.kind) new keys made.holder same held
 
--- a state that comes of what keeps the rules is sound
+-- the next state of an effect that meets the rules is sound
 pub sound_of :
     (effect : Effect) (answer : PrAnswer) (told : List AttentionSet) (new : PrState)
     → Kept effect → Brings effect answer told new → IsSound new
@@ -109,7 +109,7 @@ sound_of effect answer told new kept brings = record {
       (held_of new effect.keys effect.reservation brings.keys.each kept.held);
 }
 
--- one of two effects, as a test says
+-- one of two effects, chosen by a test
 pub choose :
     (test : Bool) (one other : Effect) → (test ≡ true → Kept one) → (test ≡ false → Kept other)
     → Kept (if test then one else other)
@@ -120,7 +120,7 @@ pub number_is_some : (key : Option ℕ) (number : ℕ) → is_number key number 
 number_is_some None number is = is
 number_is_some (Some one) number is = refl
 
--- what stays of the registrations
+-- the registrations that stay have no key 0
 pub left_no_zero :
     (removed : Bool) (key : Option ℕ) → is_number key 0 ≡ false → is_number (if removed then None else key) 0 ≡ false
 left_no_zero true key is = refl
@@ -132,7 +132,7 @@ pub left_some :
 left_some true key stays is = absurd (false≢true (sym stays))
 left_some false key stays is = is
 
--- one more registration
+-- one more registration adds no key 0
 pub more_no_zero :
     (same : Bool) (key : ℕ) (old : Option ℕ) → (key == 0) ≡ false → is_number old 0 ≡ false
     → is_number (if same then Some key else old) 0 ≡ false

@@ -1,4 +1,4 @@
--- Each order has one end; two losses of power are as one.
+-- Each order has one outcome; a second loss of power changes nothing.
 use Rattle.std.proofs.Common.{◌≡◌, ℕ, Bool, true, false, List, Option, None, refl, sym, ◌∙◌, ap, map}
 use Rattle.std.specs.List.{range_with_len}
 use Rattle.vtl_base.specs.declared.limits.TheConstants.{NEXUSES}
@@ -42,7 +42,7 @@ one_end old nexus order answer other_answer told other_told new other first seco
       (first.generation ∙ sym second.generation),
 )
 
--- what has an effect
+-- each effect has an answer, conditions and a next state
 some_end :
     (effect : Effect)
     → (answer : PrAnswer) × (told : List AttentionSet) × (new : PrState) × Brings effect answer told new
@@ -65,7 +65,7 @@ pub an_end :
     → (answer : PrAnswer) × (told : List AttentionSet) × (new : PrState) × Orders old nexus order answer told new
 an_end old nexus order = some_end (effect_of old nexus order)
 
--- a loss of power of a state by its fields
+-- a second loss of power of a state, by its fields
 lost_once :
     (keys : List (Option ℕ)) (reservation : Option Reservation) (aptpl : Bool) (generation : ℕ)
     → power_loss (power_loss (state_of keys reservation aptpl generation))
@@ -76,7 +76,7 @@ lost_once keys reservation false generation = refl
 pub loss_is_once : (state : PrState) → power_loss (power_loss state) ≡ power_loss state
 loss_is_once state = lost_once state.keys state.reservation state.aptpl state.generation
 
--- what a loss of power leaves of a state hangs on what is saved of it
+-- the saved fields alone decide what a loss of power leaves
 left_by_saved :
     (keys : List (Option ℕ)) (reservation : Option Reservation) (aptpl : Bool) (generation : ℕ)
     → power_loss (state_of keys reservation aptpl generation) ≡ power_loss (state_of keys reservation aptpl 0)

@@ -1,4 +1,4 @@
--- A state that keeps the rules leads to such a state.
+-- A state that meets the rules leads to another that meets them.
 use Rattle.std.proofs.Common.{◌≡◌, ◌==◌, ◌&&◌, not, ℕ, Bool, true, false, List, Option, None, Some, is_some, refl, sym, ◌∙◌, ap, subst, if◌then◌else◌}
 use Rattle.std.proofs.lemmas.Bool.{and_left, and_parts, and_right, eq-eqb, not-false, not-true}
 use Rattle.scsi_attention.specs.AttentionSets.{AttentionSet}
@@ -33,7 +33,7 @@ registers_keeps state nexus key aptpl sound not_zero =
           (λ other is. more_some (other == nexus) key (key_of state other) is) old.held;
     }
 
--- the reservation that is left as a nexus unregisters
+-- the reservation after a nexus unregisters
 unregistered_as :
     (all : Bool) (state : PrState) (nexus : ℕ) (holder : Option ℕ) → HeldAs all (key_of state) holder
     → (if all then not (is_some_in (others state nexus)) else is_number holder nexus) ≡ false
@@ -134,7 +134,7 @@ release_keeps (Some held) state nexus kind sound =
     choose (holds_this held state nexus) (release_held held state nexus kind) (stays Good state)
     (λ holds. release_held_keeps held state nexus kind sound) (λ other. from_sound state sound)
 
--- all of a set but one are not that one
+-- a set without a nexus does not have it
 but_itself : (set : Nexuses) (nexus : ℕ) → but set nexus nexus ≡ false
 but_itself set nexus = and_right (set nexus) (not (nexus == nexus)) (ap not (eq-eqb nexus nexus refl))
 
@@ -161,7 +161,7 @@ preempt_zero_keeps (Some held) state nexus kind sound is registered =
     (but_itself (is_registered state) nexus))
     (λ one. from_sound state sound)
 
--- the reservation that stays as registrations with a key go
+-- the reservation that stays when registrations with a key are removed
 preempted_as :
     (all : Bool) (state : PrState) (nexus key : ℕ) (holder : Option ℕ) → IsNexus nexus
     → is_registered state nexus ≡ true → HeldAs all (key_of state) holder

@@ -1,4 +1,4 @@
--- A save is due exactly where registrations, reservation or APTPL are not the same.
+-- A save is due exactly where registrations, reservation or APTPL differ.
 use Rattle.std.proofs.Common.{◌≡◌, ◌||◌, ◌↔◌, not, ℕ, Bool, true, false, List, Option, None, Some, refl, sym, ◌∙◌, ap, subst}
 use Rattle.std.proofs.lemmas.Bool.{and_from, and_parts, eq-eqb, eqb-true, false≢true, not-false, true≢false}
 use Rattle.scsi_lists.specs.declared.actions.PrType.{PrType}
@@ -31,7 +31,7 @@ own_number : (one : Option ℕ) → is_same_number one one ≡ true
 own_number None = refl
 own_number (Some one) = eq-eqb one one refl
 
--- each type is found by its own number
+-- each type is found by its number
 found : (kind : PrType) → type_of (type_number kind) ≡ Some kind
 found WriteExclusive = refl
 found ExclusiveAccess = refl

@@ -1,4 +1,4 @@
--- Sets of nexuses: whether somebody is in one, by the nexuses themselves; and rows of 64 entries.
+-- Sets of nexuses and their members; rows of 64 entries.
 use Rattle.std.proofs.Common.{◌≡◌, ◌≤◌, ◌<◌, ◌+◌, ◌-◌, ℕ, zero, suc, true, false, List, length, replicate, refl, arith, sym, ◌∙◌, ap, subst, inl, inr, sub-one, add-one, map}
 use Rattle.std.proofs.Math.ListN.{get_or}
 use Rattle.std.proofs.lemmas.List.{get_or-replicate, length-replicate, ext_get_or}
@@ -13,7 +13,7 @@ use Rattle.pr_core.specs.Sets.{Nexuses, IsNexus, Shows, is_some_in, row_at}
 at_place : (nexus : ℕ) → IsNexus nexus → 1 + (nexus - 1) ≡ nexus
 at_place nexus is = omega arith
 
--- a member shows that somebody is in a set
+-- a set with this member is not empty
 pub some_in : (set : Nexuses) (nexus : ℕ) → IsNexus nexus → set nexus ≡ true → is_some_in set ≡ true
 unfolding is_some_in
 some_in set nexus is member =
@@ -22,7 +22,7 @@ some_in set nexus is member =
     let entry = get_or-range_with_len 1 NEXUSES (nexus - 1) 0 (omega arith) ∙ at_place nexus is in
     list_any_at set (range_with_len 1 NEXUSES) (nexus - 1) 0 place (ap set entry ∙ member)
 
--- where somebody is in a set, somebody is a member
+-- a set that is not empty has a member
 pub who_in : (set : Nexuses) → is_some_in set ≡ true → (nexus : ℕ) × IsNexus nexus × (set nexus ≡ true)
 unfolding is_some_in
 who_in set some =
@@ -32,7 +32,7 @@ who_in set some =
     let is : any.1 ≡ 1 + any.0 = sym any.3 ∙ get_or-range_with_len 1 NEXUSES any.0 any.1 within in
     (any.1, (omega arith, omega arith), any.4)
 
--- nobody is in a set with no member
+-- a set without members is empty
 pub none_in : (set : Nexuses) → ((nexus : ℕ) → IsNexus nexus → set nexus ≡ false) → is_some_in set ≡ false
 none_in set none =
     elim (cases_Bool (is_some_in set)) [
@@ -40,7 +40,7 @@ none_in set none =
       | inr nobody ↦ nobody
     ]
 
--- where nobody is in a set, nobody is a member
+-- an empty set has no member
 pub nobody_in :
     (set : Nexuses) → is_some_in set ≡ false → (nexus : ℕ) → IsNexus nexus → set nexus ≡ false
 nobody_in set nobody nexus is =
@@ -49,14 +49,14 @@ nobody_in set nobody nexus is =
       | inr not_in ↦ not_in
     ]
 
--- what stands for a nexus in a row is the entry at the place before its number
+-- the entry of a nexus in a row stands at the place before its number
 pub row_at_is :
     {A : Type 0} (nothing : A) (row : List A) (nexus : ℕ) → 1 ≤ nexus
     → row_at nothing row nexus ≡ get_or row (nexus - 1) nothing
 row_at_is nothing row zero is = absurd (omega arith)
 row_at_is nothing row (suc place) is = rw sub-one refl
 
--- a row that says the same of each nexus
+-- a row with the same entry for each nexus
 pub replicate_shows : {A : Type 0} (nothing : A) → Shows nothing (replicate NEXUSES nothing) (λ nexus. nothing)
 replicate_shows {A} nothing = record {
   all = length-replicate NEXUSES nothing;
@@ -65,12 +65,12 @@ replicate_shows {A} nothing = record {
       ∙ get_or-replicate NEXUSES (nexus - 1) nothing nothing (omega arith);
 }
 
--- what stands in a row for the nexus behind a place
+-- the entry of the nexus after a place
 row_at_next :
     {A : Type 0} (nothing : A) (row : List A) (place : ℕ) → row_at nothing row (place + 1) ≡ get_or row place nothing
 row_at_next nothing row place = rw add-one refl
 
--- two rows that show one map are the same
+-- two rows that show the same map are the same
 pub same_rows :
     {A : Type 0} (nothing : A) (one other : List A) (entries : ℕ → A)
     → Shows nothing one entries → Shows nothing other entries → one ≡ other

@@ -1,4 +1,4 @@
--- What an order does, as maps from nexuses.
+-- The effect of an order, as maps from nexuses.
 use Rattle.std.specs.Prelude.{◌≡◌, ◌+◌, ◌%◌, ◌^◌, ◌==◌, ℕ, Bool, List, Option, None, Some, if◌then◌else◌}
 use Rattle.scsi_attention.specs.declared.attention_sets.Attention.{Attention}
 use Rattle.scsi_attention.specs.AttentionSets.{AttentionSet, no_attentions, with_attention}
@@ -9,7 +9,7 @@ use Rattle.pr_core.specs.declared.states.PrAnswer.TheVariants.{Conflict}
 use Rattle.pr_core.specs.Sets.{Nexuses, Shows}
 use Rattle.pr_core.specs.States.{key_of, has_key}
 
--- what an order does: how it is answered, what the state is then, and what each nexus is told (own)
+-- what an order does: its answer, the next state, and the conditions that it establishes for each nexus (own)
 pub record Effect : Type 0 where
   pub answer : PrAnswer
   pub keys : ℕ → Option ℕ
@@ -18,7 +18,7 @@ pub record Effect : Type 0 where
   pub generation : ℕ
   pub told : ℕ → AttentionSet
 
--- an answer, what each nexus was told, and the next state are those of an effect (own)
+-- the answer, the conditions for each nexus and the next state are those of an effect (own)
 pub record Brings (effect : Effect) (answer : PrAnswer) (told : List AttentionSet) (new : PrState) : Type 0 where
   pub answered : answer ≡ effect.answer
   pub keys : Shows None new.keys effect.keys
@@ -31,15 +31,15 @@ pub record Brings (effect : Effect) (answer : PrAnswer) (told : List AttentionSe
 abbrev pub only : Attention → AttentionSet
 only attention = with_attention attention no_attentions
 
--- nobody is told anything (own)
+-- no condition for any nexus (own)
 abbrev pub tells_nobody : ℕ → AttentionSet
 tells_nobody nexus = no_attentions
 
--- the nexuses of a set are told this, and nobody else anything (own)
+-- this condition for the nexuses of a set, and none for any other (own)
 abbrev pub tells : Nexuses → Attention → ℕ → AttentionSet
 tells set attention nexus = if set nexus then only attention else no_attentions
 
--- nothing changes, and nobody is told (SPC-4, PERSISTENT RESERVE OUT)
+-- nothing changes, and no condition is established (SPC-4, PERSISTENT RESERVE OUT)
 abbrev pub stays : PrAnswer → PrState → Effect
 stays answer state = record {
   answer = answer;
@@ -50,19 +50,19 @@ stays answer state = record {
   told = tells_nobody;
 }
 
--- the generation raised by one, which wraps at 32 bits (SPC-4, PRGENERATION)
+-- the generation plus one; it wraps at 32 bits (SPC-4, PRGENERATION)
 abbrev pub raised : ℕ → ℕ
 raised generation = (generation + 1) % 2 ^ 32
 
--- the registrations without those of some nexuses (own)
+-- the registrations without those of the removed nexuses (own)
 abbrev pub keys_without : PrState → Nexuses → ℕ → Option ℕ
 keys_without state removed nexus = if removed nexus then None else key_of state nexus
 
--- the registrations, a nexus being registered with a key (own)
+-- the registrations after a nexus is registered with a key (own)
 abbrev pub with_key : PrState → ℕ → ℕ → ℕ → Option ℕ
 with_key state nexus key other = if other == nexus then Some key else key_of state other
 
--- what an order does that needs its nexus registered with the key it shows: else it is a conflict
+-- the effect of an order whose nexus must be registered with the key that it gives; else the order is a conflict
 -- (SPC-4, RESERVE, RELEASE, CLEAR, PREEMPT)
 abbrev pub of_registrant : PrState → ℕ → ℕ → Effect → Effect
 of_registrant state nexus key effect = if has_key state key nexus then effect else stays Conflict state

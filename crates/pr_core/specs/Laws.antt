@@ -9,13 +9,13 @@ use Rattle.pr_core.specs.Sound.{IsSound}
 use Rattle.pr_core.specs.Orders.{Orders}
 use Rattle.pr_core.specs.Saves.{AreSavedAlike, needs_save}
 
--- each order has an answer, tells each nexus something, and leaves a state (own)
+-- each order has an answer, conditions for each nexus, and a next state (own)
 abbrev pub EachOrderEnds : Type 0
 EachOrderEnds =
     (old : PrState) (nexus : ℕ) (order : PrOut)
     → (answer : PrAnswer) × (told : List AttentionSet) × (new : PrState) × Orders old nexus order answer told new
 
--- and no second one (own)
+-- each order has at most one answer, one set of conditions for each nexus, and one next state (own)
 abbrev pub NoOrderEndsTwice : Type 0
 NoOrderEndsTwice =
     (old : PrState) (nexus : ℕ) (order : PrOut) (answer other_answer : PrAnswer) (told other_told : List AttentionSet)
@@ -23,29 +23,29 @@ NoOrderEndsTwice =
     → Orders old nexus order answer told new → Orders old nexus order other_answer other_told other
     → (answer ≡ other_answer) × (told ≡ other_told) × (new ≡ other)
 
--- a state that keeps the rules leads to such a state (own)
+-- a state that meets the rules leads to another that meets them (own)
 abbrev pub OrdersKeepRules : Type 0
 OrdersKeepRules =
     (old : PrState) (nexus : ℕ) (order : PrOut) (answer : PrAnswer) (told : List AttentionSet) (new : PrState)
     → IsSound old → Orders old nexus order answer told new → IsSound new
 
--- nothing registered and reserved keeps the rules (own)
+-- the state with no registration and no reservation meets the rules (own)
 abbrev pub EmptyKeepsRules : Type 0
 EmptyKeepsRules = IsSound empty_state
 
--- what a loss of power leaves keeps the rules (own)
+-- the state after a loss of power meets the rules (own)
 abbrev pub PowerLossKeepsRules : Type 0
 PowerLossKeepsRules = (state : PrState) → IsSound state → IsSound (power_loss state)
 
--- a second loss of power takes nothing more (own)
+-- a second loss of power changes nothing more (own)
 abbrev pub PowerLossIsOnce : Type 0
 PowerLossIsOnce = (state : PrState) → power_loss (power_loss state) ≡ power_loss state
 
--- what is saved of two states alike is lost alike: a loss of power leaves the same of them (own)
+-- two states with the same saved fields are the same after a loss of power (own)
 abbrev pub SavedAlikeAreLostAlike : Type 0
 SavedAlikeAreLostAlike = (one other : PrState) → AreSavedAlike one other → power_loss one ≡ power_loss other
 
--- a save is due exactly where what is saved is not the same (own)
+-- a save is due exactly where the saved fields differ (own)
 abbrev pub SavesAreDueByChange : Type 0
 SavesAreDueByChange =
     (old new : PrState) → IsSound old → IsSound new → (needs_save old new ≡ false) ↔ AreSavedAlike old new

@@ -1,4 +1,4 @@
--- The machine: what each order makes of a state.
+-- The machine: what each order does to a state.
 use Rattle.std.specs.Prelude.{ℕ, List}
 use Rattle.scsi_attention.specs.AttentionSets.{AttentionSet}
 use Rattle.scsi_lists.specs.declared.pr_lists.PrOut.{PrOut}
@@ -10,7 +10,7 @@ use Rattle.pr_core.specs.Register.{register, register_and_ignore}
 use Rattle.pr_core.specs.Reserve.{reserve, release, clear}
 use Rattle.pr_core.specs.Preempt.{preempt}
 
--- what an order of a nexus does (SPC-4, PERSISTENT RESERVE OUT)
+-- the effect of an order of a nexus (SPC-4, PERSISTENT RESERVE OUT)
 abbrev pub effect_of : PrState → ℕ → PrOut → Effect
 effect_of state nexus (Register key new_key aptpl) = register state nexus key new_key aptpl
 effect_of state nexus (Reserve key kind) = of_registrant state nexus key (reserve state nexus kind)
@@ -19,6 +19,6 @@ effect_of state nexus (Clear key) = of_registrant state nexus key (clear state n
 effect_of state nexus (Preempt key preempted kind) = of_registrant state nexus key (preempt state nexus preempted kind)
 effect_of state nexus (RegisterAndIgnoreExistingKey new_key aptpl) = register_and_ignore state nexus new_key aptpl
 
--- An order of a nexus is answered so, tells each nexus so much, and leaves that state (SPC-4, PERSISTENT RESERVE OUT).
+-- the answer, the conditions and the next state are those of this order of a nexus (SPC-4, PERSISTENT RESERVE OUT)
 abbrev pub Orders : PrState → ℕ → PrOut → PrAnswer → List AttentionSet → PrState → Type 0
 Orders old nexus order answer told new = Brings (effect_of old nexus order) answer told new

@@ -1,4 +1,4 @@
--- PREEMPT, in four cases, of which the first that fits holds.
+-- PREEMPT, in four cases: the first that fits holds.
 use Rattle.std.specs.Prelude.{ℕ, ◌==◌, ◌&&◌, not, Bool, Option, None, Some, if◌then◌else◌}
 use Rattle.scsi_attention.specs.AttentionSets.{AttentionSet, no_attentions}
 use Rattle.scsi_attention.specs.declared.attention_sets.Attention.TheVariants.{RegistrationsPreempted, ReservationsReleased}
@@ -11,24 +11,24 @@ use Rattle.pr_core.specs.States.{others, has_key, made_by, is_for_all}
 use Rattle.pr_core.specs.Effects.{Effect, stays, only, tells, raised, keys_without}
 use Rattle.pr_core.specs.Reserve.{is_same_type}
 
--- the nexuses that a key names: those registered with it, but not the requester (SPC-4, PREEMPT; the requester own)
+-- the nexuses registered with the key, without the requester (SPC-4, PREEMPT; the requester own)
 abbrev pub preempted_by : PrState → ℕ → ℕ → Nexuses
 preempted_by state nexus key = but (has_key state key) nexus
 
--- the nexuses that are told of a new type: the others that stay, where the type is another (own)
+-- the other nexuses that stay registered, where the type changes: the release is reported to them (own)
 abbrev pub told_of_type : PrState → ℕ → Nexuses → PrType → PrType → Nexuses
 told_of_type state nexus removed was kind other =
     not (is_same_type was kind) && minus (others state nexus) removed other
 
--- what a preemption tells each nexus: those removed that their registration was preempted, and some others that the
--- reservation was released (SPC-4, PREEMPT)
+-- The conditions of a preemption: registrations preempted for the removed nexuses, reservations released for some
+-- others (SPC-4, PREEMPT).
 abbrev pub told_of_preemption : Nexuses → Nexuses → ℕ → AttentionSet
 told_of_preemption removed released nexus =
     if removed nexus then only RegistrationsPreempted
     else if released nexus then only ReservationsReleased else no_attentions
 
--- some registrations go, and the requester gets a reservation of this type in the place of one of another
--- (SPC-4, PREEMPT)
+-- some registrations are removed, and the requester gets a reservation of this type in place of one of another (SPC-4,
+-- PREEMPT)
 abbrev pub takes_over : PrState → ℕ → Nexuses → PrType → PrType → Effect
 takes_over state nexus removed was kind = record (stays Good state) {
   keys = keys_without state removed;
@@ -37,28 +37,28 @@ takes_over state nexus removed was kind = record (stays Good state) {
   told = told_of_preemption removed (told_of_type state nexus removed was kind);
 }
 
--- the same by the block's scope and type: where they are none of a reservation, it is refused (own)
+-- the same by the block's scope and type: it is refused where no reservation has these (own)
 abbrev pub takes_over_as : Option PrType → PrState → ℕ → Nexuses → PrType → Effect
 takes_over_as None state nexus removed was = stays BadType state
 takes_over_as (Some kind) state nexus removed was = takes_over state nexus removed was kind
 
--- Case 1: the key is 0. Under types 7 and 8 all others are removed and the requester's reservation replaces the old;
--- else the key is refused (SPC-4, PREEMPT).
+-- Case 1: the key is 0. Under types 7 and 8 all others are removed and the requester's reservation replaces the old
+-- one; else the key is refused (SPC-4, PREEMPT).
 abbrev pub preempt_zero : Option Reservation → PrState → ℕ → Option PrType → Effect
 preempt_zero None state nexus kind = stays BadKey state
 preempt_zero (Some held) state nexus kind =
     if is_for_all held.kind then takes_over_as kind state nexus (others state nexus) held.kind else stays BadKey state
 
--- Case 2: nobody is registered with the key, which is a conflict (SPC-4, PREEMPT).
+-- Case 2: no nexus is registered with the key, which is a conflict (SPC-4, PREEMPT).
 abbrev pub preempt_unknown : PrState → Effect
 preempt_unknown state = stays Conflict state
 
--- Case 3: the key is that of the one holder. Registrations with it go, and the requester gets a reservation of the
--- block's type (SPC-4, PREEMPT).
+-- Case 3: the key is that of the single holder. The registrations with it are removed, and the requester gets a
+-- reservation of the block's type (SPC-4, PREEMPT).
 abbrev pub preempt_holder : Reservation → PrState → ℕ → ℕ → Option PrType → Effect
 preempt_holder held state nexus key kind = takes_over_as kind state nexus (preempted_by state nexus key) held.kind
 
--- Case 4: registrations with the key go, and the reservation stays (SPC-4, PREEMPT).
+-- Case 4: the registrations with the key are removed, and the reservation stays (SPC-4, PREEMPT).
 abbrev pub preempt_registrants : PrState → ℕ → ℕ → Effect
 preempt_registrants state nexus key = record (stays Good state) {
   keys = keys_without state (preempted_by state nexus key);
@@ -66,12 +66,12 @@ preempt_registrants state nexus key = record (stays Good state) {
   told = tells (preempted_by state nexus key) RegistrationsPreempted;
 }
 
--- a key is that of the one holder of this reservation (SPC-4, PREEMPT)
+-- the key is that of the single holder of this reservation (SPC-4, PREEMPT)
 abbrev pub is_key_of_holder : Reservation → PrState → ℕ → Bool
 is_key_of_holder held state key =
     not (is_for_all held.kind) && is_named_in held.holder (has_key state key)
 
--- cases 3 and 4, by what is held (SPC-4, PREEMPT)
+-- cases 3 and 4, by the reservation (SPC-4, PREEMPT)
 abbrev pub preempt_known : Option Reservation → PrState → ℕ → ℕ → Option PrType → Effect
 preempt_known None state nexus key kind = preempt_registrants state nexus key
 preempt_known (Some held) state nexus key kind =

@@ -10,7 +10,7 @@ use Rattle.pr_core.specs.declared.states.PrAnswer.TheVariants.{Good, Conflict, B
 use Rattle.pr_core.specs.States.{others, holds_this, made_by, is_for_registrants}
 use Rattle.pr_core.specs.Effects.{Effect, stays, tells, tells_nobody, raised}
 
--- two types are one (own)
+-- two types are the same (own)
 abbrev pub is_same_type : PrType → PrType → Bool
 is_same_type one other = type_number one == type_number other
 
@@ -18,8 +18,8 @@ is_same_type one other = type_number one == type_number other
 abbrev pub makes : Reservation → PrState → Effect
 makes made state = record (stays Good state) { reservation = Some made }
 
--- a registered nexus asks for a reservation: none is held, and it is made; or the nexus holds one of that type already,
--- and nothing changes; else it is a conflict (SPC-4, RESERVE)
+-- A registered nexus reserves: where there is no reservation, one is made; where the nexus holds one of that type,
+-- nothing changes; else it is a conflict (SPC-4, RESERVE).
 abbrev pub reserve_under : Option Reservation → PrState → ℕ → PrType → Effect
 reserve_under None state nexus kind = makes (made_by nexus kind) state
 reserve_under (Some held) state nexus kind =
@@ -29,20 +29,19 @@ reserve_under (Some held) state nexus kind =
 abbrev pub reserve : PrState → ℕ → PrType → Effect
 reserve state nexus kind = reserve_under state.reservation state nexus kind
 
--- who is told that a reservation was released: of types 5 to 8 the others (SPC-4, RELEASE)
+-- for types 5 to 8 the release is reported to the other registered nexuses (SPC-4, RELEASE)
 abbrev pub told_of_release : Reservation → PrState → ℕ → ℕ → AttentionSet
 told_of_release held state nexus =
     if is_for_registrants held.kind then tells (others state nexus) ReservationsReleased else tells_nobody
 
--- a holder releases its reservation: under another type it is refused (SPC-4, RELEASE)
+-- a holder releases its reservation; another type is refused (SPC-4, RELEASE)
 abbrev pub release_held : Reservation → PrState → ℕ → PrType → Effect
 release_held held state nexus kind =
     if is_same_type held.kind kind
     then record (stays Good state) { reservation = None; told = told_of_release held state nexus }
     else stays BadRelease state
 
--- a registered nexus releases a reservation: where there is none, or the nexus does not hold it, nothing changes
--- (SPC-4, RELEASE)
+-- a registered nexus releases a reservation; where there is none, or another holds it, nothing changes (SPC-4, RELEASE)
 abbrev pub release_under : Option Reservation → PrState → ℕ → PrType → Effect
 release_under None state nexus kind = stays Good state
 release_under (Some held) state nexus kind =
@@ -52,7 +51,8 @@ release_under (Some held) state nexus kind =
 abbrev pub release : PrState → ℕ → PrType → Effect
 release state nexus kind = release_under state.reservation state nexus kind
 
--- CLEAR by a registered nexus: all registrations and the reservation go, and the others are told; APTPL stays (SPC-4)
+-- CLEAR by a registered nexus: all registrations and the reservation are removed, which is reported to the others;
+-- APTPL stays (SPC-4)
 abbrev pub clear : PrState → ℕ → Effect
 clear state nexus = record (stays Good state) {
   keys = λ other. None;

@@ -7,46 +7,46 @@ use Rattle.vtl_base.specs.declared.limits.TheConstants.{NEXUSES}
 abbrev pub IsNexus : ℕ → Type 0
 IsNexus nexus = (1 ≤ nexus) × (nexus ≤ NEXUSES)
 
--- all nexuses, rising (own)
+-- all nexuses, by rising number (own)
 abbrev pub nexuses : List ℕ
 nexuses = range_with_len 1 NEXUSES
 
--- a set of nexuses: which of them are in it (own)
+-- a set of nexuses: whether each is in it (own)
 abbrev pub Nexuses : Type 0
 Nexuses = ℕ → Bool
 
--- no nexus (own)
+-- the empty set (own)
 abbrev pub nobody : Nexuses
 nobody nexus = false
 
--- all nexuses of a set but one (own)
+-- a set without one nexus (own)
 abbrev pub but : Nexuses → ℕ → Nexuses
 but set nexus other = set other && not (other == nexus)
 
--- all nexuses of a set but those of another (own)
+-- a set without the nexuses of another (own)
 abbrev pub minus : Nexuses → Nexuses → Nexuses
 minus set taken nexus = set nexus && not (taken nexus)
 
--- there is a nexus in a set (own)
+-- a set has a member (own)
 unfoldable pub is_some_in : Nexuses → Bool
 is_some_in set = list_any set nexuses
 
--- a nexus that may be named is in a set (own)
+-- a nexus is named, and is in a set (own)
 abbrev pub is_named_in : Option ℕ → Nexuses → Bool
 is_named_in None set = false
 is_named_in (Some nexus) set = set nexus
 
--- What stands for a nexus in a row with an entry for each, from nexus 1 on. For a number that is no nexus nothing does
--- (own).
+-- the entry of a nexus in a row with one entry for each, from nexus 1 on; for a number that is no nexus, `nothing`
+-- (own)
 abbrev pub row_at : {A : Type 0} → A → List A → ℕ → A
 row_at nothing row nexus = slice_index_or (nothing ∷ row) nexus nothing
 
--- a row has one entry for each nexus, and they are those of a map (own)
+-- a row has one entry for each nexus, and these are the entries of a map (own)
 pub record Shows {A : Type 0} (nothing : A) (row : List A) (entries : ℕ → A) : Type 0 where
   pub all : length row ≡ NEXUSES
   pub each : (nexus : ℕ) → IsNexus nexus → row_at nothing row nexus ≡ entries nexus
 
--- a function, by what its calls may answer, gives the entries of a map (own)
+-- the calls of a function return the entries of a map (own)
 abbrev pub GivesEntries : {A : Type 0} → (ℕ → A → Type 0) → (ℕ → A) → Type 0
 GivesEntries {A} answers entries =
     (nexus : ℕ) (answer : A) → IsNexus nexus → answers nexus answer → answer ≡ entries nexus

@@ -1,4 +1,4 @@
-//! What an order tells each nexus.
+//! The unit attention conditions that an order establishes for each nexus.
 ghost use Rattle.std.specs.Prelude.{◌≡◌, length};
 ghost use Rattle.vtl_base.specs.declared.limits.TheConstants.{NEXUSES};
 ghost use Rattle.scsi_attention.specs.AttentionSets.{no_attentions};
@@ -10,8 +10,8 @@ use scsi_attention::{Attention, AttnSet};
 use std::marker::Model;
 use vtl_base::Nexus;
 
-/// The unit attention conditions that an order establishes for each nexus. To a contract they are the
-/// list of the sets, by rising nexus.
+/// The unit attention conditions that an order establishes for each nexus. A contract sees them as the list
+/// of the sets, by rising nexus.
 #[derive(Clone, Copy)]
 pub struct Attns {
     sets: [AttnSet; 64],
@@ -31,7 +31,7 @@ impl Model for Attns {
     ghost inverse = { λ sets. record { sets = sets } };
 }
 
-// The set of one condition.
+// The set with one condition.
 pub(crate) fn only(attention: Attention) -> AttnSet
     ensures { result ≡ only attention }
 {
@@ -41,7 +41,7 @@ pub(crate) fn only(attention: Attention) -> AttnSet
 }
 
 impl Attns {
-    /// Nobody is told anything.
+    /// No condition for any nexus.
     pub fn none() -> Self
         ensures { Shows no_attentions result tells_nobody }
     {
@@ -50,7 +50,7 @@ impl Attns {
         }
     }
 
-    /// What a nexus is told.
+    /// The conditions for one nexus.
     pub fn of(&self, nexus: Nexus) -> AttnSet
         ensures { result ≡ row_at no_attentions self.now nexus }
     {
@@ -60,7 +60,7 @@ impl Attns {
         }
     }
 
-    /// What each nexus is told, by rising nexus.
+    /// The conditions for each nexus, by rising nexus.
     pub fn sets(&self) -> &[AttnSet]
         ensures sets { result.now ≡ self.now }
         ensures all { length self.now ≡ NEXUSES }
@@ -68,7 +68,7 @@ impl Attns {
         &self.sets
     }
 
-    // A set for each nexus.
+    // The conditions from a row with one set for each nexus.
     pub(crate) fn from_row(sets: [AttnSet; 64]) -> Self
         ensures { result ≡ sets }
     {

@@ -1,4 +1,4 @@
-//! What keeps the reservations of a drive through a loss of power.
+//! Where the reservations of a drive are saved to outlive a loss of power.
 ghost use Rattle.std.specs.Prelude.{◌≡◌, [], ◌++◌, List, Ok, false};
 ghost use Rattle.vtl_base.specs.Below.{Below, Advances};
 ghost use Rattle.pr_core.specs.declared.states.PrState.{PrState};
@@ -7,7 +7,7 @@ ghost use Rattle.pr_core.specs.Keepers.{KeeperState, Saves, save_met_fault, save
 use crate::reservations::Reservations;
 use thiserror::Error;
 
-/// Why a keeper does not save what it is asked to.
+/// Why a keeper could not save the reservations.
 #[derive(Clone, Copy, PartialEq, Eq, Debug, Error)]
 pub enum KeeperError {
     /// Memory ran out. Nothing has changed.
@@ -16,8 +16,8 @@ pub enum KeeperError {
     /// The store has no room for the state. Nothing has changed.
     #[error("store full")]
     SideFull,
-    /// The device failed in this call. What is kept is the state before, or this one, and the keeper has
-    /// failed.
+    /// The device failed in this call, and the keeper has failed with it. The saved state is the one before,
+    /// or this one.
     #[error("device fault")]
     Device,
     /// The keeper failed in an earlier call. Nothing has changed.
@@ -25,34 +25,34 @@ pub enum KeeperError {
     Failed,
 }
 
-/// What keeps the reservations of a drive through a loss of power.
+/// Saves the reservations of a drive, so that they outlive a loss of power.
 pub trait Keeper {
-    /// What it holds.
+    /// What the keeper has saved, and whether it has failed.
     ghost kept: { Self → KeeperState };
 
-    /// What a contract sees below it: the failures of its device, whether that keeps to what a disk
-    /// promises, and which states it saved from one value to another.
+    /// What a contract sees of the layers below: the failures of the device, whether the device keeps the
+    /// promises of a disk, and the states that were saved from one value of the keeper to another.
     ghost below: { Below Self PrState };
 
-    /// Saves these reservations in the place of those before, whole.
+    /// Saves these reservations whole, in place of those saved before.
     fn save(&mut self, reservations: &Reservations) -> Result<(), KeeperError>
         ensures answer { Saves (kept self.old) reservations.now result (kept self.new) }
         ensures advances { Advances below
             self.old (saved_by result reservations.now) (save_met_fault result) self.new };
 
-    /// Whether the device has failed since the keeper was opened. Then nothing is saved.
+    /// Whether the device has failed since the keeper was opened. After that no save succeeds.
     fn has_failed(&self) -> bool
         ensures { result ≡ (kept self.now).failed };
 
-    /// Nothing done saves nothing, and meets no fault.
+    /// Where nothing is done, nothing is saved and no fault is met.
     ghost advances_nowhere: { (keeper : Self) → Advances below keeper [] false keeper };
 
-    /// Two in a row append what they save.
+    /// Two runs, one after the other, save the states of the first and then those of the second.
     ghost moves_on: { (a b c : Self) (first second : List PrState)
         → below.moves a first b → below.moves b second c → below.moves a (first ++ second) c };
 }
 
-/// A keeper that keeps nothing: each save succeeds, and a loss of power finds nothing saved.
+/// A keeper that saves nothing: each save succeeds, and after a loss of power nothing is found.
 #[derive(Clone, Copy, Debug)]
 pub struct NoKeeper;
 

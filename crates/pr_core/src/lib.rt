@@ -1,4 +1,4 @@
-//! Persistent reservations: who is registered, who holds a reservation, and what each order makes of it.
+//! Persistent reservations: who is registered, who holds a reservation, and what each order does to them.
 #![tactic(auto)]
 
 pub mod attns;

@@ -1,4 +1,4 @@
-//! What each order makes of a state.
+//! What each order does to a state.
 ghost use Rattle.std.specs.Prelude.{◌≡◌, None, false, length};
 ghost use Rattle.vtl_base.specs.declared.limits.TheConstants.{NEXUSES};
 ghost use Rattle.scsi_attention.specs.AttentionSets.{no_attentions};
@@ -14,7 +14,7 @@ use scsi_attention::{Attention, AttnSet};
 use scsi_lists::PrOut;
 use vtl_base::Nexus;
 
-// What an order did.
+// The outcome of an order: its answer, the next state, and the conditions for each nexus.
 #[derive(Clone, Copy)]
 pub(crate) struct Outcome {
     pub(crate) answer: PrAnswer,
@@ -29,7 +29,7 @@ pub(crate) fn raised(generation: u32) -> u32
 }
 
 impl PrState {
-    // What an order of a nexus does.
+    // Carries out an order of a nexus.
     pub(crate) fn ordered(&self, nexus: Nexus, order: &PrOut) -> Outcome
         requires { length self.now.keys ≡ NEXUSES }
         ensures { Orders self.now nexus order.now result.answer result.told result.state }
@@ -58,7 +58,7 @@ impl PrState {
         }
     }
 
-    // Nothing changes, and nobody is told.
+    // Nothing changes, and no condition is established.
     pub(crate) fn stays(&self, answer: PrAnswer) -> Outcome
         requires { length self.now.keys ≡ NEXUSES }
         ensures { Brings (stays answer self.now) result.answer result.told result.state }
@@ -70,7 +70,7 @@ impl PrState {
         }
     }
 
-    // What another nexus is told, where the other registered ones are told this.
+    // The conditions for another nexus, where this one is established for the other registered nexuses.
     fn tells_other(&self, nexus: Nexus, attention: Attention, other: Nexus) -> AttnSet
         ensures { result ≡ tells (others self.now nexus) attention other }
     {
@@ -81,7 +81,7 @@ impl PrState {
         }
     }
 
-    // The other registered nexuses are told this.
+    // This condition for the other registered nexuses.
     pub(crate) fn tells_others(&self, nexus: Nexus, attention: Attention) -> Attns
         ensures { Shows no_attentions result (tells (others self.now nexus) attention) }
     {
@@ -90,7 +90,7 @@ impl PrState {
         }))
     }
 
-    // The key of a nexus, where it is none of those removed.
+    // The key of a nexus, unless the nexus is one of those removed.
     fn key_left(&self, removed: &[bool; 64], nexus: Nexus) -> Option<u64>
         ensures { result ≡ keys_without self.now (row_at false removed.now) nexus }
     {

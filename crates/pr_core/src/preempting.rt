@@ -16,7 +16,7 @@ use scsi_attention::{Attention, AttnSet};
 use scsi_lists::PrType;
 use vtl_base::Nexus;
 
-// What a preemption tells a nexus: one that it removes, or one that it tells of a release.
+// The conditions that a preemption establishes for a nexus: it is removed, or the reservation was released.
 fn told_by_preemption(removed: &[bool; 64], released: &[bool; 64], nexus: Nexus) -> AttnSet
     ensures { result ≡ told_of_preemption (row_at false removed.now) (row_at false released.now) nexus }
 {
@@ -29,7 +29,7 @@ fn told_by_preemption(removed: &[bool; 64], released: &[bool; 64], nexus: Nexus)
     }
 }
 
-// What a preemption tells each nexus.
+// The conditions that a preemption establishes for each nexus.
 fn told_of_preemption(removed: &[bool; 64], released: &[bool; 64]) -> Attns
     ensures { (gone freed : _) → Shows false removed.now gone → Shows false released.now freed
         → Shows no_attentions result (told_of_preemption gone freed) }
@@ -78,7 +78,7 @@ impl PrState {
         }
     }
 
-    // Registrations with the key go, and the reservation stays.
+    // The registrations with the key are removed, and the reservation stays.
     fn preempt_registrants(&self, nexus: Nexus, key: u64) -> Outcome
         ensures { Brings (preempt_registrants self.now nexus key) result.answer result.told result.state }
     {
@@ -95,7 +95,7 @@ impl PrState {
         }
     }
 
-    // Removes these nexuses; the requester gets a reservation in the place of one of the type `was`.
+    // Removes these nexuses. The requester gets a reservation in place of the one of type `was`.
     fn takes_over(
         &self,
         nexus: Nexus,
@@ -123,7 +123,7 @@ impl PrState {
         }
     }
 
-    // Whether another nexus is told of a new type: it stays, and the type is another.
+    // Whether the release is reported to another nexus: it stays registered, and the type changes.
     fn is_told_of_type(
         &self,
         nexus: Nexus,
@@ -136,7 +136,7 @@ impl PrState {
         changed && self.is_other(nexus, other) && !is_in(removed, other)
     }
 
-    // The others that stay, where the type is another.
+    // The other nexuses that stay registered, where the type changes.
     fn told_of_type(
         &self,
         nexus: Nexus,
@@ -161,21 +161,21 @@ impl PrState {
         row_of(false, |other| self.is_other(nexus, other))
     }
 
-    // Whether another nexus is registered with a key, and is not the requester.
+    // Whether another nexus than the requester is registered with a key.
     fn is_preempted(&self, nexus: Nexus, key: u64, other: Nexus) -> bool
         ensures { result ≡ preempted_by self.now nexus key other }
     {
         self.has_key(key, other) && other != nexus
     }
 
-    // The nexuses registered with a key, but not the requester.
+    // The nexuses registered with a key, without the requester.
     fn preempted_by(&self, nexus: Nexus, key: u64) -> [bool; 64]
         ensures { Shows false result (preempted_by self.now nexus key) }
     {
         row_of(false, |other| self.is_preempted(nexus, key, other))
     }
 
-    // Whether a key is that of the one holder.
+    // Whether a key is the key of the single holder.
     fn is_key_of_holder(&self, held: &Reservation, key: u64) -> bool
         ensures { result ≡ is_key_of_holder held.now self.now key }
     {

@@ -1,4 +1,4 @@
-//! What PERSISTENT RESERVE IN reads.
+//! The data of PERSISTENT RESERVE IN.
 ghost use Rattle.std.specs.Prelude.{◌≡◌, ◌++◌, ◌+◌, ◌≤◌, ◌*◌, [], length, take, IfOk, IsOk};
 ghost use Rattle.std.specs.List.{flat_map};
 ghost use Rattle.arrayvec.specs.ArrayVec.{array_vec_len};
@@ -11,11 +11,11 @@ use arrayvec::ArrayVec;
 use std::alloc::Global;
 use vtl_base::{Bytes, Nexus, NoMemory};
 
-// The data of READ KEYS where each nexus is registered: nothing that is read is longer. It is built in a row of so many
-// bytes, which takes no memory.
+// The length of READ KEYS where each nexus is registered, which no data exceeds. The data is built in an
+// array of this length, so building it takes no memory.
 const MAX_READ: usize = 520;
 
-// Puts bytes behind those that are there.
+// Appends bytes to the row.
 fn push(row: &mut ArrayVec<u8, MAX_READ>, bytes: &[u8])
     requires { array_vec_len row.old + length bytes.now ≤ MAX_READ }
     ensures { row.new.items ≡ row.old.items ++ bytes.now }
@@ -26,7 +26,7 @@ fn push(row: &mut ArrayVec<u8, MAX_READ>, bytes: &[u8])
     }
 }
 
-// Puts a key, where there is one, behind these bytes.
+// Appends the bytes of a key, if there is one.
 fn push_key(row: &mut ArrayVec<u8, MAX_READ>, key: Option<u64>)
     requires { array_vec_len row.old + 8 ≤ MAX_READ }
     ensures { row.new.items ≡ row.old.items ++ key_bytes key }
@@ -36,7 +36,7 @@ fn push_key(row: &mut ArrayVec<u8, MAX_READ>, key: Option<u64>)
     }
 }
 
-// Puts all keys behind these bytes.
+// Appends the bytes of all keys.
 fn push_keys(row: &mut ArrayVec<u8, MAX_READ>, keys: &[Option<u64>])
     requires { array_vec_len row.old + 8 * length keys.now ≤ MAX_READ }
     ensures { row.new.items ≡ row.old.items ++ flat_map key_bytes keys.now }
@@ -46,8 +46,7 @@ fn push_keys(row: &mut ArrayVec<u8, MAX_READ>, keys: &[Option<u64>])
     }
 }
 
-// The first `room` of the bytes with generation and length before them. It takes memory only where these are more than
-// 24.
+// The first `room` bytes of generation, length and `rest`. It takes memory only for more than 24 bytes.
 fn cut_headed(alloc: Global, generation: u32, rest: &[u8], room: usize) -> Result<Bytes, NoMemory>
     requires { 8 + length rest.now ≤ MAX_READ }
     ensures bytes { IfOk result (λ bytes. bytes ≡ take room (headed generation rest.now)) }
@@ -73,7 +72,7 @@ pub(crate) fn keys_read(alloc: Global, state: &PrState, room: usize) -> Result<B
     cut_headed(alloc, state.generation, keys.as_slice(), room)
 }
 
-// The key of the holder that is named, 0 where none is.
+// The key of the named holder, or 0 where no holder is named.
 fn holder_key(holder: Option<Nexus>, state: &PrState) -> u64
     ensures { result ≡ holder_key holder state.now }
 {
@@ -83,7 +82,7 @@ fn holder_key(holder: Option<Nexus>, state: &PrState) -> u64
     }
 }
 
-// A reservation in 16 bytes.
+// The 16 bytes of a reservation.
 fn reservation_bytes(held: &Reservation, state: &PrState) -> [u8; 16]
     ensures { result ≡ reservation_bytes (Some held.now) state.now }
 {

@@ -14,7 +14,7 @@ use crate::states::{PrAnswer, PrState, Reservation, is_for_all, is_for_registran
 use scsi_attention::Attention;
 use vtl_base::Nexus;
 
-// Whether another nexus is this one.
+// Whether two nexuses are the same.
 fn is_same(nexus: Nexus, other: Nexus) -> bool
     ensures { result ≡ (other == nexus) }
 {
@@ -60,7 +60,7 @@ impl PrState {
         }
     }
 
-    // Whether a nexus shows its own key, or 0 where it is not registered.
+    // Whether a nexus gives its own key, or 0 where it is not registered.
     fn shows_key(&self, nexus: Nexus, key: u64) -> bool
         ensures { result ≡ shows_key (key_of self.now nexus) key }
     {
@@ -70,7 +70,7 @@ impl PrState {
         }
     }
 
-    // The key of a nexus, once one is registered with a key.
+    // The key of a nexus after `nexus` is registered with `key`.
     fn key_with(&self, nexus: Nexus, key: u64, other: Nexus) -> Option<u64>
         ensures { result ≡ with_key self.now nexus key other }
     {
@@ -81,14 +81,14 @@ impl PrState {
         }
     }
 
-    // The registrations, a nexus being registered with a key.
+    // The registrations after a nexus is registered with a key.
     fn with_key(&self, nexus: Nexus, key: u64) -> [Option<u64>; 64]
         ensures { Shows None result (with_key self.now nexus key) }
     {
         row_of(None, |other| self.key_with(nexus, key, other))
     }
 
-    // Whether this reservation ends as a nexus unregisters.
+    // Whether this reservation ends when a nexus unregisters.
     fn ends_without(&self, held: &Reservation, nexus: Nexus) -> bool
         ensures { result ≡ ends_without held.now self.now nexus }
     {
@@ -99,7 +99,7 @@ impl PrState {
         }
     }
 
-    // The reservation that is left as a nexus unregisters.
+    // The reservation after a nexus unregisters.
     fn left_without(&self, nexus: Nexus) -> Option<Reservation>
         ensures { result ≡ left_without self.now.reservation self.now nexus }
     {
@@ -111,7 +111,7 @@ impl PrState {
         }
     }
 
-    // What each nexus is told as one unregisters.
+    // The conditions for each nexus when one unregisters.
     fn told_without(&self, nexus: Nexus) -> Attns
         ensures { Shows no_attentions result (told_without self.now.reservation self.now nexus) }
     {

@@ -16,7 +16,7 @@ use std::alloc::Global;
 use std::marker::Model;
 use vtl_base::{Bytes, Nexus, NoMemory};
 
-/// What is registered and reserved at a drive. To a contract it is its state, which keeps the rules.
+/// The registrations and the reservation of a drive. A contract sees them as a state that meets the rules.
 #[derive(Clone, Copy)]
 pub struct Reservations {
     state: PrState,
@@ -36,7 +36,7 @@ impl Model for Reservations {
 }
 
 impl Reservations {
-    /// Nothing is registered or reserved.
+    /// No registration and no reservation.
     pub fn empty() -> Self
         ensures { result ≡ empty_state }
     {
@@ -45,8 +45,8 @@ impl Reservations {
         }
     }
 
-    /// The reservations of a state, where it keeps the rules: a reservation of types 7 and 8 names no holder,
-    /// and there is a registration; one of another type names a holder, who is registered; no key is 0.
+    /// The reservations of a state that meets the rules: a reservation of types 7 and 8 names no holder, and
+    /// some nexus is registered. One of another type names a holder, who is registered. No key is 0.
     pub fn of(state: PrState) -> Option<Self>
         ensures sound { IsSome result ↔ IsSound state }
         ensures value { IfSome result (λ reservations. reservations ≡ state) }
@@ -57,7 +57,7 @@ impl Reservations {
         Some(Reservations { state })
     }
 
-    /// The state, to be read.
+    /// The state, for reading.
     pub fn state(&self) -> &PrState
         ensures state { result.now ≡ self.now }
         ensures sound { IsSound self.now }
@@ -65,7 +65,7 @@ impl Reservations {
         &self.state
     }
 
-    /// Carries an order of a nexus out: how it is answered, and what each nexus is told. It takes no
+    /// Carries out an order of a nexus. Returns its answer, and the conditions for each nexus. It takes no
     /// memory.
     pub fn pr_out(&mut self, nexus: Nexus, order: &PrOut) -> (PrAnswer, Attns)
         ensures { Orders self.old nexus order.now result.0 result.1 self.new }
@@ -75,7 +75,7 @@ impl Reservations {
         (outcome.answer, outcome.told)
     }
 
-    /// Whether a nexus's commands are let through, under a reservation of any type (own).
+    /// Whether the commands of a nexus are let through, under a reservation of any type (own).
     pub fn allowed(&self, nexus: Nexus) -> bool
         ensures { result ≡ is_allowed self.now nexus }
     {
@@ -89,16 +89,15 @@ impl Reservations {
         self.state.reservation.is_some()
     }
 
-    /// Whether these are to be saved in the place of others: registrations, reservation or APTPL are not
-    /// the same.
+    /// Whether these are to be saved in place of the old ones: registrations, reservation or APTPL differ.
     pub fn needs_save(&self, old: &Reservations) -> bool
         ensures { result ≡ needs_save old.now self.now }
     {
         self.state.needs_save(&old.state)
     }
 
-    /// The first `room` bytes of the data of READ KEYS: PRGENERATION, the length of what follows, the keys by
-    /// rising nexus. Of 24 bytes at most it takes no memory.
+    /// The first `room` bytes of the data of READ KEYS: PRGENERATION, the length of the rest, the keys by
+    /// rising nexus. Up to 24 bytes take no memory.
     pub fn read_keys(&self, alloc: Global, room: usize) -> Result<Bytes, NoMemory>
         ensures bytes { IfOk result (λ bytes. bytes ≡ take room (keys_read self.now)) }
         ensures few { length (take room (keys_read self.now)) ≤ 24 → IsOk result }
@@ -106,8 +105,8 @@ impl Reservations {
         keys_read(alloc, &self.state, room)
     }
 
-    /// The first `room` bytes of the data of READ RESERVATION: PRGENERATION, the length of what follows, the
-    /// reservation. Of 24 bytes at most it takes no memory.
+    /// The first `room` bytes of the data of READ RESERVATION: PRGENERATION, the length of the rest, the
+    /// reservation. Up to 24 bytes take no memory.
     pub fn read_reservation(&self, alloc: Global, room: usize) -> Result<Bytes, NoMemory>
         ensures bytes { IfOk result (λ bytes. bytes ≡ take room (reservation_read self.now)) }
         ensures few { length (take room (reservation_read self.now)) ≤ 24 → IsOk result }
@@ -115,7 +114,7 @@ impl Reservations {
         reservation_read(alloc, &self.state, room)
     }
 
-    /// What a loss of power leaves of them.
+    /// The reservations after a loss of power.
     pub fn power_loss(&self) -> Self
         ensures { result ≡ power_loss self.now }
     {
@@ -139,7 +138,7 @@ fn is_same_reservation(one: &Option<Reservation>, other: &Option<Reservation>) -
 }
 
 impl PrState {
-    // Whether a nexus has another key in an older state.
+    // Whether the key of a nexus differs from that in an older state.
     fn differs_at(&self, old: &PrState, nexus: Nexus) -> bool
         ensures { result ≡ differ_at old.now self.now nexus }
     {

@@ -47,7 +47,7 @@ impl PrState {
         }
     }
 
-    // Makes a reservation, and changes nothing else.
+    // A reservation is made, and nothing else changes.
     fn makes(&self, made: Reservation) -> Outcome
         requires { length self.now.keys ≡ NEXUSES }
         ensures { Brings (makes made self.now) result.answer result.told result.state }
@@ -79,7 +79,7 @@ impl PrState {
         }
     }
 
-    // A holder releases this reservation.
+    // A holder releases its reservation.
     fn release_held(&self, held: &Reservation, nexus: Nexus, kind: PrType) -> Outcome
         requires { length self.now.keys ≡ NEXUSES }
         ensures { Brings (release_held held.now self.now nexus kind) result.answer result.told result.state }
@@ -99,7 +99,7 @@ impl PrState {
         }
     }
 
-    // What each nexus is told as this reservation is released.
+    // The conditions for each nexus when this reservation is released.
     fn told_of_release(&self, held: &Reservation, nexus: Nexus) -> Attns
         ensures { Shows no_attentions result (told_of_release held.now self.now nexus) }
     {

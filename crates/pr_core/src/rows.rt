@@ -6,7 +6,7 @@ ghost use Rattle.pr_core.specs.Sets.{GivesEntries, Shows, is_some_in};
 use vtl_base::Nexus;
 use vtl_base::limits::NEXUSES;
 
-// The place of a nexus in a row. That there is one is not in the contract of `Nexus`.
+// The place of a nexus in a row. The contract of `Nexus` does not say that there is one.
 pub(crate) fn place_of(nexus: Nexus) -> Option<usize>
     ensures some { IfSome result (λ place. (place < NEXUSES) × (nexus ≡ place + 1)) }
     ensures none { IfNone result (nexus ≡ 0) }
@@ -17,7 +17,7 @@ pub(crate) fn place_of(nexus: Nexus) -> Option<usize>
     Some(nexus.place())
 }
 
-// The row of what a function gives for each nexus.
+// The row with the function's value for each nexus.
 pub(crate) fn row_of<T: Copy, F: Fn(Nexus) -> T>(nothing: T, entry: F) -> [T; 64]
     requires { F.IsAlwaysCallable entry }
     ensures { (entries : _) → GivesEntries (F.post entry) entries → Shows nothing result entries }
@@ -31,7 +31,7 @@ pub(crate) fn row_of<T: Copy, F: Fn(Nexus) -> T>(nothing: T, entry: F) -> [T; 64
     row
 }
 
-// Whether a test holds of some nexus.
+// Whether a test is true for some nexus.
 pub(crate) fn any<F: Fn(Nexus) -> bool>(test: F) -> bool
     requires { F.IsAlwaysCallable test }
     ensures { (set : _) → GivesEntries (F.post test) set → result ≡ is_some_in set }

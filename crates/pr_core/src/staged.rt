@@ -1,4 +1,4 @@
-//! A keeper for tests: its store has an end, and one of its saves fails.
+//! A keeper for tests: its store is limited, and one of its saves fails.
 ghost use Rattle.std.specs.Prelude.{◌≡◌, None, false};
 ghost use Rattle.pr_core.specs.Keepers.{Saves, save_met_fault, saved_by};
 ghost use Rattle.pr_core.specs.Staged.{planned_next, planned_now, staged_after, staged_answer, staged_kept};
@@ -8,23 +8,23 @@ use crate::keepers::{Keeper, KeeperError};
 use crate::reservations::Reservations;
 use std::marker::Model;
 
-/// How a save fails that was chosen to.
+/// How the chosen save fails.
 #[derive(Clone, Copy, PartialEq, Eq, Debug)]
 pub enum SaveFault {
     NoMemory,
     Device,
 }
 
-/// Which save of a test keeper fails, and how. Every save that it is asked for counts.
+/// Which save of a test keeper fails, and how. Each call of `save` counts.
 #[derive(Clone, Copy)]
 pub struct SavePlan {
-    /// How many come before it: 0 is the first.
+    /// How many saves come before it: 0 is the first.
     pub after: u32,
     pub by: SaveFault,
 }
 
-/// A keeper for tests, in memory. So many bytes may be added to its store, and one of its saves fails; once
-/// the device has failed it stays so.
+/// A keeper for tests, in memory. Its store takes a limited number of bytes, and one of its saves fails. Once
+/// the device has failed, the keeper has failed for good.
 #[derive(Drop)]
 pub struct StagedKeeper {
     saved: Reservations,
@@ -48,7 +48,7 @@ impl Model for StagedKeeper {
     } };
 }
 
-// Whether and how the save at hand fails; the plan moves by one.
+// Whether and how the present save fails. The plan moves by one.
 fn next_fault(plan: &mut Option<SavePlan>) -> Option<SaveFault>
     ensures fault { result ≡ planned_now plan.old }
     ensures next { plan.new ≡ planned_next plan.old }
@@ -66,8 +66,8 @@ fn next_fault(plan: &mut Option<SavePlan>) -> Option<SaveFault>
 }
 
 impl StagedKeeper {
-    /// A keeper that holds these reservations and works, with a store to which `room` bytes may be added, and
-    /// the save that is to fail, where one is.
+    /// A working keeper that holds these reservations. Its store takes `room` bytes more. `plan` says which
+    /// save fails, if any.
     pub fn new(saved: Reservations, room: u64, plan: Option<SavePlan>) -> Self
         ensures { result ≡ record { saved = saved; torn = None; failed = false; room = room; plan = plan } }
     {
@@ -87,8 +87,8 @@ impl StagedKeeper {
         &self.saved
     }
 
-    /// The reservations whose save was under way as the device failed, which a restart may find in the place
-    /// of those saved last.
+    /// The reservations whose save was under way when the device failed. A restart may find them in place of
+    /// those saved last.
     pub fn torn(&self) -> Option<Reservations>
         ensures { result ≡ self.now.torn }
     {

@@ -1,4 +1,4 @@
-//! What is registered and reserved at a drive.
+//! The registrations and the reservation of a drive, as plain data.
 ghost use Rattle.std.specs.Prelude.{◌≡◌, length};
 ghost use Rattle.vtl_base.specs.declared.limits.TheConstants.{NEXUSES};
 ghost use Rattle.pr_core.specs.Keepers.{state_frame_size};
@@ -10,8 +10,8 @@ use crate::rows::{any, place_of};
 use scsi_lists::PrType;
 use vtl_base::Nexus;
 
-/// A persistent reservation (SPC-4). Types 7 and 8 are held by every registered nexus, and name no holder;
-/// each other type names one.
+/// A persistent reservation (SPC-4). Every registered nexus holds one of types 7 and 8, which names no
+/// holder. One of another type names its holder.
 #[derive(Clone, Copy, PartialEq, Eq, Debug)]
 pub struct Reservation {
     pub kind: PrType,
@@ -21,22 +21,22 @@ pub struct Reservation {
 /// Registrations, reservation, APTPL and PRGENERATION (SPC-4), as plain data: any values.
 #[derive(Clone, Copy)]
 pub struct PrState {
-    /// The key of each nexus, by rising nexus. None is not registered.
+    /// The key of each nexus, by rising nexus. None: the nexus is not registered.
     pub keys: [Option<u64>; 64],
     pub reservation: Option<Reservation>,
     /// Whether registrations and reservation outlive a loss of power.
     pub aptpl: bool,
-    /// How many orders raised it, from 0 on, wrapping at 2^32.
+    /// How many orders raised it, from 0, wrapping at 2^32.
     pub generation: u32,
 }
 
-/// How an order is answered.
+/// The answer to an order.
 #[derive(Clone, Copy, PartialEq, Eq, Debug)]
 pub enum PrAnswer {
     Good,
     /// RESERVATION CONFLICT. Nothing has changed.
     Conflict,
-    /// A reservation of a bad scope or type would be made (24/00). Nothing has changed.
+    /// The reservation to be made has a bad scope or type (24/00). Nothing has changed.
     BadType,
     /// The key 0 is preempted where not every registered nexus holds the reservation (26/00). Nothing has
     /// changed.
@@ -88,7 +88,7 @@ impl PrState {
         self.key_of(nexus) == Some(key)
     }
 
-    // Whether a nexus is another than this one, and registered.
+    // Whether another nexus than this one is registered.
     pub(crate) fn is_other(&self, nexus: Nexus, other: Nexus) -> bool
         ensures { result ≡ others self.now nexus other }
     {
@@ -123,7 +123,7 @@ impl PrState {
         any(|other| self.has_key(key, other))
     }
 
-    // Whether a nexus's commands are let through.
+    // Whether the commands of a nexus are let through.
     pub(crate) fn allows(&self, nexus: Nexus) -> bool
         ensures { result ≡ is_allowed self.now nexus }
     {
@@ -136,7 +136,7 @@ impl PrState {
         }
     }
 
-    // Whether its reservation, if there is one, is held rightly.
+    // Whether the reservation, if there is one, has a valid holder.
     pub(crate) fn is_held_rightly(&self) -> bool
         ensures { result ≡ is_held_rightly self.now.reservation self.now }
     {
@@ -150,7 +150,7 @@ impl PrState {
         }
     }
 
-    // The bytes that it takes of a store, as a frame of its own.
+    // The bytes that the state takes in a store, as a frame of its own.
     pub(crate) fn frame_size(&self) -> u64
         requires { length self.now.keys ≡ NEXUSES }
         ensures { result ≡ state_frame_size self.now }
@@ -164,7 +164,7 @@ impl PrState {
         9 + 9 * registered
     }
 
-    // Nothing is registered or reserved.
+    // No registration and no reservation.
     pub(crate) fn empty() -> Self
         ensures { result ≡ empty_state }
     {
@@ -176,7 +176,7 @@ impl PrState {
         }
     }
 
-    // What a loss of power leaves.
+    // The state after a loss of power.
     pub(crate) fn power_loss(&self) -> Self
         ensures { result ≡ power_loss self.now }
     {

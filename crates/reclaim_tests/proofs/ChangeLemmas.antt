@@ -1,4 +1,4 @@
--- When a volume takes a change, by what is seen of the partition that it concerns; and how long the change is spelled.
+-- When a volume takes a change, by the facts of its partition; and the length of the change's spelling.
 use Rattle.std.proofs.Common.{◌≡◌, ℕ, ◌<◌, ◌≤◌, ◌+◌, [], ◌∷◌, get_or, List, length, take, Option, None, Some, refl, sym, ◌∙◌, ap, arith, length-append, append-nil}
 use Rattle.std.specs.Prelude.{slice_get, if◌then◌else◌, not, Bool, true, false}
 use Rattle.std.proofs.lemmas.List.{length-take-le}
@@ -46,7 +46,7 @@ rest_in (Some part) change some kept few fit =
     (omega (arith, fit, sum_by-append cost_of (take (kept_of change) part.objects) (added_by change)))) in
     λ i. cause (fits i) (room i) (is_well_formed change)
 
--- a change that none of the causes concerns is taken
+-- a change to which none of the causes applies is taken
 pub unrefused : (volume : List Part) (change : Change) (part : ℕ) → part ≡ part_of change
     → part < length volume → kept_of change ≤ count_of volume part
     → kept_of change + length (added_by change) ≤ MAX_OBJECTS

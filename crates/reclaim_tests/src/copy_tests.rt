@@ -1,4 +1,4 @@
-//! A copy alone: its records, and how many bytes each of its frames has.
+//! A copy by itself: its records, and the length of each of its frames.
 use crate::samples::indexed;
 use assertions::assert_equal;
 use record_index::{Index, Record};
@@ -10,7 +10,7 @@ use vtl_base::DevFault;
 
 const MIB: u32 = 1_048_576;
 
-// A block of so many bytes at that place of the first partition.
+// A block of this length at that place of the first partition.
 const LONG_0: Record = Record::Put {
     part: 0,
     at: 0,
@@ -35,14 +35,14 @@ const LONG_3: Record = Record::Put {
     length: MIB,
 };
 
-// It fills a frame behind three long ones.
+// It fills a frame after three long ones.
 const FILLS: Record = Record::Put {
     part: 0,
     at: 3,
     length: 1_048_536,
 };
 
-// It is one byte longer.
+// It is longer by one byte.
 const PASSES: Record = Record::Put {
     part: 1,
     at: 0,
@@ -63,7 +63,7 @@ const SHORT: Record = Record::Put {
 
 const ALL_GO: Record = Record::Erase { part: 0, at: 0 };
 
-// Filemarks behind the first objects of a partition.
+// Filemarks after the first objects of a partition.
 const MARKS_BEHIND: Record = Record::Marks {
     part: 0,
     at: 4,
@@ -106,7 +106,7 @@ const TWO_AT_6: Record = Record::Marks {
     count: 2,
 };
 
-// Of the second partition.
+// The same in the second partition.
 const THREE_AT_0: Record = Record::Marks {
     part: 1,
     at: 0,
@@ -125,12 +125,12 @@ const SIX_AT_0: Record = Record::Marks {
     count: 6,
 };
 
-// A volume, its copy, and the bytes of the bodies of the frames.
+// A volume, its copy, and the lengths of the bodies of the frames.
 type Row = (&'static [Record], &'static [Record], &'static [usize]);
 
 // A record has a head of 10 bytes, and the body of a frame at most 4,194,304 bytes.
 static ROWS: &'static [Row] = &[
-    // No object, and none that is left.
+    // No object, and none that stays.
     (&[], &[], &[]),
     (&[SHORT_AT_0, ALL_GO], &[], &[]),
     // Three long blocks are one frame, and four are two.
@@ -155,7 +155,7 @@ static ROWS: &'static [Row] = &[
         &[LONG_0, LONG_1, LONG_2, PASSES],
         &[3_145_758, 1_048_547],
     ),
-    // Runs of filemarks: as long as they can be, not over a block, and not over the end of a partition.
+    // Runs of filemarks: the longest one; none across a block, and none across the end of a partition.
     (
         &[
             THREE_AT_0, TWO_AT_0, THREE_AT_2, SHORT, ONE_AT_6, ONE_AT_7, FOUR_AT_2,
@@ -165,7 +165,7 @@ static ROWS: &'static [Row] = &[
     ),
 ];
 
-// What gives blocks of which no byte matters.
+// Returns blocks whose bytes do not matter.
 #[derive(Drop)]
 struct Blanks;
 
@@ -207,7 +207,7 @@ fn records(alloc: Global, index: &Index) -> Result<Vec<Record>, AllocError> {
     Ok(records)
 }
 
-// The body of the next frame is put into the buffer.
+// Puts the body of the next frame into the buffer.
 fn spell_next(cursor: Cursor, index: &Index, buffer: &mut Vec<u8>) -> Option<Cursor> {
     if cursor.next(index).is_none() || buffer.len() > 0 || buffer.capacity() < FRAME_BODY {
         return None;
@@ -215,7 +215,7 @@ fn spell_next(cursor: Cursor, index: &Index, buffer: &mut Vec<u8>) -> Option<Cur
     spell_frame(cursor, index, &mut Blanks, buffer).ok()
 }
 
-// How many bytes the body of each frame has.
+// The length of the body of each frame.
 fn bodies(alloc: Global, index: &Index) -> Result<Vec<usize>, AllocError> {
     let mut bodies = Vec::new(alloc);
     let mut cursor = Cursor::start();

@@ -1,4 +1,4 @@
-//! A fault at each call of each of the two disks of a reclaim, behind which all calls pass.
+//! A fault at each call of each of the two disks of a reclaim, after which all calls pass.
 use crate::samples::{FAULT, reclaim};
 use crate::stop_tables::{WORKS, Work};
 use crate::stop_tests::is_right;
@@ -9,10 +9,10 @@ use std::test::Fail;
 use tape_disk::OnceDisk;
 use volume_core::Volume;
 
-// The number of a call that no disk comes to.
+// The number of a call that no disk reaches.
 const NEVER: u64 = u64::MAX;
 
-// The call of one of the disks behind so many fails. Whether there was one.
+// One of the disks fails at the call after this many. Whether there was one.
 fn is_faulty(
     rt: &impl Abort,
     alloc: Global,
@@ -41,7 +41,7 @@ fn is_faulty(
     Ok(failed)
 }
 
-// How many calls of the first disk fail so, and of the second one, of which none has 29.
+// How many calls of the two disks fail in this way; neither disk has as many as 29.
 fn faults(rt: &impl Abort, alloc: Global, work: &Work, volume: &Volume) -> Result<u64, Fail> {
     let mut count = 0u64;
     for calls in 0..30 {

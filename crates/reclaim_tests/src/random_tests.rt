@@ -10,7 +10,7 @@ use tape_disk::MemDisk;
 use volume_core::{Change, Kind, Volume, are_capacities};
 use vtl_base::{Barcode, Bytes, NoMemory, ObjNo, PartNo};
 
-// Numbers that look random (Knuth's row of 64 bits).
+// Pseudo-random numbers (Knuth's sequence of 64 bits).
 #[derive(Drop)]
 struct Dice {
     number: u64,

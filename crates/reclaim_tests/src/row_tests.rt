@@ -14,7 +14,7 @@ fn are_bytes(rt: &impl Abort, pair: &Pair, first: &[u8], second: &[u8]) {
     assert_equal!(rt; pair.1.bytes(), second);
 }
 
-// Reclaimed, or not, they have these bytes.
+// After the reclaim, or its refusal, they have these bytes.
 fn leaves(
     rt: &impl Abort,
     alloc: Global,
@@ -63,7 +63,7 @@ fn with_epoch(alloc: Global, epoch: [u8; 8]) -> Result<Vec<u8>, NoMemory> {
     Ok(bytes)
 }
 
-// The greatest epoch is reached, and not passed.
+// The greatest epoch is reached, and not exceeded.
 #[test]
 fn epochs_are_spent(rt: HostRuntime) -> Result<(), Fail> {
     let alloc = rt.alloc();

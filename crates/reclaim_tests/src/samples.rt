@@ -1,4 +1,4 @@
-//! What tests do with cartridges: changes are stored, and what is held is compared with a volume in memory.
+//! What tests do with cartridges: changes are stored, and the contents are compared with a volume in memory.
 ghost use Rattle.std.specs.Prelude.{◌≡◌, ◌≤◌, [], ◌∷◌, None, true, length};
 ghost use Rattle.vtl_base.specs.declared.limits.TheConstants.{MAX_BODY};
 ghost use Rattle.volume_core.specs.Volume.{refusal_of};
@@ -31,12 +31,12 @@ pub fn pair_of(alloc: Global, first: &[u8], second: &[u8]) -> Result<Pair, NoMem
     ))
 }
 
-/// Others with the same past.
+/// Copies with the same past.
 pub fn copy_of(pair: &Pair) -> Result<Pair, NoMemory> {
     Ok((pair.0.copy()?, pair.1.copy()?))
 }
 
-/// The cartridge that two disks hold, or why they hold none.
+/// The cartridge on two disks, or why they hold none.
 pub fn opened<D: Disk + Drop>(
     alloc: Global,
     first: D,
@@ -48,7 +48,7 @@ pub fn opened<D: Disk + Drop>(
     }
 }
 
-/// Reclaims what two disks hold: they come back, and why it was not done, if it was not.
+/// Reclaims the cartridge on two disks. Returns them, and why it was not done, if it was not.
 pub fn reclaim<D: Disk>(alloc: Global, first: D, second: D) -> (D, D, Result<(), ReclaimError>) {
     match Cartridge::reclaim(alloc, Shelved::of(first, second)) {
         Ok(shelved) => {
@@ -63,13 +63,13 @@ pub fn reclaim<D: Disk>(alloc: Global, first: D, second: D) -> (D, D, Result<(),
     }
 }
 
-/// A block behind the first objects of a partition.
+/// A block after the first objects of a partition.
 pub fn block(alloc: Global, part: PartNo, at: ObjNo, bytes: &[u8]) -> Result<Change, NoMemory> {
     let block = Bytes::from_slice(alloc, bytes)?;
     Ok(Change::Put { part, at, block })
 }
 
-// Whether a change applies to what a cartridge holds.
+// Whether a change applies to the contents of a cartridge.
 fn applies<D: Disk>(cartridge: &Cartridge<D>, change: &Change) -> bool
     ensures { result ≡ true → refusal_of (volume_made cartridge.now.contents) change.now ≡ None }
 {
@@ -85,14 +85,14 @@ fn applies<D: Disk>(cartridge: &Cartridge<D>, change: &Change) -> bool
     change.is_well_formed()
 }
 
-// Whether a frame of a change alone is not too long.
+// Whether a frame of this change alone is not too long.
 fn is_short(change: &Change) -> bool
     ensures { result ≡ true → length (spell_all (change.now ∷ [])) ≤ MAX_BODY }
 {
     change.frame_size() <= 1_048_591
 }
 
-/// Stores a change as a frame of its own. False is that it does not apply.
+/// Stores a change as a frame of its own. False: it does not apply.
 pub fn store<D: Disk>(
     cartridge: &mut Cartridge<D>,
     change: Change,
@@ -104,7 +104,7 @@ pub fn store<D: Disk>(
     Ok(true)
 }
 
-/// An empty volume of these capacities.
+/// An empty volume with these capacities.
 pub fn empty(alloc: Global, capacities: &[u64]) -> Result<Volume, Fail> {
     if !are_capacities(capacities) {
         return Err(Fail::from("no capacities"));
@@ -165,7 +165,7 @@ pub fn holds<D: Disk>(
     Ok(true)
 }
 
-// A number of eight bytes at that place, if it is there.
+// The number of eight bytes at that place, if it is there.
 fn number_at(bytes: &[u8], at: usize) -> Option<u64> {
     let mut number = 0u64;
     for i in 0..8 {
@@ -175,7 +175,7 @@ fn number_at(bytes: &[u8], at: usize) -> Option<u64> {
     Some(number)
 }
 
-/// How often a side was reclaimed: it stands behind so many capacities, if the byte of their count says so.
+/// How often a side was reclaimed: the number after the capacities, if the byte of their count says so.
 pub fn epoch_on(bytes: &[u8], parts: PartNo) -> Option<u64> {
     match bytes.get(10) {
         Some(0x81..=0x84) => number_at(
@@ -186,7 +186,7 @@ pub fn epoch_on(bytes: &[u8], parts: PartNo) -> Option<u64> {
     }
 }
 
-/// Which side counts, how often it was reclaimed, and how many bytes its disk has.
+/// Which side counts, how often it was reclaimed, and the length of its disk.
 pub fn told(cartridge: &Cartridge<MemDisk>) -> (Which, Option<u64>, usize) {
     let bytes = cartridge.disk().bytes();
     (
@@ -196,7 +196,7 @@ pub fn told(cartridge: &Cartridge<MemDisk>) -> (Which, Option<u64>, usize) {
     )
 }
 
-/// An index of an empty volume of these capacities, and then of these records, whose blocks lie anywhere.
+/// An index of an empty volume with these capacities, and then these records, whose blocks lie anywhere.
 pub fn indexed(alloc: Global, capacities: &[u64], records: &[Record]) -> Result<Index, Fail> {
     if !are_capacities(capacities) {
         return Err(Fail::from("no capacities"));

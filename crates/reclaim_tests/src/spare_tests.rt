@@ -1,4 +1,4 @@
-//! Second files that do not fit the first one, and a first one that is cut.
+//! Second files that do not fit the first one, and a first file that is cut.
 use crate::rows::{BEFORE, ONCE, PAIRED, PREPARED, TWICE, VECTOR};
 use crate::samples::{Pair, opened, reclaim, told};
 use assertions::assert_equal;
@@ -10,10 +10,10 @@ use std::test::Fail;
 use tape_disk::MemDisk;
 use vtl_base::NoMemory;
 
-// The first bytes of a side, of which one is this.
+// The first bytes of a side, with one value at one place.
 type Side = (&'static [u8], usize, usize, u8);
 
-// Which side counts, how often it was reclaimed, and a figure of its barcode; or why none does.
+// Which side counts, how often it was reclaimed, and a digit of its barcode; or why none counts.
 type Found = Result<(Which, u64, u8), CartridgeError>;
 
 const NOT_OURS: Found = Err(CartridgeError::NotOurs);
@@ -31,7 +31,7 @@ const FIRST_AGAIN: Found = Ok((Which::First, 2, b'1'));
 
 // Two disks, and what is found on them.
 static PAIRS: &'static [(Side, Side, Found)] = &[
-    // Of another cartridge, `T00002L6`. Names are not compared: the greater epoch counts.
+    // The second disk is of another cartridge, `T00002L6`. Names are not compared: the greater epoch counts.
     ((BEFORE, EVERY, 0, 0xa5), (VECTOR, EVERY, 16, b'2'), FIRST),
     ((BEFORE, EVERY, 0, 0xa5), (ONCE, EVERY, 16, b'2'), FIRST),
     (
@@ -50,7 +50,7 @@ static PAIRS: &'static [(Side, Side, Found)] = &[
         FIRST_AGAIN,
     ),
     ((TWICE, EVERY, 0, 0xa5), (TWICE, EVERY, 16, b'2'), NOT_OURS),
-    // Of an older epoch, of the same and of a newer one.
+    // It has an older epoch, the same and a newer one.
     (
         (TWICE, EVERY, 42, 3),
         (ONCE, EVERY, 0, 0xa5),
@@ -63,11 +63,11 @@ static PAIRS: &'static [(Side, Side, Found)] = &[
         (ONCE, EVERY, 0, 0x00),
         Ok((Which::First, 0, b'1')),
     ),
-    // Of bytes that look random.
+    // It has bytes that look random.
     ((BEFORE, EVERY, 0, 0xa5), (RANDOM, EVERY, 0, 0xa5), FIRST),
     ((PAIRED, EVERY, 0, 0xa5), (RANDOM, EVERY, 0, 0xa5), NOT_OURS),
     ((TWICE, EVERY, 0, 0xa5), (RANDOM, EVERY, 0, 0x00), NOT_OURS),
-    // Of another length.
+    // It has another length.
     ((BEFORE, EVERY, 0, 0xa5), (ONCE, 0, 0, 0xa5), FIRST),
     ((PAIRED, EVERY, 0, 0xa5), (ONCE, 0, 0, 0xa5), NOT_OURS),
     ((TWICE, EVERY, 0, 0xa5), (PREPARED, 9, 0, 0x00), NOT_OURS),
@@ -105,7 +105,7 @@ fn disk_of(alloc: Global, side: Side) -> Result<MemDisk, NoMemory> {
     MemDisk::from_bytes(alloc, changed.as_slice())
 }
 
-// Which side of a cartridge counts, how often it was reclaimed, and the figure of its barcode.
+// Which side of a cartridge counts, how often it was reclaimed, and the digit of its barcode.
 fn seen(cartridge: &Cartridge<MemDisk>) -> (Which, u64, u8) {
     let (which, epoch, _) = told(cartridge);
     (which, epoch.unwrap_or(0), cartridge.barcode()[5])
@@ -116,7 +116,7 @@ fn found(alloc: Global, pair: Pair) -> Found {
     Ok(seen(&cartridge))
 }
 
-// What is to be found once that was reclaimed.
+// What must be found after the reclaim.
 fn reclaimed_from(found: (Which, u64, u8)) -> (Which, u64, u8) {
     let (which, epoch, name) = found;
     let other = match which {
@@ -126,7 +126,7 @@ fn reclaimed_from(found: (Which, u64, u8)) -> (Which, u64, u8) {
     (other, epoch.saturating_add(1), name)
 }
 
-// A refused pair is refused so by a reclaim too, and is left as it was.
+// A refused pair is refused by a reclaim too, and stays unchanged.
 fn is_refused(
     rt: &impl Abort,
     alloc: Global,

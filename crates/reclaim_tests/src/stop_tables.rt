@@ -1,4 +1,4 @@
-//! Pairs of images that are reclaimed, and what they hold.
+//! Pairs of images that are reclaimed, and their contents.
 use crate::rows::{BEFORE, ONCE_AND_ON, ONCE_CLOSED, PAIRED, PREPARED, TWICE_AND_ON};
 use crate::samples::{Pair, empty, pair_of};
 use std::alloc::Global;
@@ -6,7 +6,7 @@ use std::test::Fail;
 use volume_core::{Change, Volume};
 use vtl_base::{Bytes, NoMemory};
 
-/// What is reclaimed.
+/// A pair to be reclaimed.
 pub struct Work {
     /// The first image, and the second one.
     pub first: &'static [u8],
@@ -19,14 +19,14 @@ pub struct Work {
     pub calls: u64,
 }
 
-/// To find which side counts takes a sync of each disk and a read of the first one, and of the second one where the
-/// pair gate is open. To open that side takes a sync, two reads of its head, one of each gate and one of each body.
-/// Then the pair gate is read; where it is closed the second disk is cut, written and synced. It is read again, and
-/// where it is closed written and synced. The gate of the other side is read, and where it is open written and synced.
-/// The copy takes a cut, a write of its head, of its frame and of a closed gate, a read of each block, and a sync; and
-/// its gate a write and a sync.
+/// Finding which side counts takes a sync of each disk and a read of the first, and of the second where the
+/// pair gate is open. Opening that side takes a sync, two reads of its head, one of each gate and one of each
+/// body. Then the pair gate is read; where it is closed, the second disk is cut, written and synced. The gate
+/// is read again, and where it is closed, written and synced. The gate of the other side is read, and where
+/// it is open, written and synced. The copy takes a cut, a write of its head, of its frame and of a closed
+/// gate, a read of each block, and a sync; and its gate a write and a sync.
 pub static WORKS: &'static [Work] = &[
-    // A first reclaim: on the second disk lies anything, or a side that would count if both were read.
+    // A first reclaim: the second disk has any bytes, or a side that would count if both were read.
     Work {
         first: BEFORE,
         second: b"old bytes of another file",
@@ -41,7 +41,7 @@ pub static WORKS: &'static [Work] = &[
         epoch: 0,
         calls: 29,
     },
-    // One that was stopped behind the pair gate.
+    // One that was stopped after the pair gate.
     Work {
         first: PAIRED,
         second: PREPARED,
@@ -49,7 +49,7 @@ pub static WORKS: &'static [Work] = &[
         epoch: 0,
         calls: 25,
     },
-    // A second one. The first side is an older volume.
+    // A second reclaim. The first side has an older volume.
     Work {
         first: PAIRED,
         second: ONCE_AND_ON,
@@ -57,7 +57,8 @@ pub static WORKS: &'static [Work] = &[
         epoch: 1,
         calls: 26,
     },
-    // A third one. The second side is an older volume, open; or closed, where a reclaim was stopped.
+    // A third reclaim. The second side has an older volume, and is open; or closed, where a reclaim was
+    // stopped.
     Work {
         first: TWICE_AND_ON,
         second: ONCE_AND_ON,
@@ -80,7 +81,7 @@ impl Work {
         pair_of(alloc, self.first, self.second)
     }
 
-    /// What they hold.
+    /// The volume on the disks.
     pub fn volume(&self, alloc: Global) -> Result<Volume, Fail> {
         let mut volume = empty(alloc, &[4_096])?;
         for object in self.objects {

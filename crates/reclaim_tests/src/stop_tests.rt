@@ -11,7 +11,7 @@ use std::test::Fail;
 use volume_core::Volume;
 use vtl_base::NoMemory;
 
-// How many bytes of those not synced land in a crash, and what the others hold.
+// How many of the bytes that are not synced land in a crash, and what the others hold.
 static CRASHES: &'static [(u64, u8)] = &[
     (0, 0x00),
     (0, 0xa5),
@@ -24,7 +24,7 @@ static CRASHES: &'static [(u64, u8)] = &[
     (u64::MAX, 0xff),
 ];
 
-// How often the cartridge was reclaimed that two disks hold, and whether it holds this volume.
+// How often the cartridge on two disks was reclaimed, and whether it holds this volume.
 fn found(
     alloc: Global,
     pair: Pair,
@@ -35,7 +35,7 @@ fn found(
     Ok((epoch, holds(alloc, &mut cartridge, volume)?))
 }
 
-// The disks hold the volume, reclaimed as often as it may be, and hold it reclaimed once more.
+// The disks hold the volume, with one of the allowed epochs, and after one more reclaim with the next epoch.
 pub fn is_right(
     rt: &impl Abort,
     alloc: Global,
@@ -55,8 +55,8 @@ pub fn is_right(
     Ok(())
 }
 
-// The epochs that may be found where so many calls pass. The gate of the copy is written by the last but one, and the
-// last one makes it sure.
+// The epochs that may be found where this many calls pass. The last call but one writes the gate of the copy,
+// and the last one makes it sure.
 pub fn epochs_at(work: &Work, calls: u64) -> (u64, u64) {
     let next = work.epoch.saturating_add(1);
     if calls >= work.calls {
@@ -68,13 +68,15 @@ pub fn epochs_at(work: &Work, calls: u64) -> (u64, u64) {
     }
 }
 
-// What a crash of both disks leaves: of each so many bytes that are not sure, and this in place of the others.
+// What a crash of both disks leaves: of each this many bytes that are not sure, and this byte in place of the
+// others.
 fn crashed(pair: &Pair, one: (u64, u8), two: (u64, u8)) -> Result<Pair, NoMemory> {
     let (first, second) = copy_of(pair)?;
     Ok((first.crash(one.0, one.1)?, second.crash(two.0, two.1)?))
 }
 
-// Each crash of the first disk, beside the same one of the second, and beside all and none of what is not sure there.
+// Each crash of the first disk, with the same one of the second, and with all and none of what is not sure
+// there.
 fn crashes(
     rt: &impl Abort,
     alloc: Global,
@@ -100,7 +102,7 @@ fn crashes(
     Ok(())
 }
 
-// Stops the reclaim behind so many calls.
+// Stops the reclaim after this many calls.
 fn is_stopped(
     rt: &impl Abort,
     alloc: Global,

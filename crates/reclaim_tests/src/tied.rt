@@ -1,4 +1,4 @@
-//! Two disks with one fuse: what stops is both of them at one moment.
+//! Two disks with one fuse: both stop at one moment.
 ghost use Rattle.std.specs.Prelude.{◌≡◌, ℕ, List, []};
 
 use std::alloc::{AllocError, Global};
@@ -7,8 +7,8 @@ use std::rc::Rc;
 use tape_disk::{Disk, Failures, MemDisk};
 use vtl_base::DevFault;
 
-/// A disk in memory. It has a fuse in common with another one, which lets some calls of both pass. All later ones fail,
-/// and do nothing. Nothing is proved of its bytes.
+/// A disk in memory. It shares a fuse with another one, which lets some calls of both pass. All later ones
+/// fail, and do nothing. Nothing is proved of its bytes.
 #[derive(Drop)]
 pub struct TiedDisk {
     disk: MemDisk,
@@ -16,7 +16,7 @@ pub struct TiedDisk {
     failures: Failures,
 }
 
-/// Two disks, of whose calls so many pass.
+/// Two disks, of which `calls` calls pass.
 pub fn tied(
     alloc: Global,
     disks: (MemDisk, MemDisk),
@@ -41,7 +41,7 @@ impl TiedDisk {
         self.disk
     }
 
-    // Whether a call passes. It is one of those that are left.
+    // Whether a call passes. It uses up one of those that are left.
     fn passes(&self) -> bool {
         let left = self.left.get();
         self.left.set(left.saturating_sub(1));

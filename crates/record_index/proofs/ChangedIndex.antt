@@ -1,4 +1,4 @@
--- An index with one of its partitions changed.
+-- An index with one changed partition.
 use Rattle.std.proofs.Common.{◌≡◌, ℕ, List, ◌++◌, take, sym, ◌∙◌, ap, subst, arith, Some, Ok, Err, Result}
 use Rattle.std.specs.Prelude.{slice_get, slice_set, Option}
 use Rattle.std.specs.Option.{option_map}
@@ -15,7 +15,7 @@ use Rattle.record_index.specs.Places.{PlacedPart, blank, filled_part, outline, o
 use Rattle.record_index.specs.Facts.{target_filled}
 use Rattle.record_index.proofs.Rows.{set_here, slice_get_set}
 
--- a volume of an index, one of its partitions changed
+-- the volume of an index with one changed partition
 pub limits_set : (parts : List PlacedPart) (number : ℕ) (new : PlacedPart) → IsVolume (outline parts)
     → IsPart (filled_part blank new) → IsVolume (outline (slice_set parts number new))
 limits_set parts number new limits here =
@@ -35,7 +35,7 @@ module _ (parts : List PlacedPart) (number : ℕ) (old new : PlacedPart) (here :
   pub reserved_set : reserved_of (slice_set parts number new) number ≡ new.reserved
   reserved_set = ap reserved_in (slice_get_set parts number new (slice_get_within parts number old here))
 
-  -- an index with a partition written there
+  -- an index whose partition is replaced
   pub set_is : (objects : List Placed)
       → new ≡ record { capacity = old.capacity; objects = objects; reserved = new.reserved }
       → slice_set parts number new
@@ -47,7 +47,7 @@ module _ (parts : List PlacedPart) (number : ℕ) (old new : PlacedPart) (here :
       ∙ ap (λ (o : Option PlacedPart). with_objects_in o parts number objects
       (reserved_of (slice_set parts number new) number)) (sym here)
 
-  -- of the objects that stood there
+  -- the objects that were there
   pub set_by : (f : List Placed → List Placed)
       → new ≡ record { capacity = old.capacity; objects = f old.objects; reserved = new.reserved }
       → slice_set parts number new
@@ -60,7 +60,7 @@ module _ (parts : List PlacedPart) (number : ℕ) (old new : PlacedPart) (here :
   pub set_same : new ≡ old → slice_set parts number new ≡ parts
   set_same same = ap (slice_set parts number) same ∙ set_here parts number old here
 
--- a partition's answer is the index's
+-- the result of a partition is that of the index
 module _ (parts : List PlacedPart) (item : Record) (place : ℕ) (old new : PlacedPart)
     (here : slice_get parts (places.record_part item) ≡ Some old) where
   refusal_here : refusal_of (outline parts) (outlined item) ≡ refusal_in (Some (filled_part blank old)) (outlined item)

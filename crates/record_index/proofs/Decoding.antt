@@ -1,4 +1,4 @@
--- Records in a row.
+-- Records one after another.
 use Rattle.std.proofs.Common.{◌≡◌, ℕ, ◌<◌, ◌≤◌, ◌+◌, List, [], ◌∷◌, ◌++◌, length, drop, refl, sym, ◌∙◌, ap, subst, arith, append_assoc, length-append, length-drop}
 use Rattle.std.specs.List.{All}
 use Rattle.std.proofs.lemmas.List.{append-nil, drop-drop, drop_all}
@@ -50,7 +50,7 @@ module _ (bytes : List ℕ) (changes : List Change) (at : ℕ) (so_far : IsDecod
         is' : change_in item (drop at bytes) ≡ change
         is' = sym is
 
-  -- no record follows, and something does
+  -- no record follows, but some byte does
   pub bad_here : at < length bytes → (BeginsWithRecord (drop at bytes) → ⊥) → IsBadAt bytes at
   bad_here within never = record {
     changes = changes;
@@ -70,7 +70,7 @@ module _ (bytes : List ℕ) (changes : List Change) (at : ℕ) (so_far : IsDecod
         ∙ append-nil (spell_all changes),
   )
 
--- where a record follows records, one stands at the start
+-- where a record follows records, one begins the bytes
 first_record : (bytes rest : List ℕ) (changes : List Change) → All IsRecord changes → bytes ≡ spell_all changes ++ rest
     → BeginsWithRecord rest → BeginsWithRecord bytes
 first_record bytes rest [] ok is w = (w.0, w.1, w.2, is ∙ w.3)

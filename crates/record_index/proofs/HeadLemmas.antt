@@ -1,4 +1,4 @@
--- What the ten bytes of a head tell is a record, if enough follows for its block.
+-- The ten bytes of a head give a record, if enough bytes for its block follow.
 use Rattle.std.proofs.Common.{◌≡◌, ℕ, zero, suc, ◌<◌, ◌≤◌, ◌+◌, ◌^◌, List, [], ◌∷◌, ◌++◌, length, get_or, take, drop, refl, sym, ◌∙◌, ap, arith, Some, None, append_assoc, length-append}
 use Rattle.std.specs.Prelude.{nat_le, ◌&&◌}
 use Rattle.std.specs.Int.{to_be_bytes, w32}
@@ -38,7 +38,7 @@ module _ (a b c d e f g h i j : ℕ) (tail : List ℕ) where
     enough_for (Marks p n s) tells enough = tells
     enough_for (Erase p n) tells enough = tells
 
-    -- a head that tells a record begins it, if enough follows
+    -- a head that gives a record begins it, if enough bytes follow
     head_cells : (item : Record) → head_item ten ≡ Some item → record_length item ≤ length tail → IsAtFront item cells
     head_cells item is enough =
         found_cells a b c d e f g h i j tail fits item
@@ -94,7 +94,7 @@ head_told kind part at number at_fits number_fits =
     λ i. kind_told kind part (big_number-reads_back 4 at (to_be_bytes w32 number) at_fits i)
     (big_number-reads_back 4 number [] number_fits i) MAX_BLOCK
 
--- the head of a change's spelling tells its record
+-- the head of a change's spelling gives the record of the change
 pub head_again : (change : Change) → IsRecord change → head_item (head_spelled change) ≡ Some (record_of change)
 head_again (Changes.Put part place block) ok =
     head_told 1 part place (length block) ok.0.1 (omega (arith, ok.2))
@@ -109,7 +109,7 @@ head_again (Changes.Marks part place count) ok =
     (and_from _ _ (le-leb 1 count ok.1) (le-leb count MAX_OBJECTS ok.2))
 head_again (Changes.Erase part place) ok = head_told 3 part place 0 ok.1 (omega arith)
 
--- what begins with a record has its head first, and behind it the bytes of its block
+-- bytes that begin with a record have its head first, and then the bytes of its block
 pub begins_item : (head tail : List ℕ) → length head ≡ 10 → (w : BeginsWithRecord (head ++ tail))
     → (head_item head ≡ Some (record_of w.0)) × (record_length (record_of w.0) ≤ length tail)
 begins_item head tail long w =

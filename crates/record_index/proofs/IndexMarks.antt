@@ -1,4 +1,4 @@
--- What an index tells of filemarks, by a run of them.
+-- The filemarks of an index, by their runs.
 use Rattle.std.proofs.Common.{◌≡◌, ℕ, ◌<◌, ◌≤◌, ◌+◌, ◌-◌, List, map, take, length, sym, ◌∙◌, ap, arith, Some}
 use Rattle.std.specs.Prelude.{slice_get, Option}
 use Rattle.std.specs.Option.{option_map}
@@ -26,7 +26,7 @@ module _ (parts : List PlacedPart) (number : ℕ) where
   whole : (run : MarkRun) → IsRunAmong objects run → IsMarkRun objects run
   whole run among = among.1.each among.2 run among.3
 
-  -- the filemark of a number stands in its run
+  -- the filemark of a number is in its run
   pub mark_of_run : (k : ℕ) (run : MarkRun) → IsRunAmong objects run → run.before ≤ k → k < run.before + run.count
       → IsMarkOf (outline parts) number k (run.first + (k - run.before))
   mark_of_run k run among low high =

@@ -29,7 +29,7 @@ placed_of capacity table = record { capacity = capacity; objects = table.objects
 blank_length : (size : ℕ) → length (blank 0 size) ≡ size
 blank_length size = length-replicate {A = ℕ} size 0
 
--- what objects take, whether their bytes are there or not
+-- what objects take, whether their bytes are known or not
 pub used_filled : (objects : List Placed) → used_of (map (filled blank) objects) ≡ cost_of_objects objects
 used_filled [] = refl
 used_filled (Block place size ∷ objects) =
@@ -56,7 +56,7 @@ pub used_within : (part : PlacedPart) (n : ℕ) → IsPart (filled_part blank pa
     → cost_of_objects (take n part.objects) ≤ part.capacity
 used_within part n limits = omega (arith, limits.fits, used_filled part.objects, taken_within part.objects n)
 
--- what a refusal is made of
+-- the parts of a refusal
 not_refused : (past room formed : Bool)
     → (if past then Some PastEnd else
     (if not room then Some NoRoom else (if not formed then Some TooLong else None))) ≡ None
@@ -154,7 +154,7 @@ module _ (part : PlacedPart) (item : Record) where
   formed_objects (Changes.Marks p n count) formed = All-replicate IsObject count Objects.Mark tt
   formed_objects (Changes.Erase p n) formed = All-nil IsObject
 
-  -- what is not refused keeps the limits
+  -- a change that is not refused stays within the limits
   pub limits_after : IsPart seen → refusal_in (Some seen) change ≡ None → IsPart (part_after seen change)
   limits_after limits none =
       let parts = not_refused past room (is_well_formed change) none in
@@ -179,7 +179,7 @@ module _ (part : PlacedPart) (item : Record) where
       subst (λ (objects : List Object). IsPart (record { capacity = part.capacity; objects = objects }))
       (sym (filled_now blank [] item place reserved part)) (limits_after limits none)
 
-  -- what is not refused takes no more than the capacity
+  -- a change that is not refused takes no more than the capacity
   pub cost_after : refusal_in (Some seen) change ≡ None
       → cost_of_objects kept_objects + used_of (added_by change) ≤ part.capacity
   cost_after none =
@@ -188,7 +188,7 @@ module _ (part : PlacedPart) (item : Record) where
       (nat_le (used_of (objects_after seen.objects change)) part.capacity) parts.1 in
       omega (arith, used_after, leb-true (used_of (objects_after seen.objects change)) part.capacity rooms.1)
 
--- what a partition takes after a record is below the greatest number
+-- what a partition takes after a record is below 2^64
 pub cost_fits : (part : PlacedPart) (item : Record) (place : ℕ) → IsPart (filled_part blank part)
     → refusal_in (Some (filled_part blank part)) (outlined item) ≡ None
     → cost_of_objects (take (places.record_kept item) part.objects ++ placed_by item place) < 2 ^ 64
@@ -204,13 +204,13 @@ cost_fits part item place limits none =
       sum_by-append cost_of_placed (take (places.record_kept item) part.objects) (placed_by item place),
     )
 
--- what a partition takes is below the greatest number
+-- what a partition takes is below 2^64
 pub capacity_fits : (part : PlacedPart) → IsPart (filled_part blank part) → part.capacity < 2 ^ 64
 capacity_fits part limits =
     let room = and_parts (nat_le MIN_CAPACITY part.capacity) (nat_le part.capacity MAX_CAPACITY) limits.capacity_fits in
     omega (arith, leb-true part.capacity MAX_CAPACITY room.1)
 
--- the first objects of a partition keep its limits
+-- the first objects of a partition stay within its limits
 pub limits_cut : (part : PlacedPart) (n reserved : ℕ) → IsPart (filled_part blank part)
     → IsPart
     (filled_part blank (record { capacity = part.capacity; objects = take n part.objects; reserved = reserved }))

@@ -14,7 +14,7 @@ same_run one other same = cc
 pub mark_within : (objects : List Placed) (at : ℕ) → HasMarkAt objects at → at < length objects
 mark_within objects at mark = slice_get_within objects at Mark mark
 
--- the filemarks of the first, and those of the others
+-- the filemarks of two lists are those of both
 first_and_others : (object : Placed) (objects : List Placed)
     → placed_marks (object ∷ objects) ≡ placed_marks (object ∷ []) + placed_marks objects
 first_and_others object objects = sum_by-append _ (object ∷ []) objects
@@ -46,7 +46,7 @@ no_more (object ∷ objects) (suc at) none =
       no_more objects at none,
     )
 
--- from a place on there are filemarks alone, or none
+-- from a place on there are only filemarks, or none
 pub all_counted : (objects : List Placed) (from far : ℕ)
     → ((at : ℕ) → from ≤ at → at < from + far → HasMarkAt objects at)
     → placed_marks (take (from + far) objects) ≡ placed_marks (take from objects) + far

@@ -1,4 +1,4 @@
--- What a reader holds, a step further.
+-- The state of a reader, a step further.
 use Rattle.std.proofs.Common.{◌≡◌, inl, inr, ℕ, zero, suc, ◌<◌, ◌≤◌, ◌+◌, ◌-◌, List, [], ◌∷◌, ◌++◌, length, take, drop, refl, sym, ◌∙◌, ap, subst, arith, take-append-drop, Some, None, append_assoc, length-append, length-drop}
 use Rattle.std.specs.Prelude.{Option, min}
 use Rattle.std.proofs.lemmas.List.{append-nil, drop-append-le, drop_all, length-take, length-take-le, take_all, take_at}
@@ -13,7 +13,7 @@ use Rattle.record_index.specs.Readers.{Finds, IsAfter, IsHeadOf, IsLeft, IsTold,
 use Rattle.record_index.proofs.HeadLemmas.{begins_item, none_short}
 use Rattle.record_index.proofs.StandLemmas.{after_it, bad_for_ever, bad_head, bad_short, bad_under, head_short, rest_exact, rest_has, stands_filled, stands_over}
 
--- where bytes of a block are to come, the head is whole
+-- where bytes of a block are still to come, the head is whole
 pub under_way : (bytes : List ℕ) (changes : List Change) (reader : ReaderState) → IsAfter bytes changes reader
     → 1 ≤ reader.left
     → (length reader.head ≡ 10) × (length bytes - reader.begin - 10 + reader.left ≡ record_length reader.item)
@@ -92,7 +92,7 @@ ended before bytes changes old new after some all none at begin head =
           rest_has before changes old.begin old.at old.head after.stands,
         )
 
--- bytes behind what begins with no record
+-- bytes after bytes that begin with no record
 pub bad_more : (before piece : List ℕ) (changes : List Change) (old new : ReaderState) → IsAfter before changes old
     → old.left ≡ 0 → length old.head ≡ 10 → new.left ≡ 0 → new.at ≡ old.at + length piece → new.begin ≡ old.begin
     → new.head ≡ old.head
@@ -123,7 +123,7 @@ bad_more before piece changes old new after none whole still at begin head = (
         (subst (λ (h : List ℕ). Stands (before ++ piece) changes old.begin new.at h) (sym head)
         (stands_over before changes old.begin old.at old.head after.stands piece new.at whole at))
 
--- a piece that is taken as far as a head goes
+-- a piece that is taken as far as the head goes
 module _ (before piece : List ℕ) (changes : List Change) (old new : ReaderState) (count : ℕ)
     (after : IsAfter before changes old) (none : old.left ≡ 0) (missing : length old.head < 10)
     (counted : count ≡ min (10 - length old.head) (length piece)) (head : new.head ≡ old.head ++ take count piece) where
@@ -153,7 +153,7 @@ module _ (before piece : List ℕ) (changes : List Change) (old new : ReaderStat
     told = λ some. absurd (omega (arith, some, still));
   }
 
-  -- a whole head tells no record
+  -- a whole head that gives no record
   pub filled_bad : length new.head ≡ 10 → head_item new.head ≡ None → new.left ≡ 0
       → new.at ≡ old.at + length piece → new.begin ≡ old.begin
       → IsAfter (before ++ piece) changes new × ((more : List ℕ) → IsBadAt ((before ++ piece) ++ more) new.begin)
@@ -194,7 +194,7 @@ module _ (before piece : List ℕ) (changes : List Change) (old new : ReaderStat
         after.stands.within,
       )
 
-  -- a whole head tells a record with a block
+  -- a whole head that gives a record with a block
   pub filled_told : length new.head ≡ 10 → head_item new.head ≡ Some new.item → IsHeadOf new.item new.head
       → new.left ≡ record_length new.item → 1 ≤ new.left → new.at ≡ old.at + count → new.begin ≡ old.begin
       → IsAfter (before ++ take count piece) changes new
@@ -209,7 +209,7 @@ module _ (before piece : List ℕ) (changes : List Change) (old new : ReaderStat
     told = λ any. record { item_is = tells; front = front };
   }
 
-  -- a whole head tells a record without a block
+  -- a whole head that gives a record without a block
   pub filled_whole : (item : Record) (behind : ReaderState) → length new.head ≡ 10 → IsHeadOf item new.head
       → record_length item ≡ 0 → behind.head ≡ [] → behind.left ≡ 0 → behind.begin ≡ old.at + count
       → behind.at ≡ old.at + count → Finds (before ++ take count piece) changes item old.begin behind
@@ -217,7 +217,7 @@ module _ (before piece : List ℕ) (changes : List Change) (old new : ReaderStat
       after_it (before ++ take count piece) changes old.begin (old.at + count) new.head (filled (old.at + count) refl)
       item whole front (there_none whole ∙ sym block) behind no_head still begin at
 
--- what a body was
+-- the result at the end of a body
 pub ends_well : (bytes : List ℕ) (changes : List Change) (reader : ReaderState) → IsAfter bytes changes reader
     → length reader.head ≡ 0 → SpellsAll bytes changes
 ends_well bytes changes reader after none = (after.stands.spelled, whole)
@@ -272,7 +272,7 @@ take_parts (suc from) count (x ∷ xs) =
     let sum : suc (from + count) ≡ suc from + count = omega arith in
     ap (λ (l : List ℕ). x ∷ l) (take_parts from count xs) ∙ ap (λ (n : ℕ). take n (x ∷ xs)) sum
 
--- a part of a piece, behind the bytes before it
+-- a part of a piece, after the bytes before it
 pub behind_parts : (before piece : List ℕ) (from count : ℕ)
     → (before ++ take from piece) ++ take count (drop from piece) ≡ before ++ take (from + count) piece
 behind_parts before piece from count =

@@ -1,4 +1,4 @@
--- What the first ten bytes tell is a record, where they are bytes.
+-- The first ten bytes give a record, where they are bytes.
 use Rattle.std.proofs.Common.{◌≡◌, inl, inr, ℕ, zero, suc, ◌<◌, ◌≤◌, ◌+◌, ◌-◌, ◌^◌, List, [], ◌∷◌, ◌++◌, length, get_or, take, drop, refl, sym, ◌∙◌, ap, subst, arith, take-append-drop, Some, None, false}
 use Rattle.std.specs.Prelude.{if◌then◌else◌, slice_index, nat_lt, nat_le, ◌&&◌, ◌==◌}
 use Rattle.std.specs.Int.{to_be_bytes, w32}
@@ -15,12 +15,12 @@ use Rattle.record_index.specs.Records.{IsAtFront, BeginsWithRecord, record_of}
 use Rattle.record_index.specs.Inner.Told.{told, kind_told, block_told, marks_told, erase_told}
 use Rattle.record_index.specs.Inner.Spelled.{length-spell, told_again}
 
--- bytes that begin with a record tell one
+-- bytes that begin with a record give one
 pub none_begins : (bytes : List ℕ) → told bytes ≡ None → BeginsWithRecord bytes → ⊥
 none_begins bytes none w =
     let e : None ≡ Some (record_of w.0) = sym none ∙ ap told w.3 ∙ told_again w.0 w.1 w.2 in cc
 
--- what a head with these numbers says of a record
+-- the record of a head with these numbers
 abbrev pub Tells : ℕ → ℕ → ℕ → ℕ → ℕ → Record → Type 0
 Tells kind part at number there (Put p a n) =
     (kind ≡ 1) × (p ≡ part) × (a ≡ at) × (n ≡ number) × (1 ≤ n) × (n ≤ MAX_BLOCK) × (n ≤ there)
@@ -211,7 +211,7 @@ short_tells bytes item short is =
     (length bytes - 10)) (lt-ltb (length bytes) 10 short)) ∙ is in
     absurd (cc)
 
--- what bytes tell stands at their front
+-- the record that bytes give begins them
 pub told_found : (bytes : List ℕ) → ((k : ℕ) → get_or bytes k 0 < 256) → (item : Record) → told bytes ≡ Some item
     → IsAtFront item bytes
 told_found (a ∷ b ∷ c ∷ d ∷ e ∷ f ∷ g ∷ h ∷ i ∷ j ∷ tail) fits item is =

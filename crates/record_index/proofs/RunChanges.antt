@@ -1,4 +1,4 @@
--- What is left of the runs of filemarks before a block, and what a block or filemarks behind make of them.
+-- The runs of filemarks before a block, and after a block or filemarks are added.
 use Rattle.std.proofs.Common.{◌≡◌, inl, inr, ℕ, zero, suc, ◌<◌, ◌≤◌, ◌+◌, ◌-◌, ◌++◌, List, [], ◌∷◌, length, take, replicate, sym, ◌∙◌, ap, subst, arith, length-append, Some}
 use Rattle.std.specs.Prelude.{slice_get, Option, None}
 use Rattle.std.proofs.lemmas.Bool.{cases_lt}
@@ -15,7 +15,7 @@ use Rattle.record_index.proofs.RunLemmas.{first_rises, rest_later}
 use Rattle.record_index.proofs.Rows.{slice_get_kept, slice_get_left, slice_get_right, slice_get_row, slice_get_taken}
 
 module _ (objects : List Placed) (runs : List MarkRun) (are : AreRunsOf objects runs) where
-  -- the runs before a place that no mark stands directly before
+  -- the runs before a place that does not follow a mark
   module _ (end kept : ℕ) (last : Option MarkRun) (below : IsLastBelow runs First end kept last)
       (behind : IsNotBelow (slice_get runs kept) First end)
       (starts : (at : ℕ) → at + 1 ≡ end → HasMarkAt objects at → ⊥) where
@@ -67,7 +67,7 @@ module _ (objects : List Placed) (runs : List MarkRun) (are : AreRunsOf objects 
           (found.0, found.1, slice_get_kept kept runs found.0 less ∙ found.2, found.3, found.4);
     }
 
-    -- where a mark stands there, a run more begins there
+    -- where it follows a mark, one more run begins there
     pub one_behind : HasMarkAt objects end → kept < length runs
     one_behind mark =
         let found = are.all end mark in
@@ -95,7 +95,7 @@ no_mark : (place size at : ℕ) → slice_get (Block place size ∷ []) at ≡ S
 no_mark place size zero mark = (let other : Block place size ≡ Mark = cc in cc)
 no_mark place size (suc at) mark = cc
 
--- a block more, and the runs are the same
+-- one more block, and the runs stay
 pub runs_with_block : (objects : List Placed) (runs : List MarkRun) (place size : ℕ) → AreRunsOf objects runs
     → AreRunsOf (objects ++ Block place size ∷ []) runs
 runs_with_block objects runs place size are = record {
@@ -108,7 +108,7 @@ runs_with_block objects runs place size are = record {
   ];
 }
 
--- marks more behind a block, and a run more
+-- marks after a block, and one more run
 module _ (objects : List Placed) (runs : List MarkRun) (are : AreRunsOf objects runs)
     (ends : (at : ℕ) → at + 1 ≡ length objects → HasMarkAt objects at → ⊥)
     (run : MarkRun) (some : 1 ≤ run.count) (first_is : run.first ≡ length objects)
@@ -129,7 +129,7 @@ module _ (objects : List Placed) (runs : List MarkRun) (are : AreRunsOf objects 
         ∙ sym (take-append-le run.first objects marks (omega (arith, first_is))));
   }
 
-  -- what stands behind the others is the run
+  -- the run is what comes after the others
   the_last : (k : ℕ) (other : MarkRun) → length runs ≤ k → slice_get (runs ++ run ∷ []) k ≡ Some other
       → (k ≡ length runs) × (run ≡ other)
   the_last k other past is =

@@ -1,4 +1,4 @@
--- Runs of filemarks: how many filemarks stand before a place, and which run has the one of a number.
+-- Runs of filemarks: how many filemarks come before a place, and which run has the one of a number.
 use Rattle.std.proofs.Common.{◌≡◌, inl, inr, ℕ, zero, suc, ◌<◌, ◌≤◌, ◌+◌, ◌-◌, min, List, length, take, sym, ◌∙◌, ap, subst, arith, Some}
 use Rattle.std.specs.Prelude.{slice_get, Option, None}
 use Rattle.std.proofs.Math.Nat.{eq-or-lt_of_le}
@@ -94,7 +94,7 @@ module _ (objects : List Placed) (runs : List MarkRun) (are : AreRunsOf objects 
     | inr less ↦ omega (arith, are.apart k m run other less is there)
   ]
 
-  -- from the run on that does not begin before a place none does
+  -- after the first run that does not begin before a place none does
   pub rest_later : (n count : ℕ) → IsNotBelow (slice_get runs count) First n
       → (m : ℕ) (other : MarkRun) → count ≤ m → slice_get runs m ≡ Some other → n ≤ other.first
   rest_later n count behind m other upto is =
@@ -149,7 +149,7 @@ module _ (objects : List Placed) (runs : List MarkRun) (are : AreRunsOf objects 
             omega (arith, all, marks_all objects, few)
       ]
 
--- no search among the runs of a partition takes more than 24 steps
+-- a search among the runs of a partition takes at most 24 steps
 pub few_steps : (objects : List Placed) (old new : ℕ) → AddsDigitsOfRuns objects old new → length objects ≤ 16000000
     → new ≤ old + 24
 few_steps objects old new steps few =

@@ -91,7 +91,7 @@ module _ (entries : List BlockEntry) (total at count : ℕ) (table : IsTable ent
       ∙ ap (λ (n : ℕ). padded front at ++ take n parted.0) none
       ∙ append-nil (padded front at)
 
-  -- what stands at the number is what the rest begins with
+  -- the object at the number begins the rest
   behind_is : (rest : List Placed) → objects ≡ padded front at ++ rest → slice_get objects at ≡ slice_get rest 0
   behind_is rest is =
       let size = length_padded front at front_length in
@@ -123,7 +123,7 @@ module _ (entries : List BlockEntry) (total at count : ℕ) (table : IsTable ent
       behind_is (replicate (entry.number - at) Mark ++ (Block entry.place entry.size ∷ next.0)) next.2
       ∙ ap (λ (n : ℕ). slice_get (replicate n Mark ++ (Block entry.place entry.size ∷ next.0)) 0) none
 
-  -- the first blocks, and what stands before the last of them
+  -- the first blocks, and the objects before the last of them
   pub front_taken : take (length front) objects ≡ front
   front_taken =
       let marks : List Placed = replicate (at - length front) Mark in
@@ -131,7 +131,7 @@ module _ (entries : List BlockEntry) (total at count : ℕ) (table : IsTable ent
       ∙ take-append-le (length front) front (marks ++ parted.0) (omega arith)
       ∙ take_all (length front) front (omega arith)
 
-  -- a mark stands behind them, if the number is not theirs
+  -- a mark follows them, unless the number is theirs
   pub mark_behind_front : length front < at → HasMarkAt objects (length front)
   mark_behind_front less =
       let marks : List Placed = replicate (at - length front) Mark in
@@ -143,14 +143,14 @@ module _ (entries : List BlockEntry) (total at count : ℕ) (table : IsTable ent
       ∙ slice_get_left marks parted.0 0 some
       ∙ slice_get_row (at - length front) 0 Mark (omega (arith, less))
 
--- behind the last object there is none
+-- after the last object there is none
 pub none_past : (entries : List BlockEntry) (total at : ℕ) → length (blocks_of entries) ≤ total → total ≤ at
     → slice_get (objects_of entries total) at ≡ None
 none_past entries total at within past =
     slice_get_past (objects_of entries total) at
     (omega (arith, past, length_padded (blocks_of entries) total within))
 
--- the first so many, but no more than there are
+-- a first part, no longer than the list
 pub taken_min : (objects : List Placed) (n count : ℕ) → count ≡ length objects
     → take (min n count) objects ≡ take n objects
 taken_min objects n count all = elim (cases_lt count n) [

@@ -1,4 +1,4 @@
--- What a reader holds, a step further.
+-- The state of a reader, a step further.
 use Rattle.std.proofs.Common.{◌≡◌, inl, inr, ℕ, zero, suc, ◌<◌, ◌≤◌, ◌+◌, ◌-◌, List, [], ◌∷◌, ◌++◌, length, take, drop, refl, sym, ◌∙◌, ap, subst, arith, take-append-drop, Some, None, append_assoc, length-append, length-drop}
 use Rattle.std.specs.Prelude.{Option, min}
 use Rattle.std.proofs.lemmas.List.{append-nil, drop-append-le, drop_all, length-take, length-take-le, take_all, take_at}
@@ -75,7 +75,7 @@ module _ (bytes : List ℕ) (changes : List Change) (begin at : ℕ) (head : Lis
   pub tail_long : length (drop 10 rest) ≡ length bytes - begin - 10
   tail_long = omega (arith, length-drop 10 rest, rest_long)
 
-  -- with more bytes behind a whole head
+  -- with more bytes after a whole head
   pub stands_over : (more : List ℕ) (to : ℕ) → length head ≡ 10 → to ≡ at + length more
       → Stands (bytes ++ more) changes begin to head
   stands_over more to whole is =
@@ -128,7 +128,7 @@ module _ (bytes : List ℕ) (changes : List Change) (begin at : ℕ) (head : Lis
         (spell_change change))
         ∙ sym more_spelled
 
-    -- the reader that stands behind it
+    -- the reader after that record
     pub after_it : (new : ReaderState) → new.head ≡ [] → new.left ≡ 0 → new.begin ≡ at → new.at ≡ at
         → Finds bytes changes item begin new
     after_it new no_head none begins_at is_at = record {
@@ -152,7 +152,7 @@ module _ (bytes : List ℕ) (changes : List Change) (begin at : ℕ) (head : Lis
       };
     }
 
-  -- something follows the changes, and it begins with no record
+  -- some byte follows the changes, and the rest begins with no record
   pub bad_rest : 1 ≤ length head → (BeginsWithRecord rest → ⊥) → IsBadAt bytes begin
   bad_rest some never = record {
     changes = changes;
@@ -184,7 +184,7 @@ module _ (bytes : List ℕ) (changes : List Change) (begin at : ℕ) (head : Lis
           let same : item ≡ record_of w.0 = same_some item (record_of w.0) (sym is ∙ found.0) in
           omega (arith, found.1, ap record_length same, tail_long, short)
 
-  -- a head that tells no record
+  -- a head that gives no record
   pub bad_head : length head ≡ 10 → head_item head ≡ None → IsBadAt bytes begin
   bad_head whole is =
       bad_rest (omega (arith, whole)) (λ w. never (subst BeginsWithRecord head_first w))
@@ -194,7 +194,7 @@ module _ (bytes : List ℕ) (changes : List Change) (begin at : ℕ) (head : Lis
           let found = begins_item head (drop 10 rest) whole w in
           let e : None ≡ Some (record_of w.0) = sym is ∙ found.0 in cc
 
--- a head that tells no record, whatever follows
+-- a head that gives no record, whatever follows
 pub bad_for_ever : (bytes : List ℕ) (changes : List Change) (begin at : ℕ) (head : List ℕ)
     → Stands bytes changes begin at head → length head ≡ 10 → head_item head ≡ None → (more : List ℕ)
     → IsBadAt (bytes ++ more) begin

@@ -1,4 +1,4 @@
--- What a cut, a block more and filemarks more make of the tables of a partition.
+-- The tables of a partition after a cut, one more block, or more filemarks.
 use Rattle.std.proofs.Common.{◌≡◌, ℕ, ◌<◌, ◌≤◌, ◌+◌, ◌-◌, ◌^◌, List, [], ◌∷◌, ◌++◌, length, take, replicate, refl, sym, ◌∙◌, ap, subst, arith, append_assoc, length-append, Some}
 use Rattle.std.specs.Prelude.{slice_get, Option}
 use Rattle.std.proofs.lemmas.List.{length-take-le, take-append-le, take_all}
@@ -30,7 +30,7 @@ no_tables = record {
   cost = omega arith;
 }
 
--- the runs before the object behind the last of some blocks, and a run from there on
+-- the runs before the object after the last of some blocks, and a run from there on
 module _ (entries : List BlockEntry) (objects : List Placed) (runs : List MarkRun) (are : AreRunsOf objects runs)
     (end count : ℕ) (last : Option MarkRun) (below : IsLastBelow runs First end count last)
     (behind : IsNotBelow (slice_get runs count) First end) (end_is : end ≡ length (blocks_of entries))
@@ -135,7 +135,7 @@ module _ (entries : List BlockEntry) (runs : List MarkRun) (total n kept end cou
         cost = cut_cost;
       }
 
--- a block more
+-- one more block
 module _ (entries : List BlockEntry) (runs : List MarkRun) (total : ℕ) (tables : AreTables entries runs total)
     (entry : BlockEntry) (number_is : entry.number ≡ total) where
   abbrev block : List Placed
@@ -185,7 +185,7 @@ module _ (entries : List BlockEntry) (runs : List MarkRun) (total : ℕ) (tables
         cost = omega (arith, ap cost_of_objects objects_with_block, enough);
       }
 
--- filemarks more
+-- more filemarks
 module _ (entries : List BlockEntry) (runs : List MarkRun) (total added end count : ℕ) (last : Option MarkRun)
     (tables : AreTables entries runs total) (end_is : end ≡ length (blocks_of entries))
     (below : IsLastBelow runs First end count last) (behind : IsNotBelow (slice_get runs count) First end) where

@@ -1,4 +1,4 @@
--- The table of blocks: the objects up to each, and what those take.
+-- The table of blocks: the objects up to each, and what they take.
 use Rattle.std.proofs.Common.{◌≡◌, inl, inr, ℕ, zero, suc, ◌<◌, ◌≤◌, ◌+◌, ◌-◌, ◌*◌, List, [], ◌∷◌, ◌++◌, length, take, drop, replicate, refl, sym, ◌∙◌, ap, subst, arith, append_assoc, length-append, Some}
 use Rattle.std.specs.Prelude.{slice_get, Option, if◌then◌else◌}
 use Rattle.std.proofs.lemmas.Bool.{cases_lt}
@@ -14,14 +14,14 @@ use Rattle.record_index.specs.MarkRuns.{HasMarkAt, is_placed_mark, placed_marks}
 use Rattle.record_index.specs.Inner.Tables.{IsBelow, IsBlockAfter, IsNoLower, IsSplitAt, IsTable, blocks_of, cost_of_objects, cost_of_placed, objects_of, padded, with_block, with_blocks}
 use Rattle.record_index.proofs.Rows.{at_within, slice_get_left, slice_get_right, slice_get_row, slice_get_taken, split_at, take_next, take_past}
 
--- 1 of a mark, 0 of a block
+-- 1 for a mark, 0 for a block
 abbrev mark_number : Placed → ℕ
 mark_number object = if is_placed_mark object then 1 else 0
 
 same_entry : (one other : BlockEntry) → Some one ≡ Some other → one ≡ other
 same_entry one other same = cc
 
--- entries more
+-- more entries
 pub with_more : (objects : List Placed) (entries others : List BlockEntry)
     → with_blocks objects (entries ++ others) ≡ with_blocks (with_blocks objects entries) others
 with_more objects [] others = refl
@@ -31,7 +31,7 @@ pub blocks_push : (entries : List BlockEntry) (entry : BlockEntry)
     → blocks_of (entries ++ entry ∷ []) ≡ with_block (blocks_of entries) entry
 blocks_push entries entry = with_more [] entries (entry ∷ [])
 
--- what stands in front stays there
+-- objects before others stay at their places
 pub in_front : (objects : List Placed) (entries : List BlockEntry)
     → (rest : List Placed) × (with_blocks objects entries ≡ objects ++ rest)
 in_front objects [] = ([], sym (append-nil objects))
@@ -83,7 +83,7 @@ length_with objects entry few =
       length_padded objects entry.number few,
     )
 
--- the first so many, of which the last is this
+-- the first entries, of which this is the last
 up_to_last : (entries : List BlockEntry) (count : ℕ) (entry : BlockEntry) → 1 ≤ count
     → slice_get entries (count - 1) ≡ Some entry
     → blocks_of (take count entries) ≡ with_block (blocks_of (take (count - 1) entries)) entry
@@ -104,7 +104,7 @@ pub cost_is : (entries : List BlockEntry) (count : ℕ) (entry : BlockEntry) →
 cost_is entries count entry table some is =
     ap cost_of_objects (up_to_last entries count entry some is) ∙ sym (table (count - 1) entry is).cost_is
 
--- the first so many entries are a table, and so is one entry more
+-- the first entries are a table, and so they are with one more entry
 pub table_take : (n : ℕ) (entries : List BlockEntry) → IsTable entries → IsTable (take n entries)
 table_take n entries table k found is =
     let old = slice_get_taken n entries k found is in
@@ -130,7 +130,7 @@ table_push entries entry table last k found is = elim (cases_lt k (length entrie
       (subst (λ (e : BlockEntry). IsBlockAfter (blocks_of entries) e) same last)
 ]
 
--- no mark stands last among the objects up to a block
+-- the objects up to a block do not end with a mark
 no_mark_behind : (objects : List Placed) (entry : BlockEntry) (at : ℕ) → at + 1 ≡ length (with_block objects entry)
     → HasMarkAt (with_block objects entry) at → ⊥
 no_mark_behind objects entry at last mark =
@@ -153,7 +153,7 @@ pub no_mark_last : (entries : List BlockEntry) (at : ℕ) → at + 1 ≡ length 
     → HasMarkAt (blocks_of entries) at → ⊥
 no_mark_last entries = ends_with_no_mark [] entries (λ at last mark. omega (arith, last))
 
--- of the objects up to a block the marks are all but the blocks
+-- the marks among the objects up to a block are all but the blocks
 marks_padded : (objects : List Placed) (n : ℕ)
     → placed_marks (padded objects n) ≡ placed_marks objects + (n - length objects)
 marks_padded objects n =

@@ -1,11 +1,11 @@
--- The changes that bytes spell, as a function: what a law decides of each row of bytes.
+-- The changes that bytes spell, as a function.
 use Rattle.std.specs.Prelude.{◌≡◌, ℕ, List, Option, None, Some}
 use Rattle.std.proofs.Common.{inl, inr, ap, subst}
 use Rattle.volume_core.specs.declared.changes.Change.{Change}
 use Rattle.record_index.specs.Records.{SpellsAll, IsBadAt}
 use Rattle.record_index.specs.Inner.Decided.{IsDecided, decided, same_list, never_both}
 
--- the changes, where the decision is that the bytes spell some (own)
+-- the changes, where it was decided that the bytes spell some (own)
 abbrev pub changes_decided : {bytes : List ℕ} → IsDecided bytes → Option (List Change)
 changes_decided (inl list) = Some list.0
 changes_decided (inr bad) = None
@@ -14,7 +14,7 @@ changes_decided (inr bad) = None
 abbrev pub changes_on : List ℕ → Option (List Change)
 changes_on bytes = changes_decided (decided bytes)
 
--- what bytes spell is the list on them (own)
+-- where bytes spell changes, the function gives these (own)
 pub changes_on_is : (bytes : List ℕ) (changes : List Change) → SpellsAll bytes changes → changes_on bytes ≡ Some changes
 changes_on_is bytes changes spells = by (decided bytes)
   where
@@ -22,7 +22,7 @@ changes_on_is bytes changes spells = by (decided bytes)
     by (inl list) = ap Some (same_list bytes list.0 changes list.1 spells)
     by (inr bad) = absurd (never_both bytes changes bad.0 spells bad.1)
 
--- bytes spell the list on them (own)
+-- where the function gives changes, the bytes spell them (own)
 pub changes_on_spelled : (bytes : List ℕ) (changes : List Change) → changes_on bytes ≡ Some changes
     → SpellsAll bytes changes
 changes_on_spelled bytes changes = by (decided bytes)

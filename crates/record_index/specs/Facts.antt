@@ -1,4 +1,5 @@
--- What no byte of a block decides, and what applies: the laws of shapes as lemmas, for the crates above.
+-- Facts that do not depend on the bytes of blocks, and what applies: the laws of shapes as lemmas, for the crates
+-- above.
 use Rattle.std.specs.Prelude.{◌≡◌, ◌+◌, ℕ, zero, suc, List, [], ◌∷◌, ◌++◌, length, take, map, replicate, Option, None, Some, slice_get, slice_set, nat_lt, nat_le, not, ◌&&◌, if◌then◌else◌, refl}
 use Rattle.std.specs.Option.{option_map}
 use Rattle.std.proofs.Common.{ap, sym, ◌∙◌}
@@ -21,7 +22,7 @@ use Rattle.record_index.specs.Places as places
 use Rattle.record_index.specs.Places.{PlacedPart, Reading, blank, change_by, filled, filled_part, outline, placed_after, placed_by, placed_objects, placed_objects_in, volume_by, with_objects, with_objects_in}
 use Rattle.record_index.specs.Shapes.{IsIndexOf, blanked, shape_of, shape_of_change, shape_of_part}
 
--- a row of one value, each of it put in another's place
+-- a list of one value, of which each is mapped
 pub map-replicate : {A B : Type 0} (f : A → B) (n : ℕ) (a : A) → map f (replicate n a) ≡ replicate n (f a)
 map-replicate f zero a = refl
 map-replicate f (suc n) a = ap (λ l. f a ∷ l) (map-replicate f n a)
@@ -31,7 +32,7 @@ part_by_shape : (volume : List Part) (number : ℕ)
     → slice_get (shape_of volume) number ≡ option_map shape_of_part (slice_get volume number)
 part_by_shape volume number = slice_get-map shape_of_part volume number
 
--- capacities are those of the shape (own)
+-- the capacities of a shape are those of the volume (own)
 pub capacity_by_shape : (volume : List Part) (number : ℕ) → capacity_of (shape_of volume) number
     ≡ capacity_of volume number
 capacity_by_shape volume number = ap capacity_in (part_by_shape volume number) ∙ of_it (slice_get volume number)
@@ -40,7 +41,7 @@ capacity_by_shape volume number = ap capacity_in (part_by_shape volume number) �
     of_it None = refl
     of_it (Some part) = refl
 
--- the objects of a shape are those of the volume, their bytes 0 (own)
+-- the objects of a shape are those of the volume, with bytes 00h (own)
 pub objects_by_shape : (volume : List Part) (number : ℕ)
     → objects_of (shape_of volume) number ≡ map blanked (objects_of volume number)
 objects_by_shape volume number = ap objects_in (part_by_shape volume number) ∙ of_it (slice_get volume number)
@@ -49,12 +50,12 @@ objects_by_shape volume number = ap objects_in (part_by_shape volume number) ∙
     of_it None = refl
     of_it (Some part) = refl
 
--- counts are those of the shape (own)
+-- the counts of a shape are those of the volume (own)
 pub count_by_shape : (volume : List Part) (number : ℕ) → count_of (shape_of volume) number ≡ count_of volume number
 count_by_shape volume number =
     ap length (objects_by_shape volume number) ∙ length-map (objects_of volume number) blanked
 
--- kinds are those of the shape (own)
+-- the kinds of a shape are those of the volume (own)
 pub kind_by_shape : (volume : List Part) (number at : ℕ)
     → kind_at (shape_of volume) number at ≡ kind_at volume number at
 kind_by_shape volume number at =
@@ -71,7 +72,7 @@ cost_by_shape : (object : Object) → cost_of (blanked object) ≡ cost_of objec
 cost_by_shape (Block bytes) = ap (λ (n : ℕ). n + 16) (length-replicate (length bytes) 0)
 cost_by_shape Mark = refl
 
--- what objects take hangs on no byte of a block (own)
+-- what objects take does not depend on the bytes of blocks (own)
 pub used_blanked : (objects : List Object) → used_of (map blanked objects) ≡ used_of objects
 used_blanked [] = refl
 used_blanked (object ∷ objects) =
@@ -79,7 +80,7 @@ used_blanked (object ∷ objects) =
     ∙ (λ i. cost_by_shape object i + used_blanked objects i)
     ∙ sym (sum_by-cons cost_of object objects)
 
--- what the first objects take is as in the shape (own)
+-- what the first objects take is the same in the shape (own)
 pub used_by_shape : (volume : List Part) (number n : ℕ)
     → used_up_to (shape_of volume) number n ≡ used_up_to volume number n
 used_by_shape volume number n =
@@ -130,7 +131,7 @@ refusal_by_part part change =
     else (if not (formed_by_shape change i) then Some TooLong
     else None))
 
--- a change is refused as its shape is by the shape of the volume (own)
+-- a change is refused as the shape of the volume refuses the shape of the change (own)
 pub refusal_by_shape : (volume : List Part) (change : Change)
     → refusal_of (shape_of volume) (shape_of_change change) ≡ refusal_of volume change
 refusal_by_shape volume change =
@@ -143,7 +144,7 @@ refusal_by_shape volume change =
     of_it None = refl
     of_it (Some part) = refusal_by_part part change
 
--- what a change makes of a shape
+-- the shape after a change
 pub shape_changed : (volume : List Part) (change : Change)
     → shape_of (changed volume change) ≡ changed (shape_of volume) (shape_of_change change)
 shape_changed volume change =
@@ -170,30 +171,30 @@ shape_changed volume change =
         target : part_of change ≡ part_of (shape_of_change change)
         target = sym (target_by_shape change)
 
--- what a record adds to a partition of an index, with its blocks by what a read gives
+-- the objects that a record adds to a partition of an index, with the bytes that reads return
 pub added_filled : (read : Reading) (item : Record) (place : ℕ)
     → map (filled read) (placed_by item place) ≡ added_by (change_by read item place)
 added_filled read (Records.Put part at size) place = refl
 added_filled read (Records.Marks part at count) place = map-replicate (filled read) count Placeds.Mark
 added_filled read (Records.Erase part at) place = refl
 
--- a record's change concerns the record's partition (own)
+-- the change of a record has the record's partition (own)
 pub target_filled : (read : Reading) (item : Record) (place : ℕ) → part_of (change_by read item place)
     ≡ places.record_part item
 target_filled read (Records.Put part at size) place = refl
 target_filled read (Records.Marks part at count) place = refl
 target_filled read (Records.Erase part at) place = refl
 
--- and keeps as many objects (own)
+-- and leaves as many objects (own)
 pub kept_filled : (read : Reading) (item : Record) (place : ℕ) → kept_of (change_by read item place)
     ≡ places.record_kept item
 kept_filled read (Records.Put part at size) place = refl
 kept_filled read (Records.Marks part at count) place = refl
 kept_filled read (Records.Erase part at) place = refl
 
--- what a record makes of the volume of an index, by what a read gives
+-- the volume of an index after a record, with the bytes that reads return
 module _ (read : Reading) (parts : List PlacedPart) (item : Record) (place reserved : ℕ) where
-  -- the objects of a partition that may be there, after a record (own)
+  -- the objects after a record, in a partition that may be there (own)
   abbrev pub now : Option PlacedPart → List Placed
   now part = take (places.record_kept item) (placed_objects_in part) ++ placed_by item place
 
@@ -201,7 +202,7 @@ module _ (read : Reading) (parts : List PlacedPart) (item : Record) (place reser
   abbrev pub placed : PlacedPart → PlacedPart
   placed part = record { capacity = part.capacity; objects = now (Some part); reserved = reserved }
 
-  -- its objects, filled by what a read gives, are those after the change (own)
+  -- its objects, with the bytes that reads return, are those after the change (own)
   pub filled_now : (part : PlacedPart)
       → map (filled read) (now (Some part)) ≡ objects_after (map (filled read) part.objects) (change_by read item place)
   filled_now part =
@@ -242,7 +243,7 @@ module _ (read : Reading) (parts : List PlacedPart) (item : Record) (place reser
       (change_by read item place))
       (sym (target_filled read item place))
 
--- an index of a volume's shape has it after a change too
+-- an index with the shape of a volume has it after a change too
 pub shape_after : (parts : List PlacedPart) (volume : List Part) (change : Change) (place reserved : ℕ)
     → IsIndexOf parts volume → IsIndexOf (placed_after parts (record_of change) place reserved) (changed volume change)
 shape_after parts volume change place reserved same =
@@ -250,7 +251,7 @@ shape_after parts volume change place reserved same =
     ∙ ap (λ (shape : List Part). changed shape (shape_of_change change)) same
     ∙ sym (shape_changed volume change)
 
--- where a block lies as the change has it, the volume is changed so
+-- where reads return the block of a change, the volume of the index changes by that change
 pub blocks_after : (read : Reading) (parts : List PlacedPart) (change : Change) (place reserved : ℕ)
     → change_by read (record_of change) place ≡ change
     → volume_by read (placed_after parts (record_of change) place reserved) ≡ changed (volume_by read parts) change

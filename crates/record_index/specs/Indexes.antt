@@ -1,5 +1,5 @@
--- An index of a volume: object by object it has the same kinds and lengths, and a fact holds of each block's bytes and
--- place. The lemmas are for the crates above: the fact is any, and no clause can range over facts.
+-- An index of a volume: each object has the same kind and length, and a fact P holds of each block's bytes and place.
+-- The lemmas are for the crates above: P is any fact, and no clause can range over facts.
 use Rattle.std.specs.Prelude.{◌≡◌, ℕ, zero, suc, List, [], ◌∷◌, ◌++◌, length, take, map, replicate, Option, None, Some, slice_get, slice_set, refl}
 use Rattle.std.proofs.Common.{ap, sym, subst, ◌∙◌}
 use Rattle.volume_core.specs.declared.objects.Object.{Object}
@@ -15,21 +15,21 @@ use Rattle.record_index.specs.Places.{PlacedPart, blank, empty_placed, filled, p
 use Rattle.record_index.specs.Shapes.{IsIndexOf, blanked}
 
 module _ (P : List ℕ → ℕ → Type 0) where
-  -- the object has the kind and the length, and of a block the fact holds of its bytes and its place (own)
+  -- the object has this kind and length, and for a block P holds of its bytes and its place (own)
   abbrev pub LiesAs : Object → Placed → Type 0
   LiesAs (Block bytes) (Placeds.Block place size) = (size ≡ length bytes) × P bytes place
   LiesAs (Block bytes) Placeds.Mark = ⊥
   LiesAs Mark (Placeds.Block place size) = ⊥
   LiesAs Mark Placeds.Mark = Unit {0}
 
-  -- each object lies so, one by one (own)
+  -- the same for each object of a list (own)
   abbrev pub AllLieAs : List Object → List Placed → Type 0
   AllLieAs [] [] = Unit {0}
   AllLieAs [] (placed ∷ others) = ⊥
   AllLieAs (object ∷ objects) [] = ⊥
   AllLieAs (object ∷ objects) (placed ∷ others) = LiesAs object placed × AllLieAs objects others
 
-  -- each partition has the capacity, and its objects lie so (own)
+  -- each partition has the capacity, and the same holds for its objects (own)
   abbrev pub Indexes : List Part → List PlacedPart → Type 0
   Indexes [] [] = Unit {0}
   Indexes [] (placed ∷ others) = ⊥
@@ -37,13 +37,13 @@ module _ (P : List ℕ → ℕ → Type 0) where
   Indexes (part ∷ parts) (placed ∷ others) =
       (placed.capacity ≡ part.capacity) × AllLieAs part.objects placed.objects × Indexes parts others
 
-  -- of the block of a change the fact holds at this place (own)
+  -- for the block of a change, if it has one, P holds at this place (own)
   abbrev pub LiesAt : Change → ℕ → Type 0
   LiesAt (Put part at block) place = P block place
   LiesAt (Marks part at count) place = Unit {0}
   LiesAt (Erase part at) place = Unit {0}
 
--- an index with no object
+-- an index without objects
 pub indexes_empty : (P : List ℕ → ℕ → Type 0) (capacities : List ℕ)
     → Indexes P (empty_volume capacities) (map empty_placed capacities)
 indexes_empty P [] = tt
@@ -60,7 +60,7 @@ lie_shape P (Block bytes ∷ os) (Placeds.Mark ∷ qs) lies = absurd lies.0
 lie_shape P (Mark ∷ os) (Placeds.Block place size ∷ qs) lies = absurd lies.0
 lie_shape P (Mark ∷ os) (Placeds.Mark ∷ qs) lies = ap (λ (l : List Object). Mark ∷ l) (lie_shape P os qs lies.1)
 
--- it has the shape of the volume
+-- an index of a volume has its shape
 pub indexes_shape : (P : List ℕ → ℕ → Type 0) (volume : List Part) (parts : List PlacedPart)
     → Indexes P volume parts → IsIndexOf parts volume
 indexes_shape P [] [] lies = refl
@@ -85,7 +85,7 @@ lie_by P Q (Block bytes ∷ os) (Placeds.Mark ∷ qs) follows lies = absurd lies
 lie_by P Q (Mark ∷ os) (Placeds.Block place size ∷ qs) follows lies = absurd lies.0
 lie_by P Q (Mark ∷ os) (Placeds.Mark ∷ qs) follows lies = (tt, lie_by P Q os qs follows lies.1)
 
--- a fact that follows
+-- an index with a weaker fact
 pub indexes_by : (P Q : List ℕ → ℕ → Type 0) (volume : List Part) (parts : List PlacedPart)
     → ((bytes : List ℕ) (place : ℕ) → P bytes place → Q bytes place) → Indexes P volume parts → Indexes Q volume parts
 indexes_by P Q [] [] follows lies = tt
@@ -119,7 +119,7 @@ lie_added P (Put part at block) place here = ((refl, here), tt)
 lie_added P (Marks part at count) place here = lie_marks P count
 lie_added P (Erase part at) place here = tt
 
--- one partition exchanged in both
+-- one partition is replaced in both
 set_one : (P : List ℕ → ℕ → Type 0) (volume : List Part) (parts : List PlacedPart) (number : ℕ)
     (part : Part) (placed : PlacedPart) → Indexes P volume parts
     → placed.capacity ≡ part.capacity → AllLieAs P part.objects placed.objects
@@ -131,7 +131,7 @@ set_one P (p ∷ ps) (q ∷ qs) zero part placed lies same here = (same, here, l
 set_one P (p ∷ ps) (q ∷ qs) (suc n) part placed lies same here =
     (lies.0, lies.1, set_one P ps qs n part placed lies.2 same here)
 
--- what stands at a number in both
+-- the partitions at a number in both
 abbrev BothAt : (List ℕ → ℕ → Type 0) → Option Part → Option PlacedPart → Type 0
 BothAt P None None = Unit {0}
 BothAt P None (Some placed) = ⊥
@@ -156,7 +156,7 @@ same_kept (Put part at block) = refl
 same_kept (Marks part at count) = refl
 same_kept (Erase part at) = refl
 
--- after a change, its block lying at that place
+-- after a change whose block lies at that place
 pub indexes_after : (P : List ℕ → ℕ → Type 0) (volume : List Part) (parts : List PlacedPart) (change : Change)
     (place reserved : ℕ) → LiesAt P change place → Indexes P volume parts
     → Indexes P (changed volume change) (placed_after parts (record_of change) place reserved)
@@ -213,7 +213,7 @@ indexes_reserved P volume parts number reserved lies =
         (record { capacity = q.capacity; objects = q.objects; reserved = reserved }) lies
         both.0 both.1)
 
--- a block of the index is a block of the volume, of that length, and of its bytes and place the fact holds
+-- a block of the index is a block of the volume with that length, and P holds of its bytes and place
 block_lies : (P : List ℕ → ℕ → Type 0) (objects : List Object) (placed : List Placed) (at place size : ℕ)
     → AllLieAs P objects placed → slice_get placed at ≡ Some (Placeds.Block place size)
     → (bytes : List ℕ) × (slice_get objects at ≡ Some (Block bytes)) × (size ≡ length bytes) × P bytes place
@@ -231,7 +231,7 @@ block_lies P (Mark ∷ os) (Placeds.Block p s ∷ qs) zero place size lies there
 block_lies P (Mark ∷ os) (Placeds.Mark ∷ qs) zero place size lies there =
     absurd (let other : Placeds.Mark ≡ Placeds.Block place size = cc in cc)
 
--- a block of the index is a block of the volume, of that length, and of its bytes and place the fact holds
+-- a block of the index is a block of the volume with that length, and P holds of its bytes and place
 pub indexes_block : (P : List ℕ → ℕ → Type 0) (volume : List Part) (parts : List PlacedPart) (number at place size : ℕ)
     → Indexes P volume parts → slice_get (placed_objects parts number) at ≡ Some (Placeds.Block place size)
     → (bytes : List ℕ) × (block_at volume number at ≡ Some bytes) × (size ≡ length bytes) × P bytes place

@@ -1,4 +1,4 @@
--- What only private contracts and the proofs of laws use.
+-- Definitions for private contracts and the proofs of laws alone.
 pub mod Deciding
 pub mod Told
 pub mod Spelled

@@ -1,4 +1,5 @@
--- What no byte of a block decides of filemarks, and what an index tells of them: lemmas, for the crates above too.
+-- Facts about filemarks that do not depend on the bytes of blocks, and the filemarks of an index: lemmas, for the
+-- crates above too.
 use Rattle.std.specs.Prelude.{◌≡◌, ◌+◌, ℕ, List, [], ◌∷◌, take, map, Option, None, Some, slice_get, refl}
 use Rattle.std.specs.Option.{option_map}
 use Rattle.std.proofs.Common.{ap, sym, ◌∙◌}
@@ -26,13 +27,13 @@ marks_blanked (Mark ∷ objects) =
     ∙ ap (λ (n : ℕ). 1 + n) (marks_blanked objects)
     ∙ sym (sum_by-cons _ Mark objects)
 
--- filemarks are as many as in the shape (own)
+-- a shape has as many filemarks as the volume (own)
 pub mark_count_by_shape : (volume : List Part) (number : ℕ) → mark_count (shape_of volume) number
     ≡ mark_count volume number
 mark_count_by_shape volume number =
     ap marks_in (objects_by_shape volume number) ∙ marks_blanked (objects_of volume number)
 
--- and among the first objects too (own)
+-- the same among the first objects (own)
 pub marks_by_shape : (volume : List Part) (number n : ℕ)
     → marks_upto (shape_of volume) number n ≡ marks_upto volume number n
 marks_by_shape volume number n =
@@ -40,7 +41,7 @@ marks_by_shape volume number n =
     ∙ ap marks_in (take-map blanked n (objects_of volume number))
     ∙ marks_blanked (take n (objects_of volume number))
 
--- a filemark has its number in the shape (own)
+-- a filemark has the same number in the shape (own)
 pub mark_of_by_shape : (volume : List Part) (number k at : ℕ) → IsMarkOf (shape_of volume) number k at
     → IsMarkOf volume number k at
 mark_of_by_shape volume number k at mark = record {
@@ -48,7 +49,7 @@ mark_of_by_shape volume number k at mark = record {
   before = sym (marks_by_shape volume number at) ∙ mark.before;
 }
 
--- the objects of an outline are those of the index, their bytes 0 (own)
+-- the objects of an outline are those of the index, with bytes 00h (own)
 pub objects_outlined : (parts : List PlacedPart) (number : ℕ)
     → objects_of (outline parts) number ≡ map (filled blank) (placed_objects parts number)
 objects_outlined parts number =
@@ -70,13 +71,13 @@ marks_filled (Placeds.Mark ∷ objects) =
     ∙ ap (λ (n : ℕ). 1 + n) (marks_filled objects)
     ∙ sym (sum_by-cons _ Placeds.Mark objects)
 
--- the filemarks of an outline are those of the index (own)
+-- an outline has as many filemarks as the index (own)
 pub mark_count_outlined : (parts : List PlacedPart) (number : ℕ)
     → mark_count (outline parts) number ≡ placed_marks (placed_objects parts number)
 mark_count_outlined parts number =
     ap marks_in (objects_outlined parts number) ∙ marks_filled (placed_objects parts number)
 
--- and those among the first objects too (own)
+-- the same among the first objects (own)
 pub marks_outlined : (parts : List PlacedPart) (number n : ℕ)
     → marks_upto (outline parts) number n ≡ placed_marks (take n (placed_objects parts number))
 marks_outlined parts number n =

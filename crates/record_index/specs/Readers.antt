@@ -1,4 +1,4 @@
--- What a reader of records holds after the first bytes of a body, however these were cut.
+-- The state of a reader of records after the first bytes of a body, however these were cut.
 use Rattle.std.specs.Prelude.{◌≡◌, ◌≤◌, ◌<◌, ◌+◌, ◌-◌, ℕ, List, [], ◌∷◌, ◌++◌, length, take, drop, Option, None, Some, Result, Ok, Err}
 use Rattle.std.specs.List.{All}
 use Rattle.vtl_base.specs.declared.limits.TheConstants.{MAX_BLOCK}
@@ -12,8 +12,8 @@ use Rattle.record_index.specs.declared.reader.Fed.TheVariants as Feds
 use Rattle.record_index.specs.Records.{IsAtFront, IsBadAt, IsRecord, SpellsAll, change_in, record_length, spell_all}
 use Rattle.record_index.specs.Inner.Told.{head_told}
 
--- A reader: what there is of the head of the record under way, what that tells and how many bytes of its block are to
--- come; where in the body it begins, and how many bytes of the body came (own).
+-- A reader: the bytes so far of the present record's head, what they give, how many bytes of its block are still to
+-- come, where in the body it begins, and how many bytes of the body came (own).
 pub record ReaderState : Type 0 where
   pub head : List ℕ
   pub item : Record
@@ -21,15 +21,16 @@ pub record ReaderState : Type 0 where
   pub begin : ℕ
   pub at : ℕ
 
--- the record that ten bytes tell, however long the bytes behind them are (own)
+-- the record that ten bytes give, however many bytes follow (own)
 abbrev pub head_item : List ℕ → Option Record
 head_item head = head_told head MAX_BLOCK
 
--- whatever follows, the record stands there, if enough follows for its block (own)
+-- whatever follows, the record stands there, if enough bytes for its block follow (own)
 abbrev pub IsHeadOf : Record → List ℕ → Type 0
 IsHeadOf item head = (tail : List ℕ) → record_length item ≤ length tail → IsAtFront item (head ++ tail)
 
--- The bytes begin with these changes, up to that place; the head is what there is of the ten bytes from there on (own).
+-- The bytes begin with these changes, up to `begin`; the head is the first ten bytes from there, as far as they came
+-- (own).
 pub record Stands (bytes : List ℕ) (changes : List Change) (begin at : ℕ) (head : List ℕ) : Type 0 where
   pub spelled : All IsRecord changes
   pub begins : bytes ≡ spell_all changes ++ drop begin bytes
@@ -38,18 +39,18 @@ pub record Stands (bytes : List ℕ) (changes : List Change) (begin at : ℕ) (h
   pub at_is : at ≡ length bytes
   pub head_is : head ≡ take 10 (drop begin bytes)
 
--- of the block of the record of a head so many bytes are there, and so many are to come: one at least (own)
+-- of the block of this record `there` bytes came, and `left` are still to come, at least one; 0 without a record (own)
 abbrev pub IsLeft : Option Record → ℕ → ℕ → Type 0
 IsLeft None there left = left ≡ 0
 IsLeft (Some item) there left = (1 ≤ left) × (there + left ≡ record_length item)
 
--- the head tells the record, and begins it wherever enough follows (own)
+-- the head gives the record, which stands there wherever enough bytes follow (own)
 pub record IsTold (item : Record) (head : List ℕ) : Type 0 where
   pub item_is : head_item head ≡ Some item
   pub front : IsHeadOf item head
 
--- The bytes are these changes, and then less than a record, or what begins with no record however it goes on; the
--- reader has what it must know of that (own).
+-- The bytes are these changes, followed by less than a record, or by bytes that begin with no record however they go
+-- on. The reader has what it must know of them (own).
 pub record IsAfter (bytes : List ℕ) (changes : List Change) (reader : ReaderState) : Type 0 where
   pub stands : Stands bytes changes reader.begin reader.at reader.head
   pub starts : length reader.head < 10 → reader.left ≡ 0
@@ -69,13 +70,13 @@ abbrev pub PassesOver : Option Found → List ℕ → List Change → ReaderStat
 PassesOver None bytes changes new = IsAfter bytes changes new
 PassesOver (Some found) bytes changes new = Finds bytes changes found.item found.at new
 
--- how many bytes of a piece of that length were taken (own)
+-- how many bytes of a piece with `count` bytes were taken (own)
 abbrev pub taken_of : Fed → ℕ → ℕ
 taken_of (Feds.Found item at taken) count = taken
 taken_of Feds.More count = count
 taken_of (Feds.Bad at) count = count
 
--- what comes of a piece behind those bytes (own)
+-- the result of a piece after these bytes (own)
 abbrev pub Feeds : Fed → List ℕ → List ℕ → List Change → ReaderState → Type 0
 Feeds (Feds.Found item at taken) before piece changes new =
     Finds (before ++ take taken piece) changes item at new
@@ -83,7 +84,7 @@ Feeds Feds.More before piece changes new = IsAfter (before ++ piece) changes new
 Feeds (Feds.Bad at) before piece changes new =
     IsAfter (before ++ piece) changes new × ((more : List ℕ) → IsBadAt ((before ++ piece) ++ more) at)
 
--- what the whole bytes are (own)
+-- the result at the end of the bytes (own)
 abbrev pub Ends : Result Unit RecordError → List ℕ → List Change → Type 0
 Ends (Ok done) bytes changes = SpellsAll bytes changes
 Ends (Err (BadRecord at)) bytes changes = IsBadAt bytes at

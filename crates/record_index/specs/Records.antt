@@ -10,22 +10,22 @@ use Rattle.record_index.specs.declared.records.Record.TheVariants as Records
 use Rattle.record_index.specs.declared.records.RecordError.{RecordError}
 use Rattle.record_index.specs.declared.records.RecordError.TheVariants.{BadRecord, NoMemory}
 
--- what each record begins with: kind, partition, object number, number (own)
+-- the head of each record: kind, partition, object number, number (own)
 abbrev pub spell_head : ℕ → ℕ → ℕ → ℕ → List ℕ
 spell_head kind part at number = kind ∷ part ∷ to_be_bytes w32 at ++ to_be_bytes w32 number
 
--- A change in bytes: of a block its length and itself, of marks their count, of an erase the number 0 (own).
+-- The bytes of a change: for a block its length and the block, for marks their count, for an erase the number 0 (own).
 abbrev pub spell_change : Change → List ℕ
 spell_change (Put part at block) = spell_head 1 part at (length block) ++ block
 spell_change (Marks part at count) = spell_head 2 part at count
 spell_change (Erase part at) = spell_head 3 part at 0
 
--- the numbers of a record's head that say where it works are of their width (own)
+-- partition and object number fit their width (own)
 abbrev pub IsTarget : ℕ → ℕ → Type 0
 IsTarget part at = (part < 2 ^ 8) × (at < 2 ^ 32)
 
--- a change that has a spelling: partition and object number are any numbers of their width, a block has 1 to
--- 1,048,576 bytes, and there are 1 to 16,000,000 marks (own)
+-- a change that has a spelling: partition and object number fit their width, a block has 1 to 1,048,576 bytes, and
+-- there are 1 to 16,000,000 marks (own)
 abbrev pub IsRecord : Change → Type 0
 IsRecord (Put part at block) = IsTarget part at × (1 ≤ length block) × (length block ≤ MAX_BLOCK)
 IsRecord (Marks part at count) = IsTarget part at × (1 ≤ count) × (count ≤ MAX_OBJECTS)
@@ -35,7 +35,7 @@ IsRecord (Erase part at) = IsTarget part at
 abbrev pub Spells : List ℕ → Change → Type 0
 Spells bytes change = IsRecord change × (bytes ≡ spell_change change)
 
--- changes in bytes, one after the other (own)
+-- the bytes of changes, one after another (own)
 abbrev pub spell_all : List Change → List ℕ
 spell_all changes = flat_map spell_change changes
 
@@ -43,12 +43,12 @@ spell_all changes = flat_map spell_change changes
 abbrev pub SpellsAll : List ℕ → List Change → Type 0
 SpellsAll bytes changes = All IsRecord changes × (bytes ≡ spell_all changes)
 
--- some change's spelling begins the bytes (own)
+-- the bytes begin with the spelling of some change (own)
 abbrev pub BeginsWithRecord : List ℕ → Type 0
 BeginsWithRecord bytes = (change : Change) × (rest : List ℕ) × IsRecord change × (bytes ≡ spell_change change ++ rest)
 
 -- The bytes begin with the spelling of a list of changes, of that length. The rest is not empty, and begins with no
--- change's spelling (own).
+-- spelling of a change (own).
 pub record IsBadAt (bytes : List ℕ) (at : ℕ) : Type 0 where
   pub changes : List Change
   pub rest : List ℕ
@@ -58,41 +58,40 @@ pub record IsBadAt (bytes : List ℕ) (at : ℕ) : Type 0 where
   pub some : rest ≢ []
   pub bad : BeginsWithRecord rest → ⊥
 
--- why bytes are not decoded: a bad record at that place; or memory ran out, where there is a record to be kept (own)
+-- why bytes are not decoded: a bad record at that place; or memory ran out, where the bytes begin with a record (own)
 abbrev pub NotDecoded : List ℕ → RecordError → Type 0
 NotDecoded bytes (BadRecord at) = IsBadAt bytes at
 NotDecoded bytes NoMemory = BeginsWithRecord bytes
 
--- the record of a change: all of it but a block's bytes (own)
+-- the record of a change: all but the bytes of its block (own)
 abbrev pub record_of : Change → Record
 record_of (Put part at block) = Records.Put part at (length block)
 record_of (Marks part at count) = Records.Marks part at count
 record_of (Erase part at) = Records.Erase part at
 
--- how many bytes a record has, a block's included (own)
+-- the length of a record in bytes, with its block (own)
 abbrev pub size_of : Record → ℕ
 size_of (Records.Put part at length) = 10 + length
 size_of (Records.Marks part at count) = 10
 size_of (Records.Erase part at) = 10
 
--- the change of a record whose block's bytes are these (own)
+-- the change of a record, with these bytes for its block (own)
 abbrev pub change_with : Record → List ℕ → Change
 change_with (Records.Put part at length) block = Put part at block
 change_with (Records.Marks part at count) block = Marks part at count
 change_with (Records.Erase part at) block = Erase part at
 
--- how many bytes its block has, none where it has no block (own)
+-- the length of its block in bytes, 0 where it has no block (own)
 abbrev pub record_length : Record → ℕ
 record_length (Records.Put part at length) = length
 record_length (Records.Marks part at count) = 0
 record_length (Records.Erase part at) = 0
 
--- the change of a record that stands at the front of these bytes: its block lies behind the ten bytes of its head
--- (own)
+-- the change of a record at the start of these bytes: its block follows the ten bytes of its head (own)
 abbrev pub change_in : Record → List ℕ → Change
 change_in item bytes = change_with item (take (record_length item) (drop 10 bytes))
 
--- the bytes begin with this record: with the spelling of the change that it is there, whose record it is (own)
+-- the bytes begin with this record: with the spelling of its change there, whose record it is (own)
 pub record IsAtFront (item : Record) (bytes : List ℕ) : Type 0 where
   pub valid : IsRecord (change_in item bytes)
   pub spelled : bytes ≡ spell_change (change_in item bytes) ++ drop (size_of item) bytes

@@ -1,4 +1,4 @@
--- The shape of a volume, its capacities, kinds and lengths, which an index has in common with it.
+-- The shape of a volume: its capacities, kinds and lengths, which an index shares with it.
 use Rattle.std.specs.Prelude.{◌≡◌, List, length, map, replicate}
 use Rattle.volume_core.specs.declared.objects.Object.{Object}
 use Rattle.volume_core.specs.declared.objects.Object.TheVariants.{Block, Mark}

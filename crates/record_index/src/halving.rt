@@ -1,4 +1,4 @@
-//! Halving: which block or which run of filemarks a number falls to.
+//! Binary search: the block or the run of filemarks for a number.
 ghost use Rattle.std.specs.Prelude.{◌≡◌, ◌≤◌, length, slice_get};
 ghost use Rattle.vtl_base.specs.Steps.{AddsDigits};
 ghost use Rattle.record_index.specs.Inner.RunSearch.{IsLastBelow, IsNotBelow, key_of};
@@ -8,21 +8,21 @@ use crate::runs::{MarkRun, Runs};
 use crate::tables::BlockEntry;
 use vtl_base::{ObjNo, Steps};
 
-// By which of its numbers a run is looked for.
+// The number of a run by which the search goes.
 #[derive(Clone, Copy)]
 pub(crate) enum Key {
     First,
     Before,
 }
 
-// The first runs, whose numbers are below a bound: how many they are, and the last of them.
+// The first runs whose numbers are below a bound: how many they are, and the last of them.
 #[derive(Clone, Copy)]
 pub(crate) struct Below {
     pub(crate) count: usize,
     pub(crate) last: Option<MarkRun>,
 }
 
-// How many of the first blocks have a lower object number, by halving: of 16,000,000 in 24 steps.
+// How many of the first blocks have a lower object number, by binary search: among 16,000,000 in 24 steps.
 // Each step of the search is one turn of this loop.
 pub(crate) fn blocks_before(blocks: &[BlockEntry], at: ObjNo) -> usize
     ensures within { result ≤ length blocks.now }
@@ -50,7 +50,7 @@ fn key_of(by: Key, run: MarkRun) -> u32
     }
 }
 
-// The first runs, whose numbers are below a bound, by halving.
+// The first runs whose numbers are below a bound, by binary search.
 pub(crate) fn runs_below(runs: &Runs, by: Key, bound: u64, steps: &mut Steps) -> Below
     ensures within { result.count ≤ length runs.now.runs }
     ensures last { IsLastBelow runs.now.runs by bound result.count result.last }

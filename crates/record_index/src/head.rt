@@ -1,4 +1,4 @@
-//! What was read of a record's head.
+//! The bytes of a record's head that were read.
 ghost use Rattle.std.specs.Prelude.{◌≡◌, ◌≤◌, ◌-◌, ◌++◌, [], IfSome, length, min, take};
 ghost use Rattle.record_index.specs.Readers.{IsHeadOf, head_item};
 
@@ -6,7 +6,7 @@ use crate::records::{HEAD_BYTES, Record, head_told};
 use std::marker::Model;
 use vtl_base::limits::MAX_BLOCK;
 
-// The first bytes of a record, ten at most. To a contract it is their list.
+// The first bytes of a record, at most ten. A contract sees them as a list.
 #[derive(Drop)]
 pub(crate) struct Head {
     bytes: [u8; HEAD_BYTES],
@@ -33,7 +33,7 @@ impl Head {
         }
     }
 
-    // Takes of a piece what is missing, and tells how many bytes that is.
+    // Takes the missing bytes of the head from a piece, and returns how many.
     pub(crate) fn fill(&mut self, piece: &[u8]) -> usize
         ensures taken { result ≡ min (10 - length self.old) (length piece.now) }
         ensures bytes { self.new ≡ self.old ++ take result piece.now }
@@ -56,7 +56,7 @@ impl Head {
         self.filled
     }
 
-    // The record whose head they are, if they are one's.
+    // The record with this head, if there is one.
     pub(crate) fn item(&self) -> Option<Record>
         ensures item { length self.now ≡ 10 → result ≡ head_item self.now }
         ensures front { IfSome result (λ item. IsHeadOf item self.now) }
@@ -68,7 +68,7 @@ impl Head {
     }
 }
 
-// The record whose head these ten bytes are, if they are one's.
+// The record with this head of ten bytes, if there is one.
 fn item_of(head: &[u8]) -> Option<Record>
     requires { length head.now ≡ 10 }
     ensures item { result ≡ head_item head.now }

@@ -16,9 +16,9 @@ use std::marker::Model;
 use volume_core::{ApplyError, Kind, Refusal};
 use vtl_base::{NoMemory, ObjNo, PartNo, Steps};
 
-/// Where each object of a cartridge lies: 1 to 4 partitions, with an entry of 24 bytes for each
-/// block and one of 12 for each run of filemarks. To a contract it is the list of its partitions,
-/// each with the list of its objects and their places. No call walks over a partition.
+/// Where each object of a cartridge lies: 1 to 4 partitions, with an entry of 24 bytes for each block and one
+/// of 12 for each run of filemarks. A contract sees the list of its partitions, each with the list of its
+/// objects and their places. No call walks over a partition.
 #[derive(Drop)]
 pub struct Index {
     partitions: Vec<PlacedPartition>,
@@ -100,22 +100,22 @@ impl Index {
         }
     }
 
-    /// The object of a number: of a block its place and its length. None where there is none.
+    /// The object with this number: for a block its place and its length. None where there is none.
     pub fn place(&self, part: PartNo, at: ObjNo) -> Option<Placed>
         ensures { result ≡ slice_get (placed_objects self.now part) at }
     {
         self.partition(part)?.place(at)
     }
 
-    /// The kind of the object of a number, None where there is none.
+    /// The kind of the object with this number, None where there is none.
     pub fn kind_at(&self, part: PartNo, at: ObjNo) -> Option<Kind>
         ensures { result ≡ kind_at (outline self.now) part at }
     {
         Some(self.place(part, at)?.kind())
     }
 
-    /// What the first n objects of a partition take of its capacity, in bytes; all of them where
-    /// there are fewer.
+    /// What the first n objects of a partition take of its capacity, in bytes; all of them where there are
+    /// fewer.
     pub fn used(&self, part: PartNo, n: ObjNo) -> u64
         ensures used { result ≡ used_up_to (outline self.now) part n }
         ensures bound { result ≤ capacity_of (outline self.now) part }
@@ -126,8 +126,8 @@ impl Index {
         }
     }
 
-    /// The last run of filemarks of a partition that begins before the object of that number; None
-    /// where no filemark stands before it. It is found by halving, in 24 steps at most.
+    /// The last run of filemarks of a partition that begins before object number n; None where no filemark
+    /// comes before it. It is found by binary search, in at most 24 steps.
     pub fn run_upto(&self, part: PartNo, n: ObjNo, steps: &mut Steps) -> Option<MarkRun>
         ensures found { IsRunUpto (placed_objects self.now part) n result }
         ensures steps { AddsDigitsOfRuns (placed_objects self.now part) steps.old steps.new }
@@ -139,8 +139,8 @@ impl Index {
         }
     }
 
-    /// The run of a partition that has the filemark of number k, from 0 on; None where there are no
-    /// more than k. It is found by halving, in 24 steps at most.
+    /// The run of a partition with the filemark of number k, from 0 on; None where there are at most k. It is
+    /// found by binary search, in at most 24 steps.
     pub fn run_of(&self, part: PartNo, k: u32, steps: &mut Steps) -> Option<MarkRun>
         ensures found { IsRunWith (placed_objects self.now part) k result }
         ensures steps { AddsDigitsOfRuns (placed_objects self.now part) steps.old steps.new }
@@ -158,7 +158,7 @@ impl Index {
         ensures marks { result ≡ marks_upto (outline self.now) part n }
         ensures bound { result ≤ MAX_OBJECTS }
     {
-        // Asked for the proof's sake: a partition has no more objects than it may.
+        // Called for the proof: a partition has no more objects than it may.
         let _ = self.count(part);
         let mut steps = Steps::new();
         match self.run_upto(part, n, &mut steps) {
@@ -172,7 +172,7 @@ impl Index {
         requires { k < mark_count (outline self.now) part }
         ensures { IsMarkOf (outline self.now) part k result }
     {
-        // Asked for the proof's sake: a partition has no more objects than it may.
+        // Called for the proof: a partition has no more objects than it may.
         let _ = self.count(part);
         let mut steps = Steps::new();
         match self.run_of(part, k, &mut steps) {
@@ -181,8 +181,7 @@ impl Index {
         }
     }
 
-    /// Why a change with this record is refused: the first cause that holds, None where there is
-    /// none.
+    /// Why a change with this record is refused: the first cause that holds. None where it is not refused.
     pub fn refusal(&self, item: Record) -> Option<Refusal>
         ensures { result ≡ refusal_of (outline self.now) (outlined item) }
     {
@@ -192,8 +191,8 @@ impl Index {
         }
     }
 
-    /// Makes room in memory for so many blocks and runs of marks more in a partition, which then
-    /// take none: 24 bytes for a block, and 12 for a run.
+    /// Makes room in memory for `runs` more blocks and runs of marks in a partition, which then take none: 24
+    /// bytes for a block, and 12 for a run.
     pub fn reserve(&mut self, part: PartNo, runs: usize) -> Result<(), NoMemory>
         requires { part < length self.old }
         ensures same { self.new ≡ with_objects self.old part (placed_objects self.old part)
@@ -208,7 +207,7 @@ impl Index {
         Ok(())
     }
 
-    /// Keeps the first n objects of a partition; all of them where there are fewer.
+    /// Cuts a partition after its first n objects; all stay where there are fewer.
     pub fn cut_at(&mut self, part: PartNo, n: ObjNo)
         requires { part < length self.old }
         ensures objects { self.new ≡ with_objects self.old part
@@ -219,8 +218,8 @@ impl Index {
         partition.cut(n);
     }
 
-    /// Puts a block or a run of marks behind the objects of a partition. It takes memory only where
-    /// nothing is reserved there; after an `Err` nothing has changed.
+    /// Appends a block or a run of marks to the objects of a partition. It takes memory only where nothing is
+    /// reserved there; after an `Err` nothing has changed.
     pub fn add(&mut self, part: PartNo, run: Run) -> Result<(), NoMemory>
         requires there { part < length self.old }
         requires fits { IfSome (slice_get self.old part) (λ p. CanAdd p run) }
@@ -235,10 +234,9 @@ impl Index {
         Ok(())
     }
 
-    /// Carries the change of a record out, its block lying at that place, or refuses it for the
-    /// first cause that holds. It takes memory only where nothing is reserved in the record's
-    /// partition, and none for an erase; that it runs out is returned where no cause holds. Nothing
-    /// has changed after an `Err`.
+    /// Carries out the change of a record whose block lies at that place, or refuses it for the first cause
+    /// that holds. It takes memory only where nothing is reserved in the record's partition, and none for an
+    /// erase. Where no cause holds and memory runs out, it returns that. Nothing has changed after an `Err`.
     pub fn apply(&mut self, item: Record, place: u64) -> Result<(), ApplyError>
         requires { place < 2 ^ 64 - 1 }
         ensures answer { AppliesUnless (refusal_of (outline self.old) (outlined item)) self.old

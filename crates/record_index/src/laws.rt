@@ -12,18 +12,18 @@ pub fn a_change_has_one_spelling()
     ensures { (a b : List ℕ) (change : Change) → Spells a change → Spells b change → a ≡ b }
 {}
 
-/// The size of a change's record is the length of its spelling.
+/// The size of a change's record is the length of the change's spelling.
 pub fn the_size_of_a_record()
     ensures { (change : Change) → size_of (record_of change) ≡ length (spell_change change) }
 {}
 
-/// No change's spelling begins another's: what begins with two of them begins with one.
+/// No spelling of a change begins that of another: bytes that begin with two of them begin with one.
 pub fn no_spelling_begins_another()
     ensures { (a b x y : List ℕ) (change other : Change) → Spells a change → Spells b other →
         a ++ x ≡ b ++ y → (change ≡ other) × (a ≡ b) × (x ≡ y) }
 {}
 
-/// Bytes spell at most one list of changes, are bad at one place at most, and never both.
+/// Bytes spell at most one list of changes, are bad at no more than one place, and never both.
 pub fn bytes_spell_at_most_one_list()
     ensures one_list { (bytes : List ℕ) (changes others : List Change) →
         SpellsAll bytes changes → SpellsAll bytes others → changes ≡ others }
@@ -32,7 +32,7 @@ pub fn bytes_spell_at_most_one_list()
         SpellsAll bytes changes → IsBadAt bytes at → ⊥ }
 {}
 
-/// The changes on bytes are those that they spell; where they spell none, they are bad at a place.
+/// The changes on bytes are those that they spell. Where they spell none, they are bad at a place.
 pub fn the_changes_on_bytes()
     ensures spelled { (bytes : List ℕ) (changes : List Change) →
         (changes_on bytes ≡ Some changes) ↔ SpellsAll bytes changes }
@@ -45,7 +45,7 @@ pub fn what_applies_has_a_spelling()
         refusal_of volume change ≡ None → IsRecord change }
 {}
 
-/// What no byte of a block decides: counts, kinds, filemarks, costs and refusals.
+/// Counts, kinds, filemarks, costs and refusals do not depend on the bytes of blocks.
 pub fn a_volume_is_seen_by_its_shape()
     ensures capacity { (volume : List Part) (part : ℕ) →
         capacity_of (shape_of volume) part ≡ capacity_of volume part }
@@ -63,7 +63,7 @@ pub fn a_volume_is_seen_by_its_shape()
         refusal_of (shape_of volume) (shape_of_change change) ≡ refusal_of volume change }
 {}
 
-/// An index follows a volume through a change: it keeps its shape, and gives the same blocks.
+/// An index follows a volume through a change: it still has its shape, and gives the same blocks.
 pub fn an_index_follows_a_volume()
     ensures shape { (parts : List PlacedPart) (volume : List Part) (change : Change)
         (place reserved : ℕ) → IsIndexOf parts volume →

@@ -17,8 +17,8 @@ use volume_core::{ApplyError, Refusal};
 use vtl_base::limits::{MAX_OBJECTS, OBJECT_COST};
 use vtl_base::{ObjNo, Steps};
 
-// A partition. To a contract it is its capacity, its objects with their places, and how many runs
-// may be added without memory.
+// A partition. A contract sees its capacity, its objects with their places, and how many runs can be added
+// without memory.
 #[derive(Drop)]
 pub(crate) struct PlacedPartition {
     capacity: u64,
@@ -105,7 +105,7 @@ impl PlacedPartition {
         self.table.run_upto(n, steps)
     }
 
-    // The run that has the filemark of number k, from 0 on.
+    // The run with the filemark of number k, from 0 on.
     pub(crate) fn run_of(&self, k: u32, steps: &mut Steps) -> Option<MarkRun>
         ensures found { IsRunWith self.now.objects k result }
         ensures steps { AddsDigitsOfRuns self.now.objects steps.old steps.new }
@@ -114,7 +114,7 @@ impl PlacedPartition {
         self.table.run_of(k, steps)
     }
 
-    // Why a record that is meant for this partition is refused; None where it is not.
+    // Why a record for this partition is refused; None where it is not.
     pub(crate) fn refusal(&self, item: Record) -> Option<Refusal>
         ensures { result ≡ refusal_in (Some (filled_part blank self.now)) (outlined item) }
     {
@@ -135,7 +135,7 @@ impl PlacedPartition {
         None
     }
 
-    // Makes room for so many runs more, which then take no memory.
+    // Makes room for `runs` more runs, which then take no memory.
     pub(crate) fn reserve(&mut self, runs: usize) -> Result<(), AllocError>
         ensures same { self.new ≡ record self.old { reserved = self.new.reserved } }
         ensures grows { self.old.reserved ≤ self.new.reserved }
@@ -146,7 +146,7 @@ impl PlacedPartition {
         self.table.reserve(runs)
     }
 
-    // Keeps the first n objects; all of them where there are fewer.
+    // Cuts the partition after its first n objects; all stay where there are fewer.
     pub(crate) fn cut(&mut self, n: ObjNo)
         ensures objects { self.new ≡ record self.old {
           objects = take n self.old.objects;
@@ -158,7 +158,7 @@ impl PlacedPartition {
         self.table.cut(n);
     }
 
-    // Puts a run behind the objects.
+    // Appends a run to the objects.
     pub(crate) fn add(&mut self, run: Run) -> Result<(), AllocError>
         requires { CanAdd self.old run }
         ensures ok { OnOk result (self.new ≡ record self.old {
@@ -174,7 +174,7 @@ impl PlacedPartition {
         Ok(())
     }
 
-    // Carries a record out that is meant for this partition, or refuses it.
+    // Carries out a record for this partition, or refuses it.
     pub(crate) fn apply(&mut self, item: Record, place: u64) -> Result<(), ApplyError>
         requires { place < 2 ^ 64 - 1 }
         ensures answer { AppliesUnless (refusal_in (Some (filled_part blank self.old)) (outlined item))

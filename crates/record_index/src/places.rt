@@ -6,15 +6,14 @@ ghost use Rattle.record_index.specs.Places.{blank, filled, objects_of_run};
 use volume_core::Kind;
 use vtl_base::ObjNo;
 
-/// An object of a partition: a block of so many bytes, which lies at that place of a disk, or a
-/// filemark.
+/// An object of a partition: a block of `length` bytes at that place of a disk, or a filemark.
 #[derive(Clone, Copy, PartialEq, Eq, Debug)]
 pub enum Placed {
     Block { place: u64, length: u32 },
     Mark,
 }
 
-/// A row of objects of one entry: a block, or filemarks.
+/// Objects that take one entry: a block, or filemarks.
 #[derive(Clone, Copy, PartialEq, Eq, Debug)]
 pub enum Run {
     Block { place: u64, length: u32 },

@@ -1,4 +1,4 @@
-//! A body is read in pieces, however it is cut.
+//! Reading a body in pieces, however it is cut.
 ghost use Rattle.std.specs.Prelude.{◌≡◌, ◌≤◌, ◌<◌, ◌+◌, ◌-◌, ◌^◌, ◌++◌, [], ℕ, List, IfNone, length, take};
 ghost use Rattle.volume_core.specs.declared.changes.Change.{Change};
 ghost use Rattle.record_index.specs.Records.{record_length};
@@ -8,18 +8,18 @@ use crate::head::Head;
 use crate::records::{HEAD_BYTES, Record, RecordError};
 use std::marker::Model;
 
-/// Reads the records of a body that comes in pieces. Between two pieces it holds the head of the
-/// record that is under way, ten bytes at most, and its numbers; no block.
+/// Reads the records of a body that comes in pieces. Between two pieces it holds the head of the present
+/// record, at most ten bytes, and its numbers, but no block.
 #[derive(Drop)]
 pub struct RecordReader {
-    // What there is of the head of the record under way,
+    // The bytes so far of the head of the present record,
     head: Head,
-    // what that tells, and how many bytes of its block are to come.
+    // its record, and how many bytes of its block are still to come.
     item: Record,
     left: u32,
     // Where in the body it begins.
     begin: usize,
-    // How many bytes of the body came.
+    // How many bytes of the body have come.
     at: usize,
 }
 
@@ -44,11 +44,11 @@ pub struct Found {
     pub at: usize,
 }
 
-/// What comes of a piece.
+/// The result of a piece.
 #[derive(Clone, Copy, PartialEq, Eq, Debug)]
 pub enum Fed {
-    /// A record is whole, which begins at that place of the body. So many bytes of the piece were
-    /// taken: the others are to be fed next.
+    /// A record is whole, which begins at that place of the body. `taken` bytes of the piece were taken; the
+    /// others are to be fed next.
     Found {
         item: Record,
         at: usize,
@@ -56,14 +56,14 @@ pub enum Fed {
     },
     /// The piece was taken, and no record is whole.
     More,
-    /// The piece was taken, and at that place of the body begins no record, however it goes on.
+    /// The piece was taken, and no record begins at that place of the body, however it goes on.
     Bad {
         at: usize,
     },
 }
 
 impl RecordReader {
-    /// A reader of a body of which nothing came.
+    /// A reader of a body of which no byte has come.
     pub fn new() -> Self
         ensures after { IsAfter [] [] result }
         ensures at { result.at ≡ 0 }
@@ -77,14 +77,14 @@ impl RecordReader {
         }
     }
 
-    /// How many bytes of the body came.
+    /// How many bytes of the body have come.
     pub fn at(&self) -> usize
         ensures { result ≡ self.now.at }
     {
         self.at
     }
 
-    /// How many bytes come next that it need not see: those of a block.
+    /// How many of the next bytes it does not need to see: those of a block.
     pub fn unseen(&self) -> usize
         ensures { result ≡ self.now.left }
     {
@@ -158,7 +158,7 @@ impl RecordReader {
         }
     }
 
-    // Takes what is missing of a head, and then what follows of its block.
+    // Takes the missing bytes of a head, and then those of its block.
     fn feed_head(&mut self, piece: &[u8]) -> Fed
         requires none { self.old.left ≡ 0 }
         requires fits { self.old.at + length piece.now < 2 ^ 64 }
@@ -198,7 +198,8 @@ impl RecordReader {
         }
     }
 
-    /// What the body was: records alone, or at which place the first one is bad or not whole.
+    /// The result at the end of a body: it has records alone, or the first one that is bad or not whole is at
+    /// this place.
     pub fn end(&self) -> Result<(), RecordError>
         ensures { (bytes : List ℕ) (changes : List Change) → IsAfter bytes changes self.now →
             Ends result bytes changes }
@@ -211,7 +212,7 @@ impl RecordReader {
     }
 }
 
-// How many bytes its block has, none where it has no block.
+// The length of its block in bytes, 0 where it has no block.
 fn length_of(item: Record) -> u32
     ensures { result ≡ record_length item }
 {

@@ -33,11 +33,10 @@ pub(crate) const MARKS: u8 = 2;
 
 pub(crate) const ERASE: u8 = 3;
 
-/// A record without its block's bytes: these stay where they lie, directly behind its head of 10
-/// bytes.
+/// A record without the bytes of its block: these stay in place, directly after its head of 10 bytes.
 #[derive(Clone, Copy, PartialEq, Eq, Debug)]
 pub enum Record {
-    /// The first `at` objects, then a block of so many bytes.
+    /// The first `at` objects, then a block of `length` bytes.
     Put {
         part: PartNo,
         at: ObjNo,
@@ -59,7 +58,7 @@ pub enum Record {
 /// Why bytes are not decoded.
 #[derive(Clone, Copy, PartialEq, Eq, Debug, Error)]
 pub enum RecordError {
-    /// From this place on the bytes begin with no record; up to it they are records.
+    /// The bytes are records up to this place, and begin with no record from it on.
     #[error("bad record at {at}")]
     BadRecord { at: usize },
     /// Memory ran out.
@@ -113,8 +112,8 @@ impl Record {
         }
     }
 
-    /// The record that these bytes begin with, its block's bytes included. None where they begin
-    /// with no record, however they go on. It takes no memory, and reads 10 bytes at most.
+    /// The record at the start of these bytes, with its block. None where they begin with no record, however
+    /// they go on. It takes no memory, and reads at most 10 bytes.
     pub fn read(bytes: &[u8]) -> Option<Self>
         ensures found { IfSome result (λ item. IsAtFront item bytes.now) }
         ensures none { IfNone result (BeginsWithRecord bytes.now → ⊥) }
@@ -122,7 +121,7 @@ impl Record {
         told(bytes)
     }
 
-    /// Its bytes, a block's included.
+    /// Its length in bytes, with its block.
     pub fn size(self) -> usize
         ensures { result ≡ size_of self }
     {
@@ -132,7 +131,7 @@ impl Record {
         }
     }
 
-    /// The partition that it concerns.
+    /// Its partition.
     pub fn part(self) -> PartNo
         ensures { result ≡ record_part self }
     {
@@ -143,7 +142,7 @@ impl Record {
         }
     }
 
-    /// How many of its objects stay.
+    /// How many objects of the partition stay.
     pub fn kept(self) -> ObjNo
         ensures { result ≡ record_kept self }
     {
@@ -152,7 +151,7 @@ impl Record {
         }
     }
 
-    // The change of a record that stands at the front of these bytes, with a copy of its block.
+    // The change of a record at the start of these bytes, with a copy of its block.
     pub(crate) fn change(self, alloc: Global, bytes: &[u8]) -> Result<Change, NoMemory>
         requires { size_of self ≤ length bytes.now }
         ensures { IfOk result (λ change. change ≡ change_in self bytes.now) }
@@ -168,7 +167,7 @@ impl Record {
         })
     }
 
-    // The run that it adds, its block lying at that place.
+    // The run that it adds, with its block at that place.
     pub(crate) fn run(self, place: u64) -> Option<Run>
         requires { place < 2 ^ 64 - 1 }
         ensures { AddsRun self place result }
@@ -214,7 +213,7 @@ impl Record {
     }
 }
 
-// The record that the bytes begin with, by its head and by how many bytes there are.
+// The record at the start of the bytes, by its head and by how many bytes there are.
 fn told(bytes: &[u8]) -> Option<Record>
     ensures { result ≡ told bytes.now }
 {
@@ -224,7 +223,7 @@ fn told(bytes: &[u8]) -> Option<Record>
     head_told(bytes, bytes.len() - HEAD_BYTES)
 }
 
-// The record whose head these bytes begin with, where so many bytes of its block are there.
+// The record whose head begins these bytes, if the `there` bytes after it suffice for its block.
 pub(crate) fn head_told(head: &[u8], there: usize) -> Option<Record>
     requires { 10 ≤ length head.now }
     ensures { result ≡ head_told head.now there }
@@ -240,7 +239,7 @@ pub(crate) fn head_told(head: &[u8], there: usize) -> Option<Record>
     }
 }
 
-// A block of 1 to 1,048,576 bytes, which are all there.
+// A block of 1 to 1,048,576 bytes, all of which are present.
 fn block_told(part: PartNo, at: ObjNo, length: u32, there: usize) -> Option<Record>
     ensures { result ≡ block_told part at length there }
 {

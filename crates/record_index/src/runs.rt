@@ -13,14 +13,14 @@ pub struct MarkRun {
     pub first: ObjNo,
     /// How many filemarks it is.
     pub count: u32,
-    /// How many filemarks stand before it.
+    /// How many filemarks come before it.
     pub before: u32,
 }
 
 const _: () = prove!(size_of::<MarkRun>() == 12);
 
-/// A row of runs of filemarks. To a contract it is their list, and how many may be added without
-/// memory. One call reads an entry, `at`, and that is a step.
+/// Runs of filemarks in order. A contract sees their list, and how many can be added without memory. One call
+/// reads an entry, `at`, and that is a step.
 #[derive(Drop)]
 pub struct Runs {
     entries: Vec<MarkRun>,
@@ -63,7 +63,7 @@ impl Runs {
         self.entries.len()
     }
 
-    /// The run of that number, from 0 on, which is a step.
+    /// The run with that number, from 0 on. The call is a step.
     pub fn at(&self, number: usize, steps: &mut Steps) -> MarkRun
         requires { number < length self.now.runs }
         ensures run { slice_get self.now.runs number ≡ Some result }
@@ -74,7 +74,7 @@ impl Runs {
         self.entries[number]
     }
 
-    // Makes room for so many more, which then take no memory.
+    // Makes room for `count` more, which then take no memory.
     pub(crate) fn reserve(&mut self, count: usize) -> Result<(), AllocError>
         ensures runs { self.new.runs ≡ self.old.runs }
         ensures grows { self.old.free ≤ self.new.free }
@@ -83,7 +83,7 @@ impl Runs {
         self.entries.reserve(count)
     }
 
-    // Puts one behind the others.
+    // Appends one.
     pub(crate) fn push(&mut self, run: MarkRun)
         requires { 1 ≤ self.old.free }
         ensures runs { self.new.runs ≡ self.old.runs ++ run ∷ [] }
@@ -92,7 +92,7 @@ impl Runs {
         self.entries.push_reserved(run);
     }
 
-    // Keeps the first so many; all of them where there are fewer.
+    // Cuts the runs after the first `count`; all stay where there are fewer.
     pub(crate) fn keep(&mut self, count: usize)
         ensures runs { self.new.runs ≡ take count self.old.runs }
         ensures free { self.old.free + length self.old.runs ≡ self.new.free + length self.new.runs }

@@ -9,8 +9,8 @@ use std::alloc::{AllocError, Global};
 use volume_core::Change;
 use vtl_base::{NoMemory, ObjNo, PartNo};
 
-/// Writes a change behind what is there. Within the capacity of `into` it takes no memory. After
-/// an `Err`, which comes only where that is too small, `into` has what it had.
+/// Appends the spelling of a change. Within the capacity of `into` it takes no memory. After an `Err`, which
+/// comes only where the capacity is too small, `into` is unchanged.
 pub fn encode_change(change: &Change, into: &mut Vec<u8>) -> Result<(), NoMemory>
     requires { IsRecord change.now }
     ensures ok { OnOk result (into.new.items ≡ into.old.items ++ spell_change change.now) }
@@ -26,8 +26,7 @@ pub fn encode_change(change: &Change, into: &mut Vec<u8>) -> Result<(), NoMemory
     Ok(())
 }
 
-/// A change in bytes, of which no block is copied: the head of its record, and what stands behind
-/// that.
+/// The bytes of a change without copying a block: the head of its record, and the bytes after it.
 pub fn spelled_parts(change: &Change) -> ([u8; HEAD_BYTES], &[u8])
     requires { IsRecord change.now }
     ensures { result.0 ++ result.1.now ≡ spell_change change.now }
@@ -42,7 +41,7 @@ pub fn spelled_parts(change: &Change) -> ([u8; HEAD_BYTES], &[u8])
     }
 }
 
-// What a record begins with.
+// The head of a record.
 fn head(kind: u8, part: PartNo, at: ObjNo, number: u32) -> [u8; HEAD_BYTES]
     ensures { result ≡ spell_head kind part at number }
 {
@@ -54,8 +53,8 @@ fn head(kind: u8, part: PartNo, at: ObjNo, number: u32) -> [u8; HEAD_BYTES]
     head
 }
 
-/// The changes that these bytes spell, with a copy of each block. `BadRecord` names the first byte
-/// of the first record that is wrong or not whole; no bytes spell no changes.
+/// The changes that these bytes spell, with a copy of each block. `BadRecord` has the place of the first
+/// record that is wrong or not whole. No bytes spell no changes.
 pub fn decode_changes(alloc: Global, bytes: &[u8]) -> Result<Vec<Change>, RecordError>
     ensures ok { IfOk result (λ changes. SpellsAll bytes.now changes.items) }
     ensures err { IfErr result (λ error. NotDecoded bytes.now error) }

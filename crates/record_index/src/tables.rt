@@ -18,7 +18,7 @@ use vtl_base::{ObjNo, Steps};
 pub(crate) struct BlockEntry {
     // Where it lies.
     pub place: u64,
-    // What the objects up to it take, itself included, in bytes.
+    // What the objects up to it take, with the block itself, in bytes.
     pub cost: u64,
     // The number of its object.
     pub number: ObjNo,
@@ -28,9 +28,8 @@ pub(crate) struct BlockEntry {
 
 const _: () = prove!(size_of::<BlockEntry>() == 24);
 
-// The objects of a partition: an entry for each block, one for each run of filemarks, and how many
-// objects there are. To a contract it is their list, and how many entries may be added without
-// memory.
+// The objects of a partition: an entry for each block, one for each run of filemarks, and how many objects
+// there are. A contract sees their list, and how many entries can be added without memory.
 #[derive(Drop)]
 pub(crate) struct ObjectTable {
     blocks: Vec<BlockEntry>,
@@ -56,7 +55,7 @@ impl Model for ObjectTable {
         × (t.reserved ≤ t.runs.free) };
 }
 
-// The number of the object behind the first so many blocks.
+// The number of the object after the first `count` blocks.
 fn end_of(blocks: &[BlockEntry], count: usize) -> ObjNo
     requires count { count ≤ length blocks.now }
     requires table { IsTable blocks.now }
@@ -69,7 +68,7 @@ fn end_of(blocks: &[BlockEntry], count: usize) -> ObjNo
     }
 }
 
-// What the objects up to the first so many blocks take, in bytes.
+// What the objects up to the first `count` blocks take, in bytes.
 fn cost_of(blocks: &[BlockEntry], count: usize) -> u64
     requires count { count ≤ length blocks.now }
     requires table { IsTable blocks.now }
@@ -82,7 +81,7 @@ fn cost_of(blocks: &[BlockEntry], count: usize) -> u64
     }
 }
 
-// What n objects take, in bytes: the first so many blocks, those before them, and marks.
+// What n objects take, in bytes: the first `count` blocks, those before them, and marks.
 fn cost_up_to(blocks: &[BlockEntry], count: usize, n: ObjNo) -> u64
     requires count { count ≤ length blocks.now }
     requires table { IsTable blocks.now }
@@ -93,7 +92,7 @@ fn cost_up_to(blocks: &[BlockEntry], count: usize, n: ObjNo) -> u64
     cost_of(blocks, count) + (n - end_of(blocks, count)) as u64 * OBJECT_COST
 }
 
-// The object of a number, None where there is none.
+// The object with this number, None where there is none.
 fn object_at(blocks: &[BlockEntry], count: ObjNo, at: ObjNo) -> Option<Placed>
     requires table { IsTable blocks.now }
     requires within { length (blocks_of blocks.now) ≤ count }
@@ -171,7 +170,7 @@ impl ObjectTable {
         runs_below(&self.runs, Key::First, n as u64, steps).last
     }
 
-    // The run that has the filemark of number k, from 0 on.
+    // The run with the filemark of number k, from 0 on.
     pub(crate) fn run_of(&self, k: u32, steps: &mut Steps) -> Option<MarkRun>
         ensures found { IsRunWith self.now.objects k result }
         ensures steps { AddsDigitsOfRuns self.now.objects steps.old steps.new }
@@ -186,7 +185,7 @@ impl ObjectTable {
         }
     }
 
-    // Makes room for so many entries more, which then take no memory.
+    // Makes room for `entries` more entries, which then take no memory.
     pub(crate) fn reserve(&mut self, entries: usize) -> Result<(), AllocError>
         ensures objects { self.new.objects ≡ self.old.objects }
         ensures grows { self.old.reserved ≤ self.new.reserved }
@@ -202,7 +201,7 @@ impl ObjectTable {
         Ok(())
     }
 
-    // Keeps the first n objects; all of them where there are fewer.
+    // Cuts the table after its first n objects; all stay where there are fewer.
     pub(crate) fn cut(&mut self, n: ObjNo)
         ensures objects { self.new.objects ≡ take n self.old.objects }
         ensures reserved { self.old.reserved ≤ self.new.reserved }
@@ -226,7 +225,7 @@ impl ObjectTable {
         }
     }
 
-    // Puts a block behind the objects.
+    // Appends a block to the objects.
     fn add_block(&mut self, place: u64, size: u32)
         requires room { 1 ≤ self.old.reserved }
         requires end { length self.old.objects + 1 < 2 ^ 32 }
@@ -245,7 +244,7 @@ impl ObjectTable {
         self.reserved -= 1;
     }
 
-    // Puts filemarks behind the objects. With those behind the last block they are one run.
+    // Appends filemarks to the objects. With those after the last block they are one run.
     fn add_marks(&mut self, count: u32)
         requires room { 1 ≤ self.old.reserved }
         requires some { 1 ≤ count }
@@ -268,7 +267,7 @@ impl ObjectTable {
         self.reserved -= 1;
     }
 
-    // Puts a run behind the objects; one of no object takes no entry.
+    // Appends a run to the objects; one without objects takes no entry.
     pub(crate) fn add(&mut self, run: Run)
         requires room { 1 ≤ self.old.reserved }
         requires end { length (self.old.objects ++ objects_of_run run) < 2 ^ 32 }

@@ -4,7 +4,7 @@ use crate::wires::Plan;
 use std::alloc::{AllocError, Global};
 use std::test::Fail;
 
-// A command with 1,099,996 bytes, whose line has so many bytes more than `HOST DRIVE CDB DATA` needs.
+// A command with 1,099,996 bytes, whose line has `spaces` bytes more than `HOST DRIVE CDB DATA` needs.
 fn longest_command(alloc: Global, spaces: usize) -> Result<Vec<u8>, AllocError> {
     let mut script = joined(alloc, &["1 1 00 "])?;
     for _ in 0..spaces {
@@ -19,7 +19,7 @@ fn longest_command(alloc: Global, spaces: usize) -> Result<Vec<u8>, AllocError> 
 
 #[test]
 fn the_longest_command(rt: HostRuntime) -> Result<(), Fail> {
-    // 2,200,000 bytes, which are taken whole, whatever a drive says of them; and a byte more.
+    // 2,200,000 bytes, which are taken whole, whatever a drive replies; and one byte more.
     let script = longest_command(rt.alloc(), 1)?;
     assert_eq!(rt; script.len(), 2_200_001);
     let outcome = answered(rt.alloc(), script.as_slice(), Plan::whole());

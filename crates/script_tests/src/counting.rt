@@ -8,7 +8,7 @@ use vtl_script::script_limits::{within_bytes, within_reads};
 
 const TWO_PHASES: &[u8] = b"1 1 000000000000\n--\n2 1 000000000000\n";
 
-// The bytes of a read at most, and the read that is interrupted.
+// The most bytes of a read, and the read that is interrupted.
 static READS: &'static [(usize, u32)] = &[(usize::MAX, 2), (5, 1), (5, 4), (5, 9), (1, 38)];
 
 // How many reads are counted until the text has ended.

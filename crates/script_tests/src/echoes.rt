@@ -1,10 +1,10 @@
-//! A runner with drive 1, which answers each command and each move by what it asks.
+//! A runner with drive 1, which answers each command and each move with its own fields.
 use scsi_sense::{Reply, Status};
 use std::alloc::{AllocError, Global};
 use vtl_base::{Bytes, DriveNo, NoMemory};
 use vtl_script::{Item, Line, Runner};
 
-/// It counts the items that it ran, and is answered so whatever it is asked.
+/// It counts the items that it ran, and `answers` holds for every item.
 #[derive(Drop)]
 pub struct Echo {
     items: u32,

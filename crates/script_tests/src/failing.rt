@@ -18,8 +18,8 @@ const FIRST_ANSWER: &[&str] = &[FIRST];
 
 const BOTH_ANSWERS: &[&str] = &[FIRST, SECOND];
 
-// The bytes of a read at most, how many reads there are, and the read that the first phase ends with. The script is
-// read whole by the first read, or five bytes a read; the last read finds its end.
+// The most bytes of a read, how many reads there are, and the read that ends the first phase. The script is
+// read whole by the first read, or in reads of five bytes; the last read finds its end.
 static READS: &'static [(usize, u32, u32)] = &[(usize::MAX, 2, 1), (5, 9, 4)];
 
 #[test]
@@ -58,8 +58,8 @@ fn reads_that_fail(rt: HostRuntime) -> Result<(), Fail> {
     Ok(())
 }
 
-// The bytes of a write at most, and how many are written where each call fails: a phase is some
-// writes and one flush.
+// The most bytes of a write, and how many are written where each call fails: a phase is some writes and one
+// flush.
 static WRITES: &'static [(usize, &'static [usize])] = &[
     (usize::MAX, &[0, 22, 22, 44, 44]),
     (20, &[0, 20, 22, 22, 42, 44, 44]),
@@ -95,10 +95,10 @@ fn writes_that_fail(rt: HostRuntime) -> Result<(), Fail> {
     Ok(())
 }
 
-// The kinds of fault after which a caller might be tempted to call again, and must not.
+// Kinds of fault after which a caller might call again, but must not.
 static NOT_INTERRUPTED: &'static [ErrorKind] = &[ErrorKind::WouldBlock, ErrorKind::TimedOut];
 
-// The bytes of a read at most, the read that fails, and how many bytes are out then. The script is read whole by
+// The most bytes of a read, the read that fails, and how many bytes are out then. The script is read whole by
 // the first read, or by nine with its end; the first phase ends with the first read, or with the fourth.
 static BLOCKED_READS: &'static [(usize, u32, usize)] = &[
     (usize::MAX, 1, 0),
@@ -132,7 +132,8 @@ fn reads_that_would_block_or_time_out(rt: HostRuntime) -> Result<(), Fail> {
     Ok(())
 }
 
-// The bytes of a write at most, the call that fails, and how many bytes are out then; the last of each is a flush.
+// The most bytes of a write, the call that fails, and how many bytes are out then; the last call of each is a
+// flush.
 static BLOCKED_WRITES: &'static [(usize, u32, usize)] = &[
     (usize::MAX, 1, 0),
     (usize::MAX, 3, 22),

@@ -7,7 +7,7 @@ use std::io::ErrorKind;
 use std::test::Fail;
 use vtl_script::ScriptFault;
 
-// A script, and by rule the text of its answers.
+// A script, and the expected text of its answers.
 #[derive(Drop)]
 struct Answered {
     script: Vec<u8>,
@@ -40,7 +40,7 @@ fn phase_of_two_hosts(alloc: Global) -> Result<Answered, AllocError> {
     })
 }
 
-// The bytes of a write at most.
+// The most bytes of a write.
 static TAKEN: &'static [usize] = &[usize::MAX, 65_537, 65_536, 65_535, 7, 1];
 
 #[test]
@@ -59,7 +59,8 @@ fn answers_of_more_than_64_kib(rt: HostRuntime) -> Result<(), Fail> {
     Ok(())
 }
 
-// The bytes of a write at most, the write that fails, and the bytes that are out then: those of the writes before.
+// The most bytes of a write, the write that fails, and the bytes that are out then: those of the writes
+// before.
 static WRITES: &'static [(usize, u32, usize)] = &[
     (1, 1, 0),
     (1, 2, 1),

@@ -1,4 +1,4 @@
-//! Two hosts before a move, and a move behind a write that fails.
+//! Two hosts before a move, and a move after a write that fails.
 use crate::outcomes::{DONE, answered, joined};
 use crate::wires::Plan;
 use assertions::{assert_equal, assert_holds};
@@ -25,8 +25,8 @@ fn two_hosts_before_a_move(rt: HostRuntime) -> Result<(), Fail> {
     Ok(())
 }
 
-// Of a phase and a move, which are a write and a flush each: the call that fails, and how many items were run and bytes
-// written.
+// For a phase and a move, which are a write and a flush each: the call that fails, and how many items were
+// run and bytes written.
 static FAILING: &'static [(u32, u32, usize)] = &[(1, 1, 0), (2, 1, 12), (3, 2, 12), (4, 2, 38)];
 
 #[test]

@@ -7,7 +7,7 @@ use std::process::Abort;
 use std::test::Fail;
 use vtl_script::{ScriptFault, run_script};
 
-/// What is wanted of a script: the text of its answers, and how it ends.
+/// The expected outcome of a script: the text of its answers, and how it ends.
 pub type Wanted<'a> = (&'a [&'a str], Result<(), ScriptFault>);
 
 pub const DONE: Result<(), ScriptFault> = Ok(());
@@ -17,8 +17,8 @@ pub const BAD_1: Result<(), ScriptFault> = Err(ScriptFault::BadLine { line: 1 })
 
 pub const BAD_3: Result<(), ScriptFault> = Err(ScriptFault::BadLine { line: 3 });
 
-/// What a script writes, how it ends, whether a read came while replies were not flushed, and how many
-/// reads and items there were.
+/// What a script writes, how it ends, whether a read came while replies were not flushed, and how many reads
+/// and items there were.
 #[derive(Drop)]
 pub struct Outcome {
     pub text: Vec<u8>,
@@ -44,7 +44,7 @@ pub fn answered(alloc: Global, script: &[u8], plan: Plan) -> Outcome {
     }
 }
 
-/// These parts, one behind another.
+/// These parts, one after another.
 pub fn joined(alloc: Global, parts: &[&str]) -> Result<Vec<u8>, AllocError> {
     let mut text = Vec::new(alloc);
     for part in parts {
@@ -53,7 +53,7 @@ pub fn joined(alloc: Global, parts: &[&str]) -> Result<Vec<u8>, AllocError> {
     Ok(text)
 }
 
-/// A script that is read and written without a fault ends as wanted.
+/// A script that is read and written without a fault ends as expected.
 pub fn assert_ends(
     rt: &impl Abort,
     alloc: Global,

@@ -15,7 +15,7 @@ const MOVED: &str = "CONFLICT 000003e900000001\n";
 
 const TWO_PHASES: &[u8] = b"1 1 00\n--\n2 1 00\n";
 
-// A script, the bytes of a read at most, the read that fails, the text that is out then, and how it ends.
+// A script, the most bytes of a read, the read that fails, the text that is out then, and how it ends.
 type Row<'a> = (&'a [u8], usize, u32, &'a [&'a str], Result<(), ScriptFault>);
 
 const NO_ANSWER: &[&str] = &[];
@@ -23,7 +23,7 @@ const NO_ANSWER: &[&str] = &[];
 const FAULT: Result<(), ScriptFault> = Err(ScriptFault::ReadFault);
 
 static READ_SO_FAR: &'static [Row<'static>] = &[
-    // A move is run, and the phase before it, once its line is read.
+    // A move is run, and the phase before it, when its line has been read.
     (b"1 1 00\nmove 1001 1\n", 5, 5, &[ONE, MOVED], FAULT),
     (b"1 1 00\nmove 1001 1\n", 5, 4, NO_ANSWER, FAULT),
     (
@@ -34,10 +34,10 @@ static READ_SO_FAR: &'static [Row<'static>] = &[
         FAULT,
     ),
     (b"move 1001 1\n2 1 00\n", 12, 2, &[MOVED], FAULT),
-    // So is a phase, once the line that ends it is.
+    // So is a phase, when the line that ends it has been read.
     (b"1 1 00\n--\n2 1 00\n", 10, 2, &[ONE], FAULT),
     (b"1 1 00\n--\n2 1 00\n", 9, 2, NO_ANSWER, FAULT),
-    // A line is refused once it is read.
+    // A line is refused when it has been read.
     (b"x\n1 1 00\n", 1, 3, NO_ANSWER, BAD_1),
     (b"x\n1 1 00\n", 1, 2, NO_ANSWER, FAULT),
     (b"1 1 00\n--\nmove 1\n2 1 00\n", 17, 2, &[ONE], BAD_3),
@@ -66,7 +66,7 @@ fn nothing_behind_is_read_first(rt: HostRuntime) -> Result<(), Fail> {
     Ok(())
 }
 
-// The bytes of a read at most, and the reads of the script: it has 17 bytes; one read more finds its end.
+// The most bytes of a read, and the reads of the script: it has 17 bytes; one more read finds its end.
 static READS: &'static [(usize, u32)] = &[(usize::MAX, 2), (5, 5), (1, 18)];
 
 #[test]
@@ -89,7 +89,7 @@ fn reads_that_are_interrupted_many_times(rt: HostRuntime) -> Result<(), Fail> {
     Ok(())
 }
 
-// The bytes of a write at most, and the writes that are interrupted; the flush of a phase is none of them.
+// The most bytes of a write, and the writes that are interrupted; the flush of a phase is not one of them.
 static WRITES: &'static [(usize, u32)] = &[
     (usize::MAX, 1),
     (usize::MAX, 3),
@@ -114,7 +114,7 @@ fn writes_that_are_interrupted_many_times(rt: HostRuntime) -> Result<(), Fail> {
         assert_equal!(rt; interrupted.end, DONE; (call, taken));
         assert_equal!(rt; interrupted.text.as_slice(), whole.as_slice(); call);
     }
-    // A flush that is interrupted is a fault: a writer that holds bytes makes its own writes again.
+    // An interrupted flush is a fault: a writer that holds bytes repeats its own writes.
     let plan = Plan {
         bad_write: Some((2, ErrorKind::Interrupted)),
         ..Plan::whole()

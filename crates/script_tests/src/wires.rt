@@ -4,8 +4,8 @@ use std::cell::Cell;
 use std::io;
 use std::io::{ErrorKind, Read, Write};
 
-/// How a reader and a writer behave: the bytes of a read and of a write at most, and the first call of
-/// either that fails, if any, with how many calls fail in a row.
+/// How a reader and a writer behave: the most bytes of a read and of a write, and the first call of either
+/// that fails, if any, with how many calls fail in a row.
 #[derive(Clone, Copy)]
 pub struct Plan {
     pub piece: usize,
@@ -35,7 +35,7 @@ impl Plan {
     }
 }
 
-/// Whether answers were written that were not flushed, and whether a read came while it was so.
+/// Whether answers were written that were not flushed, and whether a read came meanwhile.
 #[derive(Drop)]
 pub struct Wire {
     held: Cell<bool>,
@@ -73,7 +73,7 @@ impl<'a> WireReader<'a> {
         }
     }
 
-    /// How many reads were asked for.
+    /// How many reads were called.
     pub fn calls(&self) -> u32 {
         self.calls
     }
@@ -119,7 +119,7 @@ impl<'a> WireWriter<'a> {
 }
 
 impl WireWriter<'_> {
-    // Counts a call, and fails where it is one that is to fail.
+    // Counts a call, and fails if it is one that is to fail.
     fn call(&mut self) -> io::Result<()> {
         self.calls = self.calls.saturating_add(1);
         match self.plan.fault(self.plan.bad_write, self.calls) {

@@ -31,7 +31,7 @@ agree : (f g : Attention → ℕ → Bool) → list_all (λ a. agree_below (f a)
 agree f g each a bits fits =
     agree_below_at (f a) (g a) 64 bits (passes (λ b. agree_below (f b) (g b) 64) each a) fits
 
--- the same of two attentions
+-- the same for two conditions
 agree_at_both : (f g : Attention → Attention → ℕ → Bool)
     → list_all (λ b. list_all (λ a. agree_below (f b a) (g b a) 64) in_order) in_order ≡ true
     → (b a : Attention) (bits : ℕ) → bits < 64 → f b a bits ≡ g b a bits
@@ -90,7 +90,7 @@ pub and_not_fits : (a : Attention) (bits : ℕ) → bits < 64 → bit_and bits (
 and_not_fits a bits fits =
     ltb-true _ 64 (agree (λ a k. ltb (bit_and k (2 ^ 8 - 1 - bit_of a)) 64) (λ a k. true) refl a bits fits)
 
--- of two bits the greater is 1 just where one of them is
+-- the greater of two bits is 1 exactly where one of them is
 either_bit : (x y : ℕ) → x < 2 → y < 2 → (max x y == 1) ≡ (x == 1 || y == 1)
 either_bit zero zero h k = refl
 either_bit zero (suc zero) h k = refl

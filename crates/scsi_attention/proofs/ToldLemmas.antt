@@ -1,11 +1,11 @@
--- What each nexus is told, joined with its set, place by place.
+-- The conditions of each nexus, joined with its set, place by place.
 use Rattle.std.proofs.Common.{◌≡◌, ◌≢◌, ℕ, zero, suc, ◌<◌, ◌≤◌, ◌+◌, ◌-◌, List, [], ◌∷◌, Option, None, Some, length, take, get_or, slice_get, slice_set, set, map, option_map, refl, ap, sym, ◌∙◌, min, add-one, arith}
 use Rattle.std.proofs.lemmas.Option.{slice_get-map}
 use Rattle.scsi_attention.specs.declared.attention_sets.Attention.{Attention}
 use Rattle.scsi_attention.specs.AttentionSets.{AttentionSet, union, with_attention}
 use Rattle.scsi_attention.specs.Attentions.{established_by, established_for_all, established_for_others, put_back}
 
--- at a place that was not told yet stands the set from before
+-- a place that was not reached yet has its old set
 kept_at : (sets told : List AttentionSet) (place : ℕ) (any : AttentionSet) → place < length told
     → get_or (established_by sets (take place told)) place any ≡ get_or sets place any
 kept_at sets [] place any h = absurd (omega arith)
@@ -24,7 +24,7 @@ told_here (one ∷ sets) (more ∷ told) (suc place) any other h k =
     ap (λ (rest : List AttentionSet). union one more ∷ rest)
     (told_here sets told place any other (omega arith) (omega arith))
 
--- one place more is told
+-- one more place is joined
 pub told_more : (sets told now : List AttentionSet) (place : ℕ) (here more : AttentionSet)
     → place < length sets → place < length told → now ≡ established_by sets (take place told)
     → here ≡ get_or now place here → more ≡ get_or told place more
@@ -39,7 +39,7 @@ told_more sets told now place here more h k is at from =
     ∙ told_here sets told place here more h k
     ∙ ap (λ (count : ℕ). established_by sets (take count told)) (sym (add-one place))
 
--- all places are told
+-- all places are joined
 pub told_whole : (sets told : List AttentionSet) (count : ℕ) → min (length sets) (length told) ≤ count
     → established_by sets (take count told) ≡ established_by sets told
 told_whole sets [] zero h = refl
@@ -72,7 +72,7 @@ none_lost sets [] = refl
 none_lost [] (first ∷ told) = refl
 none_lost (was ∷ sets) (first ∷ told) = omega (arith, none_lost sets told)
 
--- where one set is put back after all were told, every other one is told
+-- where one set is put back after all were joined, every other one is joined
 told_but_one : (attention : Attention) (sets : List AttentionSet) (one place : ℕ) (own : AttentionSet) → place ≢ one
     → slice_get (slice_set (map (with_attention attention) sets) one own) place
     ≡ option_map (with_attention attention) (slice_get sets place)
@@ -83,7 +83,7 @@ told_but_one attention (first ∷ sets) (suc one) zero own other = refl
 told_but_one attention (first ∷ sets) (suc one) (suc place) own other =
     told_but_one attention sets one place own (λ same. other (ap suc same))
 
--- the one that is put back stands there
+-- the one that is put back is there
 put_back_there : (attention : Attention) (sets : List AttentionSet) (one : ℕ) (own : AttentionSet)
     → slice_get sets one ≡ Some own
     → slice_get (slice_set (map (with_attention attention) sets) one own) one ≡ Some own
@@ -107,14 +107,14 @@ one_kept None sets nexus attention is =
     ∙ ap (λ (set : Option AttentionSet). option_map (with_attention attention) set) is ∙ sym is
 one_kept (Some own) sets nexus attention is = put_back_there attention sets (nexus - 1) own is ∙ sym is
 
--- every nexus but one is told
+-- a condition is established for every nexus but one
 pub each_other_told : (sets : List AttentionSet) (nexus place : ℕ) (attention : Attention) → place ≢ nexus - 1
     → slice_get (established_for_others sets nexus attention) place
     ≡ option_map (with_attention attention) (slice_get sets place)
 each_other_told sets nexus place attention other =
     others_told (slice_get sets (nexus - 1)) sets nexus place attention other
 
--- and that one is not
+-- and not for that one
 pub the_one_untold : (sets : List AttentionSet) (nexus : ℕ) (attention : Attention)
     → slice_get (established_for_others sets nexus attention) (nexus - 1) ≡ slice_get sets (nexus - 1)
 the_one_untold sets nexus attention = one_kept (slice_get sets (nexus - 1)) sets nexus attention refl

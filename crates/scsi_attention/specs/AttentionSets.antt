@@ -23,7 +23,7 @@ no_attentions = record {
   mode_changed = false;
 }
 
--- whether a condition is in a set (own)
+-- a condition is in a set (own)
 abbrev pub contains : Attention → AttentionSet → Bool
 contains PowerOn set = set.power_on
 contains MediumChanged set = set.medium_changed
@@ -32,7 +32,7 @@ contains RegistrationsPreempted set = set.registrations_preempted
 contains ReservationsReleased set = set.reservations_released
 contains ModeChanged set = set.mode_changed
 
--- a set in which a condition is established or is not, the others as they were (own)
+-- a set in which one condition is established or not, and the others stay (own)
 abbrev pub set_to : Bool → Attention → AttentionSet → AttentionSet
 set_to established PowerOn set = record set { power_on = established }
 set_to established MediumChanged set = record set { medium_changed = established }
@@ -41,11 +41,11 @@ set_to established RegistrationsPreempted set = record set { registrations_preem
 set_to established ReservationsReleased set = record set { reservations_released = established }
 set_to established ModeChanged set = record set { mode_changed = established }
 
--- a set once a condition is established (SAM-5, unit attention condition)
+-- a set after a condition is established (SAM-5, unit attention condition)
 abbrev pub with_attention : Attention → AttentionSet → AttentionSet
 with_attention attention set = set_to true attention set
 
--- a set once a condition is cleared (SAM-5, unit attention condition)
+-- a set after a condition is cleared (SAM-5, unit attention condition)
 abbrev pub without : Attention → AttentionSet → AttentionSet
 without attention set = set_to false attention set
 

@@ -4,17 +4,17 @@ use Rattle.scsi_attention.specs.declared.attention_sets.Attention.{Attention}
 use Rattle.scsi_attention.specs.AttentionSets.{AttentionSet, contains, set_to, union, with_attention, without}
 use Rattle.scsi_attention.specs.Attentions.{established_by, established_for_others}
 
--- a condition that was put in is in (own)
+-- a condition that was put in is in the set (own)
 abbrev pub HasWhatIsPutIn : Type 0
 HasWhatIsPutIn =
     (attention : Attention) (set : AttentionSet) → contains attention (with_attention attention set) ≡ true
 
--- a condition that was taken out is not in (own)
+-- a condition that was taken out is not in the set (own)
 abbrev pub LacksWhatIsTakenOut : Type 0
 LacksWhatIsTakenOut =
     (attention : Attention) (set : AttentionSet) → contains attention (without attention set) ≡ false
 
--- every other condition stays as it was (own)
+-- every other condition stays (own)
 abbrev pub OthersStay : Type 0
 OthersStay =
     (pending : Bool) (attention other : Attention) (set : AttentionSet) → other ≢ attention
@@ -26,20 +26,20 @@ MembersDecide =
     (one other : AttentionSet) → ((attention : Attention) → contains attention one ≡ contains attention other)
     → one ≡ other
 
--- a condition is in a union just where it is in one of the two sets (own)
+-- a condition is in a union exactly where it is in one of the two sets (own)
 abbrev pub UnionHasBoth : Type 0
 UnionHasBoth =
     (attention : Attention) (one other : AttentionSet)
     → contains attention (union one other) ≡ (contains attention one || contains attention other)
 
--- what a nexus is told is joined with its own set (own)
+-- the conditions of a nexus are joined with its own set (own)
 abbrev pub EachIsToldItsOwn : Type 0
 EachIsToldItsOwn =
     (sets told : List AttentionSet) (place : ℕ) (set more : AttentionSet)
     → slice_get sets place ≡ Some set → slice_get told place ≡ Some more
     → slice_get (established_by sets told) place ≡ Some (union set more)
 
--- a nexus that is told nothing keeps its set (own)
+-- the set of a nexus without conditions stays (own)
 abbrev pub TheUntoldStay : Type 0
 TheUntoldStay =
     (sets told : List AttentionSet) (place : ℕ)
@@ -49,14 +49,14 @@ TheUntoldStay =
 abbrev pub NoNexusIsLost : Type 0
 NoNexusIsLost = (sets told : List AttentionSet) → length (established_by sets told) ≡ length sets
 
--- where every nexus but one is told of a condition, each other one has it beside its own (own)
+-- where a condition is established for every nexus but one, each other one has it beside its own (own)
 abbrev pub EachOtherIsTold : Type 0
 EachOtherIsTold =
     (sets : List AttentionSet) (nexus place : ℕ) (attention : Attention) → place ≢ nexus - 1
     → slice_get (established_for_others sets nexus attention) place
     ≡ option_map (with_attention attention) (slice_get sets place)
 
--- and that one keeps its set (own)
+-- and the set of that one stays (own)
 abbrev pub TheOneIsNotTold : Type 0
 TheOneIsNotTold =
     (sets : List AttentionSet) (nexus : ℕ) (attention : Attention)

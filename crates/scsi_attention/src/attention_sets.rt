@@ -6,8 +6,8 @@ ghost use Rattle.scsi_attention.specs.AttentionSets.{contains, first_of, no_atte
 use bitflags::{Flag, Flags, bitflag_items};
 use std::marker::Model;
 
-/// A unit attention condition (SAM-5): an event that a host is reported before its next command. The
-/// cases stand in the order in which they are reported (own).
+/// A unit attention condition (SAM-5): an event that is reported to a host before its next command. The cases
+/// are in the order in which they are reported (own).
 #[derive(Clone, Copy, PartialEq, Eq, Debug)]
 pub enum Attention {
     /// The drive was powered on.
@@ -72,7 +72,7 @@ impl Flags for AttnFlags {
     }
 }
 
-/// A set of conditions: those that are established for one nexus, and not reported yet.
+/// A set of conditions: those that are established for one nexus and not reported yet.
 #[derive(Clone, Copy, PartialEq, Eq, Debug)]
 pub struct AttnSet {
     flags: AttnFlags,
@@ -139,7 +139,7 @@ impl AttnSet {
             .find(|attention| self.contains(*attention))
     }
 
-    /// Establishes this condition, others staying as they are.
+    /// Establishes this condition; the others stay.
     #[tactic(auto, using(crate::proofs::BitLemmas::with_by_bits, crate::proofs::BitLemmas::or_fits))]
     pub fn insert(&mut self, attention: Attention)
         ensures { self.new ≡ with_attention attention self.old }
@@ -147,7 +147,7 @@ impl AttnSet {
         self.flags.insert(attention.flag());
     }
 
-    /// Clears this condition, others staying as they are.
+    /// Clears this condition; the others stay.
     #[tactic(auto, using(crate::proofs::BitLemmas::without_by_bits, crate::proofs::BitLemmas::and_not_fits))]
     pub fn remove(&mut self, attention: Attention)
         ensures { self.new ≡ without attention self.old }

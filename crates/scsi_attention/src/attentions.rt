@@ -7,7 +7,7 @@ use crate::attention_sets::{Attention, AttnSet};
 use std::marker::Model;
 use vtl_base::Nexus;
 
-/// The conditions that are established for each nexus. To a contract they are the list of the sets, by
+/// The conditions that are established for each nexus. A contract sees them as the list of the sets, by
 /// rising nexus.
 #[derive(Drop)]
 pub struct Attentions {
@@ -31,7 +31,7 @@ impl Attentions {
         Attentions { sets: [set; 64] }
     }
 
-    /// The condition that a nexus is reported next, if any is established.
+    /// The condition that is reported next to a nexus, if any is established.
     pub fn first(&self, nexus: Nexus) -> Option<Attention>
         ensures { result ≡ attention_of self.now nexus }
     {
@@ -62,8 +62,8 @@ impl Attentions {
         self.sets[nexus.place()] = own;
     }
 
-    /// Establishes what each nexus is told: a set for each, by rising nexus. A nexus that is told nothing
-    /// keeps its own.
+    /// Establishes conditions for each nexus: one set for each, by rising nexus. The set of a nexus without
+    /// new conditions stays.
     pub fn establish_each(&mut self, told: &[AttnSet])
         ensures { self.new ≡ established_by self.old told.now }
     {

@@ -1,7 +1,8 @@
-//! What the definitions of this crate say together: laws, which no code calls.
+//! Laws of the definitions, which no code calls.
 ghost use Rattle.scsi_attention.specs.Laws.{EachIsToldItsOwn, EachOtherIsTold, HasWhatIsPutIn, LacksWhatIsTakenOut, MembersDecide, NoNexusIsLost, OthersStay, TheOneIsNotTold, TheUntoldStay, UnionHasBoth};
 
-/// A set has a condition that was put in, lacks one that was taken out, and neither touches another.
+/// A set has a condition that was put in, and lacks one that was taken out. Neither touches another
+/// condition.
 pub fn sets_are_sets()
     ensures put_in { HasWhatIsPutIn }
     ensures taken_out { LacksWhatIsTakenOut }
@@ -10,14 +11,15 @@ pub fn sets_are_sets()
     ensures unions { UnionHasBoth }
 {}
 
-/// What each nexus is told goes into its own set, and no other nexus's changes.
+/// The conditions of each nexus go into its own set, and into no other.
 pub fn each_is_told_its_own()
     ensures told { EachIsToldItsOwn }
     ensures untold { TheUntoldStay }
     ensures all { NoNexusIsLost }
 {}
 
-/// Where every nexus but one is told of a condition, each other one has it, and that one keeps its set.
+/// Where a condition is established for every nexus but one, each other one has it, and the set of that one
+/// stays.
 pub fn all_but_one_are_told()
     ensures others { EachOtherIsTold }
     ensures one { TheOneIsNotTold }

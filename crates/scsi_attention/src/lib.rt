@@ -1,4 +1,4 @@
-//! Unit attention conditions: what a host is reported before its next command is carried out.
+//! Unit attention conditions: what is reported to a host before its next command is carried out.
 #![tactic(auto)]
 
 pub mod attention_sets;

@@ -20,7 +20,7 @@ types =
     WriteExclusive ∷ ExclusiveAccess ∷ WriteExclusiveRegistrantsOnly ∷ ExclusiveAccessRegistrantsOnly
     ∷ WriteExclusiveAllRegistrants ∷ ExclusiveAccessAllRegistrants ∷ []
 
--- the type of a number (own)
+-- the type with this number (own)
 abbrev pub type_of : ℕ → Option PrType
 type_of number = find (λ kind. type_number kind == number) types
 
@@ -29,8 +29,8 @@ type_of number = find (λ kind. type_number kind == number) types
 abbrev pub type_in : ℕ → Option PrType
 type_in scope_type = if scope_type / 16 == 0 then type_of (scope_type % 16) else None
 
--- The action of a command block, by its service action and byte 2. RESERVE and RELEASE need scope 0 and a type;
--- PREEMPT takes any, and the machine judges; for the others byte 2 does not count (SPC-4, PERSISTENT RESERVE OUT).
+-- The action of a command block, by its service action and byte 2. RESERVE and RELEASE need scope 0 and a type. PREEMPT
+-- takes any, and the machine decides later; for the others byte 2 does not count (SPC-4, PERSISTENT RESERVE OUT).
 abbrev pub action_of : ℕ → ℕ → Option PrAction
 action_of service_action scope_type =
     if service_action == 0 then Some Register

@@ -1,4 +1,4 @@
--- The parameter list of MODE SELECT and the data of MODE SENSE: a header, and behind it at most one block descriptor.
+-- The parameter list of MODE SELECT and the data of MODE SENSE: a header, followed by at most one block descriptor.
 use Rattle.std.specs.Prelude.{ℕ, ◌+◌, ◌/◌, ◌%◌, ◌==◌, ◌||◌, ◌&&◌, nat_lt, not, List, [], ◌∷◌, ◌++◌, length, slice_index, drop, replicate, Option, None, Some, Result, Ok, Err, Bool, if◌then◌else◌}
 use Rattle.byteorder.specs.Endian.{big_number}
 use Rattle.scsi_sense.specs.declared.sense_data.Sense.{Sense}
@@ -14,8 +14,8 @@ buffered_mode list = slice_index list 2 / 16 % 8
 abbrev pub descriptor_length : List ℕ → ℕ
 descriptor_length list = slice_index list 3
 
--- BLOCK LENGTH: the last three bytes of a block descriptor of 8 bytes behind the header, the highest first
--- (SSC-4, mode parameter block descriptor)
+-- BLOCK LENGTH: the last three bytes of a block descriptor of 8 bytes after the header, the highest first (SSC-4, mode
+-- parameter block descriptor)
 abbrev pub descriptor_block_length : List ℕ → ℕ
 descriptor_block_length list = big_number 3 (drop 9 list)
 
@@ -27,8 +27,8 @@ has_mode_length list = length list == 4 || length list == 12
 abbrev pub fixes_block_length : List ℕ → Bool
 fixes_block_length list = length list == 12 && not (descriptor_block_length list == 0)
 
--- a field is refused: the length of the block descriptors is not that of what follows the header, a block length is
--- asked for, or a buffered mode above 1 (own)
+-- a field is refused: the length of the block descriptors is not that of the rest after the header, a block length is
+-- not 0, or the buffered mode is above 1 (own)
 abbrev pub has_refused_mode : List ℕ → Bool
 has_refused_mode list =
     not (descriptor_length list + 4 == length list) || (fixes_block_length list || nat_lt 1 (buffered_mode list))
@@ -37,8 +37,8 @@ has_refused_mode list =
 abbrev pub mode_list : Option Bool → ModeList
 mode_list buffered = record { buffered = buffered }
 
--- what a list asks for, or why it asks for nothing: no byte changes nothing; first the length, then the fields; no
--- other field counts (SPC-4, MODE SELECT(6); own, the order of checks)
+-- the mode that a list asks for, or why it is refused: an empty list changes nothing; first the length, then the
+-- fields; no other field counts (SPC-4, MODE SELECT(6); own, the order of checks)
 abbrev pub mode_decoded : List ℕ → Result ModeList Sense
 mode_decoded list =
     if length list == 0 then Ok (mode_list None)

@@ -43,11 +43,11 @@ is_registering action.Register = true
 is_registering action.RegisterAndIgnoreExistingKey = true
 is_registering _ = false
 
--- a bit is 1 that has to be 0: SPEC_I_PT, and ALL_TG_PT where a host is registered (own)
+-- a bit is 1 that must be 0: SPEC_I_PT, or ALL_TG_PT where a host is registered (own)
 abbrev pub has_refused_bit : PrAction → List ℕ → Bool
 has_refused_bit action list = specifies_initiators list || (is_registering action && is_for_all_targets list)
 
--- what a list of 24 bytes orders; APTPL counts where a host is registered alone (SPC-4, PERSISTENT RESERVE OUT)
+-- the order of a list of 24 bytes; APTPL counts only where a host is registered (SPC-4, PERSISTENT RESERVE OUT)
 abbrev pub order_of : PrAction → List ℕ → PrOut
 order_of action.Register list =
     Register (reservation_key list) (service_action_key list) (activates_persistence list)
@@ -58,7 +58,7 @@ order_of (action.Preempt kind) list = Preempt (reservation_key list) (service_ac
 order_of action.RegisterAndIgnoreExistingKey list =
     RegisterAndIgnoreExistingKey (service_action_key list) (activates_persistence list)
 
--- what a list orders, or why it orders nothing: first its length, then its bits (own, the order of checks)
+-- the order of a list, or why it is refused: first its length, then its bits (own, the order of checks)
 abbrev pub list_decoded : PrAction → List ℕ → Result PrOut Sense
 list_decoded action list =
     if length list == 24 then (if has_refused_bit action list then Err invalid_parameter else Ok (order_of action list))

@@ -1,4 +1,4 @@
-//! What the command block of PERSISTENT RESERVE OUT asks for: its service action, scope and type.
+//! The service action, scope and type in the command block of PERSISTENT RESERVE OUT.
 ghost use Rattle.std.specs.Prelude.{◌≡◌, ◌<◌};
 ghost use Rattle.scsi_lists.specs.Actions.{action_of, type_in, type_number, type_of};
 
@@ -22,22 +22,22 @@ const TYPES: [PrType; 6] = [
     PrType::ExclusiveAccessAllRegistrants,
 ];
 
-/// A service action of PERSISTENT RESERVE OUT, with what else of the command block counts for it (SPC-4;
-/// which actions there are, own).
+/// A service action of PERSISTENT RESERVE OUT, with the other fields of the command block that count for it
+/// (SPC-4; which actions there are, own).
 #[derive(Clone, Copy, PartialEq, Eq, Debug)]
 pub enum PrAction {
     Register,
     Reserve(PrType),
     Release(PrType),
     Clear,
-    /// The type of the reservation that a preemption may make, None where scope or type is none of a
-    /// reservation. It is looked at only where one is made.
+    /// The type of the reservation that a preemption may make; None where scope or type belong to no
+    /// reservation. It counts only where a reservation is made.
     Preempt(Option<PrType>),
     RegisterAndIgnoreExistingKey,
 }
 
 impl PrType {
-    /// The type of this number, where there is one.
+    /// The type with this number, if there is one.
     pub fn of(number: u8) -> Option<Self>
         ensures { result ≡ type_of number }
     {

@@ -11,10 +11,10 @@ pub const MODE_HEADER_BYTES: usize = 4;
 /// The bytes of a list's header with one block descriptor.
 pub const MODE_LIST_BYTES: usize = 12;
 
-/// What a parameter list of MODE SELECT asks for (SPC-4, SSC-4; which fields count, own).
+/// The mode that a parameter list of MODE SELECT asks for (SPC-4, SSC-4; which fields count, own).
 #[derive(Clone, Copy, PartialEq, Eq, Debug)]
 pub struct ModeList {
-    /// Whether the drive is buffered from then on. None, from a list of no byte, changes nothing.
+    /// Whether the drive is buffered from then on. None, for an empty list, changes nothing.
     pub buffered: Option<bool>,
 }
 
@@ -43,9 +43,9 @@ fn has_refused_mode(list: &[u8]) -> bool
 }
 
 impl ModeList {
-    /// What a list of MODE SELECT(6) asks for, or why it asks for nothing: a length other than 0, 4 and 12
-    /// (1A/00), then block descriptors that are not as long as what follows the header, a block length other
-    /// than 0, a buffered mode above 1 (26/00). Every other field is ignored.
+    /// The mode that a list of MODE SELECT(6) asks for, or why it is refused. First a length other than 0, 4
+    /// and 12 (1A/00); then block descriptors that are not as long as the rest after the header, a block
+    /// length other than 0, or a buffered mode above 1 (26/00). Every other field is ignored.
     pub fn decode(list: &[u8]) -> Result<Self, Sense>
         ensures { result ≡ mode_decoded list.now }
     {

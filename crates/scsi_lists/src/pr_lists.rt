@@ -9,12 +9,12 @@ use scsi_sense::Sense;
 /// The bytes of the list.
 pub const PR_LIST_BYTES: usize = 24;
 
-/// An order to the reservations of a drive, with what counts of it (SPC-4, PERSISTENT RESERVE OUT). `key`
-/// is the RESERVATION KEY, by which a host shows that it is registered.
+/// An order to the reservations of a drive, with the fields that count for it (SPC-4, PERSISTENT RESERVE
+/// OUT). `key` is the RESERVATION KEY, by which a host proves that it is registered.
 #[derive(Clone, Copy, PartialEq, Eq, Debug)]
 pub enum PrOut {
-    /// Registers the host with `new_key`, or unregisters it where that is 0. `aptpl` is APTPL: what is
-    /// registered and reserved outlives a loss of power.
+    /// Registers the host with `new_key`, or unregisters it where that is 0. `aptpl` is APTPL: registrations
+    /// and reservation outlive a loss of power.
     Register {
         key: u64,
         new_key: u64,
@@ -31,8 +31,8 @@ pub enum PrOut {
     Clear {
         key: u64,
     },
-    /// Removes the registrations with `preempted`. `kind` is the type of a reservation that is made, None
-    /// where scope or type is none of a reservation.
+    /// Removes the registrations with `preempted`. `kind` is the type of a reservation that is made; None
+    /// where scope or type belong to no reservation.
     Preempt {
         key: u64,
         preempted: u64,
@@ -75,7 +75,7 @@ fn has_refused_bit(action: PrAction, list: &[u8]) -> bool
     has_bit(list, 3) || registers && has_bit(list, 2)
 }
 
-// What a list of the right length orders.
+// The order of a list of the right length.
 fn order_of(action: PrAction, list: &[u8]) -> PrOut
     requires { 20 < length list.now }
     ensures { result ≡ order_of action list.now }
@@ -105,8 +105,8 @@ fn order_of(action: PrAction, list: &[u8]) -> PrOut
 }
 
 impl PrList {
-    /// What a list orders under this action of its command block, or why it orders nothing: a length
-    /// other than 24 (1A/00), then SPEC_I_PT, or ALL_TG_PT where a host is registered (26/00).
+    /// The order of a list under this action of its command block, or why it is refused: a length other than
+    /// 24 (1A/00), then SPEC_I_PT, or ALL_TG_PT where a host is registered (26/00).
     pub fn decode(action: PrAction, list: &[u8]) -> Result<PrOut, Sense>
         ensures { result ≡ list_decoded action list.now }
     {

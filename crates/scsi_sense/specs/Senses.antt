@@ -10,7 +10,7 @@ use Rattle.scsi_sense.specs.SenseData.{plain_sense}
 abbrev pub no_sense : Sense
 no_sense = plain_sense NoSense 0x00 0x00
 
--- a command block has no code, or one that is not known (SPC-4, command processing)
+-- a command block has no operation code, or an unknown one (SPC-4, command processing)
 abbrev pub invalid_operation_code : Sense
 invalid_operation_code = plain_sense IllegalRequest 0x20 0x00
 
@@ -30,7 +30,7 @@ invalid_parameter = plain_sense IllegalRequest 0x26 0x00
 abbrev pub invalid_release : Sense
 invalid_release = plain_sense IllegalRequest 0x26 0x04
 
--- an element address is no slot's and no drive's (SMC-3)
+-- an element address is neither a slot's nor a drive's (SMC-3)
 abbrev pub invalid_element_address : Sense
 invalid_element_address = plain_sense IllegalRequest 0x21 0x01
 
@@ -54,7 +54,7 @@ medium_not_present = plain_sense NotReady 0x3a 0x00
 abbrev pub medium_failed : Sense
 medium_failed = plain_sense HardwareError 0x44 0x00
 
--- what keeps the reservations has failed, and stays so until a restart: reported as a failed medium is (own)
+-- the keeper of the reservations has failed, and stays so until a restart; it is reported like a failed medium (own)
 abbrev pub keeper_failed : Sense
 keeper_failed = plain_sense HardwareError 0x44 0x00
 
@@ -74,17 +74,17 @@ read_error = plain_sense MediumError 0x11 0x00
 abbrev pub insufficient_resources : Sense
 insufficient_resources = plain_sense AbortedCommand 0x55 0x03
 
--- what was written is there, and the partition is nearly full (SSC-4, WRITE(6); INFORMATION own)
+-- the data were written, and the partition is nearly full (SSC-4, WRITE(6); INFORMATION own)
 abbrev pub early_warning : Sense
 early_warning = record (plain_sense NoSense 0x00 0x02) { end_of_medium = true; information = Some 0 }
 
--- what was to be written does not fit, and nothing changed; residue is what was not written, if it is reported
--- (SSC-4, WRITE(6); that nothing changed own)
+-- the data do not fit, and nothing changed; residue is what was not written, if it is reported (SSC-4, WRITE(6); that
+-- nothing changed own)
 abbrev pub volume_overflow : Option ℕ → Sense
 volume_overflow residue = record (plain_sense VolumeOverflow 0x00 0x02) { end_of_medium = true; information = residue }
 
--- the end of data was met; residue is what was not passed or read, if it is reported
--- (SSC-4, READ(6), SPACE(6), LOCATE(10))
+-- the end of data was met; residue is what was not passed or read, if it is reported (SSC-4, READ(6), SPACE(6),
+-- LOCATE(10))
 abbrev pub end_of_data : Option ℕ → Sense
 end_of_data residue = record (plain_sense BlankCheck 0x00 0x05) { information = residue }
 

@@ -1,4 +1,4 @@
-//! What a host is answered: sense data, each by its name, statuses and replies.
+//! Replies to a host: sense data, each by its name, statuses and replies.
 #![tactic(auto)]
 
 pub mod replies;

@@ -14,7 +14,7 @@ pub enum Status {
     Conflict = 0x18,
 }
 
-/// What a host is answered: `bytes` are what it is given. Only `Check` has sense data.
+/// The reply to a host: `bytes` are the data that it gets. Only `Check` has sense data.
 #[derive(Drop)]
 pub struct Reply {
     pub status: Status,

@@ -2,7 +2,7 @@
 ghost use Rattle.std.specs.Prelude.{◌≡◌, ◌<◌};
 ghost use Rattle.scsi_sense.specs.SenseData.{bit_if, key_number, plain_sense, sense_bytes};
 
-/// What kind of condition is reported (SPC-4, sense key).
+/// The kind of condition that is reported (SPC-4, sense key).
 #[derive(Clone, Copy, PartialEq, Eq, Debug)]
 pub enum SenseKey {
     NoSense = 0x0,

@@ -13,8 +13,7 @@ impl Sense {
         Sense::plain(SenseKey::NoSense, 0x00, 0x00)
     }
 
-    /// A command block has no code, or one that is not known (INVALID COMMAND OPERATION
-    /// CODE).
+    /// A command block has no operation code, or an unknown one (INVALID COMMAND OPERATION CODE).
     pub fn invalid_operation_code() -> Self
         ensures { result ≡ invalid_operation_code }
     {
@@ -51,7 +50,7 @@ impl Sense {
         Sense::plain(SenseKey::IllegalRequest, 0x26, 0x04)
     }
 
-    /// An element address is no slot's and no drive's (INVALID ELEMENT ADDRESS).
+    /// An element address is neither a slot's nor a drive's (INVALID ELEMENT ADDRESS).
     pub fn invalid_element_address() -> Self
         ensures { result ≡ invalid_element_address }
     {
@@ -95,8 +94,8 @@ impl Sense {
         Sense::plain(SenseKey::HardwareError, 0x44, 0x00)
     }
 
-    /// What keeps the reservations has failed, and stays so until a restart. It is reported
-    /// as a failed medium is (INTERNAL TARGET FAILURE, own).
+    /// The keeper of the reservations has failed, and stays so until a restart. It is reported like a failed
+    /// medium (INTERNAL TARGET FAILURE, own).
     pub fn keeper_failed() -> Self
         ensures { result ≡ keeper_failed }
     {
@@ -136,8 +135,7 @@ impl Sense {
         Sense::plain(SenseKey::AbortedCommand, 0x55, 0x03)
     }
 
-    /// What was written is there, and the partition is nearly full (END-OF-
-    /// PARTITION/MEDIUM DETECTED).
+    /// The data were written, and the partition is nearly full (END-OF-PARTITION/MEDIUM DETECTED).
     pub fn early_warning() -> Self
         ensures { result ≡ early_warning }
     {
@@ -148,8 +146,8 @@ impl Sense {
         }
     }
 
-    /// What was to be written does not fit, and nothing changed (END-OF-
-    /// PARTITION/MEDIUM DETECTED). `residue` is what was not written, if it is reported.
+    /// The data do not fit, and nothing changed (END-OF-PARTITION/MEDIUM DETECTED). `residue` is what was not
+    /// written, if it is reported.
     pub fn volume_overflow(residue: Option<u32>) -> Self
         ensures { result ≡ volume_overflow residue }
     {

@@ -1,4 +1,4 @@
--- The data that commands answer which ask what the drive is.
+-- The data of the commands that ask about the drive itself.
 use Rattle.std.specs.Prelude.{ℕ, List, [], ◌∷◌, ◌++◌, take, codes}
 use Rattle.byteorder.specs.Endian.{big_bytes}
 use Rattle.vtl_base.specs.declared.limits.TheConstants.{MAX_BLOCK}
@@ -18,6 +18,6 @@ inquiry_data = inquiry_head ++ codes "VTLIB   " ++ codes "TAPE DRIVE      " ++ c
 abbrev pub block_limits : List ℕ
 block_limits = 0 ∷ big_bytes 3 MAX_BLOCK ++ big_bytes 2 1
 
--- what is given of data to a host that has room for so many bytes (SPC-4, ALLOCATION LENGTH)
+-- the part of data that fits a host's room for `allocation` bytes (SPC-4, ALLOCATION LENGTH)
 abbrev pub cut_to : ℕ → List ℕ → List ℕ
 cut_to allocation bytes = take allocation bytes

@@ -138,8 +138,8 @@ scope_and_type cdb = slice_index cdb 2
 abbrev pub list_length : List ℕ → ℕ
 list_length cdb = big_number 4 (drop 5 cdb)
 
--- the command of a block of the right length, where its fields are right; nothing else of the block counts
--- (SPC-4, SSC-4; own that FIXED, DESC, MLOI, EVPD, SP, pages and long forms are refused)
+-- the command of a block of the right length, where its fields are right; nothing else in the block counts (SPC-4,
+-- SSC-4; own that FIXED, DESC, MLOI, EVPD, SP, pages and long forms are refused)
 abbrev pub command_by_fields : Opcode → List ℕ → Option Command
 command_by_fields code.TestUnitReady cdb = Some TestUnitReady
 command_by_fields code.Rewind cdb = Some Rewind
@@ -209,11 +209,11 @@ abbrev pub checked : Option Command → Result Command Sense
 checked None = Err invalid_field
 checked (Some command) = Ok command
 
--- a block's command, once its code was looked for (own)
+-- the command of a block, after its code was looked up (own)
 abbrev pub decoded_as : Option Opcode → List ℕ → Result Command Sense
 decoded_as None cdb = Err invalid_operation_code
 decoded_as (Some opcode) cdb = checked (command_of opcode cdb)
 
--- a block's command, or why it has none: first the code, then length and fields (own, the order of checks)
+-- the command of a block, or why it has none: first the code, then length and fields (own, the order of checks)
 abbrev pub decoded : List ℕ → Result Command Sense
 decoded cdb = decoded_as (opcode_of cdb) cdb

@@ -34,14 +34,14 @@ row_of ReadPosition = new_row 0x34 10 false false true
 row_of PersistentReserveIn = new_row 0x5e 10 false false false
 row_of PersistentReserveOut = new_row 0x5f 10 false false false
 
--- the codes that are known (own)
+-- the known codes (own)
 abbrev pub opcodes : List Opcode
 opcodes =
     TestUnitReady ∷ Rewind ∷ RequestSense ∷ ReadBlockLimits ∷ Read ∷ Write ∷ WriteFilemarks ∷ Space ∷ Inquiry
     ∷ ModeSelect ∷ Erase ∷ ModeSense ∷ LoadUnload ∷ Locate ∷ ReadPosition ∷ PersistentReserveIn
     ∷ PersistentReserveOut ∷ []
 
--- the code that a byte is (own)
+-- the code with this byte (own)
 abbrev pub opcode_at : ℕ → Option Opcode
 opcode_at byte = find (λ opcode. (row_of opcode).code == byte) opcodes
 

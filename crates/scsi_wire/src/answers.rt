@@ -1,4 +1,4 @@
-//! The data that commands answer which ask what the drive is.
+//! The data of the commands that ask about the drive itself.
 ghost use Rattle.std.specs.Prelude.{◌≡◌};
 ghost use Rattle.scsi_wire.specs.Answers.{block_limits, cut_to, inquiry_data};
 
@@ -22,7 +22,7 @@ pub fn block_limits() -> [u8; 6]
     limits
 }
 
-/// What is given of these bytes to a host that has room for `allocation` bytes (SPC-4, ALLOCATION LENGTH).
+/// The part of these bytes that fits a host's room for `allocation` bytes (SPC-4, ALLOCATION LENGTH).
 pub fn cut_to(bytes: &[u8], allocation: usize) -> &[u8]
     ensures { result.now ≡ cut_to allocation bytes.now }
 {

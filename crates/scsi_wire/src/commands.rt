@@ -63,7 +63,7 @@ pub enum Command {
     LoadUnload {
         load: bool,
     },
-    /// `part` is the partition where another is asked for (CP).
+    /// `part` is the partition, where the command names one (CP).
     Locate {
         object: ObjNo,
         part: Option<PartNo>,
@@ -74,7 +74,7 @@ pub enum Command {
         action: PrRead,
         length: u16,
     },
-    /// `length` is that of the parameter list, which the host sends: any that four bytes spell.
+    /// `length` is that of the parameter list, which the host sends: any number of four bytes.
     PersistentReserveOut {
         action: PrAction,
         length: u32,
@@ -154,8 +154,8 @@ impl Command {
 }
 
 impl Cdb {
-    /// The command of a block, or why it is none: an unknown or missing code (20/00), a wrong
-    /// length or field (24/00).
+    /// The command of a block, or why it has none: an unknown or missing code (20/00), a wrong length or
+    /// field (24/00).
     pub fn decode(cdb: &[u8]) -> Result<Command, Sense>
         ensures { result ≡ decoded cdb.now }
     {

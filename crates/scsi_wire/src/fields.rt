@@ -136,7 +136,7 @@ pub fn mode_select(cdb: &[u8]) -> Option<Command>
     Some(Command::ModeSelect { length: cdb[4] })
 }
 
-/// MODE SENSE: a page that there is not is refused.
+/// MODE SENSE: an unknown page is refused.
 pub fn mode_sense(cdb: &[u8]) -> Option<Command>
     requires { 5 ≤ length cdb.now }
     ensures { result ≡ command_by_fields Opcode.ModeSense cdb.now }
@@ -150,7 +150,7 @@ pub fn mode_sense(cdb: &[u8]) -> Option<Command>
     })
 }
 
-// No page, or all that there are: none.
+// No page, or all pages, of which there are none.
 fn is_mode_page_known(cdb: &[u8]) -> bool
     requires { 3 ≤ length cdb.now }
     ensures { result ≡ is_mode_page_known cdb.now }
@@ -217,8 +217,8 @@ fn pr_read(service_action: u8) -> Option<PrRead>
     }
 }
 
-/// PERSISTENT RESERVE OUT: a service action that is not known is refused, and a scope or type that is none
-/// where a reservation is made or released.
+/// PERSISTENT RESERVE OUT: an unknown service action is refused, and a scope or type of no reservation where
+/// one is made or released.
 pub fn persistent_reserve_out(cdb: &[u8]) -> Option<Command>
     requires { 9 ≤ length cdb.now }
     ensures { result ≡ command_by_fields Opcode.PersistentReserveOut cdb.now }

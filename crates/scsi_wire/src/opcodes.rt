@@ -24,7 +24,7 @@ pub enum Opcode {
     PersistentReserveOut,
 }
 
-/// What the table says of a code.
+/// The row of a code.
 #[derive(Clone, Copy)]
 struct Row {
     code: u8,
@@ -76,8 +76,8 @@ impl Opcode {
         Opcode::at(*cdb.first()?)
     }
 
-    /// Whether its commands are carried out whatever is pending, reserved or loaded: no deferred
-    /// error, unit attention condition, reservation or want of a medium stops them (own).
+    /// Whether its commands are carried out whatever is pending, reserved or loaded: no deferred error, unit
+    /// attention condition, reservation or missing medium stops them (own).
     pub fn is_exempt(self) -> bool
         ensures { result ≡ is_exempt self }
     {
@@ -114,8 +114,8 @@ impl Opcode {
             .find(|opcode| opcode.row().code == code)
     }
 
-    // One row a code: its byte, the bytes of its blocks, and whether it is exempt from the checks,
-    // is stopped by a reservation, needs a medium.
+    // The row of a code: its byte, the bytes of its blocks, and whether it is exempt from the checks, is
+    // stopped by a reservation, needs a medium.
     fn row(self) -> Row
         ensures { result ≡ row_of self }
     {

@@ -1,4 +1,4 @@
--- What is found of two images is which side counts.
+-- What is found on two images decides which side counts.
 use Rattle.std.proofs.Common.{◌≡◌, ◌≢◌, inl, inr, ℕ, ◌<◌, ◌≤◌, List, [], ◌∷◌, ◌++◌, length, get_or, take, drop, sym, ◌∙◌, ap, subst, arith, take-append-drop}
 use Rattle.std.specs.Prelude.{Option, None, Some}
 use Rattle.std.proofs.lemmas.List.{drop-drop, drop_more}
@@ -16,7 +16,7 @@ use Rattle.side_pairs.specs.Inner.{HasOpenPair, IsGreater, Opens}
 use Rattle.side_pairs.proofs.CutLemmas.{front, less_counts, more_counts}
 use Rattle.side_pairs.specs.Inner.Decided.{both_closed, both_open, first_headless, headless_open, no_first, no_second, not_alone, one_side, open_shut, same_epochs, second_headless}
 
--- what is found by the first bytes of two images holds of the images
+-- what the first bytes of two images show holds of the images
 pub chooses_whole : (first second : List ℕ) (found : Option Counted) → Chooses (front first) (front second) found →
     Chooses first second found
 chooses_whole first second (Some counted) (h, rest, counts, told) =
@@ -35,14 +35,14 @@ start_there image long is = (
       ∙ (let e = drop-drop 8 1 image ∙ drop_more image 9 0 (omega (arith, long)) in λ i. is i ++ e i)),
 )
 
--- the gates that an open side has
+-- the gates of an open side
 gate_at : (p : ℕ) (h : Head) (rest image : List ℕ) → IsOpenSide p h rest image → get_or image 9 0 ≡ p
 gate_at p h rest image side = ap (λ (l : List ℕ). get_or l 9 0) side.image_is
 
 shut_at : (p : ℕ) (image : List ℕ) → IsClosedSide p image → get_or image 9 0 ≡ p
 shut_at p image (gate, rest, shut, is) = ap (λ (l : List ℕ). get_or l 9 0) is
 
--- where the pair gate is closed: what begins with no side, or is closed, or has no head, is no side that counts
+-- where the pair gate is closed: an image that begins with no side, is closed, or has no head does not count
 module _ (first second : List ℕ) where
   pub alone_without : (HasStart first → ⊥) → IsNoPair first second
   alone_without never = no_first first second never
@@ -76,7 +76,7 @@ module _ (first second : List ℕ) where
     alone_plain told says (p, h, rest, side, tells) =
         (h, rest, (p, side, inl (nay p OPEN (spell_side_head h ++ rest) side.image_is, sym tells.1 ∙ says)), tells)
 
--- where it is open
+-- where the pair gate is open
 module _ (first second : List ℕ) (paired : HasOpenPair first) where
   paired_at : get_or first 9 0 ≡ OPEN
   paired_at = ap (λ (l : List ℕ). get_or l 9 0) paired.2

@@ -1,4 +1,4 @@
--- A copy is written behind ten bytes, and all that was there before them stays.
+-- A copy is written after ten bytes, and all pairs stand for the same.
 use Rattle.std.proofs.Common.{◌≡◌, ℕ, ◌+◌, ◌-◌, ◌≤◌, List, ◌++◌, length, take, drop, sym, ◌∙◌, ap, subst, arith, append_assoc, take-append-drop}
 use Rattle.std.specs.Prelude.{Result}
 use Rattle.std.proofs.Math.Seq.{take-append-add}
@@ -12,7 +12,7 @@ use Rattle.side_pairs.specs.Copying.{KeepsFront}
 use Rattle.side_pairs.specs.Passes.{ReadsClosed, SidesStandFor}
 use Rattle.side_pairs.proofs.PassLemmas.{writing_keeps}
 
--- ten bytes stay through a write behind them
+-- ten bytes stay through a write after them
 begins_still : (front before image : List ℕ) (at n : ℕ) → length front ≡ 10 → 10 ≤ at → IsPrefixOf front before →
     Smeared at n before image → IsPrefixOf front image
 begins_still front before image at n ten far (more, is) s =
@@ -24,13 +24,13 @@ begins_still front before image at n ten far (more, is) s =
       s.before.1 ∙ ap (λ (l : List ℕ). l ++ s.before.0) kept ∙ append_assoc front (take left more) s.before.0,
     )
 
--- and through a cut behind them
+-- and through a cut after them
 front_cut : (front before image : List ℕ) → length front ≡ 10 → IsPrefixOf front before → Cut 10 before image →
     IsPrefixOf front image
 front_cut front before image ten (more, is) (rest, cut) =
     (rest, cut ∙ ap (λ (l : List ℕ). l ++ rest) (ap (λ (l : List ℕ). take 10 l) is ∙ take_at front more 10 ten))
 
--- a disk of which each image begins with ten bytes is as long
+-- a disk whose images all begin with ten bytes has at least ten
 as_long : (front : List ℕ) (d : DiskState) → length front ≡ 10 → IsDisk d → Each d (IsPrefixOf front) →
     10 ≤ length d.seen
 as_long front d ten disk each =
@@ -59,7 +59,7 @@ module _ (d0 d1 : DiskState) (disk : IsDisk d0) (time : Elapses d0 d1) where
       one_more_call d0 d0 d1 (IsPrefixOf front) (no_call d0 (IsPrefixOf front) disk each) time
       (λ image left. each image (s.crash image left))
 
--- two runs in a row
+-- two runs, one after another
 pub keeps_then : (d0 d1 d2 : DiskState) → IsDisk d1 → KeepsFront d0 d1 → KeepsFront d1 d2 → KeepsFront d0 d2
 keeps_then d0 d1 d2 disk first second = λ front ten each.
     let run = first front ten each in

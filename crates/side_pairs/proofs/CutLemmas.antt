@@ -1,4 +1,4 @@
--- Which side counts is told by the first 71 bytes of each image.
+-- The first 71 bytes of each image decide which side counts.
 use Rattle.std.proofs.Common.{◌≡◌, inl, inr, ℕ, ◌+◌, ◌-◌, List, ◌++◌, length, take, drop, sym, ◌∙◌, ap, arith, append_assoc, take-append-drop}
 use Rattle.std.proofs.Math.Seq.{take-append-add}
 use Rattle.gate_journal.specs.Heads.{Head, epoch_of, spell_side_head}
@@ -60,7 +60,7 @@ module _ (image : List ℕ) where
   less_yields epoch p (inr (h, rest, side, less)) =
       inr (h, take (61 - length (spell_side_head h)) rest, less_open p h rest side, less)
 
--- what counts by the first bytes counts
+-- a side that counts by the first bytes counts
 pub more_counts : (which : Which) (h : Head) (rest first second : List ℕ) →
     SideCounts which h rest (front first) (front second) →
     (all : List ℕ) × SideCounts which h all first second
@@ -84,7 +84,7 @@ more_counts First h rest first second (p, side, inr (is, (o, shut, y))) = (
 more_counts Second h rest first second (p, shut, side, y) =
     (rest ++ drop 71 second, (p, shut, more_open second p h rest side, more_yields first (epoch_of h) OPEN y))
 
--- what counts does so by the first bytes
+-- a side that counts does so by the first bytes
 pub less_counts : (which : Which) (h : Head) (rest first second : List ℕ) → SideCounts which h rest first second →
     (some : List ℕ) × SideCounts which h some (front first) (front second)
 less_counts First h rest first second (p, side, inl alone) =

@@ -1,4 +1,4 @@
--- A gate is read, and written over.
+-- Reading and overwriting a gate.
 use Rattle.std.proofs.Common.{◌≡◌, ◌≢◌, ℕ, ◌<◌, List, [], ◌∷◌, ◌++◌, length, get_or, take, drop, refl, sym, ◌∙◌, ap, subst, arith, take-append-drop, ◌+◌}
 use Rattle.std.specs.Prelude.{Result}
 use Rattle.std.proofs.lemmas.List.{append-nil}
@@ -11,7 +11,7 @@ use Rattle.side_pairs.specs.Pairs.{begun}
 use Rattle.side_pairs.specs.Passes.{HasStart, IsClosedNow, IsPairedNow, IsShutPair, ReadsClosed, ReadsOpen}
 use Rattle.side_pairs.specs.Inner.{HasOpenPair}
 
--- what a write that was not begun leaves
+-- a write that was not begun
 untouched : (at n : ℕ) (bytes : List ℕ) → Smeared at n bytes bytes
 untouched at n bytes = record {
   before = (drop at bytes, sym (take-append-drop at bytes));
@@ -35,7 +35,7 @@ none_read d disk = record {
   moments = no_call d d.may_leave disk (λ image left. left);
 }
 
--- a byte is written over what is sure
+-- a byte is written over a sure one
 module _ (at : ℕ) (bytes : List ℕ) (d0 d1 : DiskState) (disk : IsDisk d0) (sure : Only d0.seen d0.may_leave)
     (r : Result Unit DevFault) (w : Writes at bytes r d0 d1) (time : Elapses d0 d1) where
   abbrev Left : List ℕ → Type 0
@@ -56,7 +56,7 @@ module _ (at : ℕ) (bytes : List ℕ) (d0 d1 : DiskState) (disk : IsDisk d0) (s
   after_sync d2 q s time2 = one_more_call d0 d1 d2 Left after_write time2 (λ image left. smeared image
       (s.crash image left))
 
--- ten bytes are longer than the place of either gate
+-- ten bytes reach beyond the place of either gate
 pub long_start : (image : List ℕ) → HasStart image → 9 < length image
 long_start image (side, pair, rest, is) = omega (arith, ap length is)
 
@@ -66,11 +66,11 @@ pair_gate_is image (side, pair, rest, is) = ap (λ (l : List ℕ). get_or l 9 0)
 pub side_gate_is : (image : List ℕ) (s : HasStart image) → get_or image 0 0 ≡ s.0
 side_gate_is image (side, pair, rest, is) = ap (λ (l : List ℕ). get_or l 0 0) is
 
--- a pair gate that does not read open is closed
+-- a pair gate that is not open is closed
 pub reads_shut : (image : List ℕ) → HasStart image → (get_or image 9 0 ≢ OPEN) → IsShutPair image
 reads_shut image s nay = (s.0, s.1, s.2, (λ e. nay (pair_gate_is image s ∙ e)), s.3)
 
--- one that reads open is not
+-- an open one is not
 pub reads_paired : (image : List ℕ) → HasStart image → get_or image 9 0 ≡ OPEN → HasOpenPair image
 reads_paired image s e =
     (s.0, s.2, s.3 ∙ ap (λ (p : ℕ). begun s.0 p ++ s.2) (sym (pair_gate_is image s) ∙ e))
@@ -78,12 +78,12 @@ reads_paired image s e =
 pub not_shut : (image : List ℕ) → get_or image 9 0 ≡ OPEN → IsShutPair image → ⊥
 not_shut image e (side, pair, rest, nay, is) = nay (sym (ap (λ (l : List ℕ). get_or l 9 0) is) ∙ e)
 
--- the pair gate is written over
+-- the pair gate is overwritten
 pub opened_pair : (old new : List ℕ) → HasStart old → new ≡ overwritten 9 (OPEN ∷ []) old → HasOpenPair new
 opened_pair old new (side, pair, rest, is) holds =
     (side, rest, holds ∙ ap (λ (l : List ℕ). overwritten 9 (OPEN ∷ []) l) is)
 
--- a side gate that does not read open is closed, and one that does is open
+-- a side is closed where its gate is not OPEN, and open where it is
 pub reads_closed : (image : List ℕ) → HasStart image → (get_or image 0 0 ≢ OPEN) → ReadsClosed image
 reads_closed image s nay = (s.1, (s.0, s.2, (λ e. nay (side_gate_is image s ∙ e)), s.3))
 
@@ -94,12 +94,12 @@ reads_open image s e =
 closed_is : CLOSED ≢ OPEN
 closed_is e = absurd (omega (arith, e))
 
--- the side gate is written over
+-- the side gate is overwritten
 pub closed_side : (old new : List ℕ) → HasStart old → new ≡ overwritten 0 (CLOSED ∷ []) old → ReadsClosed new
 closed_side old new (side, pair, rest, is) holds =
     (pair, (CLOSED, rest, closed_is, holds ∙ ap (λ (l : List ℕ). overwritten 0 (CLOSED ∷ []) l) is))
 
--- time passes, and nothing is said of what a crash leaves
+-- time passes, without a fact about what a crash leaves
 abbrev pub Anything : List ℕ → Type 0
 Anything image = Unit {0}
 
@@ -114,7 +114,7 @@ module _ (d0 d1 : DiskState) (disk : IsDisk d0) (first : Elapses d0 d1) where
     pub three_calls : (d3 : DiskState) → Elapses d2 d3 → LeavesOnly d0 d3 Anything
     three_calls d3 third = one_more_call d0 d2 d3 Anything two_calls third (λ image left. tt)
 
--- a disk whose bytes are sure is read, and then one gate of it is written over
+-- a disk whose bytes are sure is read, and then one gate of it is overwritten
 module _ (d0 d1 : DiskState) (sure : Only d0.seen d0.may_leave) (unwritten : Unwritten d0 d1) where
   pub read_rests : (P : List ℕ → Type 0) → P d0.seen → LeavesOnly d0 d1 P
   read_rests P holds = weakened d0 d1 d0.may_leave P unwritten.moments

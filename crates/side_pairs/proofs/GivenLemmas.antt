@@ -1,4 +1,4 @@
--- Bodies that were given, and stand on the disk as frames.
+-- Bodies that were given, and are on the disk as frames.
 use Rattle.std.proofs.Common.{◌≡◌, inl, inr, ℕ, ◌+◌, List, [], ◌∷◌, ◌++◌, length, take, refl, sym, ◌∙◌, ap, subst, arith, append_assoc}
 use Rattle.std.specs.Prelude.{Result, Ok, Err, OnOk}
 use Rattle.std.specs.List.{flat_map}
@@ -18,14 +18,14 @@ frames_push bodies body = flat_map-append frame bodies (body ∷ [])
     ∙ ap (λ (l : List ℕ). flat_map frame bodies ++ l) (append-nil (frame body))
 
 module _ {S : Type 0} (gives : S → List ℕ → S → Type 0) where
-  -- bodies that were given, and others behind them
+  -- bodies that were given, and others after them
   pub gives_then : (old mid new : S) (bodies more : List (List ℕ)) → GivesAll gives old bodies mid →
       GivesAll gives mid more new → GivesAll gives old (bodies ++ more) new
   gives_then old mid new [] more same gave = subst (λ x. GivesAll gives x more new) same gave
   gives_then old mid new (body ∷ bodies) more (next, first, rest) gave =
       (next, first, gives_then next mid new bodies more rest gave)
 
-  -- one frame more
+  -- one more frame
   pub frames_more : (count : ℕ) (bodies : List (List ℕ)) (body : List ℕ) (at end : ℕ) (s0 s1 s2 : S)
       (d0 d1 d2 : DiskState) → (d0.honest → d1.honest) → HasFrames gives count bodies at s0 s1 d0 d1 →
       WasGiven gives body at end s1 s2 d1 d2 → HasFrames gives (count + 1) (bodies ++ body ∷ []) end s0 s2 d0 d2

@@ -1,4 +1,4 @@
--- What a stop may leave where a gate is written again that is so already.
+-- What a stop may leave where a gate is written over itself.
 use Rattle.std.proofs.Common.{◌≡◌, ◌≢◌, inl, ℕ, List, [], ◌∷◌, ◌++◌, drop, ◌∙◌, ap, arith}
 use Rattle.std.specs.Prelude.{None}
 use Rattle.tape_disk.specs.Disk.{Smeared, overwritten}

@@ -1,4 +1,4 @@
--- Whatever a stop in a pass leaves, the same side counts, or at the last pass the copy.
+-- Whatever a stop in a pass leaves, the same side counts; in the last pass that side or the copy.
 use Rattle.std.proofs.Common.{◌≡◌, ◌⊎◌, inl, inr, ℕ, List, [], ◌∷◌, ◌++◌, length, take, drop, get_or, sym, ◌∙◌, ap, subst, arith, append_assoc}
 use Rattle.std.specs.Prelude.{◌≢◌}
 use Rattle.std.specs.List.{flat_map}
@@ -13,7 +13,7 @@ use Rattle.side_pairs.specs.Pairs.{begun, IsOfCartridge, IsOpenSide, IsClosedSid
 use Rattle.side_pairs.specs.Passes.{IsShutPair, IsPrepared, ReadsOpen, ReadsClosed, HasWritten, IsCopy, SidesStandFor, TakesOver, copy_head, spell_copy, other, first_image, second_image}
 use Rattle.side_pairs.specs.Inner.Decided.{same_pair}
 
--- ten bytes and what lies behind them, after a write of their first byte that may have ended in any way
+-- ten bytes and the rest, after a write of their first byte that ended in any way
 pub first_smeared : (side pair : ℕ) (rest image : List ℕ) → Smeared 0 1 (begun side pair ++ rest) image →
     (gate : ℕ) × (tail : List ℕ) × (image ≡ begun gate pair ++ (rest ++ tail))
 first_smeared side pair rest [] s = absurd (omega (arith, s.no_shorter))
@@ -29,12 +29,12 @@ last_with side pair rest image (gate ∷ more) e s = (
   e ∙ ap (λ (l : List ℕ). begun side gate ++ l) (ap (λ (l : List ℕ). drop 10 l) (sym e) ∙ s.after.1),
 )
 
--- the same of the last of them
+-- the same for the last of them
 pub last_smeared : (side pair : ℕ) (rest image : List ℕ) → Smeared 9 1 (begun side pair ++ rest) image →
     (gate : ℕ) × (tail : List ℕ) × (image ≡ begun side gate ++ (rest ++ tail))
 last_smeared side pair rest image s = last_with side pair rest image s.before.0 s.before.1 s
 
--- a head and the rest stay, whatever stands behind
+-- a head and its rest stay, whatever follows
 more_behind : (pair : ℕ) (h : Head) (rest tail image : List ℕ) → IsOfCartridge h →
     image ≡ begun OPEN pair ++ ((spell_side_head h ++ rest) ++ tail) → IsOpenSide pair h (rest ++ tail) image
 more_behind pair h rest tail image ok is = record {
@@ -42,7 +42,7 @@ more_behind pair h rest tail image ok is = record {
   image_is = is ∙ ap (λ (l : List ℕ). begun OPEN pair ++ l) (append_assoc (spell_side_head h) rest tail);
 }
 
--- the gate of an open side of a lesser epoch, while it is closed
+-- the gate of an open side with a lesser epoch, while it is closed
 closing : (epoch pair : ℕ) (old image : List ℕ) → ReadsOpen old → YieldsTo epoch pair old → Smeared 0 1 old image →
     YieldsTo epoch pair image
 closing epoch pair old image opened (inl (gate, rest, shut, is)) left =
@@ -61,7 +61,7 @@ closing epoch pair old image opened (inr (h, rest, side, less)) left =
       | inr shut ↦ inl (w.0, (spell_side_head h ++ rest) ++ w.1, shut, w.2)
     ]
 
--- what yields and is closed still yields where its ten bytes stay
+-- a closed side that yields still yields where its ten bytes stay
 yields_begun : (epoch p : ℕ) (old image : List ℕ) → YieldsTo epoch p old → ReadsClosed old →
     IsPrefixOf (take 10 old) image → YieldsTo epoch p image
 yields_begun epoch p old image yields (q, (gate, rest, shut, is)) (more, begins) =
@@ -103,7 +103,7 @@ closing_keeps which h bodies counts spare image stands opened left =
     stands_beside which h bodies counts spare image
     (λ epoch pair y. closing epoch pair spare image opened y left) stands
 
--- while a copy is written behind the ten bytes of a closed spare, the pair stands for the same
+-- while a copy is written after the ten bytes of a closed spare, the pair stands for the same
 pub writing_keeps : (which : Which) (h : Head) (bodies : List (List ℕ)) (counts spare image : List ℕ) →
     SidesStandFor which h bodies counts spare → ReadsClosed spare → IsPrefixOf (take 10 spare) image →
     SidesStandFor which h bodies counts image
@@ -111,7 +111,7 @@ writing_keeps which h bodies counts spare image stands closed left =
     stands_beside which h bodies counts spare image (λ epoch pair y. yields_begun epoch pair spare image y closed left)
     stands
 
--- the first side is read alone, so nothing of the second image counts
+-- the first side is read alone, so the second image does not count
 alone_keeps : (which : Which) (h : Head) (rest first second image : List ℕ) → IsShutPair first →
     SideCounts which h rest first second → SideCounts which h rest first image
 alone_keeps First h rest first second image shut (pair, side, inl alone) = (pair, side, inl alone)
@@ -137,7 +137,7 @@ preparing_keeps which h bodies first second image (frames, (gate, more, nay, cou
   ),
 )
 
--- the first side counts whatever its pair gate holds, where the second one is prepared
+-- the first side counts with any pair gate, where the second is prepared
 pairing : (which : Which) (h : Head) (rest first second image : List ℕ) → IsShutPair first → IsPrepared second →
     Smeared 9 1 first image → SideCounts which h rest first second →
     (tail : List ℕ) × SideCounts which h (rest ++ tail) image second
@@ -180,7 +180,7 @@ pairing_keeps which h bodies first second image (frames, (gate, more, nay, count
       ),
     )
 
--- a head of a copy can be spelled
+-- the head of a copy can be spelled
 copy_ok : (h : Head) (copies : List (List ℕ)) → IsOfCartridge h → IsCopy h copies → IsOfCartridge (copy_head h copies)
 copy_ok h copies ok copy = record {
   kind = ok.kind;
@@ -194,7 +194,7 @@ module _ (h : Head) (copies : List (List ℕ)) (ok : IsOfCartridge h) (copy : Is
   abbrev k : Head
   k = copy_head h copies
 
-  -- what lies behind the head of the copy
+  -- what follows the head of the copy
   abbrev copied : List ℕ → List ℕ
   copied more = flat_map frame copies ++ CLOSED ∷ more
 
@@ -233,7 +233,7 @@ module _ (h : Head) (copies : List (List ℕ)) (ok : IsOfCartridge h) (copy : Is
         inr (sym q, (pair, shut, inr (h, rest, side, omega arith))),
       )
 
--- ten bytes that a side begins with tell the pair gate beside which it yields
+-- the ten bytes at the start of a side have the pair gate with which it yields
 pair_told : (epoch q g p : ℕ) (xs spare : List ℕ) → spare ≡ begun g p ++ xs → YieldsTo epoch q spare → q ≡ p
 pair_told epoch q g p xs spare is (inl (gate, rest, shut, was)) = same_pair gate g q p rest xs (sym was ∙ is)
 pair_told epoch q g p xs spare is (inr (k, rest, side, less)) =
@@ -264,13 +264,13 @@ module _ (which : Which) (h : Head) (bodies copies : List (List ℕ)) (counts sp
         ),
       )
 
-  -- once it is done
+  -- after it
   pub opened_counts : TakesOver which h copies counts (OPEN ∷ drop 1 spare)
   opened_counts = counts_open (OPEN ∷ drop 1 spare) []
       (ap (λ (l : List ℕ). OPEN ∷ drop 1 l) written.4
       ∙ ap (λ (l : List ℕ). begun OPEN written.1 ++ l) (sym (append-nil (spell_copy h copies ++ written.2))))
 
-  -- wherever it is stopped
+  -- at any moment of it
   pub opening_keeps : (image : List ℕ) → Smeared 0 1 spare image →
       SidesStandFor which h bodies counts image ⊎ TakesOver which h copies counts image
   opening_keeps image left =

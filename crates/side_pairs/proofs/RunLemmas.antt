@@ -1,4 +1,4 @@
--- Calls of two disks in a row.
+-- Calls of two disks, one after another.
 use Rattle.std.proofs.Common.{◌≡◌, inl, inr, ℕ, List, ◌∙◌, subst, arith}
 use Rattle.std.specs.Prelude.{Option, Result, Ok, Err}
 use Rattle.vtl_base.specs.declared.faults.DevFault.{DevFault}
@@ -17,14 +17,14 @@ use Rattle.side_pairs.specs.Passes.{IsPreparedBeside, IsShutPair}
 use Rattle.side_pairs.proofs.GateLemmas.{none_read}
 use Rattle.side_pairs.proofs.PassLemmas.{preparing_keeps}
 
--- a read behind a run in which nothing new could be left
+-- a read after a run in which nothing new could be left
 pub moments_then : (d0 d1 d2 : DiskState) → IsDisk d1 → LeavesOnly d0 d1 d0.may_leave → Unwritten d1 d2 →
     LeavesOnly d0 d2 d0.may_leave
 moments_then d0 d1 d2 disk first second =
     in_sequence d0 d1 d2 d0.may_leave first
     (weakened d1 d2 d1.may_leave d0.may_leave second.moments (holds_now d0 d1 d0.may_leave disk first))
 
--- a fault of one of two disks, behind calls of which none failed
+-- a fault of one of two disks, after calls of which none failed
 pub fault_since : (fault : DevFault) (f0 f1 f2 s0 s1 s2 : DiskState) → NoneFailed f0 f1 → NoneFailed s0 s1 →
     IsFaultOfOne fault f1 f2 s1 s2 → IsFaultOfOne fault f0 f2 s0 s2
 fault_since fault f0 f1 f2 s0 s1 s2 first second (inl (is, none)) =
@@ -32,7 +32,7 @@ fault_since fault f0 f1 f2 s0 s1 s2 first second (inl (is, none)) =
 fault_since fault f0 f1 f2 s0 s1 s2 first second (inr (none, is)) =
     inr (none ∙ first, record { cause = omega (arith, second, is.cause); told = is.told })
 
--- the second disk alone is called
+-- only the second disk is called
 pub faults_second : (f0 f1 s0 s1 : DiskState) (r : Result Unit DevFault) → NoneFailed f0 f1 → Passes s0 s1 r →
     FaultsOfOne r f0 f1 s0 s1
 faults_second f0 f1 s0 s1 (Ok done) none p = (none, p.none_failed)

@@ -1,4 +1,4 @@
--- Bytes that are put one behind the other.
+-- Bytes that are appended one part after another.
 use Rattle.std.proofs.Common.{◌≡◌, ℕ, List, ◌∷◌, ◌++◌, ◌∙◌, ap, append_assoc}
 
 -- the parts of a head

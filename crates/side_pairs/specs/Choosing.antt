@@ -1,4 +1,4 @@
--- Which side of a pair counts, as it is found.
+-- The result of choosing the side of a pair that counts.
 use Rattle.std.specs.Prelude.{◌⊎◌, ℕ, List, Option, None, Some, Result, Ok, Err}
 use Rattle.vtl_base.specs.declared.faults.DevFault.{DevFault}
 use Rattle.tape_disk.specs.Disk.{DiskState, Only}
@@ -7,19 +7,19 @@ use Rattle.gate_journal.specs.Heads.{Head, IsToldHead}
 use Rattle.side_pairs.specs.declared.choosing.Counted.{Counted}
 use Rattle.side_pairs.specs.Pairs.{SideCounts, IsNoPair}
 
--- the side that counts, and what its head tells; or that none does (own)
+-- the side that counts, and what is read from its head; None where none counts (own)
 abbrev pub Chooses : List ℕ → List ℕ → Option Counted → Type 0
 Chooses first second (Some counted) =
     (head : Head) × (rest : List ℕ) × SideCounts counted.which head rest first second × IsToldHead counted.head head
 Chooses first second None = IsNoPair first second
 
--- a fault of the one disk, before which no call of the other failed, or the other way round (own)
+-- a fault of one disk, while no call of the other failed (own)
 abbrev pub IsFaultOfOne : DevFault → DiskState → DiskState → DiskState → DiskState → Type 0
 IsFaultOfOne fault first_old first_new second_old second_new =
     (IsFault fault first_old first_new × NoneFailed second_old second_new)
     ⊎ (NoneFailed first_old first_new × IsFault fault second_old second_new)
 
--- The side that counts, of what the two disks read, or that none does; and that is sure. Or a fault (own).
+-- The side that counts, by the bytes of the two disks, which are then sure; None where none counts; or a fault (own).
 abbrev pub FindsCounted : Result (Option Counted) DevFault → DiskState → DiskState → DiskState → DiskState → Type 0
 FindsCounted (Ok found) first_old first_new second_old second_new =
     NoneFailed first_old first_new × NoneFailed second_old second_new
@@ -29,7 +29,7 @@ FindsCounted (Ok found) first_old first_new second_old second_new =
 FindsCounted (Err fault) first_old first_new second_old second_new =
     IsFaultOfOne fault first_old first_new second_old second_new
 
--- where a call answers a fault, it is one of these two disks; where it answers Ok no call of either failed (own)
+-- a fault comes from one of these two disks; at Ok no call of either failed (own)
 abbrev pub FaultsOfOne : Result Unit DevFault → DiskState → DiskState → DiskState → DiskState → Type 0
 FaultsOfOne (Ok done) first_old first_new second_old second_new =
     NoneFailed first_old first_new × NoneFailed second_old second_new

@@ -11,7 +11,7 @@ use Rattle.gate_journal.specs.Heads.{Head, base_of, spell_side_head}
 use Rattle.gate_journal.specs.Side.{CLOSED, frame, heading_of}
 use Rattle.side_pairs.specs.declared.copying.TheConstants.{COPY_BODY}
 
--- what a copy with this header says of itself (own)
+-- the head of a copy with this header (own)
 abbrev pub said_of : Header → Copied → Head
 said_of header copied = record { heading = heading_of header; copied = Some copied }
 
@@ -19,12 +19,12 @@ said_of header copied = record { heading = heading_of header; copied = Some copi
 abbrev pub IsCopyBody : List ℕ → Type 0
 IsCopyBody body = (1 ≤ length body) × (length body ≤ COPY_BODY)
 
--- Ten bytes with which each image began stay: at each moment since, each image begins with them (own).
+-- Where each image began with ten bytes, each image at each moment since begins with them (own).
 abbrev pub KeepsFront : DiskState → DiskState → Type 0
 KeepsFront old new =
     (front : List ℕ) → length front ≡ 10 → Each old (IsPrefixOf front) → LeavesOnly old new (IsPrefixOf front)
 
--- a copy with this head and these frames stands behind the ten bytes, and that is sure (own)
+-- a copy with this head and these frames follows the ten bytes, and that is sure (own)
 pub record IsWritten (head : Head) (bodies : List (List ℕ)) (old new : DiskState) : Type 0 where
   pub count_is : length bodies ≡ base_of head
   pub each : All IsCopyBody bodies
@@ -33,14 +33,14 @@ pub record IsWritten (head : Head) (bodies : List (List ℕ)) (old new : DiskSta
       → (new.seen ≡ take 10 old.seen ++ (spell_side_head head ++ (flat_map frame bodies ++ CLOSED ∷ [])))
       × Only new.seen new.may_leave
 
--- by what a source of bodies gives
+-- for a source of bodies
 module _ {S : Type 0} (gives : S → List ℕ → S → Type 0) where
-  -- it gave these bodies, one after the other (own)
+  -- the source gave these bodies, one after another (own)
   abbrev pub GivesAll : S → List (List ℕ) → S → Type 0
   GivesAll old [] new = new ≡ old
   GivesAll old (body ∷ bodies) new = (mid : S) × gives old body mid × GivesAll mid bodies new
 
-  -- this body was given, and stands on the disk as a frame behind all else (own)
+  -- this body was given, and the disk ends with it as a frame (own)
   pub record WasGiven (body : List ℕ) (at end : ℕ) (source_old source_new : S) (old new : DiskState) : Type 0 where
     pub gave : gives source_old body source_new
     pub short : IsCopyBody body
@@ -48,7 +48,7 @@ module _ {S : Type 0} (gives : S → List ℕ → S → Type 0) where
     pub none_failed : NoneFailed old new
     pub written : old.honest → new.seen ≡ old.seen ++ frame body
 
-  -- these bodies were given, and stand on the disk as frames behind all else, which ends at that place (own)
+  -- these bodies were given, and the disk ends with them as frames, at that place (own)
   pub record HasFrames (count : ℕ) (bodies : List (List ℕ)) (end : ℕ) (source_old source_new : S) (old new : DiskState)
       : Type 0 where
     pub gave : GivesAll source_old bodies source_new
@@ -57,13 +57,13 @@ module _ {S : Type 0} (gives : S → List ℕ → S → Type 0) where
     pub none_failed : NoneFailed old new
     pub written : old.honest → (new.seen ≡ old.seen ++ flat_map frame bodies) × (end ≡ length new.seen)
 
-  -- A copy with this head stands behind the ten bytes, and nothing behind its closed gate, and that is sure. Its frames
-  -- have the bodies that were given, as many as its base says (own).
+  -- A copy with this head follows the ten bytes, nothing follows its closed gate, and that is sure. Its frames have the
+  -- bodies that were given, as many as its base (own).
   abbrev pub HasCopied : Head → S → S → DiskState → DiskState → Type 0
   HasCopied head source_old source_new old new =
       (bodies : List (List ℕ)) × GivesAll source_old bodies source_new × IsWritten head bodies old new
 
-  -- why a copy is not written: the disk failed, and before that some bodies were given; or what gives them did (own)
+  -- why a copy is not written: the disk failed, after some bodies were given; or their source failed (own)
   abbrev pub NotCopied : (S → DevFault → S → Type 0) → DevFault → S → S → DiskState → DiskState → Type 0
   NotCopied fails fault source_old source_new old new =
       (IsFault fault old new × ((bodies : List (List ℕ)) × GivesAll source_old bodies source_new))

@@ -1,4 +1,4 @@
--- What private contracts use.
+-- Definitions for private contracts.
 use Rattle.std.specs.Prelude.{◌≡◌, ◌⊎◌, ◌<◌, ℕ, List, ◌++◌, Option, None, Some, Result, Ok, Err}
 use Rattle.vtl_base.specs.declared.faults.DevFault.{DevFault}
 use Rattle.tape_disk.specs.Disk.{DiskState}
@@ -19,15 +19,15 @@ pub mod Starts
 abbrev pub HasHead : List ℕ → Type 0
 HasHead bytes = (h : Head) × (rest : List ℕ) × IsOfCartridge h × (bytes ≡ spell_side_head h ++ rest)
 
--- the image begins with the ten bytes of a cartridge's side, and its pair gate is open (own)
+-- the image begins with the ten bytes of a cartridge's side, with an open pair gate (own)
 abbrev pub HasOpenPair : List ℕ → Type 0
 HasOpenPair image = (side : ℕ) × (rest : List ℕ) × (image ≡ begun side OPEN ++ rest)
 
--- it is an open side with a head (own)
+-- the image is an open side with a head (own)
 abbrev pub IsOpenWith : ℕ → List ℕ → Type 0
 IsOpenWith pair image = (h : Head) × (rest : List ℕ) × IsOpenSide pair h rest image
 
--- it is open, and has no head (own)
+-- the image is an open side without a head (own)
 abbrev pub IsHeadless : ℕ → List ℕ → Type 0
 IsHeadless pair image = (rest : List ℕ) × (image ≡ begun OPEN pair ++ rest) × (HasHead rest → ⊥)
 
@@ -37,14 +37,14 @@ Opens image Closed = (pair : ℕ) × IsClosedSide pair image
 Opens image (Open told) = (pair : ℕ) × (h : Head) × (rest : List ℕ) × IsOpenSide pair h rest image × IsToldHead told h
 Opens image Headless = (pair : ℕ) × IsHeadless pair image
 
--- the side of the greater epoch, or none (own)
+-- the side with the greater epoch; None where the epochs are the same (own)
 abbrev pub IsGreater : ToldHead → ToldHead → Option Counted → Type 0
 IsGreater one two (Some chosen) =
     ((chosen ≡ record { which = First; head = one }) × (epoch_in two.copied < epoch_in one.copied))
     ⊎ ((chosen ≡ record { which = Second; head = two }) × (epoch_in one.copied < epoch_in two.copied))
 IsGreater one two None = epoch_in one.copied ≡ epoch_in two.copied
 
--- the side that counts, of what two disks read, or that none does; or a fault (own)
+-- the side that counts, by the bytes of two disks; None where none counts; or a fault (own)
 abbrev pub FindsRead : Result (Option Counted) DevFault → DiskState → DiskState → DiskState → DiskState → Type 0
 FindsRead (Ok found) first_old first_new second_old second_new =
     NoneFailed first_old first_new × NoneFailed second_old second_new

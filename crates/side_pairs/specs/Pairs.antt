@@ -8,7 +8,7 @@ pub use Rattle.gate_journal.specs.Side.{LacksFrames}
 use Rattle.side_pairs.specs.declared.which.Which.{Which}
 use Rattle.side_pairs.specs.declared.which.Which.TheVariants.{First, Second}
 
--- the ten bytes that a cartridge's side begins with: its gate, its mark, its pair gate (own)
+-- the ten bytes at the start of a cartridge's side: its gate, its mark, its pair gate (own)
 abbrev pub begun : ℕ → ℕ → List ℕ
 begun side pair = start side Cartridge pair
 
@@ -17,31 +17,31 @@ pub record IsOfCartridge (head : Head) : Type 0 where
   pub kind : head.heading.kind ≡ Cartridge
   pub spelled : IsHead head
 
--- The image is an open side with that byte for its pair gate, and this head, behind which lies the rest (own).
+-- The image is an open side with this pair gate and this head, followed by the rest (own).
 pub record IsOpenSide (pair : ℕ) (head : Head) (rest image : List ℕ) : Type 0 where
   pub head_is : IsOfCartridge head
   pub image_is : image ≡ begun OPEN pair ++ (spell_side_head head ++ rest)
 
--- the image begins as a closed side with that byte for its pair gate; it needs no head (own)
+-- the image begins as a closed side with this pair gate; it needs no head (own)
 abbrev pub IsClosedSide : ℕ → List ℕ → Type 0
 IsClosedSide pair image =
     (gate : ℕ) × (rest : List ℕ) × (gate ≢ OPEN) × (image ≡ begun gate pair ++ rest)
 
--- beside a side of this epoch the image does not count: it is closed, or open and of a lesser epoch (own)
+-- the image does not count beside a side of this epoch: it is closed, or open with a lesser epoch (own)
 abbrev pub YieldsTo : ℕ → ℕ → List ℕ → Type 0
 YieldsTo epoch pair image =
     IsClosedSide pair image
     ⊎ ((head : Head) × (rest : List ℕ) × IsOpenSide pair head rest image × (epoch_of head < epoch))
 
--- Where the first image's pair gate is closed, it is read alone, and only if it is no copy. Where it is open, the
--- second image must yield to it, with a closed pair gate of its own (own).
+-- Where the first image's pair gate is closed, that image is read alone, and only if it is no copy. Where the gate is
+-- open, the second image must yield to the first, with a closed pair gate of its own (own).
 abbrev pub StandsBeside : ℕ → Head → List ℕ → Type 0
 StandsBeside pair head second =
     ((pair ≢ OPEN) × (head.copied ≡ None))
     ⊎ ((pair ≡ OPEN) × ((other : ℕ) × (other ≢ OPEN) × YieldsTo (epoch_of head) other second))
 
--- That side of the pair counts, with this head; the rest is what lies behind the head. The second image counts only
--- where the first one's pair gate is open, its own is closed, and the first one yields to it (own).
+-- That side of the pair counts, with this head, which the rest follows. The second image counts only where the pair
+-- gate of the first is open, its own is closed, and the first yields to it (own).
 abbrev pub SideCounts : Which → Head → List ℕ → List ℕ → List ℕ → Type 0
 SideCounts First head rest first second =
     (pair : ℕ) × IsOpenSide pair head rest first × StandsBeside pair head second
@@ -53,31 +53,31 @@ abbrev pub IsNoPair : List ℕ → List ℕ → Type 0
 IsNoPair first second =
     (which : Which) (head : Head) (rest : List ℕ) → SideCounts which head rest first second → ⊥
 
--- these frames can be spelled, and are no fewer than the base (own)
+-- these frames can be spelled, and are at least as many as the base (own)
 pub record AreFrames (head : Head) (bodies : List (List ℕ)) : Type 0 where
   pub each : All IsBody bodies
   pub base : base_of head ≤ length bodies
 
--- The pair stands for a head and frames: those of the side that counts, up to a closed gate (own).
+-- The pair stands for this head and these frames: those of the side that counts, up to a closed gate (own).
 abbrev pub PairStandsFor : Which → Head → List (List ℕ) → List ℕ → List ℕ → Type 0
 PairStandsFor which head bodies first second =
     AreFrames head bodies
     × ((gate : ℕ) × (more : List ℕ) × (gate ≢ OPEN)
     × SideCounts which head (flat_map frame bodies ++ gate ∷ more) first second)
 
--- the place of the gate behind these frames (own)
+-- the place of the gate after these frames (own)
 abbrev pub gate_behind : Head → List (List ℕ) → ℕ
 gate_behind head bodies = 10 + length (spell_side_head head ++ flat_map frame bodies)
 
--- The side that counts has these whole frames, and what lies behind them, from that gate on, is broken, or is a closed
--- gate that comes too early. The place is one of the side that counts (own).
+-- The side that counts has these whole frames. What follows them, from that gate on, is broken, or is a closed gate
+-- that comes too early. The place is one of the side that counts (own).
 abbrev pub IsPairDamagedAt : List ℕ → List ℕ → ℕ → Type 0
 IsPairDamagedAt first second at =
     (which : Which) × (head : Head) × (bodies : List (List ℕ)) × (behind : List ℕ) × All IsBody bodies
     × SideCounts which head (flat_map frame bodies ++ behind) first second × (at ≡ gate_behind head bodies)
     × (IsBroken bodies behind ⊎ LacksFrames head bodies behind)
 
--- the pair stands for something, is not ours, or is damaged (own)
+-- the pair stands for a head and frames, is not ours, or is damaged (own)
 abbrev pub IsDecidedPair : List ℕ → List ℕ → Type 0
 IsDecidedPair first second =
     ((which : Which) × (head : Head) × (bodies : List (List ℕ)) × PairStandsFor which head bodies first second)

@@ -1,5 +1,5 @@
--- The side that counts and the spare, whichever disk each is on: what is known of a side by itself, and what has to
--- stand beside it, are what is known of the pair.
+-- The side that counts and the spare, whichever disk each is on: facts of one side, and of what must be beside it, as
+-- facts of the pair.
 use Rattle.std.specs.Prelude.{◌≡◌, ◌≢◌, ◌⊎◌, ◌≤◌, ℕ, ◌+◌, List, [], ◌∷◌, ◌++◌, length}
 use Rattle.std.specs.List.{All, flat_map}
 use Rattle.std.proofs.Common.{inl, inr, refl, sym, ◌∙◌, ap, subst, arith, append_assoc, length-append}
@@ -14,23 +14,23 @@ use Rattle.side_pairs.specs.declared.which.Which.TheVariants.{First, Second}
 use Rattle.side_pairs.specs.Pairs.{IsOpenSide, IsPairDamagedAt, PairStandsFor, SideCounts, StandsBeside, YieldsTo, begun, gate_behind}
 use Rattle.side_pairs.specs.Passes.{SidesStandFor, first_image, second_image}
 
--- What the other image has to be for this side to count, with that byte for its pair gate, and this head (own).
+-- What the other image must be for this side to count, with this pair gate and this head (own).
 abbrev pub MayCountBeside : Which → ℕ → Head → List ℕ → Type 0
 MayCountBeside First pair head spare = StandsBeside pair head spare
 MayCountBeside Second pair head spare = (pair ≢ OPEN) × YieldsTo (epoch_of head) OPEN spare
 
--- the front of a side with this head and that byte for its pair gate (own)
+-- the front of a side with this head and this pair gate (own)
 abbrev pub front_with : Head → ℕ → Front
 front_with head pair = record { head = head; pair = pair }
 
--- a side counts where it is open and may count beside the other image
+-- an open side counts where it may count beside the other image
 pub counts_beside : (which : Which) (pair : ℕ) (head : Head) (rest counts spare : List ℕ) →
     IsOpenSide pair head rest counts → MayCountBeside which pair head spare →
     SideCounts which head rest (first_image which counts spare) (second_image which counts spare)
 counts_beside First pair head rest counts spare side beside = (pair, side, beside)
 counts_beside Second pair head rest counts spare side beside = (pair, beside.0, side, beside.1)
 
--- and the other way round
+-- a side that counts is open, and may count beside the other image
 pub beside_counts : (which : Which) (head : Head) (rest counts spare : List ℕ) →
     SideCounts which head rest (first_image which counts spare) (second_image which counts spare) →
     (pair : ℕ) × IsOpenSide pair head rest counts × MayCountBeside which pair head spare
@@ -40,9 +40,9 @@ beside_counts Second head rest counts spare (pair, shut, side, yields) = (pair, 
 any_gate : (kind : SideKind) (pair : ℕ) → kind ≡ Cartridge → IsPairGate kind pair
 any_gate kind pair e = subst (λ (k : SideKind). IsPairGate k pair) (sym e) tt
 
--- a side that is open begins with its front
+-- an open side begins with its front
 module _ (pair : ℕ) (head : Head) (rest image : List ℕ) (side : IsOpenSide pair head rest image) where
-  -- it can be spelled
+  -- the front can be spelled
   pub has_front : IsFront (front_with head pair)
   has_front =
       record { head = side.head_is.spelled; pair = any_gate head.heading.kind pair side.head_is.kind }
@@ -53,10 +53,10 @@ module _ (pair : ℕ) (head : Head) (rest image : List ℕ) (side : IsOpenSide p
       side.image_is ∙ (λ i. start OPEN (sym side.head_is.kind i) pair ++ (spell_side_head head ++ rest))
       ∙ sym (append_assoc (start OPEN head.heading.kind pair) (spell_side_head head) rest)
 
--- and a cartridge's side that begins with a front is open
+-- a cartridge's side that begins with a front is open
 module _ (front : Front) (rest image : List ℕ) (kind : front.head.heading.kind ≡ Cartridge) (ok : IsFront front)
     (is : image ≡ spell_front front ++ rest) where
-  -- is open
+  -- it is open
   pub is_open : IsOpenSide front.pair front.head rest image
   is_open = record {
     head_is = record { kind = kind; spelled = ok.head };
@@ -64,12 +64,12 @@ module _ (front : Front) (rest image : List ℕ) (kind : front.head.heading.kind
         ∙ (λ i. start OPEN (kind i) front.pair ++ (spell_side_head front.head ++ rest));
   }
 
-  -- so it counts where it may count beside the other image
+  -- it counts where it may count beside the other image
   pub side_counts : (which : Which) (spare : List ℕ) → MayCountBeside which front.pair front.head spare →
       SideCounts which front.head rest (first_image which image spare) (second_image which image spare)
   side_counts which spare beside = counts_beside which front.pair front.head rest image spare is_open beside
 
--- what the side that counts begins with
+-- the beginning of the side that counts
 module _ (which : Which) (head : Head) (rest counts spare : List ℕ)
     (it : SideCounts which head rest (first_image which counts spare) (second_image which counts spare)) where
   -- its image begins as a cartridge's side
@@ -84,7 +84,7 @@ module _ (which : Which) (head : Head) (rest counts spare : List ℕ)
         begins_with w.0 head rest counts w.1 ∙ ap (λ (l : List ℕ). l ++ rest) (sym (append-nil (spell_front front))),
       )
 
-  -- a front with which it begins is its front, and may count beside the spare
+  -- a front at its start is its front, and may count beside the spare
   pub counted_front : (front : Front) (more : List ℕ) → IsFront front → counts ≡ spell_front front ++ more →
       ((front.head ≡ head) × (more ≡ rest))
       × ((front.head.heading.kind ≡ Cartridge) × MayCountBeside which front.pair front.head spare)
@@ -98,7 +98,7 @@ module _ (which : Which) (head : Head) (rest counts spare : List ℕ)
             (sym one.0) (w.1.head_is.kind, w.2),
       )
 
-  -- so it is one of a cartridge
+  -- it is a side of a cartridge
   pub counts_no_other : IsNotOf Cartridge counts → ⊥
   counts_no_other (inl never) = never counts_begins.0 counts_begins.1 counts_begins.2 counts_begins.4
   counts_no_other (inr (kind, differs, (front, more, ok, is, begins))) =
@@ -121,7 +121,7 @@ module _ (which : Which) (front : Front) (bodies : List (List ℕ)) (counts spar
     ),
   )
 
--- the pair stands for frames, and so does the side that counts
+-- where the pair stands for frames, so does the side that counts
 pub counted_stands : (which : Which) (head : Head) (bodies : List (List ℕ)) (counts spare : List ℕ) →
     SidesStandFor which head bodies counts spare →
     (pair : ℕ) × (head.heading.kind ≡ Cartridge) × StandsFor (front_with head pair) bodies counts
@@ -159,7 +159,7 @@ same_place front bodies = omega (
   length-append (spell_side_head front.head) (flat_map frame bodies),
 )
 
--- a side that counts is damaged, and the pair is at the same place
+-- where a side that counts is damaged, the pair is damaged at the same place
 pub sides_damaged : (which : Which) (counts spare : List ℕ) (at : ℕ) (damage : IsDamagedAt counts at) →
     damage.0.head.heading.kind ≡ Cartridge → MayCountBeside which damage.0.pair damage.0.head spare →
     IsPairDamagedAt (first_image which counts spare) (second_image which counts spare) at
@@ -175,7 +175,7 @@ sides_damaged which counts spare at (front, bodies, behind, ok, each, is, here, 
   bad,
 )
 
--- the pair is damaged in the side that counts, and so is that side
+-- where the pair is damaged, so is the side that counts
 pub counted_damaged : (which : Which) (head : Head) (bodies : List (List ℕ)) (behind counts spare : List ℕ) (at : ℕ) →
     All IsBody bodies →
     SideCounts which head (flat_map frame bodies ++ behind) (first_image which counts spare)

@@ -15,7 +15,7 @@ use gate_journal::{ToldHead, told_head};
 use tape_disk::Disk;
 use vtl_base::DevFault;
 
-/// What a cartridge's side is recognized by.
+/// The mark by which a cartridge's side is recognized.
 pub(crate) const MARK: &[u8; 8] = b"VTLCART1";
 
 /// The bytes of a side before its head: two gates, and its mark between them.
@@ -24,13 +24,13 @@ pub(crate) const START_BYTES: usize = 10;
 /// The side that counts.
 #[derive(Clone, Copy, Debug, PartialEq, Eq)]
 pub struct Counted {
-    /// On which disk it lies.
+    /// Its disk.
     pub which: Which,
-    /// What its head tells.
+    /// What is read from its head.
     pub head: ToldHead,
 }
 
-// How an image with the ten bytes of a side begins.
+// The beginning of an image with the ten bytes of a side.
 #[derive(Clone, Copy, Debug, PartialEq, Eq)]
 enum Begins {
     // Its gate is closed.
@@ -41,8 +41,7 @@ enum Begins {
     Headless,
 }
 
-/// The side that counts. Both disks are made sure first, and nothing is written. None is that no side
-/// counts.
+/// The side that counts; None where none counts. Both disks are made sure first, and nothing is written.
 pub fn choose<D: Disk>(first: &mut D, second: &mut D) -> Result<Option<Counted>, DevFault>
     ensures disks { Keeps (D.state first.old) (D.state first.new)
         × Keeps (D.state second.old) (D.state second.new) }
@@ -58,7 +57,7 @@ pub fn choose<D: Disk>(first: &mut D, second: &mut D) -> Result<Option<Counted>,
     choose_read(first, second)
 }
 
-// From now on a crash leaves what a read gives.
+// Syncs the disk: from then on a crash leaves what reads return.
 fn make_sure<D: Disk>(disk: &mut D) -> Result<(), DevFault>
     ensures passes { Passes (D.state disk.old) (D.state disk.new) result }
     ensures any_moment { (D.state disk.old).honest →
@@ -70,8 +69,8 @@ fn make_sure<D: Disk>(disk: &mut D) -> Result<(), DevFault>
     disk.sync()
 }
 
-// The side that counts of what the disks read. The second one is read only where the first one's pair
-// gate is open.
+// The side that counts, by the bytes of the disks. The second is read only where the pair gate of the first
+// is open.
 fn choose_read<D: Disk>(first: &mut D, second: &mut D) -> Result<Option<Counted>, DevFault>
     ensures disks { Keeps (D.state first.old) (D.state first.new)
         × Keeps (D.state second.old) (D.state second.new) }
@@ -91,7 +90,7 @@ fn choose_read<D: Disk>(first: &mut D, second: &mut D) -> Result<Option<Counted>
     Ok(choose_of_two(one, &two[..len]))
 }
 
-// The side that counts where the first image's pair gate is not open: it is read alone.
+// The side that counts where the first image's pair gate is not open: the first image is read alone.
 fn choose_alone(first: &[u8]) -> Option<Counted>
     requires { HasOpenPair first.now → ⊥ }
     ensures { (second : List ℕ) → Chooses first.now second result }
@@ -139,7 +138,7 @@ fn choose_of_two(first: &[u8], second: &[u8]) -> Option<Counted>
     }
 }
 
-// The side that counts where the first one is open.
+// The side that counts where the first side is open.
 fn beside_open(first: &[u8], second: &[u8], one: ToldHead) -> Option<Counted>
     requires pair { HasOpenPair first.now }
     requires first { Opens first.now (Begins.Open one) }
@@ -156,7 +155,7 @@ fn beside_open(first: &[u8], second: &[u8], one: ToldHead) -> Option<Counted>
     }
 }
 
-// The side that counts where the first one is closed.
+// The side that counts where the first side is closed.
 fn beside_closed(first: &[u8], second: &[u8]) -> Option<Counted>
     requires pair { HasOpenPair first.now }
     requires first { Opens first.now Begins.Closed }
@@ -173,7 +172,7 @@ fn beside_closed(first: &[u8], second: &[u8]) -> Option<Counted>
     }
 }
 
-// The side of the greater epoch.
+// The side with the greater epoch.
 fn greater(one: ToldHead, two: ToldHead) -> Option<Counted>
     ensures { IsGreater one two result }
 {
@@ -201,14 +200,14 @@ fn has_start(image: &[u8]) -> bool
     image.len() >= START_BYTES && image[1..9] == MARK[..]
 }
 
-// Whether it does, and the byte behind the mark is an open gate.
+// Whether it does, and the byte after the mark is an open gate.
 fn has_open_pair(image: &[u8]) -> bool
     ensures { IsTrue result ↔ HasOpenPair image.now }
 {
     has_start(image) && image[9] == OPEN
 }
 
-// How an image with the ten bytes of a side begins.
+// The beginning of an image with the ten bytes of a side.
 fn beginning(image: &[u8]) -> Begins
     requires { HasStart image.now }
     ensures { Opens image.now result }

@@ -1,4 +1,4 @@
-//! A copy is written on the side that does not count, behind its ten bytes. Its gate stays closed.
+//! Writing a copy on the side that does not count, after its ten bytes. The gate of that side stays closed.
 ghost use Rattle.std.specs.Prelude.{◌≡◌, ◌+◌, ◌*◌, ◌<◌, ◌≤◌, [], ◌∷◌, ◌++◌, ℕ, List, length, take, OnOk, IfOk, IfErr, Result, vec_capacity, vec_len};
 ghost use Rattle.std.specs.List.{flat_map};
 ghost use Rattle.tape_disk.specs.Disk.{Keeps, Only, Passes};
@@ -21,18 +21,18 @@ use vtl_base::DevFault;
 /// The longest body of a copy.
 pub const COPY_BODY: usize = 4_194_304;
 
-/// The bytes that stand before a body: its gate, and its length.
+/// The bytes before a body: its gate and its length.
 pub(crate) const BEFORE_BODY: usize = 5;
 
-/// What gives the bodies of a copy, one after the other.
+/// A source of the bodies of a copy, one after another.
 pub trait GivesBodies {
-    // The first one gave this body, and is the second one now.
+    // The first source gave this body, and is then the second.
     ghost gives: { Self → List ℕ → Self → Type 0 };
 
-    // A device below the first one failed, and it is the second one now.
+    // A device below the first source failed, and it is then the second.
     ghost fails: { Self → DevFault → Self → Type 0 };
 
-    /// Puts the next body, of 1 to 4,194,304 bytes, behind what is in the buffer.
+    /// Appends the next body, of 1 to 4,194,304 bytes, to the buffer.
     fn give(&mut self, buffer: &mut Vec<u8>) -> Result<(), DevFault>
         requires { vec_len buffer.old + COPY_BODY ≤ vec_capacity buffer.old }
         ensures room { vec_capacity buffer.old ≤ vec_capacity buffer.new }
@@ -41,10 +41,10 @@ pub trait GivesBodies {
         ensures err { IfErr result (λ fault. fails self.old fault self.new) };
 }
 
-/// Writes a copy behind the ten bytes of the side that does not count: its head, as many frames as
-/// its base says, and a closed gate. The bodies come one at a time through the buffer. At Ok the copy
-/// is sure. Where the side's own gate is closed, and that is sure, the pair stands for what it stood
-/// for at every moment, and after a fault of either device.
+/// Writes a copy after the ten bytes of the side that does not count: its head, as many frames as its base,
+/// and a closed gate. The bodies come one at a time through the buffer. At Ok the copy is sure. Where that
+/// side's own gate is closed, and that is sure, the pair stands for the same at every moment, and after a
+/// fault of either device.
 pub fn write_copy<D: Disk, S: GivesBodies>(
     spare: &mut D,
     header: &Header,
@@ -70,7 +70,7 @@ pub fn write_copy<D: Disk, S: GivesBodies>(
     write_end(spare, end)
 }
 
-// Cuts what lies behind the ten bytes, and writes the head there. The place behind it is returned.
+// Cuts the disk after the ten bytes, and writes the head there. Returns the place after it.
 fn write_head<D: Disk>(
     spare: &mut D,
     header: &Header,
@@ -96,7 +96,7 @@ fn write_head<D: Disk>(
     Ok(at + buffer.len() as u64)
 }
 
-// Writes that many frames at the end of the disk. The place behind them is returned.
+// Writes `count` frames at the end of the disk. Returns the place after them.
 fn write_frames<D: Disk, S: GivesBodies>(
     spare: &mut D,
     at: u64,
@@ -122,7 +122,7 @@ fn write_frames<D: Disk, S: GivesBodies>(
     Ok(end)
 }
 
-// Writes the next frame at the end of the disk. The place behind it is returned.
+// Writes the next frame at the end of the disk. Returns the place after it.
 fn write_frame<D: Disk, S: GivesBodies>(
     spare: &mut D,
     at: u64,
@@ -149,7 +149,7 @@ fn write_frame<D: Disk, S: GivesBodies>(
     Ok(at + buffer.len() as u64)
 }
 
-// Puts an open gate and four bytes for a length into a buffer that is empty.
+// Puts an open gate and four bytes for a length into an empty buffer.
 fn put_before_body(buffer: &mut Vec<u8>)
     requires none { buffer.old.items ≡ [] }
     requires room { 5 ≤ vec_capacity buffer.old }

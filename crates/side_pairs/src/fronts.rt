@@ -1,4 +1,4 @@
-//! The first bytes of a disk, by which it is known whether its side counts.
+//! The first bytes of a disk, which decide whether its side counts.
 ghost use Rattle.std.specs.Prelude.{◌≡◌, ◌<◌, ◌≤◌, length, take, IfOk};
 ghost use Rattle.tape_disk.specs.Disk.{Passes};
 ghost use Rattle.gate_journal.specs.Crash.{Unwritten};
@@ -6,10 +6,10 @@ ghost use Rattle.gate_journal.specs.Crash.{Unwritten};
 use tape_disk::Disk;
 use vtl_base::DevFault;
 
-/// The bytes of a side up to its first frame, where they are the most.
+/// The most bytes of a side before its first frame.
 pub(crate) const FRONT_BYTES: usize = 71;
 
-// Fills the buffer with the first bytes of the disk, as many as there are, and says how many.
+// Fills the buffer with the first bytes of the disk, as many as there are, and returns how many.
 pub(crate) fn read_front<D: Disk>(disk: &mut D, bytes: &mut [u8]) -> Result<usize, DevFault>
     requires { length bytes.old ≡ 71 }
     ensures passes { Passes (D.state disk.old) (D.state disk.new) result }
@@ -23,7 +23,7 @@ pub(crate) fn read_front<D: Disk>(disk: &mut D, bytes: &mut [u8]) -> Result<usiz
     Ok(len)
 }
 
-// How many bytes are looked at, of a disk with so many.
+// How many bytes are looked at on a disk of this length.
 fn front_len(size: u64) -> usize
     ensures all { size < 71 → result ≡ size }
     ensures front { 71 ≤ size → result ≡ 71 }

@@ -1,4 +1,4 @@
-//! One gate of a side: read, and written over.
+//! Reading and overwriting one gate of a side.
 ghost use Rattle.std.specs.Prelude.{◌≡◌, ◌<◌, [], ◌∷◌, length, slice_index, OnOk, IfOk};
 ghost use Rattle.tape_disk.specs.Disk.{Only, Passes, Smeared, overwritten};
 ghost use Rattle.tape_disk.specs.Moments.{LeavesOnly};
@@ -19,7 +19,7 @@ pub(crate) const SIDE_GATE: u64 = 0;
 /// The place of its pair gate.
 pub(crate) const PAIR_GATE: u64 = 9;
 
-// The byte at that place. Where the disk ends before it, that is a closed gate.
+// The byte at that place; a closed gate where the disk ends before it.
 pub(crate) fn read_gate<D: Disk>(disk: &mut D, at: u64) -> Result<u8, DevFault>
     ensures passes { Passes (D.state disk.old) (D.state disk.new) result }
     ensures unwritten { (D.state disk.old).honest → Unwritten (D.state disk.old) (D.state disk.new) }
@@ -33,8 +33,7 @@ pub(crate) fn read_gate<D: Disk>(disk: &mut D, at: u64) -> Result<u8, DevFault>
     Ok(gate[0])
 }
 
-// Writes a gate over what stands there. At Ok it is sure. Where the disk ends before it, nothing is
-// written.
+// Overwrites a gate. At Ok it is sure. Where the disk ends before it, nothing is written.
 pub(crate) fn write_gate<D: Disk>(disk: &mut D, at: u64, gate: u8) -> Result<(), DevFault>
     ensures passes { Passes (D.state disk.old) (D.state disk.new) result }
     ensures any_moment { (D.state disk.old).honest → at < length (D.state disk.old).seen →

@@ -10,12 +10,13 @@ ghost use Rattle.side_pairs.specs.Pairs.{SideCounts, IsPairDamagedAt, IsDecidedP
 ghost use Rattle.side_pairs.specs.Passes.{HasWritten, IsCopy, IsShutPair, SidesStandFor, TakesOver, first_image, second_image, spell_copy};
 ghost use Rattle.side_pairs.specs.Roles.{MayCountBeside, front_with};
 
-/// Each pair stands for something, is not ours, or is damaged at some place.
+/// Each pair stands for a head and frames, is not ours, or is damaged at some place.
 pub fn each_pair_is_decided()
     ensures { (first second : List ℕ) → IsDecidedPair first second }
 {}
 
-/// No pair is two of the three, stands for two things, or is damaged at two places.
+/// No pair is two of the three. It stands for one head and frames at most, and is damaged at one place at
+/// most.
 pub fn no_pair_is_decided_twice()
     ensures one_thing { (first second : List ℕ) (w v : Which) (h k : Head) (bs cs : List (List ℕ)) →
         PairStandsFor w h bs first second → PairStandsFor v k cs first second → (w ≡ v) × ((h ≡ k) × (bs ≡ cs)) }
@@ -29,8 +30,8 @@ pub fn no_pair_is_decided_twice()
         IsPairDamagedAt first second at → IsNoPair first second → ⊥ }
 {}
 
-/// Once the gate of a copy is open, the pair stands for the copy: the other side counts, its epoch
-/// is one more, and its frames are as many as its base.
+/// Once the gate of a copy is open, the pair stands for the copy: the other side counts, its epoch is greater
+/// by one, and it has as many frames as its base.
 pub fn an_opened_copy()
     ensures { (which : Which) (h : Head) (bodies copies : List (List ℕ)) (counts spare : List ℕ) →
         SidesStandFor which h bodies counts spare → (IsShutPair (first_image which counts spare) → ⊥) →
@@ -38,9 +39,8 @@ pub fn an_opened_copy()
         TakesOver which h copies counts (OPEN ∷ drop 1 spare) }
 {}
 
-/// Why the pair gate is opened only where it is closed: where it is open already and is written
-/// again, a stop may leave it closed. Then the first side counts in the place of the second, or
-/// nothing does.
+/// Why the pair gate is opened only where it is closed. If it is open already and is written again, a stop
+/// may leave it closed. Then the first side counts in place of the second, or none does.
 pub fn an_open_pair_gate_written_again()
     ensures older { (k : Head) (s first second : List ℕ) → IsOpenSide OPEN k s first → k.copied ≡ None →
         (one : List ℕ) × Smeared 9 1 first one × SideCounts Which.First k s one second }
@@ -49,9 +49,9 @@ pub fn an_open_pair_gate_written_again()
         (one : List ℕ) × Smeared 9 1 first one × IsNoPair one second }
 {}
 
-/// Why the side that does not count is closed only where it reads open: where it is closed and holds
-/// a copy that was never opened, writing its gate again may leave that copy open. It then counts,
-/// without the frames since.
+/// Why the side that does not count is closed only where it is open. If it is closed and holds a copy that
+/// was never opened, writing its gate again may leave that copy open. The copy then counts, without the
+/// frames since.
 pub fn a_closed_side_closed_again()
     ensures { (which : Which) (h : Head) (bodies copies : List (List ℕ)) (counts spare : List ℕ) →
         SidesStandFor which h bodies counts spare → (IsShutPair (first_image which counts spare) → ⊥) →
@@ -59,8 +59,8 @@ pub fn a_closed_side_closed_again()
         (image : List ℕ) × Smeared 0 1 spare image × TakesOver which h copies counts image }
 {}
 
-/// A cartridge's side that stands for frames, and may count beside the other image, is what the pair
-/// stands for; and so is the side that counts by itself.
+/// Where a cartridge's side stands for frames, and may count beside the other image, the pair stands for the
+/// same. Where the pair does, so does the side that counts.
 pub fn a_side_of_a_pair()
     ensures stands { (which : Which) (front : Front) (bodies : List (List ℕ)) (counts spare : List ℕ) →
         front.head.heading.kind ≡ SideKind.Cartridge → StandsFor front bodies counts →
@@ -76,7 +76,7 @@ pub fn a_side_of_a_pair()
         IsPairDamagedAt (first_image which counts spare) (second_image which counts spare) at }
 {}
 
-/// The number that this crate names itself: the bytes of a copy's longest body.
+/// The number that this crate names: the bytes of a copy's longest body.
 pub fn the_numbers()
     ensures body { COPY_BODY ≡ 4194304 }
 {}

@@ -1,12 +1,12 @@
-//! The passes of a reclaim, but for the copy itself. Each writes one disk, and may be stopped at any
-//! moment: every pair of images then stands for what it stood for, and after the last pass begins
-//! for that or for the copy. After a device fault that holds too.
+//! The passes of a reclaim, except the copy itself. Each writes one disk, and may be stopped at any moment:
+//! every pair of images then stands for the same as before; during the last pass it stands for that or for
+//! the copy. After a device fault that holds too.
 //!
-//! A gate is written only to change it. Written over itself it may hold any byte until the sync, and
-//! a stop then gives back what was older. So what a gate reads has to be sure before.
+//! A gate is written only to change it. A gate written over itself may hold any byte until the sync, and a
+//! stop then brings back an older state. So the bytes of a gate must be sure before.
 //!
-//! A pass may be called over any disks. What it promises of bytes has the premises that it names, and
-//! over disks that don't meet them it writes inside of them all the same.
+//! A pass may be called over any disks. Its promises about bytes have the premises that it names. Over disks
+//! that do not meet them it still writes only inside them.
 ghost use Rattle.std.specs.Prelude.{◌≡◌, ◌⊎◌, ◌∷◌, ℕ, List, drop, OnOk, Result};
 ghost use Rattle.tape_disk.specs.Disk.{Each, Keeps, Only, Passes};
 ghost use Rattle.tape_disk.specs.Moments.{LeavesOnly};
@@ -23,8 +23,8 @@ use crate::starting::write_start;
 use tape_disk::Disk;
 use vtl_base::DevFault;
 
-/// Prepares the second disk, where the first one's pair gate is closed: it then has ten bytes, with
-/// closed gates, and no more. Where the pair gate is open nothing is written.
+/// Prepares the second disk, where the pair gate of the first is closed: it then has exactly ten bytes, with
+/// closed gates. Where the pair gate is open, nothing is written.
 pub fn prepare_pair<D: Disk>(first: &mut D, second: &mut D) -> Result<(), DevFault>
     ensures disks { Keeps (D.state first.old) (D.state first.new)
         × Keeps (D.state second.old) (D.state second.new) }
@@ -49,8 +49,8 @@ pub fn prepare_pair<D: Disk>(first: &mut D, second: &mut D) -> Result<(), DevFau
     }
 }
 
-/// Opens the first disk's pair gate, where it is closed. What is promised holds where the second
-/// disk is prepared then.
+/// Opens the pair gate of the first disk, where it is closed. The promises hold where the second disk is
+/// prepared.
 pub fn open_pair<D: Disk>(first: &mut D, second: &D) -> Result<(), DevFault>
     ensures passes { Passes (D.state first.old) (D.state first.new) result }
     ensures ok { (D.state first.old).honest → IsSureStart (D.state first.old) → OnOk result
@@ -64,7 +64,7 @@ pub fn open_pair<D: Disk>(first: &mut D, second: &D) -> Result<(), DevFault>
         LeavesOnly (D.state first.old) (D.state first.new)
         (λ image. PairStandsFor which head bodies image beside) }
 {
-    // Looked at for the proof's sake: it is known to be prepared.
+    // Read for the proof: it is known to be prepared.
     let _ = second;
     let pair = read_gate(first, PAIR_GATE)?;
     if pair == OPEN {
@@ -73,7 +73,7 @@ pub fn open_pair<D: Disk>(first: &mut D, second: &D) -> Result<(), DevFault>
     write_gate(first, PAIR_GATE, OPEN)
 }
 
-/// Closes the side that does not count, where it reads open.
+/// Closes the side that does not count, where it is open.
 pub fn close_spare<D: Disk>(spare: &mut D) -> Result<(), DevFault>
     ensures passes { Passes (D.state spare.old) (D.state spare.new) result }
     ensures ok { (D.state spare.old).honest → IsSureStart (D.state spare.old) → OnOk result
@@ -90,7 +90,7 @@ pub fn close_spare<D: Disk>(spare: &mut D) -> Result<(), DevFault>
     write_gate(spare, SIDE_GATE, CLOSED)
 }
 
-/// Opens a copy that is written and sure. From then on it counts: its epoch is one more than that of
+/// Opens a copy that is written and sure. From then on it counts: its epoch is greater by one than that of
 /// the other side, and it has as many frames as its base.
 pub fn open_copy<D: Disk>(spare: &mut D) -> Result<(), DevFault>
     ensures passes { Passes (D.state spare.old) (D.state spare.new) result }

@@ -1,4 +1,4 @@
-//! The head of a copy, and the length of a body, in bytes. No memory is taken.
+//! The bytes of a copy's head, and of a body's length. It takes no memory.
 ghost use Rattle.std.specs.Prelude.{◌≡◌, ◌+◌, ◌*◌, ◌≤◌, [], ◌∷◌, ◌++◌, length, take, drop, vec_capacity, vec_len};
 ghost use Rattle.std.specs.List.{flat_map};
 ghost use Rattle.std.specs.Int.{to_be_bytes, w32, w64};
@@ -9,7 +9,7 @@ ghost use Rattle.side_pairs.specs.Copying.{said_of};
 use byteorder::{BigEndian, ByteOrder};
 use gate_journal::{Copied, Header};
 
-// Puts the head of a copy into a buffer, in place of what is there.
+// Puts the head of a copy into a buffer, in place of its content.
 pub(crate) fn put_head(buffer: &mut Vec<u8>, header: &Header, copied: Copied)
     requires count { length header.now.capacities.items ≤ 4 }
     requires room { 61 ≤ vec_capacity buffer.old }
@@ -29,7 +29,7 @@ pub(crate) fn put_head(buffer: &mut Vec<u8>, header: &Header, copied: Copied)
     put(buffer, &base);
 }
 
-// Puts eight bytes for each number behind what is there.
+// Appends eight bytes for each number.
 fn put_capacities(buffer: &mut Vec<u8>, capacities: &[u64])
     requires { vec_len buffer.old + 8 * length capacities.now ≤ vec_capacity buffer.old }
     ensures items { buffer.new.items ≡ buffer.old.items ++ flat_map (to_be_bytes w64) capacities.now }
@@ -43,7 +43,7 @@ fn put_capacities(buffer: &mut Vec<u8>, capacities: &[u64])
     }
 }
 
-// Puts bytes behind what is there.
+// Appends bytes.
 fn put(buffer: &mut Vec<u8>, bytes: &[u8])
     requires { vec_len buffer.old + length bytes.now ≤ vec_capacity buffer.old }
     ensures items { buffer.new.items ≡ buffer.old.items ++ bytes.now }

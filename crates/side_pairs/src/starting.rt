@@ -1,4 +1,4 @@
-//! The ten bytes of a side that is prepared.
+//! The ten bytes of a prepared side.
 ghost use Rattle.std.specs.Prelude.{◌≡◌, OnOk};
 ghost use Rattle.tape_disk.specs.Disk.{Only, Passes};
 ghost use Rattle.tape_disk.specs.Moments.{LeavesOnly};
@@ -19,7 +19,7 @@ fn closed_start() -> [u8; START_BYTES]
     bytes
 }
 
-// Makes the disk hold the ten bytes with closed gates, and no more. At Ok that is sure.
+// Makes the disk hold exactly the ten bytes with closed gates. At Ok that is sure.
 pub(crate) fn write_start<D: Disk>(disk: &mut D) -> Result<(), DevFault>
     ensures passes { Passes (D.state disk.old) (D.state disk.new) result }
     ensures time { (D.state disk.old).honest →

@@ -18,7 +18,7 @@ const SECOND_COPY: Told = Some((Which::Second, 1, 1, 37));
 
 // Pairs of images, and which side of each counts.
 static PAIRS: &'static [(Image, Image, Told)] = &[
-    // The first side alone is read: nothing lies on the second disk, or a copy, or an open pair gate.
+    // The first side alone is read: the second disk has nothing, or a copy, or an open pair gate.
     ((BEFORE, &[]), (&[], &[]), PLAIN),
     ((BEFORE, &[]), (ONCE, &[]), PLAIN),
     ((BEFORE, &[(9, 7)]), (TWICE, &[]), PLAIN),
@@ -38,7 +38,7 @@ static PAIRS: &'static [(Image, Image, Told)] = &[
         (PREPARED, &[]),
         Some((Which::First, 0, 1, 37)),
     ),
-    // Its first bytes are the greater part of the epoch.
+    // Its first bytes are the most significant ones of the epoch.
     (
         (TWICE, &[(35, 0x80)]),
         (ONCE, &[]),
@@ -53,7 +53,7 @@ static PAIRS: &'static [(Image, Image, Told)] = &[
 
 // Pairs of which no side counts.
 static NOT_OURS: &'static [(Image, Image)] = &[
-    // The first disk has no ten bytes of a cartridge, or its one side is closed, has no head or is a copy.
+    // The first disk has no ten bytes of a cartridge, or its single side is closed, has no head or is a copy.
     ((&[], &[]), (ONCE, &[])),
     ((PREPARED, &[]), (ONCE, &[])),
     ((b"\xa5VTLCART1", &[]), (ONCE, &[])),
@@ -128,7 +128,7 @@ static GATES: &'static [(usize, usize, Image, Image, Told, Told)] = &[
     (1, 9, (BEFORE, &[(9, 0xa5)]), (ONCE, &[]), None, SECOND_COPY),
 ];
 
-// The image, with that value in that place if the gate is one of its own.
+// The image, with that value at that place if the gate is one of its own.
 fn gate_set(
     alloc: Global,
     image: Image,
@@ -158,7 +158,7 @@ fn every_value_of_each_gate(rt: HostRuntime) -> Result<(), Fail> {
     Ok(())
 }
 
-// The first bytes of the row's sides, of which a head has 71 at most: the choice needs no more.
+// The first bytes of the row's sides; a head has at most 71: the choice needs no more.
 #[test]
 fn every_cut_of_a_side(rt: HostRuntime) -> Result<(), Fail> {
     for len in 0..64 {

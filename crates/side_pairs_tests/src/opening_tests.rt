@@ -1,4 +1,4 @@
-//! A side of a pair that is opened by itself, as a journal.
+//! A side of a pair, opened by itself as a journal.
 use crate::rows::{BEFORE, ONCE, TWICE};
 use assertions::assert_equal;
 use gate_journal::{Journal, JournalError, last_gates};
@@ -11,7 +11,7 @@ use vtl_base::NoMemory;
 // A store without frames.
 const STORE: &'static [u8; 28] = b"\xa5VTLRESV1\0\0DRIVE1          \0";
 
-// What a side says of a copy, its epoch and its base, and how many frames are read.
+// The epoch and the base of a side that is a copy, and how many frames are read.
 type Side = Result<(Option<(u64, u32)>, usize), JournalError>;
 
 // The places of the last open gate and of the end gate.
@@ -21,7 +21,7 @@ const NOT_OURS: Side = Err(JournalError::NotOurs);
 
 const FIRST_COPY: Side = Ok((Some((1, 1)), 1));
 
-// An image, bytes that are set in it, what it is opened as, and its last gates.
+// An image, bytes that are set in it, the result of opening it, and its last gates.
 static SIDES: &'static [(&'static [u8], &'static [(usize, u8)], Side, Places)] = &[
     (BEFORE, &[], Ok((None, 3)), Some((70, 86))),
     (ONCE, &[], FIRST_COPY, Some((47, 63))),
@@ -38,7 +38,7 @@ static SIDES: &'static [(&'static [u8], &'static [(usize, u8)], Side, Places)] =
     (ONCE, &[(10, 0x80)], NOT_OURS, None),
     (ONCE, &[(10, 0x85)], NOT_OURS, None),
     (ONCE, &[(10, 0x05)], NOT_OURS, None),
-    // There may be more frames than the base, and not fewer.
+    // There may be more frames than the base, but not fewer.
     (ONCE, &[(46, 0)], Ok((Some((1, 0)), 1)), Some((47, 63))),
     (
         ONCE,

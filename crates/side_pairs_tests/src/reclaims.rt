@@ -1,4 +1,4 @@
-//! The passes of a reclaim, one after the other.
+//! The passes of a reclaim, one after another.
 use crate::rows::BODY;
 use gate_journal::{Copied, Header, SideKind};
 use side_pairs::copying::COPY_BODY;
@@ -13,10 +13,10 @@ use vtl_base::{DevFault, NoMemory};
 /// The fault of a source that has no body left.
 pub const NONE_LEFT: DevFault = DevFault { failures: 9 };
 
-/// What was answered in place of a fault of a device, where memory ran out.
+/// The fault that is returned in place of a device's, where memory ran out.
 pub const OUT_OF_MEMORY: DevFault = DevFault { failures: 99 };
 
-/// Gives so many times the body of the copy.
+/// A source that gives the body of the copy a number of times.
 #[derive(Drop)]
 pub struct Bodies {
     pub left: usize,
@@ -51,8 +51,8 @@ fn header(alloc: Global) -> Result<Header, DevFault> {
     }
 }
 
-// Writes a copy of one frame on the side that does not count, of which the source gives so many, and
-// opens it.
+// Writes a copy of one frame on the side that does not count, from a source with this many bodies, and opens
+// it.
 fn copy_to<D: Disk>(
     alloc: Global,
     spare: &mut D,
@@ -81,8 +81,8 @@ fn copy_to<D: Disk>(
     open_copy(spare)
 }
 
-/// Reclaims a pair: a copy of one frame is written on the side that does not count, of which the
-/// source gives so many. False is that no side counts.
+/// Reclaims a pair: a copy of one frame is written on the side that does not count, from a source with this
+/// many bodies. False: no side counts.
 pub fn reclaim<D: Disk>(
     alloc: Global,
     first: &mut D,
@@ -101,8 +101,7 @@ pub fn reclaim<D: Disk>(
     Ok(true)
 }
 
-/// What is found of a side that counts: which it is, its epoch, its base, and how many bytes its head
-/// has.
+/// What is found of a side that counts: which it is, its epoch, its base, and the length of its head.
 pub type Told = Option<(Which, u64, u32, usize)>;
 
 /// What is found of the side that counts of two disks.

@@ -6,12 +6,12 @@ pub const BEFORE: &'static [u8; 87] = b"\xa5VTLCART1\0\x01T00001L6        \0\0\0
     \xa5\0\0\0\x0a\x02\0\0\0\0\x01\0\0\0\x01\
     \xa5\0\0\0\x0b\x01\0\0\0\0\0\0\0\0\x01\x78\0";
 
-/// The second side, once that was reclaimed.
+/// The second side, after it was reclaimed.
 pub const ONCE: &'static [u8; 64] =
     b"\xa5VTLCART1\0\x81T00001L6        \0\0\0\0\0\0\x10\0\0\0\0\0\0\0\0\x01\0\0\0\x01\
     \xa5\0\0\0\x0b\x01\0\0\0\0\0\0\0\0\x01\x78\0";
 
-/// The first side, once it was reclaimed again.
+/// The first side, after it was reclaimed again.
 pub const TWICE: &'static [u8; 64] =
     b"\xa5VTLCART1\xa5\x81T00001L6        \0\0\0\0\0\0\x10\0\0\0\0\0\0\0\0\x02\0\0\0\x01\
     \xa5\0\0\0\x0b\x01\0\0\0\0\0\0\0\0\x01\x78\0";
@@ -19,5 +19,5 @@ pub const TWICE: &'static [u8; 64] =
 /// The second side between the passes that write it.
 pub const PREPARED: &'static [u8; 10] = b"\0VTLCART1\0";
 
-/// The body of the copy: what the block of one byte is spelled as.
+/// The body of the copy: the spelling of the block of one byte.
 pub const BODY: &'static [u8; 11] = b"\x01\0\0\0\0\0\0\0\0\x01\x78";

@@ -51,7 +51,7 @@ fn the_first_three_passes(rt: HostRuntime) -> Result<(), Fail> {
     Ok(())
 }
 
-// A gate that reads as it should is not written: no pass syncs.
+// A gate that already has its value is not written: no pass syncs.
 #[test]
 fn a_gate_is_written_to_change_it(rt: HostRuntime) -> Result<(), Fail> {
     let alloc = rt.alloc();
@@ -67,7 +67,7 @@ fn a_gate_is_written_to_change_it(rt: HostRuntime) -> Result<(), Fail> {
     Ok(())
 }
 
-// Over disks that are too short for it a pass writes nothing, or inside of them.
+// Over disks that are too short for it a pass writes nothing, or only inside them.
 #[test]
 fn disks_that_are_too_short(rt: HostRuntime) -> Result<(), Fail> {
     let (mut first, mut second) = pair_of(rt.alloc(), &[], b"\xa5")?;
@@ -94,7 +94,7 @@ static KNOWN: &'static [(Told, &'static [u8], Stands)] = &[
     (Some((Which::First, 2, 1, 37)), TWICE, Stands::Twice),
 ];
 
-// Whether both have the same bytes behind the first ten.
+// Whether both have the same bytes after the first ten.
 fn are_alike(one: &[u8], other: &[u8]) -> bool {
     one.len() >= 10 && other.len() >= 10 && one[10..] == other[10..]
 }
@@ -116,14 +116,14 @@ fn standing(pair: &mut Pair) -> Stands {
     Stands::Other
 }
 
-// So many calls of each disk pass.
+// How many calls of each disk pass.
 type Calls = (u64, u64);
 
 // More calls than a reclaim makes of either disk.
 const MOST_CALLS: u64 = 16;
 
-// A reclaim of a pair: what it stands for before and behind it, how many calls it makes of each disk,
-// and whether the copy goes to the first one.
+// A reclaim of a pair: what it stands for before and after, how many calls it makes of each disk, and whether
+// the copy goes to the first one.
 #[derive(Drop)]
 struct Reclaim {
     before: Pair,
@@ -133,8 +133,8 @@ struct Reclaim {
 }
 
 impl Reclaim {
-    // What may be left where so many calls pass. The copy's gate is written by the last call but one of
-    // its disk, and the last one makes it sure.
+    // What may be left where this many calls pass. The last call but one of its disk writes the gate of the
+    // copy, and the last one makes it sure.
     fn may_leave(&self, calls: Calls) -> (Stands, Stands) {
         let (from, to) = self.stands;
         let (passed, all) = if self.to_first {
@@ -151,7 +151,7 @@ impl Reclaim {
         }
     }
 
-    // Whether it goes through.
+    // Whether it is completed.
     fn is_whole(&self, calls: Calls) -> bool {
         calls.0 >= self.calls.0 && calls.1 >= self.calls.1
     }
@@ -175,7 +175,7 @@ fn reclaims(alloc: Global) -> Result<[Reclaim; 2], NoMemory> {
     ])
 }
 
-// So many of the bytes that are not sure have landed, and the others hold this.
+// This many of the bytes that are not sure have landed, and the others hold this.
 static CRASHES: &'static [(u64, u8)] = &[
     (0, 0x00),
     (0, 0xa5),
@@ -188,7 +188,7 @@ static CRASHES: &'static [(u64, u8)] = &[
     (u64::MAX, 0x00),
 ];
 
-// What a pair stands for once it is reclaimed.
+// What a pair stands for after a reclaim.
 fn behind(found: Stands) -> Stands {
     match found {
         Stands::Before => Stands::Once,
@@ -197,7 +197,7 @@ fn behind(found: Stands) -> Stands {
     }
 }
 
-// The pair stands for what it may, and is reclaimed once more.
+// The pair stands for something allowed, and is reclaimed once more.
 fn is_right(
     rt: &impl Abort,
     alloc: Global,
@@ -213,7 +213,7 @@ fn is_right(
     assert_equal!(rt; standing(&mut pair), behind(found); (found, row));
 }
 
-// Stops the reclaim behind so many calls of each disk.
+// Stops the reclaim after this many calls of each disk.
 fn is_stopped(
     rt: &impl Abort,
     alloc: Global,
@@ -248,8 +248,8 @@ fn a_reclaim_is_stopped_at_each_call(rt: HostRuntime) -> Result<(), Fail> {
     Ok(())
 }
 
-// The call of one disk behind so many fails, and those behind it pass. The pair stands for what it may,
-// for a read and after a crash, and is reclaimed once more.
+// One disk fails at the call after this many, and later calls pass. The pair stands for something allowed,
+// for reads and after a crash, and is reclaimed once more.
 fn is_faulty(rt: &impl Abort, alloc: Global, work: &Reclaim, calls: Calls) -> Result<(), NoMemory> {
     let mut first = OnceDisk::new(work.before.0.copy()?, calls.0);
     let mut second = OnceDisk::new(work.before.1.copy()?, calls.1);

@@ -1,4 +1,4 @@
--- How the two images of a pair begin.
+-- The beginnings of the two images of a pair.
 use Rattle.std.proofs.Common.{◌≡◌, ◌≢◌, ◌⊎◌, inl, inr, ℕ, List, [], ◌++◌, sym, ◌∙◌, arith, true, false, eqb}
 use Rattle.std.proofs.lemmas.Bool.Decides.{eqb_tells}
 use Rattle.gate_journal.specs.Heads.{Head, epoch_of, spell_side_head}
@@ -47,7 +47,7 @@ resting_start First head bodies one two gives paired =
     beside_start gives.1.3.0 head _ one two gives.1.3.1 paired gives.1.3.2
 resting_start Second head bodies one two gives paired = first_start Second head bodies one two gives
 
--- the pair gate of what begins as a side is closed or not
+-- the pair gate of an image that begins as a side is closed or not
 pub shut_or_not : (image : List ℕ) → HasStart image → IsShutPair image ⊎ (IsShutPair image → ⊥)
 shut_or_not image start = by (eqb_tells start.1 OPEN)
   where

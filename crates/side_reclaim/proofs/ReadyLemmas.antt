@@ -1,4 +1,4 @@
--- Two disks that are made ready, pass by pass.
+-- Two disks are made ready, pass by pass.
 use Rattle.std.proofs.Common.{◌≡◌, ◌⊎◌, inl, inr, ℕ, zero, suc, List, sym, ◌∙◌, ap, subst, refl}
 use Rattle.std.specs.Prelude.{drop}
 use Rattle.tape_disk.specs.Disk.{DiskState, IsDisk, Only}
@@ -21,14 +21,14 @@ module _ {D : Type 0} (state : D → DiskState) (laws : (disk : D) → (state di
   abbrev pub pair_of : D → D → TwoDisks D
   pair_of first second = record { first = first; second = second }
 
-  -- each pair of images that a crash may leave is what is read
+  -- each pair of images that a crash may leave is what reads return
   pub each_gives : (disks : TwoDisks D) (which : Which) (head : Head) (bodies : List (List ℕ))
       → GivesSurely state disks which head bodies → EachOfTwo state disks (GivesSide which head bodies)
   each_gives disks which head bodies gives images left =
       subst (λ (l : List ℕ × List ℕ). PairStandsFor which head bodies l.0 l.1)
       (λ i. (sym (gives.first images.0 left.0) i, sym (gives.second images.1 left.1) i)) gives.stands
 
-  -- it stands for that at the end too
+  -- it stands for the same at the end too
   reads_then : (old new : TwoDisks D) (which : Which) (head : Head) (bodies : List (List ℕ)) → AreHonest state new
       → TwoLeave state old new (GivesSide which head bodies) → GivesSide which head bodies (seen_of_two state new)
   reads_then old new which head bodies honest leaves =
@@ -37,7 +37,7 @@ module _ {D : Type 0} (state : D → DiskState) (laws : (disk : D) → (state di
       Two.two_hold_now state old new (GivesSide which head bodies) (first, second) leaves (seen_of_two state new)
       (first.reads, second.reads)
 
-  -- two runs in a row keep what is read
+  -- two runs, one after another, leave the bytes that reads return
   pub still_then : (old mid new : TwoDisks D) (which : Which) (head : Head) (bodies : List (List ℕ))
       → StillGives state old mid which head bodies → StillGives state mid new which head bodies
       → StillGives state old new which head bodies
@@ -112,7 +112,7 @@ module _ {D : Type 0} (state : D → DiskState) (laws : (disk : D) → (state di
             ap (λ (l : List ℕ). drop 10 l)
             (beside.opened (second_paired head bodies (state f0).seen (state s0).seen stands)).seen
 
-  -- the first disk alone is called
+  -- only the first disk is called
   pub first_runs : (f0 f1 s : D) (which : Which) (head : Head) (bodies : List (List ℕ))
       → GivesSurely state (pair_of f0 s) which head bodies
       → LeavesOnly (state f0) (state f1) (λ image. PairStandsFor which head bodies image (state s).seen)
@@ -128,7 +128,7 @@ module _ {D : Type 0} (state : D → DiskState) (laws : (disk : D) → (state di
             (sym (gives.second two left)) stands),
       ))
 
-  -- the second disk alone is called
+  -- only the second disk is called
   pub second_runs : (f s0 s1 : D) (which : Which) (head : Head) (bodies : List (List ℕ))
       → GivesSurely state (pair_of f s0) which head bodies
       → LeavesOnly (state s0) (state s1) (λ image. PairStandsFor which head bodies (state f).seen image)

@@ -19,13 +19,13 @@ use Rattle.side_pairs.specs.Passes.{HasStart, HasWritten, IsCopy, IsOpenSideOf, 
 use Rattle.side_reclaim.specs.Taking.{HasTaken, MayTake, WithOrWithoutCopy}
 use Rattle.side_reclaim.proofs.PairedLemmas.{second_paired}
 
--- the head that a copy is written with is that of a copy of this head
+-- the head that is written is that of a copy with this head
 said_is : (header : Header) (copied : Copied) (head : Head) (copies : List (List ℕ)) → heading_of header ≡ head.heading
     → copied.epoch ≡ epoch_of head + 1 → length copies ≡ copied.base → said_of header copied ≡ copy_head head copies
 said_is header copied head copies heading epoch count =
     λ i. record { heading = heading i; copied = Some (record { epoch = epoch i; base = sym count i }) }
 
--- behind ten bytes that were those of a closed side
+-- the ten bytes of a closed side come first
 module _ (header : Header) (copied : Copied) (which : Which) (head : Head) (bodies : List (List ℕ)) (counts : List ℕ)
     (old mid : DiskState) (may : MayTake header copied which head bodies counts old) (copies : List (List ℕ))
     (written : IsWritten (said_of header copied) copies old mid) (honest : old.honest) where
@@ -35,7 +35,7 @@ module _ (header : Header) (copied : Copied) (which : Which) (head : Head) (bodi
   begins : take 10 old.seen ≡ begun may.closed.1.0 may.closed.0
   begins = ap (λ (l : List ℕ). take 10 l) may.closed.1.3
 
-  -- behind the ten bytes lies the copy, and nothing else
+  -- the copy follows the ten bytes, and nothing else
   reads : mid.seen ≡ begun may.closed.1.0 may.closed.0 ++ spell_copy head copies
   reads =
       (written.written honest).0
@@ -54,7 +54,7 @@ module _ (header : Header) (copied : Copied) (which : Which) (head : Head) (bodi
         ∙ ap (λ (l : List ℕ). begun may.closed.1.0 may.closed.0 ++ l) (sym (append-nil (spell_copy head copies))),
   )
 
-  -- so it does once the gate is open
+  -- the same once the gate is open
   pub alone : (new : DiskState) → new.seen ≡ OPEN ∷ drop 1 mid.seen → Only new.seen new.may_leave
       → Each new (IsOpenSideOf (spell_copy head copies))
   alone new opened only = λ image left.
@@ -76,12 +76,12 @@ module _ (header : Header) (copied : Copied) (which : Which) (head : Head) (bodi
   pub mid_paired : SidesStandFor which head bodies counts mid.seen → IsShutPair (first_image which counts mid.seen) → ⊥
   mid_paired stands = still_paired which stands may.paired
 
-  -- what is read still stands for what it stood for
+  -- the bytes still stand for the same
   pub mid_stands : IsDisk mid → LeavesOnly old mid (SidesStandFor which head bodies counts)
       → SidesStandFor which head bodies counts mid.seen
   mid_stands disk leaves = holds_now old mid (SidesStandFor which head bodies counts) disk leaves mid.seen disk.reads
 
--- by what a source gives
+-- for a source of bodies
 module _ {S : Type 0} (gives : S → List ℕ → S → Type 0) (base : ℕ) (source_old source_new : S) (which : Which)
     (head : Head) (bodies : List (List ℕ)) (counts : List ℕ) where
   -- a run in which no copy counts yet
@@ -91,7 +91,7 @@ module _ {S : Type 0} (gives : S → List ℕ → S → Type 0) (base : ℕ) (so
       weakened old mid (SidesStandFor which head bodies counts)
       (WithOrWithoutCopy gives base source_old source_new which head bodies counts) run (λ image stands. inl stands)
 
-  -- and one behind it, in which the copy's gate is opened
+  -- and one after it, in which the copy's gate is opened
   pub with_copy : (old mid new : DiskState) (copies : List (List ℕ)) → GivesAll gives source_old copies source_new
       → length copies ≡ base → LeavesOnly old mid (SidesStandFor which head bodies counts)
       → LeavesOnly mid new

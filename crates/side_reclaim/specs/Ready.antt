@@ -23,13 +23,13 @@ resting First images = images.1
 resting Second images = images.0
 
 module _ {D : Type 0} (state : D → DiskState) where
-  -- what the disks read stands for this side, this head and these frames, and is sure (own)
+  -- the bytes of the disks stand for this side, this head and these frames, and are sure (own)
   pub record GivesSurely (disks : TwoDisks D) (which : Which) (head : Head) (bodies : List (List ℕ)) : Type 0 where
     pub stands : GivesSide which head bodies (seen_of_two state disks)
     pub first : Only (state disks.first).seen (state disks.first).may_leave
     pub second : Only (state disks.second).seen (state disks.second).may_leave
 
-  -- they still do so, and behind the ten bytes of the side that counts all is as it was (own)
+  -- the disks still do so, and all bytes after the first ten of the side that counts stay (own)
   pub record StillGives (old new : TwoDisks D) (which : Which) (head : Head) (bodies : List (List ℕ)) : Type 0 where
     pub gives : GivesSurely new which head bodies
     pub same : drop 10 (counting which (seen_of_two state new)) ≡ drop 10 (counting which (seen_of_two state old))

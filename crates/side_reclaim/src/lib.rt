@@ -1,4 +1,4 @@
-//! The passes of a reclaim, one after the other.
+//! The passes of a reclaim, one after another.
 #![tactic(auto)]
 
 pub mod readying;

@@ -1,5 +1,5 @@
-//! Two disks are made ready for a copy: the second one is prepared, the pair gate opened, and the gate
-//! of the side that does not count closed.
+//! Making two disks ready for a copy: the second is prepared, the pair gate opened, and the gate of the side
+//! that does not count closed.
 ghost use Rattle.std.specs.Prelude.{◌≡◌, List, ℕ, OnOk};
 ghost use Rattle.tape_disk.specs.TwoDisks.{AreHonest, KeepsDisks, TwoDisks, TwoLeave};
 ghost use Rattle.gate_journal.specs.Heads.{Head};
@@ -11,8 +11,8 @@ use side_pairs::{Which, close_spare, open_pair, prepare_pair};
 use tape_disk::Disk;
 use vtl_base::DevFault;
 
-/// Makes two disks ready for a copy, of which that side counts. At every moment, and after a fault of
-/// either disk, each pair of images stands for what it stood for.
+/// Makes two disks ready for a copy, where side `which` counts. At every moment, and after a fault of either
+/// disk, each pair of images stands for the same as before.
 pub fn make_ready<D: Disk>(which: Which, first: &mut D, second: &mut D) -> Result<(), DevFault>
     ensures disks { KeepsDisks D.state (record { first = first.old; second = second.old })
         (record { first = first.new; second = second.new }) }
@@ -53,7 +53,7 @@ fn prepare<D: Disk>(which: Which, first: &mut D, second: &mut D) -> Result<(), D
         TwoLeave D.state (record { first = first.old; second = second.old })
         (record { first = first.new; second = second.new }) (GivesSide which head bodies) }
 {
-    // The clauses speak of the side that counts.
+    // Read for the proof: the clauses speak of the side that counts.
     let _ = which;
     prepare_pair(first, second)
 }
@@ -78,7 +78,7 @@ fn pair<D: Disk>(which: Which, first: &mut D, second: &mut D) -> Result<(), DevF
         TwoLeave D.state (record { first = first.old; second = second.old })
         (record { first = first.new; second = second.new }) (GivesSide which head bodies) }
 {
-    // The clauses speak of the side that counts.
+    // Read for the proof: the clauses speak of the side that counts.
     let _ = which;
     open_pair(first, second)
 }

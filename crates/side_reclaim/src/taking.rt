@@ -1,4 +1,4 @@
-//! A copy is written on the side that does not count, and opened: it counts from then on.
+//! Writing a copy on the side that does not count, and opening it: it counts from then on.
 ghost use Rattle.std.specs.Prelude.{◌≡◌, ◌+◌, ◌≤◌, List, ℕ, IfErr, OnOk, vec_capacity};
 ghost use Rattle.tape_disk.specs.Disk.{Keeps};
 ghost use Rattle.tape_disk.specs.Moments.{LeavesOnly};
@@ -14,9 +14,8 @@ use side_pairs::{GivesBodies, open_copy, write_copy};
 use tape_disk::Disk;
 use vtl_base::DevFault;
 
-/// Writes a copy on the side that does not count, and lets it count. At every moment, and after a
-/// fault of its disk or of the source, each pair of images stands for what it stood for, or for the
-/// copy.
+/// Writes a copy on the side that does not count, and makes it count. At every moment, and after a fault of
+/// its disk or of the source, each pair of images stands for the same as before, or for the copy.
 pub fn copy_over<D: Disk, S: GivesBodies>(
     spare: &mut D,
     header: &Header,

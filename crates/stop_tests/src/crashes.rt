@@ -10,8 +10,8 @@ use std::process::Abort;
 use std::test::Fail;
 use tape_disk::MemDisk;
 
-/// What is found once a drive is switched on: the blocks of its tape, of one byte each; and what READ KEYS and READ
-/// RESERVATION give.
+/// What is found when a drive is switched on: the blocks of its tape, of one byte each; and the data of READ
+/// KEYS and READ RESERVATION.
 pub type Left = (&'static [u8], Held);
 
 pub type Held = (&'static [u8], &'static [u8]);
@@ -22,7 +22,7 @@ pub const REGISTERED: Held = (KEY_A, NOBODY);
 
 pub const RESERVED: Held = (KEY_A, HELD_BY_A);
 
-// How many bytes of those not synced land in a crash, and what the others hold.
+// How many of the bytes that are not synced land in a crash, and what the others hold.
 static CRASHES: &'static [(u64, u8)] = &[
     (0, 0x00),
     (0, 0xa5),

@@ -1,4 +1,4 @@
-//! What the tests ask of a drive and of its disks.
+//! A drive and its disks, as the tests use them.
 ghost use Rattle.std.specs.Prelude.{◌≡◌};
 ghost use Rattle.aptpl_store.specs.Kept.{store_kept};
 ghost use Rattle.drive_core.specs.State.{left_of};
@@ -14,12 +14,12 @@ use tape_disk::{Disk, FuseDisk, MemDisk, OnceDisk};
 use volume_core::Turn;
 use vtl_base::{Nexus, NoMemory};
 
-/// The number of a call that no disk comes to.
+/// The number of a call that no disk reaches.
 pub const NEVER: u64 = u64::MAX;
 
-/// A disk over one in memory, of whose calls some fail.
+/// A disk over one in memory, of which some calls fail.
 pub trait TestDisk: Disk + Drop {
-    /// Of which the call after this many fails.
+    /// One that fails at the call after this many.
     fn over(disk: MemDisk, calls: u64) -> Self;
 
     /// The disk in memory.
@@ -46,10 +46,11 @@ impl TestDisk for OnceDisk<MemDisk> {
     }
 }
 
-/// A drive over a cartridge on two disks, with a store of its reservations on a third. The tests know no more of it.
+/// A drive over a cartridge on two disks, with a store of its reservations on a third. The tests know nothing
+/// else of it.
 pub trait TestDrive<D: Disk>: Drop {
-    /// One that was just switched on, with what its disks hold: the cartridge's two and the store's. Where it is not
-    /// switched on the cartridge's first comes back, and the store's.
+    /// One that was just switched on, with the contents of its disks: the cartridge's two and the store's.
+    /// Where it is not switched on, the cartridge's first disk and the store's are returned.
     fn switched_on(alloc: Global, tape: D, second: D, store: D) -> Result<Self, (Option<D>, D)>;
 
     /// Answers a command of a host.
@@ -65,7 +66,7 @@ pub trait TestDrive<D: Disk>: Drop {
     fn store(&self) -> &D;
 }
 
-// The first disk of a closed cartridge, where there is one.
+// The first disk of a closed cartridge, if there is one.
 fn tape_of<D: Disk + Drop>(cartridge: Option<Parked<D>>) -> Option<D> {
     match cartridge {
         Some(cartridge) => {
@@ -121,7 +122,8 @@ impl<D: Disk + Drop> TestDrive<D> for Bay<D> {
     }
 }
 
-/// Two disks in memory: a cartridge's first and a store's. Its second disk is empty, and stays so.
+/// Two disks in memory: a cartridge's first and a store's. The cartridge's second disk is empty, and stays
+/// so.
 #[derive(Drop)]
 pub struct Disks {
     pub tape: MemDisk,
@@ -129,7 +131,7 @@ pub struct Disks {
 }
 
 impl Disks {
-    /// Others with the same past.
+    /// Copies with the same past.
     pub fn copy(&self) -> Result<Disks, NoMemory> {
         Ok(Disks {
             tape: self.tape.copy()?,
@@ -137,7 +139,8 @@ impl Disks {
         })
     }
 
-    /// What a crash leaves of both: of what is not safe so many bytes of each, and this in place of the others.
+    /// What a crash leaves of both: of the bytes that are not safe this many of each disk, and this byte in
+    /// place of the others.
     pub fn crash(self, keep: u64, fill: u8) -> Result<Disks, NoMemory> {
         Ok(Disks {
             tape: self.tape.crash(keep, fill)?,
@@ -157,7 +160,7 @@ pub fn below<D: TestDisk>(tape: Option<&D>, store: &D) -> Result<Disks, Fail> {
     }
 }
 
-/// Those of a drive, as it reached them.
+/// Those of a drive, as it left them.
 pub fn reached<D: TestDisk, S: TestDrive<D>>(drive: &S) -> Result<Disks, Fail> {
     below(drive.tape(), drive.store())
 }

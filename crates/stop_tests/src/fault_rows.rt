@@ -1,4 +1,4 @@
-//! What is asked before a call of a disk fails, and behind it, with the answers.
+//! The commands before a call of a disk fails, and after it, with the answers.
 use crate::samples::{
     A_NEW, A_WITHOUT_APTPL, BY_A, CHANGED, FAILED, GOOD, HELD_BY_A, KEY_A, LATE_ERROR, LOAD, MARK,
     MODE_CHANGED, NOBODY, NONE, NOT_PRESENT, POWERED_ON, READ_KEYS, READ_RESERVATION, READY,
@@ -14,7 +14,7 @@ pub const WAITING: &'static [Row<'static>] = &[
     (1, WRITE_1, b"b", GOOD),
 ];
 
-// A block is stored, and the next is not to wait.
+// A block is stored, and the next must not wait.
 pub const NOT_WAITING: &'static [Row<'static>] = &[
     (1, READY, NONE, POWERED_ON),
     (2, READY, NONE, POWERED_ON),
@@ -24,7 +24,7 @@ pub const NOT_WAITING: &'static [Row<'static>] = &[
     (2, READY, NONE, MODE_CHANGED),
 ];
 
-// The tape has failed, and takes nothing.
+// The tape has failed, and accepts nothing.
 pub const TAKES_NOTHING: &'static [Row<'static>] = &[
     (1, READY, NONE, FAILED),
     (2, WRITE_1, b"c", FAILED),
@@ -33,7 +33,7 @@ pub const TAKES_NOTHING: &'static [Row<'static>] = &[
     (1, LOAD, NONE, FAILED),
 ];
 
-// So does one that failed in a turn, which is reported first, and once.
+// The same for one that failed in a turn, which is reported first, and once.
 pub const REPORTED_LATE: &'static [Row<'static>] = &[
     (2, READY, NONE, LATE_ERROR),
     (1, READY, NONE, FAILED),
@@ -52,7 +52,7 @@ pub const LOADED: &'static [Row<'static>] = &[
     (2, READY, NONE, GOOD),
 ];
 
-// A cartridge with two blocks stands at the first.
+// A cartridge with two blocks is positioned at the first.
 pub const NOT_READ: &'static [Row<'static>] = &[
     (1, READY, NONE, POWERED_ON),
     (2, READY, NONE, POWERED_ON),
@@ -66,7 +66,7 @@ pub const UNLOADED: &'static [Row<'static>] = &[
     (1, UNLOAD, NONE, GOOD),
 ];
 
-// A cartridge that is not loaded takes nothing.
+// A cartridge that is not loaded accepts nothing.
 pub const NOT_LOADED: &'static [Row<'static>] = &[
     (1, READY, NONE, NOT_PRESENT),
     (1, WRITE_1, b"c", NOT_PRESENT),
@@ -76,7 +76,7 @@ pub const NOT_LOADED: &'static [Row<'static>] = &[
 // It is loaded.
 pub const LOADED_LATE: &'static [Row<'static>] = &[(1, LOAD, NONE, GOOD), (1, READY, NONE, GOOD)];
 
-// Nobody is registered, the store takes nothing, and the tape takes a block.
+// Nobody is registered, the store accepts nothing, and the tape accepts a block.
 pub const NOT_REGISTERED: &'static [Row<'static>] = &[
     (1, READ_KEYS, NONE, (None, NOBODY)),
     (1, REGISTER, A_NEW, FAILED),

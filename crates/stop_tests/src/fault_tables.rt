@@ -1,4 +1,4 @@
-//! What a drive is asked where a call of a disk fails, and what is found behind it.
+//! The commands to a drive where a call of a disk fails, and what is found afterwards.
 use crate::crashes::{Left, NOTHING, REGISTERED, RESERVED};
 use crate::fault_rows::{
     A_KEY, LOADED, LOADED_LATE, NOT_LOADED, NOT_READ, NOT_REGISTERED, NOT_RESERVED, NOT_WAITING,
@@ -11,12 +11,12 @@ use crate::samples::{
 };
 use crate::stop_tables::Which;
 
-/// What meets the fault.
+/// The use of a drive that meets the fault.
 #[derive(Clone, Copy)]
 pub enum Deed {
     /// A flusher's turn, which stores one change.
     Turn,
-    /// A command of host 1, what is sent with it, its answer, and that where a call fails.
+    /// A command of host 1, the data sent with it, its answer, and its answer where a call fails.
     Asked(&'static [u8], &'static [u8], Wanted<'static>, Wanted<'static>),
 }
 
@@ -25,11 +25,11 @@ pub enum Deed {
 pub enum Again {
     /// By these commands.
     Asked(&'static [Row<'static>]),
-    /// By another drive, which is switched on over the disks as they are.
+    /// By another drive, which is switched on over the same disks.
     Restarted,
 }
 
-/// Where a call failed: what nine crashes leave, each of these by one of them at least, and what is found again.
+/// For one failed call: what nine crashes leave, each of these by at least one, and what is found again.
 pub type Failed = (&'static [Left], Left);
 
 /// A deed of which each call of a disk fails, one at a time.
@@ -38,12 +38,12 @@ pub struct Fault {
     pub tape: &'static [u8],
     pub store: &'static [u8],
     pub which: Which,
-    /// What is asked before.
+    /// The commands before.
     pub before: &'static [Row<'static>],
-    /// How many calls of the disk that takes, with the power on.
+    /// How many calls of the disk these take, with the power on.
     pub first: u64,
     pub deed: Deed,
-    /// What is asked behind it.
+    /// The commands afterwards.
     pub then: &'static [Row<'static>],
     pub again: Again,
     /// A line for each call of the deed.
@@ -54,11 +54,11 @@ const A: Left = (b"a", NOTHING);
 
 const AB: Left = (b"ab", NOTHING);
 
-// A frame is stored by a write behind the closed gate, a sync, the write of the gate, and a sync.
+// A frame is stored by a write after the closed gate, a sync, the write of the gate, and a sync.
 const STORING: &'static [Failed] = &[(&[A], A), (&[A], A), (&[A], A), (&[A, AB], AB)];
 
-// A cartridge of two frames is opened by a sync and a read of how its first disk begins, which show that this one
-// counts; then by a sync, two reads of its heading, three of gates and two of bodies.
+// A cartridge of two frames is opened by a sync and a read of the first bytes of its first disk, which show
+// that this disk counts. Then come a sync, two reads of its heading, three of gates and two of bodies.
 const LOADING: &'static [Failed] = &[
     (&[AB], AB),
     (&[AB], AB),
@@ -72,7 +72,7 @@ const LOADING: &'static [Failed] = &[
     (&[AB], AB),
 ];
 
-// The first key, beside a block; a reservation; and a key without APTPL.
+// The first key, with a block; a reservation; and a key without APTPL.
 const ONE_KEY: Left = (b"a", REGISTERED);
 
 const KEYED: Left = (b"", REGISTERED);

@@ -11,10 +11,10 @@ use std::test::Fail;
 use tape_disk::{MemDisk, OnceDisk};
 use volume_core::Turn;
 
-// A fault, by its name, and how many calls passed before the one that fails.
+// A fault, by its name, and how many calls passed before the failed one.
 type At = (&'static str, u64);
 
-// A drive over the disks of a fault, of one of which the call after so many fails.
+// A drive over the disks of a fault, one of which fails at the call after this many.
 fn failing<D: TestDisk, S: TestDrive<D>>(
     alloc: Global,
     fault: &Fault,
@@ -62,7 +62,7 @@ fn fails<D: TestDisk, S: TestDrive<D>>(rt: &impl Abort, drive: &mut S, deed: Dee
     }
 }
 
-// This is found by commands to the drive, and no crash takes it away.
+// This is found by commands to the drive, and survives each crash.
 fn is_found<D: TestDisk, S: TestDrive<D>>(
     rt: &impl Abort,
     alloc: Global,
@@ -75,7 +75,7 @@ fn is_found<D: TestDisk, S: TestDrive<D>>(
     are_left::<D, S>(rt, alloc, &disks, &[left], &at)
 }
 
-// This is found by another drive, and no crash takes it away.
+// This is found by another drive, and survives each crash.
 fn is_found_by_another<D: TestDisk, S: TestDrive<D>>(
     rt: &impl Abort,
     alloc: Global,
@@ -95,7 +95,7 @@ fn is_found_by_another<D: TestDisk, S: TestDrive<D>>(
     is_found::<D, S>(rt, alloc, &mut drive, left, at)
 }
 
-// The deed fails, and nothing is taken; what crashes leave, and what is found again.
+// The deed fails, and nothing is accepted; what crashes leave, and what is found again.
 fn is_met<D: TestDisk, S: TestDrive<D>>(
     rt: &impl Abort,
     alloc: Global,
@@ -120,7 +120,7 @@ fn is_met<D: TestDisk, S: TestDrive<D>>(
     }
 }
 
-// The deed at one call of the disk, or at the one behind all of its own, which it does not come to.
+// The deed with a fault at one call of the disk, or at the one after all of its own, which it does not reach.
 fn is_tried<D: TestDisk, S: TestDrive<D>>(
     rt: &impl Abort,
     alloc: Global,

@@ -1,4 +1,4 @@
-//! A drive over a side that is nearly full: what fits is taken, to the byte.
+//! A drive over a side that is nearly full: what fits is accepted, to the byte.
 use crate::drives::TestDrive;
 use crate::long_disks::LongDisk;
 use crate::samples::{
@@ -13,10 +13,10 @@ use std::test::Fail;
 use tape_disk::Disk;
 use volume_core::Turn;
 
-// How a command is answered.
+// The answer to a command.
 enum Answer {
     Is(Wanted<'static>),
-    // A block of so many bytes, or so many filemarks, does not fit.
+    // A block of this size, or this many filemarks, do not fit.
     Full(u32),
 }
 
@@ -46,20 +46,19 @@ const TO_END: &'static [u8] = &[0x11, 3, 0, 0, 0, 0];
 
 const POSITION: &'static [u8] = &[0x34, 0, 0, 0, 0, 0, 0, 0, 0, 0];
 
-// Behind ten objects, and behind eleven.
+// After ten objects, and after eleven.
 const TEN: Wanted<'static> = (None, b"\0\0\0\0\0\0\0\x0a\0\0\0\x0a\0\0\0\0\0\0\0\0");
 
 const ELEVEN: Wanted<'static> = (None, b"\0\0\0\0\0\0\0\x0b\0\0\0\x0b\0\0\0\0\0\0\0\0");
 
-// How long a side may be.
+// The longest side.
 const SIDE: u64 = 1_099_511_627_776;
 
-// A command, how many zeros are sent with it, and what is wanted.
+// A command, how many zeros are sent with it, and the expected answer.
 type Step = (&'static [u8], usize, Answer);
 
-// There is room for 7,733,217 bytes of frames. A block
-// takes 15 bytes and its own, as each is a frame of its own, and so does a filemark. The seven take 1,048,591 each and
-// leave 393,080.
+// There is room for 7,733,217 bytes of frames. A block takes 15 bytes and its own, as each is a frame of its
+// own, and so does a filemark. The seven take 1,048,591 each and leave 393,080.
 static ROWS: &'static [Step] = &[
     (READY, 0, Answer::Is(POWERED_ON)),
     (SELECT_4, 4, Answer::Is(GOOD)),
@@ -104,7 +103,8 @@ const MARK_LATER: &'static [u8] = &[0x10, 1, 0, 0, 1, 0];
 // 393,020 bytes.
 const WRITE_SHORTER: &'static [u8] = &[0x0a, 0, 0x05, 0xff, 0x3c, 0];
 
-// In buffered mode what waits counts too, each change as a frame of its own. Seven blocks are stored, a frame each.
+// In buffered mode what waits counts too, each change as a frame of its own. Seven blocks are stored, in one
+// frame each.
 static WAITING: &'static [Step] = &[
     (READY, 0, Answer::Is(POWERED_ON)),
     (WRITE_MIB, 1_048_576, Answer::Is(GOOD)),
@@ -160,7 +160,7 @@ fn switched_on<S: TestDrive<LongDisk>>(alloc: Global) -> Result<S, Fail> {
     }
 }
 
-// The drive is asked, and answers so.
+// The drive has these answers.
 fn fills<S: TestDrive<LongDisk>>(rt: &impl Abort, drive: &mut S, zeros: &[u8], steps: &[Step]) {
     for (place, (cdb, sent, answer)) in steps.iter().enumerate() {
         let wanted = wanted_of(answer);
@@ -170,13 +170,13 @@ fn fills<S: TestDrive<LongDisk>>(rt: &impl Abort, drive: &mut S, zeros: &[u8], s
     }
 }
 
-// The flusher's turn ends so.
+// The flusher's turn has this result.
 fn turns<S: TestDrive<LongDisk>>(rt: &impl Abort, drive: &mut S, wanted: Turn) {
     let turn = drive.take_turn();
     assert_equal!(rt; turn, wanted);
 }
 
-// The last gate stands at the last place that there is.
+// The last gate is at the last place that there is.
 fn is_full<S: TestDrive<LongDisk>>(rt: &impl Abort, drive: &S) {
     let len = match drive.tape() {
         Some(tape) => tape.len(),

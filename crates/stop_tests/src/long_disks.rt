@@ -9,14 +9,14 @@ use vtl_base::DevFault;
 // The header of a cartridge of one partition of 16,777,216 bytes.
 const HEADER: &'static [u8; 35] = b"\xa5VTLCART1\0\x01T00001L6        \0\0\0\0\x01\0\0\0";
 
-// What a frame takes: its gate, the length of its body, and the longest body, 8,388,608 bytes.
+// The bytes of a frame: its gate, the length of its body, and the longest body, 8,388,608 bytes.
 const FRAME: u64 = 8_388_613;
 
-// The place of the closed gate behind 131,071 frames: 35 + 131,071 * 8,388,613.
+// The place of the closed gate after 131,071 frames: 35 + 131,071 * 8,388,613.
 const END: u64 = 1_099_503_894_558;
 
-// What stands in each frame, and where: the gate and the length, and the heads of eight blocks, each of which is
-// written at the beginning of the partition. Seven have 1,048,576 bytes, and the last has 1,048,496.
+// The bytes of each frame, and their places: the gate and the length, and the heads of eight blocks, each of
+// which is written at the beginning of the partition. Seven have 1,048,576 bytes, and the last has 1,048,496.
 static HEADS: &'static [(u64, &'static [u8])] = &[
     (0, b"\xa5\0\x80\0\0"),
     (5, b"\x01\0\0\0\0\0\0\x10\0\0"),
@@ -29,8 +29,8 @@ static HEADS: &'static [(u64, &'static [u8])] = &[
     (7_340_107, b"\x01\0\0\0\0\0\0\x0f\xff\xb0"),
 ];
 
-/// A disk of so many bytes of frames that are made up at each read, and of what was written before and behind them. It
-/// is never honest: the bytes of a block in these frames are those that the buffer has.
+/// A disk whose frames are made up at each read, followed and preceded by bytes that were written. It is
+/// never honest: the bytes of a block in these frames are those that the buffer has.
 #[derive(Drop)]
 pub struct LongDisk {
     end: u64,
@@ -38,7 +38,7 @@ pub struct LongDisk {
 }
 
 impl LongDisk {
-    /// A cartridge of 131,071 frames of the longest body, behind which a body of 7,733,212 bytes has room.
+    /// A cartridge of 131,071 frames of the longest body, with room after them for a body of 7,733,212 bytes.
     pub fn tape(alloc: Global) -> Result<LongDisk, Fail> {
         let mut below = SparseDisk::new(alloc);
         if below.write_at(0, HEADER).is_err() || below.write_at(END, &[0]).is_err() {
@@ -57,7 +57,7 @@ impl LongDisk {
     }
 }
 
-// Puts what stands from a place on into the buffer, which has what stands from another place on.
+// Puts the bytes from `place` on into the buffer, which has the bytes from `at` on.
 fn lay(buffer: &mut [u8], at: u64, place: u64, bytes: &[u8]) {
     let (end, size) = (at.saturating_add(buffer.len() as u64), bytes.len() as u64);
     if place >= end || place.saturating_add(size) <= at {
@@ -72,7 +72,7 @@ fn lay(buffer: &mut [u8], at: u64, place: u64, bytes: &[u8]) {
     }
 }
 
-// Puts what stands in the frames from a place on into the buffer, but for the blocks' bytes.
+// Puts the bytes of the frames from a place on into the buffer, except those of the blocks.
 fn fill(buffer: &mut [u8], at: u64) {
     let first = at.saturating_sub(at.saturating_sub(35) % FRAME);
     for frame in [first, first.saturating_add(FRAME)] {

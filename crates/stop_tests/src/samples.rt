@@ -1,4 +1,4 @@
-//! What hosts ask of a drive, and how they are answered.
+//! Commands of hosts to a drive, and their answers.
 use crate::drives::TestDrive;
 use assertions::assert_equal;
 use scsi_sense::{Reply, Status};
@@ -7,11 +7,11 @@ use std::process::Abort;
 use tape_disk::Disk;
 use vtl_base::Nexus;
 
-/// What a reply is wanted to be: its sense data, if any, by bytes 0 and 2, INFORMATION, additional code and qualifier;
-/// and the bytes that it gives.
+/// The expected reply: its sense data, if any, by bytes 0 and 2, INFORMATION, additional code and qualifier;
+/// and its bytes.
 pub type Wanted<'a> = (Option<(u8, u8, u32, u8, u8)>, &'a [u8]);
 
-/// A host, its command and the bytes that it sends, and what is wanted of the reply.
+/// A host, its command and the bytes that it sends, and the expected reply.
 pub type Row<'a> = (u8, &'a [u8], &'a [u8], Wanted<'a>);
 
 pub const NONE: &'static [u8] = &[];
@@ -54,13 +54,14 @@ pub const BY_A: &'static [u8] = b"\0\0\0\0\0\0\0\xa1\0\0\0\0\0\0\0\0\0\0\0\0\0\0
 
 pub const A_WITHOUT_APTPL: &'static [u8] = b"\0\0\0\0\0\0\0\xa1\0\0\0\0\0\0\0\xa1\0\0\0\0\0\0\0\0";
 
-/// What READ KEYS gives where nobody is registered, or READ RESERVATION where nothing is held; generation 0.
+/// The data of READ KEYS where nobody is registered, or of READ RESERVATION where nothing is held; generation
+/// 0.
 pub const NOBODY: &'static [u8] = b"\0\0\0\0\0\0\0\0";
 
-/// What READ KEYS gives of the key a1, with generation 0.
+/// The data of READ KEYS for the key a1, with generation 0.
 pub const KEY_A: &'static [u8] = b"\0\0\0\0\0\0\0\x08\0\0\0\0\0\0\0\xa1";
 
-/// What READ RESERVATION gives of type 5, held with the key a1, with generation 0.
+/// The data of READ RESERVATION for type 5, held with the key a1, with generation 0.
 pub const HELD_BY_A: &'static [u8] = b"\0\0\0\0\0\0\0\x10\0\0\0\0\0\0\0\xa1\0\0\0\0\0\x05\0\0";
 
 pub const GOOD: Wanted<'static> = (None, &[]);
@@ -81,13 +82,13 @@ pub const LATE_ERROR: Wanted<'static> = (Some((0x71, 3, 0, 0x0c, 0)), &[]);
 
 pub const FAILED: Wanted<'static> = (Some((0x70, 4, 0, 0x44, 0)), &[]);
 
-// The end of data, where one byte was asked for.
+// The end of data, for a request of one byte.
 const END: Wanted<'static> = (Some((0xf0, 8, 1, 0, 5)), &[]);
 
 /// A cartridge `T00001L6` of one partition of 16,777,216 bytes, with no frames.
 pub const NEW_TAPE: &'static [u8] = b"\xa5VTLCART1\0\x01T00001L6        \0\0\0\0\x01\0\0\0\0";
 
-/// The same with the blocks `a` and `b`, a frame each: its gates stand at 35, 51 and 67.
+/// The same with the blocks `a` and `b`, in one frame each: its gates are at 35, 51 and 67.
 pub const AB_TAPE: &'static [u8] = b"\xa5VTLCART1\0\x01T00001L6        \0\0\0\0\x01\0\0\0\
     \xa5\0\0\0\x0b\x01\0\0\0\0\0\0\0\0\x01a\
     \xa5\0\0\0\x0b\x01\0\0\0\0\x01\0\0\0\x01b\
@@ -102,20 +103,21 @@ pub const A_TAPE: &'static [u8] = b"\xa5VTLCART1\0\x01T00001L6        \0\0\0\0\x
 /// A store of drive 1 with no frames.
 pub const NEW_STORE: &'static [u8] = b"\xa5VTLRESV1\0\0DRIVE1          \0";
 
-/// The same once host 1 has registered a1 with APTPL and reserved type 5: its gates stand at 27, 45 and 63.
+/// The same after host 1 has registered a1 with APTPL and reserved type 5: its gates are at 27, 45 and 63.
 pub const HELD_STORE: &'static [u8] = b"\xa5VTLRESV1\0\0DRIVE1          \
     \xa5\0\0\0\x0d\x01\0\0\x01\x01\0\0\0\0\0\0\0\xa1\
     \xa5\0\0\0\x0d\x01\x05\x01\x01\x01\0\0\0\0\0\0\0\xa1\
     \0";
 
-/// The same with a frame behind its last gate, which is closed: host 1 has registered a1 over a1 without APTPL.
+/// The same with a frame after its last gate, which is closed: host 1 has registered a1 over a1 without
+/// APTPL.
 pub const LEFT_STORE: &'static [u8] = b"\xa5VTLRESV1\0\0DRIVE1          \
     \xa5\0\0\0\x0d\x01\0\0\x01\x01\0\0\0\0\0\0\0\xa1\
     \xa5\0\0\0\x0d\x01\x05\x01\x01\x01\0\0\0\0\0\0\0\xa1\
     \0\0\0\0\x0d\0\x05\x01\x01\x01\0\0\0\0\0\0\0\xa1\
     \0";
 
-// The status, the 18 bytes of sense data and the bytes that are wanted.
+// The expected status, 18 bytes of sense data and bytes.
 type Told<'a> = (Status, Option<[u8; 18]>, &'a [u8]);
 
 fn told(wanted: Wanted) -> Told {
@@ -130,7 +132,7 @@ fn told(wanted: Wanted) -> Told {
     (Status::Check, Some(sense), bytes)
 }
 
-// What a reply tells.
+// The status, sense data and bytes of a reply.
 fn heard(reply: &Reply) -> Told<'_> {
     let sense = match &reply.sense {
         Some(sense) => Some(sense.bytes()),
@@ -139,7 +141,7 @@ fn heard(reply: &Reply) -> Told<'_> {
     (reply.status, sense, reply.bytes.as_slice())
 }
 
-/// A command is answered as it is wanted.
+/// A command has the expected reply.
 pub fn ask<D: Disk, S: TestDrive<D>>(
     rt: &impl Abort,
     drive: &mut S,
@@ -153,7 +155,7 @@ pub fn ask<D: Disk, S: TestDrive<D>>(
     assert_equal!(rt; heard(&reply), told(wanted); at);
 }
 
-/// So is each of these.
+/// The same for each of these.
 pub fn asks<D: Disk, S: TestDrive<D>>(
     rt: &impl Abort,
     drive: &mut S,
@@ -165,7 +167,7 @@ pub fn asks<D: Disk, S: TestDrive<D>>(
     }
 }
 
-/// Whether a command is answered as it is wanted.
+/// Whether a command has the expected reply.
 pub fn answers<D: Disk, S: TestDrive<D>>(drive: &mut S, row: Row) -> bool {
     let (host, cdb, sent, wanted) = row;
     match Nexus::new(host) {

@@ -1,4 +1,4 @@
-//! What a drive is asked, what it answers where a disk stops, and what a crash then leaves.
+//! The commands to a drive, its answers where a disk stops, and what a crash then leaves.
 use crate::crashes::{Left, NOTHING, REGISTERED, RESERVED};
 use crate::drives::NEVER;
 use crate::samples::{
@@ -17,7 +17,8 @@ pub enum Which {
 }
 
 impl Which {
-    /// How many calls of each pass, of the first, the second and the store's, where so many of this one do.
+    /// How many calls of each disk pass, of the first, the second and the store's, where this many of this
+    /// one do.
     pub fn calls(self, calls: u64) -> (u64, u64, u64) {
         match self {
             Which::Tape => (calls, NEVER, NEVER),
@@ -32,17 +33,17 @@ impl Which {
 pub enum End {
     /// The drive is not switched on.
     NotOn,
-    /// The command at this place, the first from 0 on that the stop concerns, is answered so.
+    /// The command at this place, the first from 0 on that the stop affects, has this answer.
     At(usize, Wanted<'static>),
     /// Nothing stopped.
     Whole,
 }
 
-/// After so many calls of the disk, and after those that no moment before names: where the run ends, and what the
-/// crashes leave, each of these by one of them at least.
+/// After this many calls of the disk, and after each lower number that no earlier moment covers: where the
+/// run ends, and what the crashes leave, each of these by at least one.
 pub type Moment = (u64, End, &'static [Left]);
 
-/// What is on a disk, and the place in it of a gate that was then opened and not synced.
+/// The bytes of a disk, and the place of a gate that was then opened and not synced.
 pub type Side = (&'static [u8], Option<u64>);
 
 /// A run over three disks, the cartridge's two and the store's, of which one stops.
@@ -55,7 +56,7 @@ pub struct Run {
     pub moments: &'static [Moment],
 }
 
-// Three blocks are written and stored; then one is written in the place of the second, and stored.
+// Three blocks are written and stored; then one is written in place of the second, and stored.
 const REWRITING: &'static [Row<'static>] = &[
     (1, READY, NONE, POWERED_ON),
     (1, WRITE_1, b"a", GOOD),
@@ -98,10 +99,11 @@ const LOADING: &'static [Row<'static>] = &[
 
 const EMPTY: Left = (b"", NOTHING);
 
-/// To open a new store takes a sync, two reads of its heading and one of its gate; each frame takes two reads more. To
-/// open a cartridge takes as much of the disk that counts, and before that, to find which one does, a sync of each of
-/// the two and a read of how the first begins. To store takes a write behind the closed gate, a sync, the write of the
-/// gate, and a sync: before the gate is written no crash leaves the frame, and behind the last sync each does.
+/// Opening a new store takes a sync, two reads of its heading and one of its gate; each frame takes two more
+/// reads. Opening a cartridge takes the same for the disk that counts. Before that, finding that disk takes a
+/// sync of each of the two and a read of the first bytes of the first. Storing takes a write after the closed
+/// gate, a sync, the write of the gate, and a sync: before the gate is written no crash leaves the frame, and
+/// after the last sync each does.
 pub static RUNS: &'static [Run] = &[
     Run {
         what: "a block over two",

@@ -25,7 +25,7 @@ pub fn disk_of(alloc: Global, side: Side) -> Result<MemDisk, Fail> {
     Ok(disk)
 }
 
-// The drive is asked, up to the command that this end names, and answers so.
+// The drive gets the commands up to the one that this end names, and has these answers.
 fn asks_to<D: TestDisk, S: TestDrive<D>>(
     rt: &impl Abort,
     drive: &mut S,
@@ -46,7 +46,8 @@ fn asks_to<D: TestDisk, S: TestDrive<D>>(
     }
 }
 
-// The drive is switched on over these disks, or not, and is asked: the disks as they are reached.
+// The drive is switched on over these disks, or not, and gets the commands. Returns the disks as they are
+// then.
 fn run_over<D: TestDisk, S: TestDrive<D>>(
     rt: &impl Abort,
     alloc: Global,
@@ -71,7 +72,7 @@ fn run_over<D: TestDisk, S: TestDrive<D>>(
     }
 }
 
-// A run of which so many calls pass.
+// A run of which this many calls pass.
 fn stops<D: TestDisk, S: TestDrive<D>>(
     rt: &impl Abort,
     alloc: Global,
@@ -95,7 +96,7 @@ fn stops<D: TestDisk, S: TestDrive<D>>(
     )
 }
 
-// The run is stopped before each of its calls, and once behind them all, which is no stop.
+// The run is stopped before each of its calls, and once after them all, which is no stop.
 fn is_stopped<D: TestDisk, S: TestDrive<D>>(
     rt: &impl Abort,
     alloc: Global,

@@ -1,4 +1,4 @@
-//! What hosts ask of a drive over a store, and how they are answered.
+//! Commands of hosts to a drive over a store, and their answers.
 ghost use Rattle.std.specs.Prelude.{◌≡◌, [], IfOk};
 ghost use Rattle.aptpl_store.specs.Kept.{store_kept};
 ghost use Rattle.drive_core.specs.State.{left_of};
@@ -14,11 +14,11 @@ use tape_disk::Disk;
 use volume_core::PlainMedium;
 use vtl_base::{DriveNo, Nexus};
 
-/// A drive with no cartridge, over a store.
+/// An empty drive over a store.
 pub type Host<D> = Drive<PlainMedium, AptplStore<D>>;
 
-/// A host, its command and the bytes that it sends; the status that it is answered, with sense data or with
-/// bytes; and how many frames the store has then.
+/// A host, its command and the bytes that it sends; the status of the answer, with sense data or with bytes;
+/// and how many frames the store has then.
 pub type Row = (u8, &'static [u8], &'static [u8], u8, &'static [u8], usize);
 
 pub const GOOD: u8 = 0x00;
@@ -89,7 +89,7 @@ pub fn new_host<D: Disk + Drop>(alloc: Global, disk: D) -> Result<Host<D>, Store
     switched_on(alloc, made(alloc, disk)?, Reservations::empty())
 }
 
-/// A drive that was just switched on, over the store that the disk holds.
+/// A drive that was just switched on, over the store on the disk.
 pub fn host_over<D: Disk + Drop>(alloc: Global, disk: D) -> Result<Host<D>, StoreRefused<D>> {
     let (store, left) = AptplStore::open(alloc, disk)?;
     switched_on(alloc, store, left)
@@ -104,7 +104,7 @@ fn is_answer(reply: &Reply, status: u8, told: &[u8]) -> bool {
     reply.status.code() == status && is_told
 }
 
-/// Hosts ask one after another, and are answered so.
+/// Commands of hosts, one after another, have these answers.
 pub fn ask_all<D: Disk + Drop>(rt: &impl Abort, drive: &mut Host<D>, rows: &[Row]) {
     for (at, (host, cdb, sent, status, told, frames)) in rows.iter().enumerate() {
         let nexus = Nexus::new(*host).expect(rt, "a nexus");

@@ -12,7 +12,7 @@ use std::test::Fail;
 use tape_disk::{MemDisk, OnceDisk};
 use vtl_base::NoMemory;
 
-// The save of the first order fails. The old state stands, and the store goes on to fail.
+// The save of the first order fails. The old state stays, and each later save fails too.
 static FAILING: &'static [Row] = &[
     (1, TEST_UNIT_READY, NONE, CHECK, POWERED_ON, 0),
     (1, REGISTER, A_NEW, CHECK, FAILED, 0),
@@ -22,7 +22,7 @@ static FAILING: &'static [Row] = &[
     (1, READ_KEYS, NONE, GOOD, NO_KEYS, 0),
 ];
 
-// How many bytes of those not synced land in a crash, and what the others hold.
+// How many of the bytes that are not synced land in a crash, and what the others hold.
 static CRASHES: &'static [(u64, u8)] = &[
     (0, 0x00),
     (0, 0xa5),
@@ -69,7 +69,7 @@ fn opens(rt: &impl Abort, alloc: Global, reached: &MemDisk) -> Result<(), Fail> 
     Ok(())
 }
 
-// The save of the first order fails; what is left, and that a drive over the disk as it was reached works.
+// The save of the first order fails; what is left; and a drive over the disk as it is then works.
 fn fails(rt: &impl Abort, alloc: Global, drive: &mut Host<OnceDisk<MemDisk>>) -> Result<(), Fail> {
     ask_all(rt, drive, FAILING);
     assert_holds!(rt; drive.keeper().has_failed());
@@ -77,7 +77,7 @@ fn fails(rt: &impl Abort, alloc: Global, drive: &mut Host<OnceDisk<MemDisk>>) ->
     opens(rt, alloc, drive.keeper().disk().inner())
 }
 
-// Five calls make the store, four save what host 1 registers. The last call is the second sync.
+// Five calls make the store, four save the registration of host 1. The last call is the second sync.
 fn is_met(rt: &impl Abort, alloc: Global, calls: u64) -> Result<(), Fail> {
     match new_host(alloc, OnceDisk::new(MemDisk::new(alloc), calls)) {
         Ok(mut drive) => {

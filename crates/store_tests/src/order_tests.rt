@@ -19,8 +19,8 @@ const HELD_BY_A: &'static [u8] = b"\0\0\0\0\0\0\0\x10\0\0\0\0\0\0\0\xa1\0\0\0\0\
 
 const HELD_BY_A_RAISED: &'static [u8] = b"\0\0\0\x01\0\0\0\x10\0\0\0\0\0\0\0\xa1\0\0\0\0\0\x05\0\0";
 
-// Host 1 registers with APTPL and reserves. An order that changes nothing, and one that changes the generation
-// alone, save nothing.
+// Host 1 registers with APTPL and reserves. An order that changes nothing, and one that changes only the
+// generation, save nothing.
 const RESERVING: &'static [Row] = &[
     (1, TEST_UNIT_READY, NONE, CHECK, POWERED_ON, 0),
     (1, REGISTER, A_NEW, GOOD, NONE, 1),
@@ -30,7 +30,7 @@ const RESERVING: &'static [Row] = &[
     (1, READ_KEYS, NONE, GOOD, KEY_A_RAISED, 2),
 ];
 
-// All that is left but the generation; then host 1 registers without APTPL.
+// All is left except the generation; then host 1 registers without APTPL.
 const LEAVING: &'static [Row] = &[
     (1, TEST_UNIT_READY, NONE, CHECK, POWERED_ON, 2),
     (2, TEST_UNIT_READY, NONE, CHECK, POWERED_ON, 2),
@@ -47,8 +47,8 @@ const LEFT: &'static [Row] = &[
     (1, READ_RESERVATION, NONE, GOOD, NO_KEYS, 3),
 ];
 
-// From one loss of power to the next: what hosts ask, the bytes on the disk then, and how many syncs it took: two
-// to make the store, one to open it, and two for each save.
+// From one loss of power to the next: the commands of hosts, the bytes on the disk then, and how many syncs
+// it took: two to make the store, one to open it, and two for each save.
 static COURSES: &'static [(&'static [Row], &'static [u8], u64)] = &[
     (&[], NEW_SIDE, 3),
     (RESERVING, SIDE, 5),
@@ -56,7 +56,7 @@ static COURSES: &'static [(&'static [Row], &'static [u8], u64)] = &[
     (LEFT, SIDE_WITHOUT_APTPL, 1),
 ];
 
-// A drive is asked, and leaves these bytes; then its power goes.
+// A drive gets these commands, and leaves these bytes; then its power is lost.
 fn asked(
     rt: &impl Abort,
     drive: &mut Host<MemDisk>,

@@ -10,7 +10,7 @@ static NAMES: &'static [u8] = b"\
     DRIVE9          DRIVE10         DRIVE11         DRIVE12         \
     DRIVE13         DRIVE14         DRIVE15         DRIVE16         ";
 
-// The frames behind the header of a store.
+// The frames after the header of a store.
 fn behind_header(bytes: &[u8]) -> Option<&[u8]> {
     let rest = bytes.strip_prefix(b"\xa5VTLRESV1\0\0")?;
     let (found, frames) = rest.split_at_checked(16)?;
@@ -22,7 +22,7 @@ fn behind_header(bytes: &[u8]) -> Option<&[u8]> {
     None
 }
 
-// The body of a frame whose gate and what follows are these bytes, and what lies behind it.
+// The body of a frame at the start of these bytes, and what follows it.
 fn frame(bytes: &[u8]) -> Option<(&[u8], &[u8])> {
     let (head, rest) = bytes.split_at_checked(5)?;
     let size = BigEndian::read_u32(&head[1..]);
@@ -42,7 +42,7 @@ fn nexus_of(registration: &[u8], last: u8) -> Option<u8> {
     Some(*nexus)
 }
 
-// Whether the holder is one of these registrations, if they are some.
+// Whether the holder is one of these registrations; None where they are not valid.
 fn holds(registrations: &[u8], holder: u8) -> Option<bool> {
     let (mut last, mut holds) = (0, false);
     for registration in registrations.chunks(9) {
@@ -52,7 +52,7 @@ fn holds(registrations: &[u8], holder: u8) -> Option<bool> {
     Some(holds)
 }
 
-// Whether a type goes with the holder, of whom it is told whether he is registered, and this many registrations.
+// Whether a type fits the holder, who is registered or not, and this many registrations.
 fn is_held(kind: u8, holder: u8, is_registered: bool, count: u8) -> bool {
     match kind {
         0 => holder == 0,
@@ -77,7 +77,7 @@ fn left_of(body: &[u8]) -> Option<[u8; 4]> {
     }
 }
 
-/// What a store with these bytes is seen as, or why they are none.
+/// What is seen in a store with these bytes, or why they are no store.
 pub fn judged(bytes: &[u8]) -> Found {
     let Some(mut rest) = behind_header(bytes) else {
         return Err(StoreError::NotOurs);
@@ -102,7 +102,8 @@ pub fn judged(bytes: &[u8]) -> Found {
     seen
 }
 
-/// The registrations that the last frame of a store with these bytes leaves, nine bytes each; none where it is none.
+/// The registrations that the last frame of a store with these bytes leaves, nine bytes each; none where the
+/// bytes are no store.
 pub fn registrations_left(bytes: &[u8]) -> &[u8] {
     let mut rest = behind_header(bytes).unwrap_or(&[]);
     let mut last: &[u8] = &[];

@@ -8,14 +8,14 @@ use vtl_base::DevFault;
 /// A store of drive 1 with no frames.
 pub const NEW_SIDE: &'static [u8] = b"\xa5VTLRESV1\0\0DRIVE1          \0";
 
-/// The store of drive 1 once host 1 has registered a1 with APTPL and reserved type 5: its gates stand at 27,
+/// The store of drive 1 after host 1 has registered a1 with APTPL and reserved type 5: its gates are at 27,
 /// 45 and 63.
 pub const SIDE: &'static [u8] = b"\xa5VTLRESV1\0\0DRIVE1          \
     \xa5\0\0\0\x0d\x01\0\0\x01\x01\0\0\0\0\0\0\0\xa1\
     \xa5\0\0\0\x0d\x01\x05\x01\x01\x01\0\0\0\0\0\0\0\xa1\
     \0";
 
-/// The same once host 1 has registered a1 over a1 without APTPL.
+/// The same after host 1 has registered a1 over a1 without APTPL.
 pub const SIDE_WITHOUT_APTPL: &'static [u8] = b"\xa5VTLRESV1\0\0DRIVE1          \
     \xa5\0\0\0\x0d\x01\0\0\x01\x01\0\0\0\0\0\0\0\xa1\
     \xa5\0\0\0\x0d\x01\x05\x01\x01\x01\0\0\0\0\0\0\0\xa1\
@@ -30,8 +30,8 @@ pub const SIDE_OF_ALL: &'static [u8] = b"\xa5VTLRESV1\0\0DRIVE16         \
     \x40\xff\xff\xff\xff\xff\xff\xff\xff\
     \0";
 
-/// What a store is seen as: its frames; and of what it left APTPL, the type of the reservation and its holder,
-/// 0 for none, and how many are registered.
+/// What is seen in a store: its frames; and of the state that it leaves APTPL, the type of the reservation
+/// and its holder, 0 for none, and how many are registered.
 pub type Seen = (usize, [u8; 4]);
 
 /// What is seen on a disk, or why it holds no store.
@@ -50,7 +50,7 @@ pub const WITHOUT_APTPL: Found = Ok((3, [0, 0, 0, 0]));
 /// The first fault of a disk.
 pub const FAULT: StoreError = StoreError::Device(DevFault { failures: 1 });
 
-/// What is seen of a state.
+/// What is seen in a state.
 pub fn seen_of(state: &PrState) -> [u8; 4] {
     let mut registered = 0u8;
     for key in &state.keys {

@@ -52,7 +52,7 @@ fn has_keys(rt: &impl Abort, left: &Reservations, bytes: &[u8]) {
     }
 }
 
-// What is found where these bytes are on the disk. The plain program says the same.
+// What is found where these bytes are on the disk. The plain program finds the same.
 fn agreed(rt: &impl Abort, alloc: Global, bytes: &[u8]) -> Result<Found, NoMemory> {
     let seen = found(alloc, MemDisk::from_bytes(alloc, bytes)?);
     assert_equal!(rt; seen, judged(bytes); bytes);
@@ -136,7 +136,7 @@ fn save_each(rt: &impl Abort, store: &mut AptplStore<MemDisk>, state: &mut Reser
     }
 }
 
-// The state is left but for its generation, after so many saves.
+// The state is left, except for its generation, after this many saves.
 fn is_left(rt: &impl Abort, frames: usize, left: &Reservations, state: &Reservations) {
     let (left, saved) = (left.state(), state.state());
     assert_equal!(rt; (frames, seen_of(left)), (364, [1, 0, 0, 64]));
@@ -151,7 +151,7 @@ fn opens(rt: &impl Abort, alloc: Global, disk: MemDisk, state: &Reservations) ->
     Ok(())
 }
 
-// All 64 hosts are registered, and 300 saves more.
+// All 64 hosts are registered, and 300 more saves.
 fn saves_all(rt: &impl Abort, store: &mut AptplStore<MemDisk>, state: &mut Reservations) {
     save_each(rt, store, state);
     for _save in 0..300 {

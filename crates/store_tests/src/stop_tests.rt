@@ -16,17 +16,17 @@ use std::test::Fail;
 use tape_disk::{Disk, FuseDisk, MemDisk};
 use vtl_base::{Nexus, NoMemory};
 
-// A command of host 1, what is sent with it, and its status where all goes through.
+// A command of host 1, the data sent with it, and its status where all succeeds.
 type Order = (&'static [u8], &'static [u8], u8);
 
-// Host 1 gives orders to a drive over a new store, or over the store that the disk holds.
+// Host 1 gives orders to a drive over a new store, or over the store on the disk.
 #[derive(Clone, Copy)]
 struct Work {
     is_new: bool,
     orders: &'static [Order],
 }
 
-// Whether all orders go through.
+// Whether all orders succeed.
 fn ordered<D: Disk + Drop>(drive: &mut Host<D>, orders: &[Order]) -> bool {
     let Some(host) = Nexus::new(1) else {
         unreachable!()
@@ -39,7 +39,7 @@ fn ordered<D: Disk + Drop>(drive: &mut Host<D>, orders: &[Order]) -> bool {
     true
 }
 
-// The disk that the orders reach, and whether all of them go through.
+// The disk after the orders, and whether all of them succeed.
 fn reached(
     alloc: Global,
     drive: &mut Host<FuseDisk<MemDisk>>,
@@ -90,10 +90,10 @@ const OPENING: Work = Work {
 
 static STATES: &'static [Found] = &[NO_STORE, NEW, REGISTERED, RESERVED, WITHOUT_APTPL];
 
-// What may be found after no more than so many calls: one state or another, by their places in the table.
+// What may be found after at most this many calls: one state or another, by their places in the table.
 type Moment = (u64, usize, usize);
 
-// To make a store takes five calls, to save four.
+// Making a store takes five calls, saving four.
 const OVER_NOTHING: &'static [Moment] = &[
     (0, 0, 0),
     (4, 0, 1),
@@ -114,10 +114,11 @@ const OVER_A_STORE: &'static [Moment] = &[
     (13, 3, 3),
 ];
 
-// To open a store takes a sync, two reads of the header, two of each frame, and one of the last gate.
+// Opening a store takes a sync, two reads of the header, two of each frame, and one of the last gate.
 const OVER_THE_SIDE: &'static [Moment] = &[(8, 3, 3), (11, 3, 4), (12, 4, 4)];
 
-// What the disk holds first, the work, how many calls of the disk it takes, and what may be found where it stops.
+// The first bytes of the disk, the work, how many calls of the disk it takes, and what may be found where it
+// stops.
 static RUNS: &'static [(&'static [u8], Work, u64, &'static [Moment])] = &[
     (NONE, MAKING, 13, OVER_NOTHING),
     (SIDE_WITHOUT_APTPL, MAKING, 13, OVER_A_STORE),
@@ -142,7 +143,7 @@ fn may_be_found(left: &Found, calls: u64, moments: &[Moment]) -> bool {
     false
 }
 
-// What is found at a stop may be found there, and the work has ended just behind its last call.
+// What is found at a stop is allowed there, and the work has ended directly after its last call.
 fn is_right(rt: &impl Abort, alloc: Global, stop: Stop, total: u64, moments: &[Moment]) {
     let Stop { calls, ended, disk } = stop;
     let left = found(alloc, disk);
@@ -182,7 +183,7 @@ fn an_order_is_stopped_at_each_call(rt: HostRuntime) -> Result<(), Fail> {
     Ok(())
 }
 
-// The opening of a store that is refused: it has ended where that is not for a fault.
+// The opening of a store that is refused: it has ended where the cause is not a fault.
 struct Refusal;
 
 impl Run for Refusal {
@@ -197,7 +198,7 @@ impl Run for Refusal {
     }
 }
 
-// How many bytes of the side there are, a place and what stands there, how many calls of the disk the opening takes,
+// How many bytes of the side there are, a place and its byte, how many calls of the disk the opening takes,
 // and why it is refused: a sync, two reads of the heading, one of each gate, and then one of each body.
 static REFUSED: &'static [(usize, usize, u8, u64, StoreError)] = &[
     (26, 0, 0xa5, 1, StoreError::NotOurs),
@@ -210,7 +211,7 @@ static REFUSED: &'static [(usize, usize, u8, u64, StoreError)] = &[
     (64, 50, 0x02, 8, StoreError::BadRecord { at: 45 }),
 ];
 
-// The first bytes of the side, of which one is this.
+// The first bytes of the side, with one byte changed.
 fn damaged(alloc: Global, len: usize, place: usize, value: u8) -> Result<Vec<u8>, NoMemory> {
     let mut bytes = Vec::from_slice(alloc, SIDE.get(..len).unwrap_or(NONE))?;
     if let Some(byte) = bytes.get_mut(place) {
@@ -219,7 +220,7 @@ fn damaged(alloc: Global, len: usize, place: usize, value: u8) -> Result<Vec<u8>
     Ok(bytes)
 }
 
-// What such a stop leaves is as it was, and is refused as it would be without the stop.
+// What such a stop leaves is unchanged, and is refused as it would be without the stop.
 fn is_refused(rt: &impl Abort, alloc: Global, stop: Stop, bytes: &[u8], end: (u64, StoreError)) {
     let (total, error) = end;
     let Stop { calls, ended, disk } = stop;

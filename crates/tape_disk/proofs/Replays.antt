@@ -1,5 +1,5 @@
--- How far a replay of a log has come, the oldest call first: the calls so far have left an image, and
--- those to come remain.
+-- How far a replay of a log has come, the oldest call first: the calls so far have left an image, and the later ones
+-- remain.
 use Rattle.std.proofs.Common.{◌≡◌, ℕ, ◌+◌, ◌-◌, ◌<◌, List, [], ◌∷◌, ◌++◌, length, take, cond, ap, ◌∙◌, arith, append_assoc}
 use Rattle.std.proofs.lemmas.List.Sums.{fold_push}
 use Rattle.tape_disk.specs.Disk.{overwritten}
@@ -31,7 +31,7 @@ module _ (base : List ℕ) (keep fill : ℕ) (all remaining older : List LoggedC
     since = λ none. (ap (λ (l : List ℕ). take len l) (run.since none).0, (run.since none).1);
   }
 
-  -- there was one to come
+  -- there was a later call
   pub one_more : (idle : ℕ) →
       Replays base keep fill all (remaining ++ Synced idle ∷ []) older syncs left image → 0 < syncs
   one_more idle run = omega (arith, run.to_come, syncs_of-push remaining (Synced idle))
@@ -46,7 +46,7 @@ module _ (base : List ℕ) (keep fill : ℕ) (all remaining older : List LoggedC
     since = λ _. ((run.safe some).0, omega (arith, (run.safe some).1));
   }
 
-  -- the bytes that reach the image, what is left to land after them, and the image with them
+  -- the bytes that reach the image, the number that still land after them, and the image with them
   module _ (idle at : ℕ) (bytes lands : List ℕ) (left' : ℕ) (image' : List ℕ)
       (here : image' ≡ overwritten at lands image) where
     pub writes_safe :

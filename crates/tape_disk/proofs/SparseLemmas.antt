@@ -1,4 +1,4 @@
--- Bytes at places, once those from a place on are taken away.
+-- Bytes at places, after those from a place on are removed.
 use Rattle.std.proofs.Common.{◌≡◌, ℕ, ◌<◌, ◌≤◌, ◌∙◌, sym, ap, cond, inl, inr, arith, Option, None, Ordering, Less, Equal, Greater}
 use Rattle.std.proofs.lemmas.Bool.{cases_lt}
 use Rattle.std.proofs.lemmas.Cmp.{nat_cmp_total}

@@ -1,4 +1,4 @@
--- Calls that failed and changed nothing, and one call more of a disk in memory.
+-- Calls that failed and changed nothing, and one more call of a disk in memory.
 use Rattle.std.proofs.Common.{◌≡◌, ℕ, ◌+◌, List, [], length, drop, refl, sym, ap, ◌∙◌, subst, arith, Ok, Err, take-append-drop}
 use Rattle.std.proofs.lemmas.List.{append-nil}
 use Rattle.vtl_base.specs.declared.faults.DevFault.{DevFault}

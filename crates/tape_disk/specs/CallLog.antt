@@ -5,8 +5,8 @@ use Rattle.std.proofs.lemmas.Bool.{cases_lt}
 use Rattle.std.proofs.lemmas.List.{append-nil, drop_at, drop_all, length-take, length-take-le, length-drop}
 use Rattle.tape_disk.specs.Disk.{DiskCall, ReadAt, WriteAt, CutAt, SyncAll, DiskState, IsDisk, IsPrefixOf, Smeared, Cut, overwritten}
 
--- A call that changed the disk or made it safe, and how many calls came before it, since the last such
--- one, that did neither: reads, and calls that failed (own).
+-- A call that changed the disk or made it safe, with the number of calls between the last such one and it that did
+-- neither: reads, and calls that failed (own).
 pub data LoggedCall : Type 0 where
   Wrote : (idle at : ℕ) (bytes : List ℕ) → LoggedCall
   CutTo : (idle len : ℕ) → LoggedCall
@@ -54,14 +54,14 @@ abbrev pub landed : ℕ → ℕ → List ℕ → List ℕ
 landed n fill bytes = take n bytes ++ replicate (length bytes - n) fill
 
 module _ (base : List ℕ) where
-  -- what a read gives (own)
+  -- the bytes that reads return (own)
   abbrev pub bytes_after : List LoggedCall → List ℕ
   bytes_after [] = base
   bytes_after (Wrote idle at bytes ∷ older) = overwritten at bytes (bytes_after older)
   bytes_after (CutTo idle len ∷ older) = take len (bytes_after older)
   bytes_after (Synced idle ∷ older) = bytes_after older
 
-  -- what a crash now may leave: what the disk model says of each call since the last sync (own)
+  -- what a crash may leave now: what the disk model says of each call since the last sync (own)
   abbrev pub IsImage : List LoggedCall → List ℕ → Type 0
   IsImage [] image = image ≡ base
   IsImage (Wrote idle at bytes ∷ older) image =
@@ -69,15 +69,15 @@ module _ (base : List ℕ) where
   IsImage (CutTo idle len ∷ older) image = (before : List ℕ) × IsImage older before × Cut len before image
   IsImage (Synced idle ∷ older) image = image ≡ bytes_after older
 
-  -- what a crash at the moment t or later might have left: what it may leave now, or, where t is no
-  -- later than the newest call, what it might have left before that (own)
+  -- what a crash at moment t or later might have left: what it may leave now, or, where t is no later than the newest
+  -- call, what it might have left before that (own)
   abbrev pub IsImageSince : List LoggedCall → ℕ → List ℕ → Type 0
   IsImageSince [] t image = IsImage [] image
   IsImageSince (call ∷ older) t image =
       IsImage (call ∷ older) image ⊎ ((t ≤ clock_of older + idle_before call) × IsImageSince older t image)
 
-  -- one image that a crash now may leave: of the bytes written since the last sync the first `keep`
-  -- landed, the others hold the fill, and each cut was carried out (own)
+  -- one image that a crash may leave now: of the bytes written since the last sync the first `keep` landed, the others
+  -- hold the fill, and each cut was carried out (own)
   abbrev pub torn : ℕ → ℕ → List LoggedCall → List ℕ
   torn keep fill [] = base
   torn keep fill (Wrote idle at bytes ∷ older) =
@@ -93,11 +93,11 @@ new_log bytes = record { base = bytes; calls = []; idle = 0 }
 abbrev pub idled : CallLog → CallLog
 idled log = record log { idle = log.idle + 1 }
 
--- after a call that is kept (own)
+-- after a call that is logged (own)
 abbrev pub kept : LoggedCall → CallLog → CallLog
 kept call log = record log { calls = call ∷ log.calls; idle = 0 }
 
--- after a call that answered Ok: a read changed nothing, any other call is kept (own)
+-- after a call with the result Ok: a read changed nothing, any other call is logged (own)
 abbrev pub logged : DiskCall → CallLog → CallLog
 logged (ReadAt at count) log = idled log
 logged (WriteAt at bytes) log = kept (Wrote log.idle at bytes) log
@@ -115,7 +115,7 @@ log_state log failures = record {
   failures = failures;
 }
 
--- any bytes may stand in the range of a write, these too
+-- any bytes may be in the range of a write, these too
 pub smears : (at : ℕ) (bytes old : List ℕ) → Smeared at (length bytes) old (overwritten at bytes old)
 smears at bytes old = record {
   before = (bytes ++ drop (at + length bytes) old, append_assoc (take at old) bytes (drop (at + length bytes) old));
@@ -148,7 +148,7 @@ smears at bytes old = record {
     )
 
 module _ (base : List ℕ) where
-  -- what a read gives is an image that a crash may leave
+  -- the bytes that reads return are an image that a crash may leave
   pub reads : (calls : List LoggedCall) → IsImage base calls (bytes_after base calls)
   reads [] = refl
   reads (Wrote idle at bytes ∷ older) =

@@ -2,6 +2,6 @@
 use Rattle.std.specs.Prelude.{ℕ}
 use Rattle.tape_disk.specs.declared.failures.Failures.{Failures}
 
--- how many there were; the count has no bound (own)
+-- the number of failures, without a bound (own)
 abbrev pub failure_count : Failures → ℕ
 failure_count failures = failures.count.value

@@ -7,7 +7,7 @@ use Rattle.tape_disk.specs.Disk.{DiskCall, ReadAt, DiskState, IsDisk, Passes, Sa
 abbrev pub with_failures : DiskState → ℕ → DiskState
 with_failures below failures = record below { failures = failures }
 
--- a disk that counts its own failures keeps the laws of the disk below
+-- a disk that counts its own failures obeys the laws of the disk below
 pub is_disk_over : (below : DiskState) (failures : ℕ) → IsDisk below → IsDisk (with_failures below failures)
 is_disk_over below failures is_disk = record {
   reads = is_disk.reads;
@@ -21,13 +21,13 @@ HasOutcomeOf (Ok done) result = IsOk result
 HasOutcomeOf (Err fault) result = IsErr result
 
 module _ {D : Type 0} (state : D → DiskState) (effect : DiskCall → Result Unit DevFault → D → D → Type 0) where
-  -- The disk below was called once, and answered so (own).
+  -- The disk below was called once, with this result (own).
   pub record CalledOnce (call : DiskCall) (answer : Result Unit DevFault) (old new : D) : Type 0 where
     pub counted : Passes (state old) (state new) answer
     pub did : effect call answer old new
 
-  -- A call that passes is made below, and has the outcome that it has there. One that does not pass is
-  -- an error: the disk below stays as it is, and is asked for no bytes (own).
+  -- A call that passes is made below, and has the same outcome. One that does not pass is an error: the disk below
+  -- stays, and is asked for no bytes (own).
   abbrev pub CalledBelow : Bool → DiskCall → Result Unit DevFault → D → D → Type 0
   CalledBelow true call result old new =
       (answer : Result Unit DevFault) × CalledOnce call answer old new × HasOutcomeOf answer result
@@ -35,16 +35,16 @@ module _ {D : Type 0} (state : D → DiskState) (effect : DiskCall → Result Un
       IsErr result × ((state old).honest → Same (state old) (state new))
       × ((answer : Result Unit DevFault) × CalledOnce (ReadAt 0 0) answer old new)
 
--- whether a fuse of this many calls lets one pass (own)
+-- a fuse with this many calls left lets one pass (own)
 abbrev pub holds : ℕ → Bool
 holds left = nat_lt 0 left
 
--- whether the next call is the one that fails: this many pass before it, or it has failed (own)
+-- the next call is the one that fails: this many pass before it; None once it has failed (own)
 abbrev pub is_due : Option ℕ → Bool
 is_due None = false
 is_due (Some left) = left == 0
 
--- the same after one call more (own)
+-- the same after one more call (own)
 abbrev pub after_call : Option ℕ → Option ℕ
 after_call None = None
 after_call (Some left) = if left == 0 then None else Some (left - 1)

@@ -14,11 +14,11 @@ module _ {D : Type 0} where
   abbrev pub fuse_calls_left : FuseDisk D → ℕ
   fuse_calls_left fuse = fuse.left
 
-  -- that of the disk below, but for the failures (own)
+  -- the state of the disk below, except for the failures (own)
   abbrev pub fuse_state : (D → DiskState) → FuseDisk D → DiskState
   fuse_state state fuse = with_failures (state fuse.below.disk) fuse.below.failures.count.value
 
-  -- A call passes while some are left, and is then one fewer; each that fails is one failure more (own).
+  -- A call passes while some are left, and uses one up; each call that fails adds one failure (own).
   pub record FuseEffect (state : D → DiskState) (effect : DiskCall → Result Unit DevFault → D → D → Type 0)
       (call : DiskCall) (result : Result Unit DevFault) (old new : FuseDisk D) : Type 0 where
     pub below : CalledBelow state effect (holds (fuse_calls_left old)) call result

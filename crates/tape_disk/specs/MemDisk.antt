@@ -18,15 +18,15 @@ mem_failures disk = disk.failures.count.value
 abbrev pub mem_widest : MemDisk → ℕ
 mem_widest disk = disk.widest
 
--- the same after one call more (own)
+-- the same after one more call (own)
 abbrev pub widest_after : DiskCall → ℕ → ℕ
 widest_after (ReadAt at count) widest = max widest count
 widest_after (WriteAt at bytes) widest = widest
 widest_after (CutAt len) widest = widest
 widest_after SyncAll widest = widest
 
--- What a call adds to the log: at Ok itself, and after a growth that was refused nothing but that there
--- was a call, which is one failure more. The widest read is the widest so far (own).
+-- What a call adds to the log: at Ok itself; after a refused growth only that there was a call, which adds one failure.
+-- The widest read is the widest so far (own).
 abbrev pub MemEffect : DiskCall → Result Unit DevFault → MemDisk → MemDisk → Type 0
 MemEffect call (Ok done) old new =
     (mem_log new ≡ logged call (mem_log old)) × (mem_failures new ≡ mem_failures old)

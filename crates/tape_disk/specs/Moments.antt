@@ -1,4 +1,4 @@
--- A crash at any moment of a run of calls, in words that speak of no bytes.
+-- A crash at any moment of a run of calls, for any property of images.
 use Rattle.std.specs.Prelude.{◌⊎◌, ℕ, ◌≤◌, List}
 use Rattle.tape_disk.specs.Disk.{DiskState, Each, Elapses, IsDisk}
 use Rattle.std.proofs.Common.{inl, inr, ⊎_elim, arith}
@@ -18,7 +18,7 @@ no_call disk P is_disk here = record {
   before = λ t image le left. inl left;
 }
 
--- one call more
+-- one more call
 pub one_more_call : (old mid new : DiskState) (P : List ℕ → Type 0) →
     LeavesOnly old mid P → Elapses mid new → Each new P → LeavesOnly old new P
 one_more_call old mid new P so_far time here = record {
@@ -29,7 +29,7 @@ one_more_call old mid new P so_far time here = record {
       (time.nothing_else t image (omega (arith, le, so_far.later)) left);
 }
 
--- two runs in a row
+-- two runs, one after another
 pub in_sequence : (old mid new : DiskState) (P : List ℕ → Type 0) →
     LeavesOnly old mid P → LeavesOnly mid new P → LeavesOnly old new P
 in_sequence old mid new P first second = record {
@@ -39,7 +39,7 @@ in_sequence old mid new P first second = record {
       ⊎_elim (first.before t image le) inr (second.before t image (omega (arith, le, first.later)) left);
 }
 
--- a layer above says the same in its own words
+-- a layer above says the same in its own terms
 pub weakened : (old new : DiskState) (P Q : List ℕ → Type 0) →
     LeavesOnly old new P → ((image : List ℕ) → P image → Q image) → LeavesOnly old new Q
 weakened old new P Q run means = record {
@@ -48,6 +48,6 @@ weakened old new P Q run means = record {
   before = λ t image le left. ⊎_elim inl (λ has. inr (means image has)) (run.before t image le left);
 }
 
--- what holds of each moment since holds now
+-- what holds at each moment since holds now
 pub holds_now : (old new : DiskState) (P : List ℕ → Type 0) → IsDisk new → LeavesOnly old new P → Each new P
 holds_now old new P is_disk run image left = run.each image (is_disk.counts_now old.moment image run.later left)

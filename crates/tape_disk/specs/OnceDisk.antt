@@ -10,15 +10,15 @@ module _ {D : Type 0} where
   abbrev pub once_disk_below : OnceDisk D → D
   once_disk_below once = once.below.disk
 
-  -- the calls that pass before the one that fails; none once it has failed (own)
+  -- the calls that pass before the one that fails; None once it has failed (own)
   abbrev pub once_calls_left : OnceDisk D → Option ℕ
   once_calls_left once = once.left
 
-  -- that of the disk below, but for the failures (own)
+  -- the state of the disk below, except for the failures (own)
   abbrev pub once_state : (D → DiskState) → OnceDisk D → DiskState
   once_state state once = with_failures (state once.below.disk) once.below.failures.count.value
 
-  -- A call passes unless it is the one that is to fail; each that fails is one failure more (own).
+  -- A call passes unless it is the one that is to fail; each call that fails adds one failure (own).
   pub record OnceEffect (state : D → DiskState) (effect : DiskCall → Result Unit DevFault → D → D → Type 0)
       (call : DiskCall) (result : Result Unit DevFault) (old new : OnceDisk D) : Type 0 where
     pub below : CalledBelow state effect (not (is_due (once_calls_left old))) call result

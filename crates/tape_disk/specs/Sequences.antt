@@ -1,10 +1,10 @@
--- Calls in a row, by what is known of each.
+-- Calls one after another, by the facts of each.
 use Rattle.std.specs.Prelude.{Result, Ok, Err}
 use Rattle.std.proofs.Common.{◌∙◌, arith}
 use Rattle.tape_disk.specs.Disk.{DiskState, Keeps, Passes}
 use Rattle.vtl_base.specs.declared.faults.DevFault.{DevFault}
 
--- what a call that passes keeps, whatever it answers
+-- what holds after a call with any result
 pub keeps_of_passes : (old new : DiskState) {T : Type 0} (result : Result T DevFault) →
     Passes old new result → Keeps old new
 keeps_of_passes old new (Ok value) passes = record {
@@ -19,7 +19,7 @@ keeps_of_passes old new (Err fault) passes = record {
 }
 
 module _ (old mid new : DiskState) where
-  -- calls in a row, whatever they answer
+  -- calls one after another, with any results
   pub keeps_in_sequence : Keeps old mid → Keeps mid new → Keeps old new
   keeps_in_sequence first second = record {
     stays_honest = λ honest. second.stays_honest (first.stays_honest honest);
@@ -27,7 +27,7 @@ module _ (old mid new : DiskState) where
     counted = omega (arith, first.counted, second.counted);
   }
 
-  -- after a call that answered Ok the next one decides
+  -- after a call with the result Ok the next one decides
   pub passes_in_sequence : {S T : Type 0} (value : S) (next : Result T DevFault) →
       Passes {T = S} old mid (Ok value) → Passes mid new next → Passes old new next
   passes_in_sequence value (Ok other) first second = record {

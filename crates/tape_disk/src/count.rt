@@ -1,4 +1,4 @@
-//! A count with no bound, which takes no bytes: proofs alone see it.
+//! A count without a bound, which takes no bytes: only proofs see it.
 ghost use Rattle.std.specs.Prelude.{◌≡◌, ◌+◌, ℕ};
 
 use std::marker::{Model, PhantomData};

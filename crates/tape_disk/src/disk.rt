@@ -5,17 +5,16 @@ ghost use Rattle.vtl_base.specs.declared.faults.DevFault.{DevFault};
 
 use vtl_base::DevFault;
 
-/// A row of bytes behind a device (own). What is written is safe once a sync answered Ok: until
-/// then a crash may leave any bytes in each written range, from the old end on, and past each cut.
-/// Where the disk is honest: of a dishonest one a contract says that faults are counted, and
-/// nothing of its bytes.
+/// The bytes of a device (own). What is written is safe once a sync returned Ok: until then a crash may leave
+/// any bytes in each written range, from the old end on, and past each cut. This holds where the disk is
+/// honest: of a dishonest one a contract says only that faults are counted, and nothing of its bytes.
 pub trait Disk {
     ghost state: { Self → DiskState };
 
-    // What a disk says of its own calls besides, whatever its honesty. A disk for tests does.
+    // What a disk says of its own calls besides, honest or not. Disks for tests use it.
     ghost effect: { DiskCall → Result Unit DevFault → Self → Self → Type 0 } = { λ call result old new. Unit {0} };
 
-    /// The bytes of the disk. It asks nothing of the device.
+    /// The length in bytes. It does not call the device.
     fn len(&self) -> u64
         ensures length { (state self.now).honest → result ≡ length (state self.now).seen };
 
@@ -29,8 +28,8 @@ pub trait Disk {
             (buffer.new ≡ slice_range (state self.old).seen at (at + length buffer.old)) }
         ensures effect { effect (ReadAt at (length buffer.old)) result self.old self.new };
 
-    /// Writes over what stands from a place on, and past the end. The place is the end at most.
-    /// After a fault a read too may give any bytes in the range, and from the old end on.
+    /// Overwrites the bytes from a place on, and past the end. The place is at most the end. After a fault
+    /// reads too may return any bytes in the range, and from the old end on.
     fn write_at(&mut self, at: u64, bytes: &[u8]) -> Result<(), DevFault>
         requires { (state self.old).honest → at ≤ length (state self.old).seen }
         ensures passes { Passes (state self.old) (state self.new) result }
@@ -39,8 +38,8 @@ pub trait Disk {
             Writes at bytes.now result (state self.old) (state self.new) }
         ensures effect { effect (WriteAt at bytes.now) result self.old self.new };
 
-    /// Takes away the bytes from a place on. The place is the end at most. After a fault a read too
-    /// may give any bytes from there on.
+    /// Removes the bytes from a place on. The place is at most the end. After a fault reads too may return
+    /// any bytes from there on.
     fn cut(&mut self, len: u64) -> Result<(), DevFault>
         requires { (state self.old).honest → len ≤ length (state self.old).seen }
         ensures passes { Passes (state self.old) (state self.new) result }
@@ -49,8 +48,8 @@ pub trait Disk {
             Cuts len result (state self.old) (state self.new) }
         ensures effect { effect (CutAt len) result self.old self.new };
 
-    /// At Ok a crash leaves what a read gives, until the next write or cut. After a fault nothing
-    /// that was not safe before is sure, for a read either.
+    /// At Ok a crash leaves what reads return, until the next write or cut. After a fault nothing is sure
+    /// that was not safe before, not even for reads.
     fn sync(&mut self) -> Result<(), DevFault>
         ensures passes { Passes (state self.old) (state self.new) result }
         ensures time { (state self.old).honest → Elapses (state self.old) (state self.new) }

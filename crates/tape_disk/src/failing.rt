@@ -1,4 +1,4 @@
-//! A disk over another one, whose calls fail where a test asks for it.
+//! A disk over another one, whose calls fail where a test wants it.
 ghost use Rattle.std.specs.Prelude.{◌≡◌, ◌+◌, ◌-◌, ◌≤◌, ◌^◌, min, length, OnOk, OnErr, Result, slice_range};
 ghost use Rattle.tape_disk.specs.Disk.{Elapses, Passes, Same, Writes, Cuts, Syncs, ReadAt, WriteAt, CutAt, SyncAll};
 ghost use Rattle.vtl_base.specs.declared.faults.DevFault.{DevFault};
@@ -8,7 +8,7 @@ use crate::disk::Disk;
 use crate::failures::Failures;
 use vtl_base::DevFault;
 
-/// It counts the failures of its own calls, those of the disk below among them.
+/// It counts the failures of its own calls, with those of the disk below.
 #[derive(Drop)]
 pub(crate) struct Failing<D> {
     pub(crate) disk: D,
@@ -28,7 +28,7 @@ impl<D: Disk> Failing<D> {
         }
     }
 
-    // The disk below is asked for no bytes, which moves its clock on.
+    // The disk below is asked for no bytes, so its clock moves on.
     fn refuse(&mut self) -> DevFault
         ensures below { (answer : Result Unit DevFault) ×
             CalledOnce D.state D.effect (ReadAt 0 0) answer self.old.disk self.new.disk }

@@ -1,11 +1,10 @@
-//! How often a disk has failed.
+//! The failures of a disk.
 ghost use Rattle.std.specs.Prelude.{◌≡◌, ◌+◌, ◌-◌, ◌^◌, min, ℕ};
 
 use crate::count::Count;
 use vtl_base::DevFault;
 
-/// The failures of a disk. Their count has no bound, and the number that a fault tells is held at
-/// the greatest.
+/// The failures of a disk. Their count has no bound; the number in a fault stops at 2^64 - 1.
 #[derive(Drop)]
 pub struct Failures {
     told: u64,
@@ -26,7 +25,7 @@ impl Failures {
         }
     }
 
-    /// One more, and the fault that tells it.
+    /// One more failure, and the fault that reports it.
     pub fn rise(&mut self) -> DevFault
         ensures count { failure_count self.new ≡ failure_count self.old + 1 }
         ensures told { result.failures ≡ min (failure_count self.new) (2 ^ 64 - 1) }

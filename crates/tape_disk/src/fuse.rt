@@ -41,7 +41,7 @@ impl<D: Disk> FuseDisk<D> {
         self.below.disk
     }
 
-    // Whether a call passes. It is one of those that are left.
+    // Whether a call passes. It uses up one of those that are left.
     fn take_turn(&mut self) -> bool
         ensures passes { result ≡ holds (fuse_calls_left self.old) }
         ensures left { fuse_calls_left self.new ≡ fuse_calls_left self.old - 1 }

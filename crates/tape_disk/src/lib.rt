@@ -1,4 +1,4 @@
-//! A disk that may stop at any moment: what a read gives, and what a crash may leave.
+//! A disk that may stop at any moment: what reads return, and what a crash may leave.
 #![tactic(auto)]
 
 mod count;

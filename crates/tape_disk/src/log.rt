@@ -1,4 +1,4 @@
-//! The log that a disk in memory keeps of its calls.
+//! The log of the calls of a disk in memory.
 ghost use Rattle.std.specs.Prelude.{◌≡◌, ◌-◌, length, OnOk, OnErr, IfOk};
 ghost use Rattle.tape_disk.specs.Disk.{WriteAt, CutAt, SyncAll};
 ghost use Rattle.tape_disk.specs.CallLog.{new_log, idled, kept, logged, syncs_of, landed, torn};
@@ -8,8 +8,8 @@ use crate::overwrite::overwrite;
 use std::alloc::{AllocError, Global};
 use std::collections::LinkedList;
 
-/// A call that changed the disk or made it safe. `idle` counts the calls before it, since the last
-/// such one, that did neither.
+/// A call that changed the disk or made it safe. `idle` counts the calls between the last such one and it
+/// that did neither.
 #[derive(Drop)]
 pub(crate) enum Call {
     Wrote {
@@ -26,7 +26,7 @@ pub(crate) enum Call {
     },
 }
 
-/// What was on the disk at first, and each call since, the newest first.
+/// The first bytes of the disk, and each call since, the newest first.
 #[derive(Drop)]
 pub(crate) struct Log {
     alloc: Global,
@@ -77,7 +77,7 @@ impl Log {
         self.idle = self.idle.after();
     }
 
-    /// Keeps a write.
+    /// Logs a write.
     pub(crate) fn wrote(&mut self, at: u64, bytes: &[u8]) -> Result<(), AllocError>
         ensures ok { OnOk result (log_of self.new ≡
             logged (WriteAt at bytes.now) (log_of self.old)) }
@@ -88,7 +88,7 @@ impl Log {
         self.keep(Call::Wrote { idle, at, bytes })
     }
 
-    /// Keeps a cut.
+    /// Logs a cut.
     pub(crate) fn cut_to(&mut self, len: u64) -> Result<(), AllocError>
         ensures ok { OnOk result (log_of self.new ≡
             logged (CutAt len) (log_of self.old)) }
@@ -98,7 +98,7 @@ impl Log {
         self.keep(Call::CutTo { idle, len })
     }
 
-    /// Keeps a sync.
+    /// Logs a sync.
     pub(crate) fn synced(&mut self) -> Result<(), AllocError>
         ensures ok { OnOk result (log_of self.new ≡
             logged SyncAll (log_of self.old)) }
@@ -142,8 +142,8 @@ impl Log {
             .count() as u64
     }
 
-    /// What a crash leaves: of the bytes written since the last sync the first `keep` land, and the
-    /// others hold the fill.
+    /// What a crash leaves: of the bytes written since the last sync the first `keep` land, and the others
+    /// hold the fill.
     pub(crate) fn torn(self, keep: u64, fill: u8) -> Result<Vec<u8>, AllocError>
         ensures { IfOk result (λ image.
             image.items ≡ torn self.base.items keep fill (log_of self).calls) }
@@ -171,7 +171,7 @@ impl Log {
     }
 }
 
-// The bytes that are left to land stay, and the others are filled.
+// The bytes that still land stay, and the others are filled.
 fn land(bytes: &mut Vec<u8>, left: &mut u64, fill: u8)
     ensures bytes { bytes.new.items ≡ landed left.old fill bytes.old.items }
     ensures left { left.new ≡ left.old - length bytes.old.items }

@@ -1,4 +1,4 @@
-//! A disk in memory, which keeps a log of its calls, and so knows what a crash may leave.
+//! A disk in memory, which logs its calls, and so knows what a crash may leave.
 ghost use Rattle.std.specs.Prelude.{◌≡◌, ◌+◌, ◌-◌, ◌^◌, min, [], OnOk, OnErr, IfOk};
 ghost use Rattle.tape_disk.specs.CallLog.{CallLog, IsImage, bytes_after, syncs_of, torn, new_log, idled, logged, log_state, is_disk};
 ghost use Rattle.tape_disk.specs.Disk.{Only, WriteAt, overwritten};
@@ -11,10 +11,9 @@ use crate::overwrite::overwrite;
 use std::alloc::{AllocError, Global};
 use vtl_base::{DevFault, NoMemory};
 
-/// A disk in memory, which is always honest. Its log keeps what it began with and each byte written
-/// since, beside the bytes that a read gives: a side that is written once takes its bytes twice,
-/// and each byte that is written over another takes one more. A growth that is refused is a counted
-/// failure, and changes nothing.
+/// A disk in memory, which is always honest. Its log has the first bytes and each byte written since, beside
+/// the bytes that reads return. So a side that is written once takes its bytes twice, and each byte that is
+/// written over another takes one more. A refused growth is a counted failure, and changes nothing.
 #[derive(Drop)]
 pub struct MemDisk {
     alloc: Global,
@@ -42,7 +41,7 @@ impl MemDisk {
         }
     }
 
-    /// A disk that holds these bytes, all of them safe.
+    /// A disk with these bytes, all of them safe.
     pub fn from_bytes(alloc: Global, bytes: &[u8]) -> Result<MemDisk, NoMemory>
         ensures { IfOk result (λ disk. (mem_log disk ≡ new_log bytes.now) × (mem_failures disk ≡ 0)
             × (mem_widest disk ≡ 0)) }
@@ -79,37 +78,36 @@ impl MemDisk {
         })
     }
 
-    /// What a read gives.
+    /// The bytes that reads return.
     pub fn bytes(&self) -> &[u8]
         ensures { result.now ≡ bytes_after (mem_log self.now).base (mem_log self.now).calls }
     {
         &self.bytes
     }
 
-    /// How many syncs have answered Ok since the disk was made.
+    /// How many syncs have returned Ok since the disk was made.
     pub fn syncs(&self) -> u64
         ensures { result ≡ syncs_of (mem_log self.now).calls }
     {
         self.log.syncs()
     }
 
-    /// How many bytes the widest read asked for, of all since the disk was made.
+    /// How many bytes the widest read asked for, since the disk was made.
     pub fn widest_read(&self) -> usize
         ensures { result ≡ mem_widest self.now }
     {
         self.widest
     }
 
-    /// The disk that a crash leaves: of the bytes written since the last sync the first `keep`
-    /// landed, in the order of the writes, and the others hold the fill. Each cut since then was
-    /// carried out.
+    /// The disk that a crash leaves: of the bytes written since the last sync the first `keep` landed, in the
+    /// order of the writes, and the others hold the fill. Each cut since then was carried out.
     pub fn crash(self, keep: u64, fill: u8) -> Result<MemDisk, NoMemory>
         ensures image { IfOk result (λ disk.
             (mem_log disk ≡ new_log (torn (mem_log self).base keep fill (mem_log self).calls))
             × (mem_failures disk ≡ 0)) }
         ensures widest { IfOk result (λ disk. mem_widest disk ≡ 0) }
 
-        // It is one of the images that a crash may leave, and from then on the only one.
+        // This is one of the images that a crash may leave, and from then on the only one.
         ensures allowed { IsImage (mem_log self).base (mem_log self).calls
             (torn (mem_log self).base keep fill (mem_log self).calls) }
         ensures only { IfOk result (λ disk.
@@ -121,7 +119,7 @@ impl MemDisk {
         MemDisk::holding(alloc, image)
     }
 
-    // A call that was refused memory.
+    // The fault of a call for which memory ran out.
     fn fail(&mut self) -> DevFault
         ensures log { mem_log self.new ≡ idled (mem_log self.old) }
         ensures count { mem_failures self.new ≡ mem_failures self.old + 1 }
@@ -133,7 +131,7 @@ impl MemDisk {
     }
 }
 
-// Keeps the write, and then does it.
+// Logs the write, and then does it.
 fn write(bytes: &mut Vec<u8>, log: &mut Log, at: u64, new: &[u8]) -> Result<(), AllocError>
     ensures ok { OnOk result (
         (log_of log.new ≡ logged (WriteAt at new.now) (log_of log.old))

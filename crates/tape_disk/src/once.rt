@@ -6,8 +6,7 @@ use crate::disk::Disk;
 use crate::failing::Failing;
 use vtl_base::DevFault;
 
-/// A disk of which one call fails, and does nothing to the disk below. Those before it and those
-/// after it pass.
+/// A disk of which one call fails, and does nothing to the disk below. The calls before it and after it pass.
 #[derive(Drop)]
 pub struct OnceDisk<D> {
     below: Failing<D>,

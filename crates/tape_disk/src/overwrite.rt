@@ -1,11 +1,10 @@
-//! Bytes written over others, in place.
+//! Writing bytes over others, in place.
 ghost use Rattle.std.specs.Prelude.{◌≡◌, ◌+◌, ◌-◌, ◌≤◌, ℕ, length, vec_len, vec_capacity, OnOk, OnErr, IsOk};
 ghost use Rattle.tape_disk.specs.Disk.{overwritten};
 
 use std::alloc::AllocError;
 
-/// Writes at a place, or at the end where that comes first. It takes memory only for what passes
-/// the end.
+/// Writes at a place, or at the end where that comes first. It takes memory only for bytes past the end.
 pub(crate) fn overwrite(bytes: &mut Vec<u8>, at: usize, new: &[u8]) -> Result<(), AllocError>
     ensures ok { OnOk result (bytes.new.items ≡ overwritten at new.now bytes.old.items) }
     ensures err { OnErr result (bytes.new.items ≡ bytes.old.items) }

@@ -1,4 +1,4 @@
-//! A disk for sides that are longer than memory: what was written is kept, and 00h stands elsewhere.
+//! A disk for sides that are longer than memory: it stores written bytes, and has 00h elsewhere.
 ghost use Rattle.std.specs.Prelude.{◌≡◌, ◌≢◌, ◌+◌, ◌≤◌, ◌<◌, ◌^◌, ℕ, true, false, length, OnOk, OnErr, slice_index_or};
 ghost use Rattle.tape_disk.specs.SparseBytes.{byte_in, IsOutside};
 
@@ -8,16 +8,16 @@ use std::alloc::{AllocError, Global};
 use std::collections::BTreeMap;
 use vtl_base::DevFault;
 
-/// A disk of any length, which takes memory for those bytes alone that were written and are not 00h.
-/// It is never honest: no contract says what a crash leaves of it. A read that passes its end is a
-/// counted failure. So is a write that passes 2^64 - 1, and a growth that is refused.
+/// A disk of any length, which takes memory only for bytes that were written and are not 00h. It is never
+/// honest: no contract says what a crash leaves of it. A read that passes its end is a counted failure; so is
+/// a write that passes 2^64 - 1, and a refused growth.
 #[derive(Drop)]
 pub struct SparseDisk {
-    // Each by its place.
+    // The bytes by their places.
     written: BTreeMap<u64, u8>,
     len: u64,
     failures: Failures,
-    // Nothing stands behind the end.
+    // There are no bytes after the end.
     ghost ends: { (place : ℕ) → len ≤ place → byte_in written place ≡ 0 },
 }
 
@@ -37,14 +37,14 @@ impl SparseDisk {
         }
     }
 
-    /// What stands at a place: the byte that was written there last, else 00h.
+    /// The byte at a place: the one that was written there last, else 00h.
     pub fn byte_at(&self, place: u64) -> u8
         ensures { result ≡ sparse_byte self.now place }
     {
         byte_in(&self.written, place)
     }
 
-    // Whether so many bytes from a place on lie inside the disk.
+    // Whether `count` bytes from a place on lie inside the disk.
     fn has(&self, at: u64, count: usize) -> bool
         ensures inside { result ≡ true →
             (at + count ≤ sparse_len self.now) × (at + count < 2 ^ 64) }
@@ -67,7 +67,7 @@ fn byte_in(written: &BTreeMap<u64, u8>, place: u64) -> u8
     }
 }
 
-// Fills the buffer with what stands from a place on.
+// Fills the buffer with the bytes from a place on.
 fn fill(written: &BTreeMap<u64, u8>, at: u64, buffer: &mut [u8])
     requires { at + length buffer.old < 2 ^ 64 }
     ensures size { length buffer.new ≡ length buffer.old }
@@ -79,7 +79,7 @@ fn fill(written: &BTreeMap<u64, u8>, at: u64, buffer: &mut [u8])
     }
 }
 
-// Puts a byte at a place. A new one stands where none did.
+// Sets the byte at a place. A new one goes where none was.
 fn set(
     written: &mut BTreeMap<u64, u8>,
     is_new: bool,
@@ -99,8 +99,7 @@ fn set(
     Ok(())
 }
 
-// Puts the bytes where they are to stand. New ones stand where none did. Where memory runs out, some
-// of them do.
+// Sets the bytes from a place on. New ones go where none was. Where memory runs out, some of them are set.
 fn put(
     written: &mut BTreeMap<u64, u8>,
     are_new: bool,
@@ -120,7 +119,7 @@ fn put(
     Ok(())
 }
 
-// Takes away what stands from a place on.
+// Removes the bytes from a place on.
 fn drop_from(written: &mut BTreeMap<u64, u8>, len: u64) -> Result<(), AllocError>
     ensures gone { OnOk result ((place : ℕ) → len ≤ place → byte_in written.new place ≡ 0) }
     ensures before { (place : ℕ) → place < len →

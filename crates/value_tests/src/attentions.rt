@@ -28,7 +28,7 @@ fn a_set_has_its_conditions(rt: HostRuntime) {
     assert_equal!(rt; set.first(), None);
 }
 
-// Whether a nexus is reported just these conditions, in this order, and then none.
+// Whether exactly these conditions are reported to a nexus, in this order, and then none.
 fn reports(attentions: &mut Attentions, nexus: Nexus, conditions: &[Attention]) -> bool {
     for attention in conditions {
         if attentions.first(nexus) != Some(*attention) {

@@ -4,7 +4,7 @@ use std::process::Abort;
 use std::test::Fail;
 use vtl_base::{BadBarcode, Barcode, Bytes, DevFault, DriveNo, Nexus, NoMemory, SlotNo};
 
-// A number, and the places of the host and of the drive that have it.
+// A number, and the places of the host and of the drive with it.
 static NUMBERS: &'static [(u8, Option<usize>, Option<usize>)] = &[
     (0, None, None),
     (1, Some(0), Some(0)),
@@ -15,7 +15,7 @@ static NUMBERS: &'static [(u8, Option<usize>, Option<usize>)] = &[
     (255, None, None),
 ];
 
-// An element address, and the place of the slot that has it.
+// An element address, and the place of the slot with it.
 static ADDRESSES: &'static [(u32, Option<usize>)] = &[
     (1000, None),
     (1001, Some(0)),

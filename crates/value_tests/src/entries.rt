@@ -1,4 +1,4 @@
-//! Changes entered for bays and for hosts, and what is gathered of them at the end.
+//! Changes entered for bays and for hosts, and their gathering at the end.
 ghost use Rattle.std.specs.Prelude.{◌≡◌};
 ghost use Rattle.ledgers.specs.Ledgers.{IsBlankOf};
 
@@ -74,7 +74,7 @@ fn take_but<B: Parties, H: Parties>(gathering: &mut Gathering<B, H>, seat: Seat<
     }
 }
 
-// What is answered in the end if the seat of this host is missing.
+// The result at the end if the seat of this host is missing.
 fn gathered<B: Parties, H: Parties, R: Abort + Wait>(
     rt: &R,
     bay_ledger: Blank,
@@ -98,7 +98,7 @@ fn gathered<B: Parties, H: Parties, R: Abort + Wait>(
     gathering.compare()
 }
 
-// A host whose seat is missing, or none, and what is answered then.
+// A host whose seat is missing, or none, and the result then.
 static MISSING: &'static [(u8, Result<u64, SeatsMissing>)] = &[
     (0, Ok(5)),
     (1, Err(SeatsMissing { total: 5, seats: 3 })),

@@ -1,3 +1,3 @@
-//! What parameter lists are read as, by command.
+//! What parameter lists are decoded to, by command.
 mod modes;
 mod reservations;

@@ -1,4 +1,4 @@
-//! Motions by rows worked by hand, and by the objects that they look at.
+//! Motions by values worked by hand, and by the objects that they look at.
 ghost use Rattle.std.specs.Prelude.{◌≡◌, true, IfOk};
 
 mod counting;
@@ -130,7 +130,7 @@ fn locate_by_rows(rt: HostRuntime) -> Result<(), Fail> {
     Ok(())
 }
 
-// An object, a code and a count. Each motion asks for filemarks three times at most, however far it goes.
+// An object, a code and a count. Each motion asks for filemarks at most three times, however far it goes.
 static LOOKS: &'static [(u32, SpaceCode, i32)] = &[
     (0, SpaceCode::Blocks, 8_388_607),
     (6, SpaceCode::Blocks, 8_388_607),

@@ -33,8 +33,8 @@ static ONE_REGISTERS: &'static [(u8, PrOut)] = &[(1, register!(0, A))];
 
 static TWO_REGISTER: &'static [(u8, PrOut)] = &[(1, register!(0, A)), (2, register!(0, B))];
 
-// What is to stand after an order: the registrations, the number of the reservation's type and its
-// holder, 0 for none, and the generation.
+// The expected state after an order: the registrations, the number of the reservation's type and its holder,
+// 0 for none, and the generation.
 #[derive(Clone, Copy)]
 struct Standing<'a> {
     keys: &'a [(u8, u64)],
@@ -68,14 +68,14 @@ fn reserved(
     reservations
 }
 
-// The key that a list names for a host.
+// The key of a host in a list.
 fn listed(keys: &[(u8, u64)], number: u8) -> Option<u64> {
     keys.iter()
         .find(|(host, _)| *host == number)
         .map(|(_, key)| *key)
 }
 
-// The conditions that a list names for a host.
+// The conditions for a host in a list.
 fn told_in(told: &[(u8, Attention)], number: u8) -> AttnSet {
     let mut set = AttnSet::empty();
     for (host, attention) in told {
@@ -102,7 +102,8 @@ fn held(state: &PrState) -> (u8, u8) {
     }
 }
 
-// A host gives an order to reservations: it is answered so, these are told, and that stands after it.
+// A host gives an order to reservations: this is the answer, these are the conditions, and this is the state
+// afterwards.
 fn gives(
     rt: &impl Abort,
     reservations: Reservations,

@@ -6,7 +6,7 @@ use std::process::Abort;
 use std::test::Fail;
 use vtl_base::Bytes;
 
-// The bytes 0 to 15, and the two behind them.
+// The bytes 0 to 15, and the two after them.
 fn spelled(sense: &Sense) -> (u128, u8, u8) {
     let bytes = sense.bytes();
     let mut head = [0; 16];
@@ -19,7 +19,7 @@ fn has(rt: &impl Abort, sense: Sense, bytes: u128) {
     assert_equal!(rt; spelled(&sense), (bytes, 0, 0));
 }
 
-// What a medium or a device does, and what a residue is told as.
+// The sense data of a medium or a device, and of a residue.
 #[test]
 fn bytes_of_sense_data_that_no_row_shows(rt: HostRuntime) {
     has(

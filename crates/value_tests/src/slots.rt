@@ -1,4 +1,4 @@
-//! What is placed, taken and refused, over all addresses; slots in another thread.
+//! Placing, taking and refusing, over all addresses; slots in another thread.
 use assertions::{assert_equal, assert_holds};
 use changer::{SlotError, Slots};
 use std::process::Abort;
@@ -6,11 +6,11 @@ use std::test::Fail;
 use std::thread;
 use std::thread::Threads;
 
-// Something that is no copy.
+// A value that cannot be copied.
 #[derive(Drop, Debug, PartialEq, Eq)]
 struct Tape(u32);
 
-// The number of what a slot holds, by its address.
+// The number of the content of a slot, by its address.
 fn held(slots: &Slots<Tape>, address: u32) -> Option<u32> {
     match slots.held(address) {
         Some(tape) => Some(tape.0),
@@ -18,7 +18,7 @@ fn held(slots: &Slots<Tape>, address: u32) -> Option<u32> {
     }
 }
 
-// The number of what stands at a place of the inventory.
+// The number of the content at a place of the inventory.
 fn listed(slots: &Slots<Tape>, at: usize) -> Option<u32> {
     match slots.inventory().get(at) {
         Some(Some(tape)) => Some(tape.0),
@@ -26,7 +26,7 @@ fn listed(slots: &Slots<Tape>, at: usize) -> Option<u32> {
     }
 }
 
-// Why a tape of this number is not placed, and what comes back; nothing where it is placed.
+// Why a tape with this number is not placed, and the tape that is returned; None where it is placed.
 fn refusal(slots: &mut Slots<Tape>, address: u32, number: u32) -> Option<(SlotError, Tape)> {
     match slots.place(address, Tape(number)) {
         Ok(()) => None,
@@ -34,7 +34,7 @@ fn refusal(slots: &mut Slots<Tape>, address: u32, number: u32) -> Option<(SlotEr
     }
 }
 
-// Each slot is empty, and takes a tape that has its address for a number.
+// Each slot is empty, and takes a tape with its address as the number.
 fn filled(rt: &impl Abort, slots: &mut Slots<Tape>) {
     for address in 1001..1257 {
         assert_holds!(rt; slots.held(address).is_none());
@@ -98,7 +98,7 @@ fn what_is_refused(rt: HostRuntime) -> Result<(), Fail> {
     Ok(())
 }
 
-// Places in another thread, and gives the slots back.
+// Places in another thread, and returns the slots.
 fn placed_elsewhere<C: Drop + Send, R: Threads>(
     rt: &R,
     slots: Slots<C>,

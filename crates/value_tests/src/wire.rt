@@ -16,8 +16,8 @@ fn sent_with(command: Option<Command>) -> u32 {
     }
 }
 
-// The block is this command, with which a host sends so many bytes; a block with no command has an invalid
-// field.
+// The block is this command, with which a host sends this many bytes; a block without a command has an
+// invalid field.
 fn is_decoded(rt: &impl Abort, block: &[u8], command: Option<Command>, sent: u32) {
     let expected = command.ok_or(Sense::invalid_field());
     assert_equal!(rt; Cdb::decode(block), expected; block);

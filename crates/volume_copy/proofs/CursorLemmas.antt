@@ -1,4 +1,4 @@
--- Where a copy ends.
+-- The end of a copy.
 use Rattle.std.proofs.Common.{◌≡◌, ℕ, ◌<◌, ◌≤◌, List, [], length, ◌⊎◌, inl, inr, true, false, leb}
 use Rattle.std.specs.Prelude.{None, slice_get}
 use Rattle.std.proofs.lemmas.Bool.Decides.{leb_tells}
@@ -8,7 +8,7 @@ use Rattle.record_index.specs.Places.{PlacedPart, placed_objects}
 use Rattle.volume_copy.specs.Entries.{entries_from}
 use Rattle.volume_copy.specs.EntryFacts.{all_ended}
 
--- no object stands there, and none would be passed over
+-- there is no object, and none would be passed over
 pub nothing_more : (parts : List PlacedPart) (part at : ℕ) → slice_get (placed_objects parts part) at ≡ None
     → (part < length parts → at < length (placed_objects parts part)) → entries_from parts part at ≡ []
 nothing_more parts part at none inside = by (leb_tells (length parts) part)

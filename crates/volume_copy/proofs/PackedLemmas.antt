@@ -1,4 +1,4 @@
--- One record more is packed.
+-- One more record is packed.
 use Rattle.std.proofs.Common.{◌≡◌, ◌≤◌, ◌<◌, ◌+◌, ◌⊎◌, inl, inr, ℕ, suc, List, ◌∷◌, Bool, true, false, refl, arith}
 use Rattle.std.specs.Prelude.{if◌then◌else◌, nat_le, sum_by}
 use Rattle.std.proofs.lemmas.Bool.Decides.{leb_tells}
@@ -8,7 +8,7 @@ use Rattle.volume_copy.specs.declared.totals.TheConstants.{FRAME_BODY}
 use Rattle.volume_copy.specs.FrameFacts.{more_frames}
 
 module _ {A : Type 0} (size : A → ℕ) (packed : Packed) (item : A) (items : List A) where
-  -- what is packed, as the record fits or not
+  -- the totals, whether the record fits or not
   abbrev chosen : Bool → Packed
   chosen b =
       if b then (record { frames = packed.frames; bytes = packed.bytes + size item; last = packed.last + size item })
@@ -18,7 +18,7 @@ module _ {A : Type 0} (size : A → ℕ) (packed : Packed) (item : A) (items : L
   abbrev more : Bool → ℕ
   more b = if b then more_frames size (packed.last + size item) items else suc (more_frames size (size item) items)
 
-  -- what is packed and what is left is as much as before
+  -- the packed items and the rest are together the same as before
   abbrev Goes : Bool → Type 0
   Goes b =
       ((chosen b).frames + more_frames size (chosen b).last items ≡ packed.frames + more b)

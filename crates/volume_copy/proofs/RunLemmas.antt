@@ -10,7 +10,7 @@ use Rattle.record_index.specs.declared.runs.MarkRun.{MarkRun}
 use Rattle.record_index.specs.MarkRuns.{HasMarkAt, IsMarkRun, IsRunUpto, placed_marks}
 use Rattle.volume_copy.specs.EntryFacts.{RunOfMarks}
 
--- the filemarks of the first, and those of the others
+-- the filemarks of two lists are those of both
 first_and_others : (object : Placed) (objects : List Placed)
     → placed_marks (object ∷ objects) ≡ placed_marks (object ∷ []) + placed_marks objects
 first_and_others object objects = sum_by-append _ (object ∷ []) objects
@@ -72,7 +72,7 @@ compare n k = by (leb_tells n k) (leb_tells k n)
     by (inl low) (inr high) = inl high.1
     by (inr low) other = inr (inr low.1)
 
--- the last run that begins before the place behind a filemark has that filemark
+-- the last run that begins before the place after a filemark has that filemark
 module _ (objects : List Placed) (at : ℕ) (mark : HasMarkAt objects at) where
   pub some_run : IsRunUpto objects (at + 1) None → ⊥
   some_run none =
@@ -135,7 +135,7 @@ module _ (objects : List Placed) (at : ℕ) (mark : HasMarkAt objects at) where
         by n next is low high (inr (inr after)) =
             omega (arith, found.0.1.apart found.0.2 n run next after found.0.3 is, low)
 
-    -- from it on stand as many filemarks as are left of its run
+    -- from there on there are as many filemarks as are left of the run
     pub runs_on : RunOfMarks objects at (run.first + run.count - at)
     runs_on =
         let all : at + (run.first + run.count - at) ≡ run.first + run.count = omega (arith, reaches) in
@@ -145,7 +145,7 @@ module _ (objects : List Placed) (at : ℕ) (mark : HasMarkAt objects at) where
           ends = λ other. ended (subst (HasMarkAt objects) all other);
         }
 
-    -- and it lies among the objects
+    -- the rest of the run lies among the objects
     pub inside : run.first + run.count ≤ length objects
     inside =
         let last = run.first + run.count - 1 in

@@ -17,7 +17,7 @@ use Rattle.volume_copy.specs.Matching.{AllMatch, Matches, match_split, one_by}
 use Rattle.volume_copy.specs.SizeFacts.{FitsFrame}
 use Rattle.volume_copy.specs.Spelling.{SpellsEntry, SpellsFrame}
 
--- by whether blocks are read as they lie, and by where they lie
+-- for a reader of blocks: whether it is honest, and where blocks lie
 module _ (honest : Type 0) (lies : List ℕ → ℕ → Type 0) where
   nothing : (changes : List Change) → AllMatch lies changes [] → [] ≡ spell_all changes
   nothing [] match = refl
@@ -33,7 +33,7 @@ module _ (honest : Type 0) (lies : List ℕ → ℕ → Type 0) where
   one_change (change ∷ []) entry match = (change, refl, match.0)
   one_change (change ∷ other ∷ changes) entry match = absurd match.1
 
-  -- an entry more
+  -- one more entry
   pub spelled_on : (items rest : List Entry) (entry : Entry) (old now new bytes : List ℕ) (count : ℕ)
       → HasSpelled honest lies items (entry ∷ rest) old now count → new ≡ now ++ bytes
       → SpellsEntry honest lies entry bytes
@@ -64,7 +64,7 @@ module _ (honest : Type 0) (lies : List ℕ → ℕ → Type 0) where
       absurd (omega (arith, (All-head FitsFrame entry rest fit).1, full))
   some_entry (entry ∷ frame) rest items whole some fit full = omega arith
 
-  -- no entry more fits
+  -- no more entry fits
   pub frame_done : (items rest : List Entry) (old now : List ℕ) (count : ℕ)
       → HasSpelled honest lies items rest old now count → items ≢ [] → All FitsFrame rest → count ≤ FRAME_BODY
       → NoMoreFits entry_size count rest
@@ -89,7 +89,7 @@ module _ (honest : Type 0) (lies : List ℕ → ℕ → Type 0) where
         },
       )
 
--- by what follows of where they lie
+-- for a weaker fact about the places of blocks
 pub spells_by : (honest trusted : Type 0) (lies others : List ℕ → ℕ → Type 0) (entry : Entry) (bytes : List ℕ)
     → (honest → trusted) → ((block : List ℕ) (place : ℕ) → lies block place → others block place)
     → SpellsEntry trusted others entry bytes → SpellsEntry honest lies entry bytes

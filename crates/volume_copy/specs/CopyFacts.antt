@@ -1,4 +1,4 @@
--- What the copy of a volume makes, and what stands in it.
+-- The volume that a copy makes, and the changes in it.
 use Rattle.std.specs.Prelude.{◌≡◌, ◌+◌, ℕ, zero, suc, true, List, [], ◌∷◌, ◌++◌, length, map, replicate, take, nat_le, not, if◌then◌else◌, Option, None, Some, slice_get, slice_set, refl}
 use Rattle.std.specs.List.{All}
 use Rattle.std.proofs.Common.{ap, sym, subst, ◌∙◌, arith, length-append}
@@ -19,7 +19,7 @@ use Rattle.volume_copy.specs.Copies.{Makes, copy_objects, copy_of, copy_parts, m
 abbrev pub capacities_of : List Part → List ℕ
 capacities_of volume = map (λ (part : Part). part.capacity) volume
 
--- partitions, one with these objects, and partitions behind it
+-- partitions: some, one with these objects, and some after it
 abbrev grown : List Part → ℕ → List Object → List Part → List Part
 grown before capacity objects behind =
     before ++ (let part : Part = record { capacity = capacity; objects = objects } in part) ∷ behind
@@ -33,7 +33,7 @@ part_set : (before behind : List Part) (part other : Part)
 part_set [] behind part other = refl
 part_set (p ∷ ps) behind part other = ap (λ (l : List Part). p ∷ l) (part_set ps behind part other)
 
--- a volume is made of what a volume was made of
+-- changes that make one volume, and others that make the next from it
 makes_on : (old middle new : List Part) (first second : List Change) → Makes old first middle
     → Makes middle second new → Makes old (first ++ second) new
 makes_on old middle new [] second one other =
@@ -42,7 +42,7 @@ makes_on old middle new (change ∷ first) second one other =
     let rest = makes_on (changed old change) middle new first second (one.0.1, one.1) other in
     ((one.0.0, rest.0), rest.1)
 
--- objects, in front of others that a partition holds, have room
+-- a first part of a partition's objects has room
 has_room_of : (part : Part) (objects others : List Object)
     → IsPart (let whole : Part = record { capacity = part.capacity; objects = objects ++ others } in whole)
     → has_room part objects ≡ true
@@ -51,12 +51,12 @@ has_room_of part objects others is =
     (le-leb (length objects) MAX_OBJECTS (omega (arith, is.few, length-append objects others)))
     (le-leb (used_of objects) part.capacity (omega (arith, is.fits, sum_by-append cost_of objects others)))
 
--- a change behind all objects of a partition
+-- a change after all objects of a partition
 module _ (before behind : List Part) (capacity : ℕ) (objects others : List Object) (change : Change) where
   whole : List Part
   whole = grown before capacity objects behind
 
-  -- which is well formed, and leads to objects that fit
+  -- it is well formed, and leads to objects that fit
   record Goes : Type 0 where
     target : part_of change ≡ length before
     kept : kept_of change ≡ length objects
@@ -104,7 +104,7 @@ slid : (count : ℕ) (objects : List Object)
 slid zero objects = refl
 slid (suc count) objects = ap (λ (l : List Object). Mark ∷ l) (slid count objects)
 
--- a partition that grows, by the objects behind so many filemarks
+-- a partition that grows by the objects after some filemarks
 module _ (before behind : List Part) (capacity : ℕ) where
   abbrev FitsPart : List Object → Type 0
   FitsPart objects = IsPart (let part : Part = record { capacity = capacity; objects = objects } in part)
@@ -140,7 +140,7 @@ module _ (before behind : List Part) (capacity : ℕ) where
       after_of [] ys all = all
       after_of (x ∷ xs) ys all = after_of xs ys (All-tail IsObject x (xs ++ ys) all)
 
-  -- the copy of objects puts them there
+  -- the copy of objects adds them
   makes_objects : (held : List Object) (marks : ℕ) (objects : List Object)
       → FitsPart (held ++ replicate marks Mark ++ objects)
       → Makes (grown before capacity held behind) (copy_objects (length before) (length held) marks objects)
@@ -201,7 +201,7 @@ makes_parts before (part ∷ parts) each =
     (subst (λ (x : List Part × ℕ × List Part). Makes x.0 (copy_parts x.1 parts) x.2)
     (λ i. (append_assoc before (part ∷ []) empty i, next i, append_assoc before (part ∷ []) parts i)) rest)
 
--- the copy of a volume makes it, from a volume with no object
+-- the copy of a volume makes it from a volume without objects
 pub copy_makes : (volume : List Part) → IsVolume volume
     → Makes (empty_volume (capacities_of volume)) (copy_of volume) volume
 copy_makes volume is = makes_parts [] volume is.each

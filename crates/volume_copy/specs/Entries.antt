@@ -7,20 +7,20 @@ use Rattle.record_index.specs.Places.{PlacedPart, placed_objects}
 use Rattle.record_index.specs.Records.{size_of}
 use Rattle.volume_copy.specs.declared.entries.Entry.{Entry}
 
--- a block behind the first objects of a partition, which lies there (own)
+-- a block at that place, after the first objects of a partition (own)
 abbrev pub block_entry : ℕ → ℕ → ℕ → ℕ → Entry
 block_entry part at place size = record { item = Records.Put part at size; place = place }
 
--- so many filemarks behind the first objects of a partition (own)
+-- `count` filemarks after the first objects of a partition (own)
 abbrev pub marks_entry : ℕ → ℕ → ℕ → Entry
 marks_entry part at count = record { item = Records.Marks part at count; place = 0 }
 
--- and none where they are 0 (own)
+-- the same, with no entry for 0 (own)
 abbrev pub marks_entries : ℕ → ℕ → ℕ → List Entry
 marks_entries part first zero = []
 marks_entries part first (suc count) = marks_entry part first (suc count) ∷ []
 
--- the entries of so many filemarks and then these objects behind the first objects of a partition (own)
+-- the entries of `marks` filemarks and then these objects, after the first objects of a partition (own)
 abbrev pub object_entries : ℕ → ℕ → ℕ → List Placed → List Entry
 object_entries part first marks [] = marks_entries part first marks
 object_entries part first marks (Placeds.Mark ∷ objects) = object_entries part first (suc marks) objects
@@ -28,7 +28,7 @@ object_entries part first marks (Placeds.Block place size ∷ objects) =
     marks_entries part first marks
     ++ (block_entry part (first + marks) place size ∷ object_entries part (first + marks + 1) 0 objects)
 
--- the entries of these partitions, of which the first one has that number (own)
+-- the entries of these partitions, the first of which has that number (own)
 abbrev pub part_entries : ℕ → List PlacedPart → List Entry
 part_entries number [] = []
 part_entries number (part ∷ parts) = object_entries number 0 0 part.objects ++ part_entries (suc number) parts
@@ -37,11 +37,11 @@ part_entries number (part ∷ parts) = object_entries number 0 0 part.objects ++
 abbrev pub entries_in : List PlacedPart → List Entry
 entries_in parts = part_entries 0 parts
 
--- those from an object of a partition on, where no run of filemarks reaches over it (own)
+-- the entries from an object of a partition on, where no run of filemarks crosses it (own)
 abbrev pub entries_from : List PlacedPart → ℕ → ℕ → List Entry
 entries_from parts part at =
     object_entries part at 0 (drop at (placed_objects parts part)) ++ part_entries (suc part) (drop (suc part) parts)
 
--- how many bytes an entry's record has, its block included (own)
+-- the bytes of an entry's record, with its block (own)
 abbrev pub entry_size : Entry → ℕ
 entry_size entry = size_of entry.item

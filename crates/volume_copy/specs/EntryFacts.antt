@@ -1,4 +1,4 @@
--- What stands in a copy from an object of an index on.
+-- The entries of a copy from an object of an index on.
 use Rattle.std.specs.Prelude.{◌≡◌, ◌≤◌, ◌<◌, ◌+◌, ℕ, zero, suc, List, [], ◌∷◌, ◌++◌, length, drop, replicate, Some, slice_get, refl}
 use Rattle.std.proofs.Common.{ap, sym, ◌∙◌, arith}
 use Rattle.std.proofs.lemmas.List.{length-map}
@@ -12,7 +12,7 @@ use Rattle.record_index.specs.Places.{PlacedPart, blank, filled, outline, placed
 use Rattle.volume_copy.specs.declared.entries.Entry.{Entry}
 use Rattle.volume_copy.specs.Entries.{block_entry, entries_from, marks_entry, object_entries, part_entries}
 
--- what stands at a place comes first behind it
+-- the object at a place comes first in the rest from there
 pub drop_here : (objects : List Placed) (at : ℕ) (object : Placed) → slice_get objects at ≡ Some object
     → drop at objects ≡ object ∷ drop (suc at) objects
 drop_here [] at object is = absurd (cc)
@@ -25,7 +25,7 @@ past_all [] (suc at) past = refl
 past_all (x ∷ xs) zero past = absurd (omega arith)
 past_all (x ∷ xs) (suc at) past = past_all xs at (omega arith)
 
--- a block at the first place
+-- a block comes first
 pub block_first : (part at place size : ℕ) (objects : List Placed)
     → object_entries part at 0 (Block place size ∷ objects)
     ≡ block_entry part at place size ∷ object_entries part (at + 1) 0 objects
@@ -33,7 +33,7 @@ block_first part at place size objects =
     let same : at + 0 ≡ at = omega arith in
     λ i. block_entry part (same i) place size ∷ object_entries part (same i + 1) 0 objects
 
--- no filemark stands first
+-- no filemark comes first
 abbrev NoneFirst : List Placed → Type 0
 NoneFirst [] = Unit {0}
 NoneFirst (Mark ∷ objects) = ⊥
@@ -56,7 +56,7 @@ run_goes part at marks (suc count) objects =
     let same : count + suc marks ≡ suc count + marks = omega arith in
     run_goes part at (suc marks) count objects ∙ ap (λ (n : ℕ). object_entries part at n objects) same
 
--- a run of filemarks at the first place
+-- a run of filemarks comes first
 run_first : (part at count : ℕ) (objects : List Placed) → 1 ≤ count → NoneFirst objects
     → object_entries part at 0 (replicate count Mark ++ objects)
     ≡ marks_entry part at count ∷ object_entries part (at + count) 0 objects
@@ -86,7 +86,7 @@ none_at (Mark ∷ objects) zero none = none refl
 none_at (Block place size ∷ objects) zero none = tt
 none_at (object ∷ objects) (suc at) none = none_at objects at none
 
--- from a place on there stand so many filemarks, and then none (own)
+-- `count` filemarks from a place on, and then none (own)
 pub record RunOfMarks (objects : List Placed) (at count : ℕ) : Type 0 where
   pub some : 1 ≤ count
   pub marks : (place : ℕ) → at ≤ place → place < at + count → HasMarkAt objects place
@@ -99,7 +99,7 @@ run_entries part at count objects run =
     ap (object_entries part at 0) (drop_run objects at count run.marks)
     ∙ run_first part at count (drop (at + count) objects) run.some (none_at objects (at + count) run.ends)
 
--- by an index, from an object of it on
+-- for an index, from one of its objects on
 module _ (parts : List PlacedPart) (part at : ℕ) where
   -- a block comes first
   pub block_next : (place size : ℕ) → slice_get (placed_objects parts part) at ≡ Some (Block place size)
@@ -119,7 +119,7 @@ module _ (parts : List PlacedPart) (part at : ℕ) where
       ap (λ (l : List Entry). l ++ part_entries (suc part) (drop (suc part) parts))
       (run_entries part at count (placed_objects parts part) run)
 
-  -- the partition has no object more
+  -- the partition has no more objects
   pub part_ends : length (placed_objects parts part) ≤ at
       → entries_from parts part at ≡ part_entries (suc part) (drop (suc part) parts)
   part_ends past =
@@ -139,7 +139,7 @@ begins (p ∷ ps) (suc part) number = begins ps part number
 pub part_begins : (parts : List PlacedPart) (part : ℕ) → entries_from parts part 0 ≡ part_entries part (drop part parts)
 part_begins parts part = begins parts part part
 
--- the next partition, where one has no object more
+-- the next partition follows where one has no more objects
 pub next_part : (parts : List PlacedPart) (part at : ℕ) → length (placed_objects parts part) ≤ at
     → entries_from parts part at ≡ entries_from parts (suc part) 0
 next_part parts part at past = part_ends parts part at past ∙ sym (part_begins parts (suc part))
@@ -151,7 +151,7 @@ no_parts [] (suc part) number past = refl
 no_parts (p ∷ ps) zero number past = absurd (omega arith)
 no_parts (p ∷ ps) (suc part) number past = no_parts ps part number (omega arith)
 
--- nothing stands behind the last partition
+-- nothing follows the last partition
 pub all_ended : (parts : List PlacedPart) (part at : ℕ) → length parts ≤ part → entries_from parts part at ≡ []
 all_ended parts part at past =
     let none : placed_objects parts part ≡ [] = ap placed_objects_in (slice_get_past parts part past) in

@@ -1,4 +1,4 @@
--- How records are packed into frames: in one way, and what each frame is.
+-- There is one packing of records into frames, and what each frame is.
 use Rattle.std.specs.Prelude.{◌≡◌, ◌⊎◌, ◌≤◌, ◌<◌, ◌+◌, ℕ, suc, Bool, true, false, List, [], ◌∷◌, ◌++◌, length, sum_by, nat_le, if◌then◌else◌, refl}
 use Rattle.std.specs.List.{All, flat_map}
 use Rattle.std.proofs.Common.{ap, sym, subst, ◌∙◌, inl, inr, arith}
@@ -14,9 +14,9 @@ use Rattle.volume_copy.specs.Entries.{entry_size}
 use Rattle.volume_copy.specs.Frames.{ArePackedInto, IsFirstFrame, NoMoreFits, change_size, frames_behind, frames_by, frames_of, in_front}
 use Rattle.volume_copy.specs.Matching.{AllFramesMatch, AllMatch, Matches, all_by}
 
--- by how many bytes each of them has
+-- for a size of each item in bytes
 module _ {A : Type 0} (size : A → ℕ) where
-  -- how many frames begin behind so many bytes of one (own)
+  -- how many frames begin after these bytes of a frame (own)
   abbrev pub more_frames : ℕ → List A → ℕ
   more_frames bytes [] = 0
   more_frames bytes (item ∷ items) =
@@ -62,7 +62,7 @@ module _ {A : Type 0} (size : A → ℕ) where
       (rest_begins (size item) frame rest (omega (arith, sum_by-cons size item frame, first.fits))
       (subst (λ (n : ℕ). NoMoreFits size n rest) (sum_by-cons size item frame) first.full))
 
-  -- they are packed in one way
+  -- there is one packing
   pub packed_once : (items : List A) (frames : List (List A)) → ArePackedInto size items frames
       → frames ≡ frames_by size items
   packed_once items [] packed = ap (frames_by size) (sym packed)
@@ -70,7 +70,7 @@ module _ {A : Type 0} (size : A → ℕ) where
       ap (λ (l : List (List A)). frame ∷ l) (packed_once packed.0 frames packed.2)
       ∙ sym (first_is frame packed.0 items packed.1)
 
-  -- what is left of a frame that has so many bytes, and what is left behind it
+  -- the rest of a frame that has these bytes, and the items after it
   record Splits (bytes : ℕ) (items : List A) : Type 0 where
     frame : List A
     rest : List A
@@ -80,7 +80,7 @@ module _ {A : Type 0} (size : A → ℕ) where
     full : NoMoreFits size (bytes + sum_by size frame) rest
     packed : ArePackedInto size rest (frames_by size rest)
 
-  -- what begins with an item that fits a frame is packed
+  -- items that begin with one that fits a frame are packed
   begun : (item : A) (items : List A) → Splits (size item) items
       → ArePackedInto size (item ∷ items) (frames_by size (item ∷ items))
   begun item items behind =
@@ -144,7 +144,7 @@ module _ {A : Type 0} (size : A → ℕ) where
             packed = begun item items (behind_of (size item) one);
           }
 
-  -- each of which fits a frame, are packed into frames
+  -- items that each fit a frame are packed into frames
   pub are_packed : (items : List A) → All (λ item. size item ≤ FRAME_BODY) items
       → ArePackedInto size items (frames_by size items)
   are_packed [] each = refl
@@ -152,7 +152,7 @@ module _ {A : Type 0} (size : A → ℕ) where
       begun item items (split (size item) items (All-head (λ item. size item ≤ FRAME_BODY) item items each)
       (All-tail (λ item. size item ≤ FRAME_BODY) item items each))
 
-  -- frames, one after the other, are what was packed
+  -- the frames, one after another, are the items
   pub frames_whole : (items : List A) (frames : List (List A)) → ArePackedInto size items frames
       → flat_map (λ frame. frame) frames ≡ items
   frames_whole items [] packed = sym packed
@@ -172,7 +172,7 @@ module _ {A : Type 0} (size : A → ℕ) where
   length_front item [] n is = absurd (omega arith)
   length_front item (frame ∷ frames) n is = is
 
-  -- how many frames there are behind so many bytes of one, this one included
+  -- how many frames there are after these bytes of a frame, with that frame
   pub frames_counted : (bytes : ℕ) (items : List A)
       → length (frames_behind size bytes items) ≡ suc (more_frames bytes items)
   frames_counted bytes [] = refl
@@ -202,7 +202,7 @@ module _ {A : Type 0} (size : A → ℕ) where
       ∙ sym (length_front item (frames_behind size (size item) items) (more_frames (size item) items)
       (frames_counted (size item) items))
 
-  -- no more than there are items
+  -- at most as many as there are items
   pub frames_few : (bytes : ℕ) (items : List A) → more_frames bytes items ≤ length items
   frames_few bytes [] = omega arith
   frames_few bytes (item ∷ items) = by (λ n. frames_few n items) (nat_le (bytes + size item) FRAME_BODY)
@@ -213,7 +213,7 @@ module _ {A : Type 0} (size : A → ℕ) where
       by few true = omega (arith, few (bytes + size item))
       by few false = omega (arith, few (size item))
 
--- by where blocks lie
+-- for a fact about the places of blocks
 module _ (P : List ℕ → ℕ → Type 0) where
   -- a change has as many bytes as its entry
   pub same_size : (change : Change) (entry : Entry) → Matches P change entry → change_size change ≡ entry_size entry
@@ -269,7 +269,7 @@ module _ (P : List ℕ → ℕ → Type 0) where
       (frames_behind entry_size (entry_size entry) entries) match.0
       (match_behind (entry_size entry) changes entries match.1))
 
--- where blocks lie by a fact that follows
+-- for a weaker fact about the places of blocks
 module _ (P Q : List ℕ → ℕ → Type 0) (follows : (block : List ℕ) (place : ℕ) → P block place → Q block place) where
   -- frames match there too
   pub frames_follow : (frames : List (List Change)) (others : List (List Entry)) → AllFramesMatch P frames others

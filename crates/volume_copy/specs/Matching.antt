@@ -1,4 +1,4 @@
--- The changes of a copy, and the entries that an index has of them.
+-- The changes of a copy, and their entries in an index.
 use Rattle.std.specs.Prelude.{◌≡◌, ◌+◌, ℕ, zero, suc, List, [], ◌∷◌, ◌++◌, refl}
 use Rattle.std.proofs.Common.{ap, sym}
 use Rattle.volume_core.specs.declared.objects.Object.{Object}
@@ -16,9 +16,9 @@ use Rattle.volume_copy.specs.declared.entries.Entry.{Entry}
 use Rattle.volume_copy.specs.Copies.{copy_objects, copy_of, copy_parts, marks_change}
 use Rattle.volume_copy.specs.Entries.{entries_in, marks_entries, object_entries, part_entries}
 
--- by where blocks lie
+-- for a fact about the places of blocks
 module _ (P : List ℕ → ℕ → Type 0) where
-  -- the entry has the change's record, and its block lies at the entry's place (own)
+  -- the entry has the record of the change, and the fact holds of its block and place (own)
   abbrev pub Matches : Change → Entry → Type 0
   Matches change entry = (record_of change ≡ entry.item) × LiesAt P change entry.place
 
@@ -29,14 +29,14 @@ module _ (P : List ℕ → ℕ → Type 0) where
   AllMatch (change ∷ changes) [] = ⊥
   AllMatch (change ∷ changes) (entry ∷ entries) = Matches change entry × AllMatch changes entries
 
-  -- and so do those of each frame (own)
+  -- the same for each frame (own)
   abbrev pub AllFramesMatch : List (List Change) → List (List Entry) → Type 0
   AllFramesMatch [] [] = Unit {0}
   AllFramesMatch [] (frame ∷ frames) = ⊥
   AllFramesMatch (frame ∷ frames) [] = ⊥
   AllFramesMatch (frame ∷ frames) (other ∷ others) = AllMatch frame other × AllFramesMatch frames others
 
-  -- two rows that match, and two behind them
+  -- two lists that match, followed by two others
   pub match_append : (changes others : List Change) (entries more : List Entry)
       → AllMatch changes entries → AllMatch others more → AllMatch (changes ++ others) (entries ++ more)
   match_append [] others [] more here also = also
@@ -80,7 +80,7 @@ module _ (P : List ℕ → ℕ → Type 0) where
       → AllMatch (copy_of volume) (entries_in parts)
   match_copy volume parts lies = match_parts 0 volume parts lies
 
-  -- the first of two rows, and the other
+  -- a list that matches two, split between them
   pub match_split : (changes : List Change) (entries more : List Entry) → AllMatch changes (entries ++ more)
       → (first : List Change) × (others : List Change) × (changes ≡ first ++ others) × AllMatch first entries
       × AllMatch others more
@@ -90,15 +90,15 @@ module _ (P : List ℕ → ℕ → Type 0) where
       let rest = match_split changes entries more match.1 in
       (change ∷ rest.0, rest.1, ap (λ (l : List Change). change ∷ l) rest.2, (match.0, rest.3), rest.4)
 
--- where blocks lie by a fact that follows
+-- for a weaker fact about the places of blocks
 module _ (P Q : List ℕ → ℕ → Type 0) (follows : (block : List ℕ) (place : ℕ) → P block place → Q block place) where
-  -- one matches there too
+  -- one that matches still matches
   pub one_by : (change : Change) (entry : Entry) → Matches P change entry → Matches Q change entry
   one_by (Put part at block) entry match = (match.0, follows block entry.place match.1)
   one_by (Marks part at count) entry match = (match.0, tt)
   one_by (Erase part at) entry match = (match.0, tt)
 
-  -- and all do
+  -- and so do all
   pub all_by : (changes : List Change) (entries : List Entry) → AllMatch P changes entries → AllMatch Q changes entries
   all_by [] [] match = tt
   all_by [] (entry ∷ entries) match = absurd match

@@ -1,4 +1,4 @@
--- What stands in the copy of a volume: no run of filemarks is cut, and each change has a spelling.
+-- The order of a volume's copy: no run of filemarks is cut, and each change has a spelling.
 use Rattle.std.specs.Prelude.{◌≡◌, ◌≤◌, ◌<◌, ◌+◌, ◌^◌, ℕ, zero, suc, List, [], ◌∷◌, ◌++◌, get_or, length, sum_by}
 use Rattle.std.specs.List.{All}
 use Rattle.std.proofs.Common.{sym, ◌∙◌, refl, arith}
@@ -17,11 +17,11 @@ use Rattle.volume_copy.specs.declared.totals.TheConstants.{FRAME_BODY}
 use Rattle.volume_copy.specs.Copies.{AreApart, IsApartFrom, NoRunIsCut, copy_objects, copy_of, copy_parts, marks_change}
 use Rattle.volume_copy.specs.Frames.{change_size}
 
--- the change concerns that partition
+-- the change is in that partition
 abbrev IsIn : ℕ → Change → Type 0
 IsIn number change = part_of change ≡ number
 
--- the change concerns a later partition
+-- the change is in a later partition
 abbrev IsBehind : ℕ → Change → Type 0
 IsBehind number change = number < part_of change
 
@@ -131,13 +131,13 @@ parts_spelled number (part ∷ parts) few each =
 pub copy_spelled : (volume : List Part) → IsVolume volume → All IsRecord (copy_of volume)
 copy_spelled volume is = parts_spelled 0 volume (omega (arith, is.few)) is.each
 
--- a change that has a spelling has a byte, and fits a frame
+-- a change that has a spelling has at least one byte, and fits a frame
 pub record_fits : (change : Change) → IsRecord change → (1 ≤ change_size change) × (change_size change ≤ FRAME_BODY)
 record_fits (Put part at block) is = (omega arith, omega (arith, is.2))
 record_fits (Marks part at count) is = (omega arith, omega arith)
 record_fits (Erase part at) is = (omega arith, omega arith)
 
--- the spelling of changes has as many bytes as their records
+-- the spelling of changes has the bytes of their records
 pub spelling_sized : (changes : List Change) → length (spell_all changes) ≡ sum_by change_size changes
 spelling_sized [] = refl
 spelling_sized (change ∷ changes) =

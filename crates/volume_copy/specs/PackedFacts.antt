@@ -29,7 +29,7 @@ pub copy_packed : (volume : List Part) → IsVolume volume
     → ArePackedInto change_size (copy_of volume) (frames_of (copy_of volume))
 copy_packed volume is = are_packed change_size (copy_of volume) (each_fits (copy_of volume) (copy_spelled volume is))
 
--- its frames, one after the other, are the copy
+-- its frames, one after another, are the copy
 pub copy_in_frames : (volume : List Part) → IsVolume volume
     → flat_map (λ frame. frame) (frames_of (copy_of volume)) ≡ copy_of volume
 copy_in_frames volume is =
@@ -79,7 +79,7 @@ pub copy_frames_spelled : (volume : List Part) → IsVolume volume
 copy_frames_spelled volume is =
     frames_spelled (copy_of volume) (frames_of (copy_of volume)) (copy_packed volume is) (copy_spelled volume is)
 
--- the body of each frame has a byte, and at most 4,194,304
+-- the body of each frame has at least one byte, and at most 4,194,304
 pub copy_has_bodies : (volume : List Part) → IsVolume volume → All IsFrameBody (frames_of (copy_of volume))
 copy_has_bodies volume is =
     bodies_of_frames (frames_of (copy_of volume))

@@ -1,4 +1,4 @@
--- The size of a copy hangs on no byte of a block.
+-- The size of a copy does not depend on the bytes of blocks.
 use Rattle.std.specs.Prelude.{◌≡◌, ◌+◌, ℕ, suc, Bool, true, false, List, [], ◌∷◌, ◌++◌, length, map, nat_le, if◌then◌else◌, refl}
 use Rattle.std.proofs.Common.{ap, sym, ◌∙◌}
 use Rattle.std.proofs.lemmas.List.{length-replicate, map-append}
@@ -66,7 +66,7 @@ map_behind bytes (change ∷ changes) =
         (map_front change (frames_behind change_size (change_size change) changes)
         ∙ ap (in_front size_of (record_of change)) (behind (change_size change)))
 
--- frames are those of the records
+-- the frames of changes are the frames of their records
 pub frames_recorded : (changes : List Change)
     → map (map record_of) (frames_of changes) ≡ frames_by size_of (map record_of changes)
 frames_recorded [] = refl
@@ -74,7 +74,7 @@ frames_recorded (change ∷ changes) =
     map_front change (frames_behind change_size (change_size change) changes)
     ∙ ap (in_front size_of (record_of change)) (map_behind (change_size change) changes)
 
--- volumes of one shape have copies of the same records, in frames of the same records
+-- volumes with the same shape have copies with the same records, in frames of the same records
 pub frames_shaped : (volume other : List Part) → shape_of volume ≡ shape_of other
     → map (map record_of) (frames_of (copy_of volume)) ≡ map (map record_of) (frames_of (copy_of other))
 frames_shaped volume other same =

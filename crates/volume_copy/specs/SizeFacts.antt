@@ -1,4 +1,4 @@
--- How many bytes the records of a copy have, and how many records there are.
+-- The number of bytes and of records in a copy.
 use Rattle.std.specs.Prelude.{◌≤◌, ◌+◌, ◌*◌, ℕ, zero, suc, List, [], ◌∷◌, drop, length, map, sum_by, nat_le}
 use Rattle.std.specs.List.{All}
 use Rattle.std.proofs.Common.{arith, length-append}
@@ -16,7 +16,7 @@ use Rattle.volume_copy.specs.declared.entries.Entry.{Entry}
 use Rattle.volume_copy.specs.declared.totals.TheConstants.{FRAME_BODY}
 use Rattle.volume_copy.specs.Entries.{block_entry, entries_from, entries_in, entry_size, marks_entries, object_entries, part_entries}
 
--- a record of that entry has a byte, and fits a frame (own)
+-- the record of an entry has at least one byte, and fits a frame (own)
 abbrev pub FitsFrame : Entry → Type 0
 FitsFrame entry = (1 ≤ entry_size entry) × (entry_size entry ≤ FRAME_BODY)
 
@@ -25,7 +25,7 @@ marks_fit part first zero = All-nil FitsFrame
 marks_fit part first (suc count) =
     All-cons FitsFrame _ [] (omega arith, omega arith) (All-nil FitsFrame)
 
--- a block of an index whose outline keeps the limits
+-- a block of an index whose outline is within the limits
 block_fits : (part at place size : ℕ) → IsObject (filled blank (Block place size))
     → FitsFrame (block_entry part at place size)
 block_fits part at place size is = (omega arith, omega (arith, is.1, length-replicate {A = ℕ} size 0))
@@ -52,7 +52,7 @@ parts_fit number (part ∷ parts) each =
     (All-head IsPart (filled_part blank part) (outline parts) each).well_formed)
     (parts_fit (suc number) parts (All-tail IsPart (filled_part blank part) (outline parts) each))
 
--- each record of a copy has a byte, and fits a frame
+-- each record of a copy has at least one byte, and fits a frame
 pub entries_fit : (parts : List PlacedPart) → IsVolume (outline parts) → All FitsFrame (entries_in parts)
 entries_fit parts is = parts_fit 0 parts is.each
 
@@ -77,7 +77,7 @@ fit_there zero (part ∷ parts) each = (All-head IsPart (filled_part blank part)
 fit_there (suc n) (part ∷ parts) each =
     fit_there n parts (All-tail IsPart (filled_part blank part) (outline parts) each)
 
--- from any object on each record has a byte, and fits a frame
+-- the same for the records from an object on
 pub entries_from_fit : (parts : List PlacedPart) (part at : ℕ) → IsVolume (outline parts)
     → All FitsFrame (entries_from parts part at)
 entries_from_fit parts part at is =
@@ -130,7 +130,7 @@ parts_take number (part ∷ parts) each =
       parts_take (suc number) parts (All-tail IsPart (filled_part blank part) (outline parts) each),
     )
 
--- the records of a copy have no more bytes than four partitions
+-- the records of a copy have at most the bytes of four partitions
 pub entries_take : (parts : List PlacedPart) → IsVolume (outline parts)
     → sum_by entry_size (entries_in parts) ≤ MAX_CAPACITY * MAX_PARTITIONS
 entries_take parts is =
@@ -160,7 +160,7 @@ parts_count number (part ∷ parts) each =
       parts_count (suc number) parts (All-tail IsPart (filled_part blank part) (outline parts) each),
     )
 
--- there are no more records in a copy than objects in four partitions
+-- a copy has at most as many records as four partitions have objects
 pub entries_few : (parts : List PlacedPart) → IsVolume (outline parts)
     → length (entries_in parts) ≤ MAX_OBJECTS * MAX_PARTITIONS
 entries_few parts is =

@@ -9,26 +9,25 @@ use Rattle.volume_copy.specs.Entries.{entry_size}
 use Rattle.volume_copy.specs.Frames.{IsFirstFrame}
 use Rattle.volume_copy.specs.Matching.{AllMatch, Matches}
 
--- what a record begins with: all of it but a block's bytes (own)
+-- the head of a record: all but the bytes of its block (own)
 abbrev pub record_head : Record → List ℕ
 record_head (Records.Put part at size) = spell_head 1 part at size
 record_head (Records.Marks part at count) = spell_head 2 part at count
 record_head (Records.Erase part at) = spell_head 3 part at 0
 
--- by whether blocks are read as they lie, and by where they lie
+-- for a reader of blocks: whether it is honest, and where blocks lie
 module _ (honest : Type 0) (lies : List ℕ → ℕ → Type 0) where
-  -- so many bytes were read at a place: a block that lies there, if it has as many (own)
+  -- `size` bytes were read at a place: the block that lies there, if it has as many (own)
   pub record IsBlockRead (place size : ℕ) (block : List ℕ) : Type 0 where
     pub sized : length block ≡ size
     pub is_there : honest → (there : List ℕ) → lies there place → length there ≡ size → block ≡ there
 
-  -- the bytes are as many as the entry says, and spell each change that it may be of (own)
+  -- the bytes are as many as the entry says, and spell each change that the entry may be of (own)
   pub record SpellsEntry (entry : Entry) (bytes : List ℕ) : Type 0 where
     pub sized : length bytes ≡ entry_size entry
     pub spelled : honest → (change : Change) → Matches lies change entry → bytes ≡ spell_change change
 
-  -- The body of the first frame of these items: it has as many bytes as its entries say, and spells the changes that
-  -- they are of (own).
+  -- The body of the first frame of these items: it has the bytes of its entries, and spells their changes (own).
   pub record SpellsFrame (frame rest items : List Entry) (body : List ℕ) : Type 0 where
     pub first : IsFirstFrame entry_size frame rest items
     pub sized : length body ≡ sum_by entry_size frame

@@ -1,21 +1,21 @@
-//! What reads the blocks of a volume.
+//! The reader of a volume's blocks.
 ghost use Rattle.std.specs.Prelude.{◌≡◌, ℕ, List, OnOk, IfErr, length};
 ghost use Rattle.vtl_base.specs.declared.faults.DevFault.{DevFault};
 
 use vtl_base::DevFault;
 
-/// What reads blocks where they lie.
+/// Reads blocks where they lie.
 pub trait ReadsBlocks {
     // This block lies at this place.
     ghost lies: { Self → List ℕ → ℕ → Type 0 };
 
-    // What lies somewhere is read there.
+    // It reads what lies at a place.
     ghost honest: { Self → Type 0 };
 
-    // The first one read, and is the second one now.
+    // The first reader reads, and is then the second.
     ghost reads: { Self → Self → Type 0 };
 
-    // A device below the first one failed, and it is the second one now.
+    // A device below the first reader fails, and it is then the second.
     ghost fails: { Self → DevFault → Self → Type 0 };
 
     /// Reads a block of that length from that place on.
@@ -25,19 +25,19 @@ pub trait ReadsBlocks {
             length there ≡ length block.old → OnOk result (block.new ≡ there) }
         ensures err { IfErr result (λ fault. fails self.old fault self.new) };
 
-    /// Nothing done reads nothing.
+    /// Where nothing is done, nothing is read.
     ghost reads_nothing: { (a : Self) → reads a a };
 
-    /// Two in a row read.
+    /// Two runs of reads, one after another, are one.
     ghost reads_on: { (a b c : Self) → reads a b → reads b c → reads a c };
 
-    /// One that fails after it read has failed.
+    /// A failure after reads is a failure.
     ghost fails_on: { (a b c : Self) (fault : DevFault) → reads a b → fails b fault c → fails a fault c };
 
-    /// Blocks lie where they lay.
+    /// Reads leave blocks where they lie.
     ghost lies_on: { (a b : Self) (block : List ℕ) (place : ℕ) → reads a b → lies a block place →
         lies b block place };
 
-    /// One that is honest stays so.
+    /// An honest reader stays honest.
     ghost honest_on: { (a b : Self) → reads a b → honest a → honest b };
 }

@@ -1,4 +1,4 @@
-//! Where a copy stands, and what comes next in it.
+//! The position in a copy, and the entry that comes next.
 ghost use Rattle.std.specs.Prelude.{◌≡◌, ◌≤◌, ◌<◌, ◌+◌, true, false, [], ◌∷◌, IfSome, IfNone, Some, length, slice_get};
 ghost use Rattle.vtl_base.specs.declared.limits.TheConstants.{MAX_OBJECTS, MAX_PARTITIONS};
 ghost use Rattle.record_index.specs.MarkRuns.{HasMarkAt};
@@ -10,14 +10,14 @@ use crate::entries::Entry;
 use record_index::{Index, Placed, Record};
 use vtl_base::{ObjNo, PartNo, Steps};
 
-/// Where a copy stands: an object of a partition, with which no run of filemarks goes on.
+/// The position in a copy: an object of a partition, at which no run of filemarks continues.
 #[derive(Clone, Copy, PartialEq, Eq, Debug)]
 pub struct Cursor {
     pub part: PartNo,
     pub at: ObjNo,
 }
 
-/// What comes next in a copy, and where it stands then.
+/// The next entry of a copy, and the position after it.
 #[derive(Clone, Copy, PartialEq, Eq, Debug)]
 pub struct Ahead {
     pub entry: Entry,
@@ -33,7 +33,7 @@ impl Cursor {
         Cursor { part: 0, at: 0 }
     }
 
-    /// What comes next in the copy of an index; None at its end.
+    /// The next entry in the copy of an index; None at its end.
     pub fn next(self, index: &Index) -> Option<Ahead>
         ensures some { IfSome result (λ ahead. entries_from index.now self.part self.at
             ≡ ahead.entry ∷ entries_from index.now ahead.behind.part ahead.behind.at) }
@@ -46,7 +46,7 @@ impl Cursor {
         }
     }
 
-    // The same place, behind the partitions that have no object more.
+    // The same position, after the partitions that have no more objects.
     fn settled(self, index: &Index) -> Self
         ensures same { entries_from index.now result.part result.at
             ≡ entries_from index.now self.part self.at }
@@ -63,7 +63,7 @@ impl Cursor {
         cursor
     }
 
-    // Whether there is such a partition, and it has no object more.
+    // Whether there is such a partition, and it has no more objects.
     fn is_at_end(self, index: &Index) -> bool
         ensures yes { result ≡ true → (self.part < length index.now)
             × (length index.now ≤ MAX_PARTITIONS)
@@ -74,13 +74,13 @@ impl Cursor {
         self.part < index.parts() && index.count(self.part) <= self.at
     }
 
-    // What comes next, where that object stands there.
+    // The next entry, for the object at the position.
     fn ahead(self, object: Placed, index: &Index) -> Ahead
         requires { slice_get (placed_objects index.now self.part) self.at ≡ Some object }
         ensures { entries_from index.now self.part self.at
             ≡ result.entry ∷ entries_from index.now result.behind.part result.behind.at }
     {
-        // Asked for the proof's sake: a partition has no more objects than it may.
+        // Called for the proof: a partition has no more objects than it may.
         let _ = index.count(self.part);
         match object {
             Placed::Block { place, length } => Ahead {
@@ -111,7 +111,7 @@ impl Cursor {
         }
     }
 
-    // So many objects further.
+    // The position `count` objects further.
     fn behind(self, count: u32) -> Self
         requires { self.at + count ≤ MAX_OBJECTS }
         ensures part { result.part ≡ self.part }
@@ -123,13 +123,13 @@ impl Cursor {
         }
     }
 
-    // How many filemarks stand from there on.
+    // How many filemarks there are from the position on.
     fn marks(self, index: &Index) -> u32
         requires { HasMarkAt (placed_objects index.now self.part) self.at }
         ensures runs { RunOfMarks (placed_objects index.now self.part) self.at result }
         ensures bound { self.at + result ≤ MAX_OBJECTS }
     {
-        // Asked for the proof's sake: a partition has no more objects than it may.
+        // Called for the proof: a partition has no more objects than it may.
         let _ = index.count(self.part);
         let mut steps = Steps::new();
         match index.run_upto(self.part, self.at + 1, &mut steps) {

@@ -2,7 +2,7 @@
 
 use record_index::Record;
 
-/// A record of a copy, and where its block lies; 0 where it has no block.
+/// A record of a copy, and the place of its block; 0 where it has no block.
 #[derive(Clone, Copy, PartialEq, Eq, Debug)]
 pub struct Entry {
     pub item: Record,

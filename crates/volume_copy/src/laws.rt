@@ -10,8 +10,8 @@ ghost use Rattle.volume_copy.specs.Copies.{Makes, NoRunIsCut, copy_of};
 ghost use Rattle.volume_copy.specs.CopyFacts.{capacities_of};
 ghost use Rattle.volume_copy.specs.Frames.{ArePackedInto, change_size, frames_of};
 
-/// The copy of a volume, carried out on a volume with no object, makes it again, and each change
-/// of it applies.
+/// The copy of a volume, carried out on a volume without objects, makes it again, and each of its changes
+/// applies.
 pub fn a_copy_makes_the_volume()
     ensures { (volume : List Part) → IsVolume volume →
         Makes (empty_volume (capacities_of volume)) (copy_of volume) volume }
@@ -27,8 +27,8 @@ pub fn a_copy_is_spelled()
     ensures { (volume : List Part) → IsVolume volume → All IsRecord (copy_of volume) }
 {}
 
-/// A copy is packed into frames, as many records into each as it takes: one after the other they are
-/// the copy, and the body of each has 1 to 4,194,304 bytes.
+/// A copy is packed into frames, as many records into each as fit. One after another they are the copy, and
+/// the body of each has 1 to 4,194,304 bytes.
 pub fn a_copy_is_packed()
     ensures packed { (volume : List Part) → IsVolume volume →
         ArePackedInto change_size (copy_of volume) (frames_of (copy_of volume)) }
@@ -40,13 +40,13 @@ pub fn a_copy_is_packed()
     ensures bound { FRAME_BODY ≡ 4194304 }
 {}
 
-/// Changes are packed into frames in one way.
+/// There is one packing of changes into frames.
 pub fn changes_are_packed_in_one_way()
     ensures { (changes : List Change) (frames : List (List Change)) →
         ArePackedInto change_size changes frames → frames ≡ frames_of changes }
 {}
 
-/// No byte of a block decides how many frames a copy has, and how long they are.
+/// The number and the length of a copy's frames do not depend on the bytes of blocks.
 pub fn a_copy_is_sized_by_its_shape()
     ensures { (volume other : List Part) → shape_of volume ≡ shape_of other →
         map (map record_of) (frames_of (copy_of volume))

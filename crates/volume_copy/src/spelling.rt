@@ -1,4 +1,4 @@
-//! The frames of a copy are spelled, one after the other. No memory is taken.
+//! Spelling the frames of a copy, one after another. It takes no memory.
 ghost use Rattle.std.specs.Prelude.{◌≡◌, ◌≢◌, ◌≤◌, ◌+◌, ◌-◌, [], ◌∷◌, ◌++◌, ℕ, List, IfErr, IfNone, IfOk, IfSome, OnOk, length, take, vec_capacity, vec_len};
 ghost use Rattle.record_index.specs.Records.{spell_head};
 ghost use Rattle.volume_copy.specs.declared.entries.Entry.{Entry};
@@ -22,8 +22,8 @@ const MARKS: u8 = 2;
 
 const ERASE: u8 = 3;
 
-/// Puts the body of the next frame of a copy behind what is in the buffer, and returns where the
-/// copy stands then. The blocks are read where the index has them.
+/// Appends the body of the next frame of a copy to the buffer, and returns the position after it. The blocks
+/// are read where the index has them.
 pub fn spell_frame<R: ReadsBlocks>(
     start: Cursor,
     index: &Index,
@@ -41,7 +41,7 @@ pub fn spell_frame<R: ReadsBlocks>(
         (entries_from index.now start.part start.at) body) }
     ensures err { IfErr result (λ fault. R.fails reader.old fault reader.new) }
 {
-    // Asked for the proof's sake: the index keeps the limits of a volume.
+    // Called for the proof: the index is within the limits of a volume.
     let _ = index.parts();
     let mut cursor = start;
     let mut bytes = 0;
@@ -53,7 +53,7 @@ pub fn spell_frame<R: ReadsBlocks>(
     Ok(cursor)
 }
 
-// What comes next in a copy, if it fits behind so many bytes of a frame.
+// The next entry of a copy, if it fits after these bytes of a frame.
 fn fitting(cursor: Cursor, index: &Index, bytes: usize) -> Option<Ahead>
     requires { bytes ≤ FRAME_BODY }
     ensures next { IfSome result (λ ahead. entries_from index.now cursor.part cursor.at
@@ -70,7 +70,7 @@ fn fitting(cursor: Cursor, index: &Index, bytes: usize) -> Option<Ahead>
     }
 }
 
-// Puts the record of an entry behind what is in the buffer.
+// Appends the record of an entry to the buffer.
 fn put_entry<R: ReadsBlocks>(
     entry: Entry,
     reader: &mut R,
@@ -90,7 +90,7 @@ fn put_entry<R: ReadsBlocks>(
     }
 }
 
-// Puts a block of so many bytes, which lies at that place, behind what is in the buffer.
+// Appends a block of this size, which lies at that place, to the buffer.
 fn put_block<R: ReadsBlocks>(
     place: u64,
     size: u32,
@@ -111,7 +111,7 @@ fn put_block<R: ReadsBlocks>(
     read_behind(place, from, reader, buffer)
 }
 
-// Reads a block, which lies at that place, over all that stands behind so many bytes.
+// Reads a block, which lies at that place, over all bytes after the first `from`.
 fn read_behind<R: ReadsBlocks>(
     place: u64,
     from: usize,
@@ -128,7 +128,7 @@ fn read_behind<R: ReadsBlocks>(
     reader.read(place, &mut bytes[from..])
 }
 
-// Puts bytes behind what is in the buffer.
+// Appends bytes to the buffer.
 fn put(buffer: &mut Vec<u8>, bytes: &[u8])
     requires { vec_len buffer.old + length bytes.now ≤ vec_capacity buffer.old }
     ensures items { buffer.new.items ≡ buffer.old.items ++ bytes.now }
@@ -140,7 +140,7 @@ fn put(buffer: &mut Vec<u8>, bytes: &[u8])
     };
 }
 
-// What a record begins with.
+// The head of a record.
 fn head_of(item: Record) -> [u8; HEAD_BYTES]
     ensures { result ≡ record_head item }
 {
@@ -151,7 +151,7 @@ fn head_of(item: Record) -> [u8; HEAD_BYTES]
     }
 }
 
-// A head of that kind.
+// The head of that kind.
 fn head(kind: u8, part: PartNo, at: ObjNo, number: u32) -> [u8; HEAD_BYTES]
     ensures { result ≡ spell_head kind part at number }
 {

@@ -1,4 +1,4 @@
-//! How large a copy is.
+//! The size of a copy.
 ghost use Rattle.std.specs.Prelude.{◌≡◌, ◌≤◌, ◌<◌, ◌+◌, ◌*◌, length, sum_by};
 ghost use Rattle.vtl_base.specs.declared.limits.TheConstants.{MAX_CAPACITY, MAX_OBJECTS, MAX_PARTITIONS};
 ghost use Rattle.volume_copy.specs.Entries.{entries_in, entry_size};
@@ -11,24 +11,24 @@ use record_index::Index;
 /// The longest body of a copy's frame.
 pub const FRAME_BODY: usize = 4_194_304;
 
-/// How large a copy is.
+/// The size of a copy.
 #[derive(Clone, Copy, PartialEq, Eq, Debug)]
 pub struct Totals {
-    /// How many frames it has, 64,000,000 at most.
+    /// How many frames it has, at most 64,000,000.
     pub frames: u32,
     /// The bytes of its frames' bodies.
     pub bytes: u64,
 }
 
 impl Totals {
-    /// How large the copy of an index is. No block is read.
+    /// The size of the copy of an index. No block is read.
     pub fn of(index: &Index) -> Self
         ensures frames { result.frames ≡ length (frames_by entry_size (entries_in index.now)) }
         ensures bytes { result.bytes ≡ sum_by entry_size (entries_in index.now) }
         ensures few { result.frames ≤ MAX_OBJECTS * MAX_PARTITIONS }
         ensures bound { result.bytes ≤ MAX_CAPACITY * MAX_PARTITIONS }
     {
-        // Asked for the proof's sake: the index keeps the limits of a volume.
+        // Called for the proof: the index is within the limits of a volume.
         let _ = index.parts();
         let mut packed = Packed::none();
         let mut cursor = Cursor::start();
@@ -43,7 +43,7 @@ impl Totals {
     }
 }
 
-// What was packed so far: how many frames, how many bytes, and how many of these in the last frame.
+// The totals so far: how many frames, how many bytes, and how many of these in the last frame.
 #[derive(Clone, Copy)]
 pub(crate) struct Packed {
     pub(crate) frames: u32,
@@ -52,7 +52,7 @@ pub(crate) struct Packed {
 }
 
 impl Packed {
-    // Nothing yet. What comes begins a frame.
+    // Nothing yet. The next record begins a frame.
     fn none() -> Self
         ensures frames { result.frames ≡ 0 }
         ensures bytes { result.bytes ≡ 0 }
@@ -65,7 +65,7 @@ impl Packed {
         }
     }
 
-    // A record of so many bytes more.
+    // The totals with one more record of this size.
     fn with(self, size: usize) -> Self
         requires frames { self.frames ≤ MAX_OBJECTS * MAX_PARTITIONS }
         requires bytes { self.bytes ≤ MAX_CAPACITY * MAX_PARTITIONS }

@@ -27,7 +27,7 @@ some_taken : (frame : List Entry) → 1 ≤ length frame → 1 ≤ sum_by entry_
 some_taken [] some = absurd (omega arith)
 some_taken (entry ∷ frame) some = omega (arith, sum_by-cons entry_size entry frame, some_bytes entry.item)
 
--- a frame's body may stand in a copy
+-- the body of a frame may be in a copy
 pub copy_body : (honest : Type 0) (lies : List ℕ → ℕ → Type 0) (frame rest items : List Entry) (body : List ℕ)
     → SpellsFrame honest lies frame rest items body → IsCopyBody body
 copy_body honest lies frame rest items body spells =
@@ -40,7 +40,7 @@ no_frames P [] (other ∷ others) match none = refl
 no_frames P (frame ∷ frames) [] match none = absurd match
 no_frames P (frame ∷ frames) (other ∷ others) match none = absurd (omega arith)
 
--- by what a source gives, and the disk that it reads
+-- for a source and the disk that it reads
 module _ {S : Type 0} (gives : S → List ℕ → S → Type 0) (disk : S → DiskState) (items : S → List Entry)
     (means : (a : S) (body : List ℕ) (b : S) → gives a body b → OnlyRead (disk a) (disk b)
     × GivesNext (disk a).honest (LiesOnDisk (disk a)) (items a) body (items b))
@@ -88,7 +88,7 @@ module _ {S : Type 0} (gives : S → List ℕ → S → Type 0) (disk : S → Di
           let none = ap (λ (l : List Entry). length (frames_by entry_size l)) ended.0 in
           absurd (omega (arith, count, none))
 
-  -- what was given is what the frames spell, if it is as many
+  -- the bodies that were given are what the frames spell, if they are as many
   pub all_given : (frames : List (List Change)) (bodies : List (List ℕ)) (a b : S) → (disk a).honest
       → AllFramesMatch (LiesOnDisk (disk a)) frames (frames_by entry_size (items a)) → GivesAll gives a bodies b
       → length bodies ≡ length (frames_by entry_size (items a)) → bodies ≡ map spell_all frames

@@ -1,4 +1,4 @@
--- A copy is written over two disks, while the other one is read.
+-- A copy is written with two disks, while one of them is read.
 use Rattle.std.proofs.Common.{◌≡◌, ◌+◌, ◌-◌, inl, inr, ℕ, zero, suc, List, ◌++◌, length, refl, sym, subst, ap, ◌∙◌, arith}
 use Rattle.std.specs.Prelude.{Err, IfErr, Ok, OnOk, Result, drop, take}
 use Rattle.std.proofs.lemmas.List.{drop-drop, length-drop}
@@ -28,7 +28,7 @@ use Rattle.volume_reclaim.specs.ReadFacts.{fault_on}
 use Rattle.volume_reclaim.specs.Reclaiming.{GivesCopy, KeepsBesideCopy, MayReclaim, copy_bodies, counting_disk, images_in_order, two_by}
 
 module _ {D : Type 0} (state : D → DiskState) where
-  -- the copy may be written beside what the side that counts reads
+  -- the copy may be written while the side that counts is read
   pub may_take : (which : Which) (counts spare : D) (header : Header) (copied : Copied) (parts : List PlacedPart)
       (head : Head) (bodies : List (List ℕ)) (volume : List Part)
       → MayReclaim state (two_by which counts spare) which header copied parts head bodies volume
@@ -51,11 +51,11 @@ module _ {D : Type 0} (state : D → DiskState) where
     sure = may.gives.first;
   }
 
--- what became of the disk of the side that counts, by what its source says
+-- the disk of the side that counts after the copy, as its source says
 module _ {S : Type 0} (gives : S → List ℕ → S → Type 0) (fails : S → DevFault → S → Type 0) (disk : S → DiskState)
     (reads : (bodies : List (List ℕ)) (a b : S) → GivesAll gives a bodies b → OnlyRead (disk a) (disk b))
     (ends : (a : S) (fault : DevFault) (b : S) → fails a fault b → ReadUntilFault (disk a) fault (disk b)) where
-  -- it keeps to what disks keep to, nothing was written on it, and faults are of one of the two (own)
+  -- it obeys the laws of disks, nothing was written on it, and faults are of one of the two (own)
   pub record Rests (r : Result Unit DevFault) (old new : S) (spare_old spare_new : DiskState) : Type 0 where
     pub keeps : Keeps (disk old) (disk new)
     pub unwritten : (disk old).honest → Unwritten (disk old) (disk new)
@@ -80,7 +80,7 @@ module _ {S : Type 0} (gives : S → List ℕ → S → Type 0) (fails : S → D
 
 -- each pair of images, by those of both sides
 module _ {D : Type 0} (state : D → DiskState) (laws : (disk : D) → (state disk).honest → IsDisk (state disk)) where
-  -- what is said of the spare beside what the side that counts reads is said of both
+  -- a fact of the spare, with the bytes of the side that counts, holds of both
   pub each_of_two : (which : Which) (counts spare : D) (seen : List ℕ) (P : List ℕ × List ℕ → Type 0)
       (Q : List ℕ → Type 0)
       → ((image : List ℕ) → (state counts).may_leave image → image ≡ seen)
@@ -155,26 +155,26 @@ takes_as First head volume copies counts image are takes =
 takes_as Second head volume copies counts image are takes =
     subst (λ (l : List (List ℕ)). TakesOver Second head l counts image) are takes
 
--- or for what it stood for
+-- or for the same as before
 pub stands_as : (which : Which) (head : Head) (bodies : List (List ℕ)) (counts image : List ℕ)
     → SidesStandFor which head bodies counts image → GivesSide which head bodies (images_in_order which counts image)
 stands_as First head bodies counts image stands = stands
 stands_as Second head bodies counts image stands = stands
 
--- an image that begins as an open side is one with all that lies behind its ten bytes
+-- an image that begins as an open side is one, with all bytes after its ten
 open_with : (image : List ℕ) (pair : ℕ) (rest : List ℕ) → image ≡ begun OPEN pair ++ rest
     → IsOpenSideOf (drop 10 image) image
 open_with image pair rest is =
     (pair, is ∙ ap (λ (l : List ℕ). begun OPEN pair ++ drop 10 l) (sym is))
 
--- the side that counts is such a one
+-- the side that counts is open
 counts_open : (which : Which) (head : Head) (bodies : List (List ℕ)) (one two : List ℕ)
     → GivesSide which head bodies (one, two)
     → IsOpenSideOf (drop 10 (counting which (one, two))) (counting which (one, two))
 counts_open First head bodies one two gives = open_with one gives.1.3.0 _ gives.1.3.1.image_is
 counts_open Second head bodies one two gives = open_with two gives.1.3.0 _ gives.1.3.2.image_is
 
--- what is known of both sides, whichever disk each is on
+-- the facts of both sides, whichever disk each is on
 module _ {D : Type 0} (state : D → DiskState) where
   pub honest_by : (which : Which) (counts spare : D) → AreHonest state (two_by which counts spare)
       → (state counts).honest × (state spare).honest
@@ -187,7 +187,7 @@ module _ {D : Type 0} (state : D → DiskState) where
   sure_by First counts spare head bodies gives = gives.first
   sure_by Second counts spare head bodies gives = gives.second
 
-  -- where the copy was written, the side that counted is as it was, beside the copy alone
+  -- where the copy was written, the side that counted is unchanged, and the other has the copy alone
   pub kept_beside : (which : Which) (counts counts_then spare spare_then : D) (head : Head) (bodies : List (List ℕ))
       (volume : List Part) (copies : List (List ℕ)) → GivesSurely state (two_by which counts spare) which head bodies
       → Unwritten (state counts) (state counts_then) → copies ≡ copy_bodies volume
@@ -213,7 +213,7 @@ module _ {D : Type 0} (state : D → DiskState) where
             subst (λ (l : List (List ℕ)). IsOpenSideOf (spell_copy head l) images.0) are (alone images.0 left.0);
       }
 
-  -- and so since the disks were made ready, which left it as it was behind its ten bytes
+  -- the same since the disks were made ready, which left it unchanged after its ten bytes
   pub kept_since : (which : Which) (head : Head) (bodies : List (List ℕ)) (volume : List Part)
       (old mid new : TwoDisks D) (r : Result Unit DevFault) → StillGives state old mid which head bodies
       → OnOk r (EachOfTwo state new (KeepsBesideCopy which head volume (seen_of_two state mid)))
@@ -232,7 +232,7 @@ module _ {D : Type 0} (state : D → DiskState) where
   lies_by First counts spare parts volume lies = lies
   lies_by Second counts spare parts volume lies = lies
 
--- a block lies where it lay, where the bytes behind the first ten are as they were
+-- a block stays where it lies, where the bytes after the first ten stay
 lies_behind : (old new block : List ℕ) (place : ℕ) → drop 10 new ≡ drop 10 old → LiesAtPlace old block place
     → LiesAtPlace new block place
 lies_behind old new block place same lies =
@@ -259,7 +259,7 @@ module _ {D : Type 0} (state : D → DiskState) where
       indexes_by (LiesOnDisk (state old)) (LiesOnDisk (state new)) volume parts
       (λ block place is then_honest. lies_behind (state old).seen (state new).seen block place same (is honest)) lies
 
-  -- what is promised of the disks holds of them once they are ready
+  -- the premise of the promises holds once the disks are ready
   pub may_still : (which : Which) (old new : TwoDisks D) (header : Header) (copied : Copied) (parts : List PlacedPart)
       (head : Head) (bodies : List (List ℕ)) (volume : List Part) → AreHonest state old
       → MayReclaim state old which header copied parts head bodies volume

@@ -1,4 +1,4 @@
--- Laws of reading: what is read in a row, and what stays as it was.
+-- Laws of reading: reads one after another, and what stays.
 use Rattle.std.specs.Prelude.{ℕ, List, refl}
 use Rattle.std.proofs.Common.{sym, subst, ◌∙◌, arith}
 use Rattle.vtl_base.specs.declared.faults.DevFault.{DevFault}
@@ -36,7 +36,7 @@ read_nothing disk law = record {
       };
 }
 
--- two reads in a row
+-- reads after reads
 pub read_on : (a b c : DiskState) → OnlyRead a b → OnlyRead b c → OnlyRead a c
 read_on a b c one other = record {
   keeps = keeps_on a b c one.keeps other.keeps;
@@ -44,7 +44,7 @@ read_on a b c one other = record {
   unwritten = λ h. unwritten_on a b c (one.unwritten h) (other.unwritten (one.keeps.stays_honest h));
 }
 
--- a fault behind reads
+-- a fault after reads
 pub fault_on : (a b c : DiskState) (fault : DevFault) → OnlyRead a b → ReadUntilFault b fault c
     → ReadUntilFault a fault c
 fault_on a b c fault one other = record {
@@ -53,7 +53,7 @@ fault_on a b c fault one other = record {
   unwritten = λ h. unwritten_on a b c (one.unwritten h) (other.unwritten (one.keeps.stays_honest h));
 }
 
--- a block lies where it lay
+-- a block stays where it lies
 pub lies_still : (a b : DiskState) (block : List ℕ) (place : ℕ) → OnlyRead a b → LiesOnDisk a block place
     → LiesOnDisk b block place
 lies_still a b block place read lies = λ h.

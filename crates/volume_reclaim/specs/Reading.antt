@@ -5,13 +5,13 @@ use Rattle.tape_disk.specs.Disk.{DiskState, Keeps}
 use Rattle.gate_journal.specs.Answers.{IsFault, NoneFailed}
 use Rattle.gate_journal.specs.Crash.{Unwritten}
 
--- the block lies at that place of the bytes, behind the ten that a side begins with (own)
+-- the block lies at that place of the bytes, after the first ten of a side (own)
 pub record LiesAtPlace (seen block : List ℕ) (place : ℕ) : Type 0 where
   pub behind : 10 < place
   pub inside : place + length block ≤ length seen
   pub there : slice_range seen place (place + length block) ≡ block
 
--- over an honest disk the block lies at that place of it (own)
+-- over an honest disk the block lies at that place (own)
 abbrev pub LiesOnDisk : DiskState → List ℕ → ℕ → Type 0
 LiesOnDisk disk block place = disk.honest → LiesAtPlace disk.seen block place
 

@@ -23,22 +23,22 @@ use Rattle.volume_reclaim.specs.Reading.{LiesOnDisk}
 abbrev pub copy_bodies : List Part → List (List ℕ)
 copy_bodies volume = map spell_all (frames_of (copy_of volume))
 
--- the disk of the side that counts, and that of the other side, by the two in their order (own)
+-- of two disks in order, the disk of the side that counts (own)
 abbrev pub counting_disk : {D : Type 0} → Which → TwoDisks D → D
 counting_disk First disks = disks.first
 counting_disk Second disks = disks.second
 
--- and the disk of the other side (own)
+-- of two disks in order, the disk of the other side (own)
 abbrev pub resting_disk : {D : Type 0} → Which → TwoDisks D → D
 resting_disk First disks = disks.second
 resting_disk Second disks = disks.first
 
--- two disks in their order, by that of the side that counts and that of the other side (own)
+-- two disks in order, from that of the side that counts and that of the other side (own)
 abbrev pub two_by : {D : Type 0} → Which → D → D → TwoDisks D
 two_by First counts spare = record { first = counts; second = spare }
 two_by Second counts spare = record { first = spare; second = counts }
 
--- a pair of images in their order, by that of the side that counts and that of the other side (own)
+-- a pair of images in order, from that of the side that counts and that of the other side (own)
 abbrev pub images_in_order : Which → List ℕ → List ℕ → Images
 images_in_order First counts spare = (counts, spare)
 images_in_order Second counts spare = (spare, counts)
@@ -47,14 +47,14 @@ images_in_order Second counts spare = (spare, counts)
 abbrev pub GivesCopy : Which → Head → List Part → Images → Type 0
 GivesCopy which head volume = GivesSide (other which) (copy_head head (copy_bodies volume)) (copy_bodies volume)
 
--- Both sides are open. The one that counted before has all that it had from place 10 on; the other one has the copy of
--- the volume there, and nothing behind it (own).
+-- Both sides are open. The one that counted before is unchanged from place 10 on; the other has the copy of the volume
+-- there, and nothing after it (own).
 pub record KeepsBesideCopy (which : Which) (head : Head) (volume : List Part) (before images : Images) : Type 0 where
   pub kept : IsOpenSideOf (drop 10 (counting which before)) (counting which images)
   pub written : IsOpenSideOf (spell_copy head (copy_bodies volume)) (resting which images)
 
--- What is promised of bytes: two disks surely give a head and frames, of which this index has the volume, and the copy
--- is to have their heading, an epoch more, and as many frames as the copy of the volume has (own).
+-- The premise of the promises about bytes. Two disks surely stand for a head and frames, and this index has their
+-- volume. The copy has their heading, the next epoch, and as many frames as the copy of the volume (own).
 pub record MayReclaim {D : Type 0} (state : D → DiskState) (disks : TwoDisks D) (which : Which) (header : Header)
     (copied : Copied) (parts : List PlacedPart) (head : Head) (bodies : List (List ℕ)) (volume : List Part) : Type 0
   where

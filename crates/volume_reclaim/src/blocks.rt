@@ -1,11 +1,11 @@
-//! Blocks are read from a disk.
+//! Reading blocks from a disk.
 ghost use Rattle.std.specs.Prelude.{◌≡◌, ℕ, List, length, OnOk, IfErr};
 
 use tape_disk::Disk;
 use volume_copy::ReadsBlocks;
 use vtl_base::DevFault;
 
-// A disk whose blocks are read.
+// A disk from which blocks are read.
 #[derive(Drop)]
 pub(crate) struct Blocks<D: Disk> {
     pub(crate) disk: D,

@@ -1,4 +1,4 @@
-//! A volume is copied from the side that counts to the other one, which counts from then on.
+//! Copying a volume from the side that counts to the other one, which counts from then on.
 #![tactic(auto)]
 
 mod blocks;

@@ -1,4 +1,4 @@
-//! A volume is copied to the side that does not count, which counts from then on.
+//! Copying a volume to the side that does not count, which counts from then on.
 ghost use Rattle.std.specs.Prelude.{◌≡◌, ◌⊎◌, ◌+◌, ◌≤◌, List, ℕ, OnOk, vec_capacity};
 ghost use Rattle.volume_core.specs.Volume.{Part};
 ghost use Rattle.tape_disk.specs.TwoDisks.{AreHonest, EachOfTwo, KeepsDisks, TwoLeave, seen_of_two};
@@ -27,10 +27,10 @@ pub struct Ended<D> {
     pub result: Result<(), DevFault>,
 }
 
-/// Copies the volume of an index from the side that counts to the other one, which counts from then
-/// on. At every moment, and after a fault of either disk, each pair of images stands for what it
-/// stood for, or for the copy. At Ok the side that counted before is as it was from place 10 on, and
-/// open, and nothing lies behind the copy. No memory is taken.
+/// Copies the volume of an index from the side that counts to the other one, which counts from then on. At
+/// every moment, and after a fault of either disk, each pair of images stands for the same as before, or for
+/// the copy. At Ok the side that counted before is unchanged from place 10 on, and open, and nothing follows
+/// the copy. It takes no memory.
 pub fn reclaim_volume<D: Disk>(
     which: Which,
     first: D,
@@ -138,7 +138,7 @@ fn copy_sides<D: Disk>(
         TwoLeave D.state (two_by which counts spare) (two_by which result.counts result.spare)
         (λ images. GivesSide which head bodies images ⊎ GivesCopy which head volume images) }
 {
-    // The clauses speak of the side that counts.
+    // Read for the proof: the clauses speak of the side that counts.
     let _ = which;
     let mut spare = spare;
     let mut buffer = buffer;

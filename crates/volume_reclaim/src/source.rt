@@ -1,4 +1,4 @@
-//! What gives the frames of a copy, one after the other.
+//! The source of a copy's frames, one after another.
 ghost use Rattle.std.specs.Prelude.{◌≡◌, ◌≤◌, ◌+◌, ℕ, List, length, OnOk, IfErr, vec_capacity, vec_len};
 
 use crate::blocks::Blocks;
@@ -8,7 +8,8 @@ use tape_disk::Disk;
 use volume_copy::{Cursor, spell_frame};
 use vtl_base::DevFault;
 
-// A copy on its way: the disk of the side that counts, where the objects lie on it, and how far it is.
+// A copy in progress: the disk of the side that counts, where the objects lie on it, and the position in the
+// copy.
 #[derive(Drop)]
 pub(crate) struct Source<D: Disk> {
     pub(crate) blocks: Blocks<D>,

@@ -60,7 +60,7 @@ wakes_from_awake : (honest : Type 0) (old new : MediumState) (awake : Bool) → 
 wakes_from_awake honest old new true awake answer = same_awake old new awake answer.1
 wakes_from_awake honest old new false awake answer = answer.0.awake
 
--- one that is woken is awake
+-- a woken medium is awake
 pub wakes_awake : (honest : Type 0) (old new : MediumState) → Wakes honest old (Ok tt) new → new.awake ≡ true
 wakes_awake honest old new answer = wakes_from_awake honest old new old.awake refl answer
 
@@ -73,7 +73,7 @@ failed_from_awake honest old new SideFull awake answer = absurd answer
 failed_from_awake honest old new Device awake answer = absurd answer
 failed_from_awake honest old new Unreadable awake answer = absurd answer
 
--- one that is awake stays so when it is woken, whatever is returned
+-- an awake medium stays awake when it is woken, whatever is returned
 pub stays_awake : (honest : Type 0) (old : MediumState) (result : Result Unit MediumError) (new : MediumState)
     → old.awake ≡ true → Wakes honest old result new → new.awake ≡ true
 stays_awake honest old (Ok done) new awake answer = wakes_awake honest old new answer

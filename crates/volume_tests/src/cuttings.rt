@@ -1,4 +1,4 @@
-//! A body that is read in pieces, however it is cut, against the whole of it.
+//! A body that is read in pieces, however it is cut, compared with the whole of it.
 ghost use Rattle.std.specs.Prelude.{◌≤◌, IfOk, length};
 
 mod bodies;
@@ -50,7 +50,7 @@ pub(crate) struct Answer {
     pub(crate) bad: Option<usize>,
 }
 
-// The reader passes over bytes of a block at the front of a piece: over how many.
+// The reader passes over bytes of a block at the start of a piece. Returns how many.
 fn passed(reader: &mut RecordReader, piece: &[u8], answer: &mut Answer) -> Result<usize, Fail>
     ensures { IfOk result (λ count. count ≤ length piece.now) }
 {
@@ -64,8 +64,8 @@ fn passed(reader: &mut RecordReader, piece: &[u8], answer: &mut Answer) -> Resul
     Ok(count)
 }
 
-// Gives a piece of a body of few bytes to the reader, which passes over those of a block or not. False is that it is
-// bad.
+// Gives a piece of a short body to the reader, which passes over the bytes of a block or not. False: the body
+// is bad.
 fn fed(
     reader: &mut RecordReader,
     piece: &[u8],
@@ -128,7 +128,7 @@ fn read_in_pieces(
     Ok(answer)
 }
 
-// The same of the whole bytes: of each change its record, and the place behind those before it.
+// The same for all bytes at once: of each change its record, and the place after those before it.
 fn read_whole(alloc: Global, bytes: &[u8]) -> Result<Answer, Fail> {
     let mut found = Vec::new(alloc);
     let (changes, bad) = match decode_changes(alloc, bytes) {
@@ -172,7 +172,7 @@ fn every_cutting_in_three(rt: HostRuntime) -> Result<(), Fail> {
     Ok(())
 }
 
-// Byte by byte, with each byte of the body set to 9: a kind that is none, a longer block, another number.
+// Byte by byte, with each byte of the body set to 9: an unknown kind, a longer block, another number.
 #[test]
 fn byte_by_byte(rt: HostRuntime) -> Result<(), Fail> {
     let alloc = rt.alloc();
@@ -211,14 +211,14 @@ fn cuttings_by_chance(rt: HostRuntime) -> Result<(), Fail> {
     Ok(())
 }
 
-// Whether a body is bad or not whole, once it was read in all ways.
+// Whether a body is bad or not whole, after it was read in all ways.
 fn is_bad(rt: &impl Abort, alloc: Global, bytes: &[u8], cuts: &[usize]) -> Result<bool, Fail> {
     are_alike(rt, alloc, bytes, cuts)?;
     Ok(read_plainly(alloc, bytes)?.bad.is_some())
 }
 
-// A body by chance has the records that it is made of. How many are bad or not whole: of this one without its last
-// bytes, and of five with one byte changed.
+// A random body has the records that it is made of. How many are bad or not whole: of this one without its
+// last bytes, and of five with one byte changed.
 fn bad_ones(rt: &impl Abort, alloc: Global, state: &mut u32) -> Result<u32, Fail> {
     let Body { bytes, found } = drawn_body(alloc, state)?;
     let cuts = drawn_cuts(alloc, state, bytes.len())?;

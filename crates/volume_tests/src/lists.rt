@@ -6,7 +6,7 @@ use std::test::Fail;
 use volume_core::{ApplyError, Kind, Refusal};
 use vtl_base::{ObjNo, PartNo};
 
-// What a record adds: a block of so many bytes, so many marks, or nothing.
+// What a record adds: a block of this size, this many marks, or nothing.
 #[derive(Clone, Copy, Debug)]
 enum Add {
     Block(u32),
@@ -22,11 +22,10 @@ fn record(part: PartNo, at: ObjNo, add: Add) -> Record {
     }
 }
 
-// A record by its partition, object number and what it adds, the place of its block, and why it is
-// refused.
+// A record by its partition, object number and what it adds, the place of its block, and why it is refused.
 type Row = (PartNo, ObjNo, Add, u64, Option<Refusal>);
 
-// Blocks and runs of marks; changes behind runs, inside them and at their borders; refusals.
+// Blocks and runs of marks; changes after runs, inside them and at their borders; refusals.
 static ROWS: &'static [Row] = &[
     (1, 0, Add::Block(5), 45, None),
     (1, 1, Add::Marks(3), 0, None),
@@ -65,7 +64,7 @@ fn follow(list: &mut Vec<Placed>, item: Record, place: u64) -> Result<(), Fail> 
     Ok(())
 }
 
-// The index has these objects, and each first part of them takes what their lengths say.
+// The index has these objects, and each first part of them takes what their lengths give.
 fn assert_same(rt: &impl Abort, index: &Index, list: &[Placed]) {
     assert_equal!(rt; index.count(1) as usize, list.len());
     assert_equal!(rt; index.place(1, index.count(1)), None);

@@ -1,4 +1,4 @@
-//! The calls of a medium, over any of them and over one in memory.
+//! The calls of a medium, over any medium and over one in memory.
 ghost use Rattle.std.specs.Prelude.{◌≡◌, OnOk, true};
 
 use crate::volumes::{Add, make_change};
@@ -9,29 +9,29 @@ use std::test::Fail;
 use volume_core::{Catalog, Kind, Medium, MediumError, PlainMedium, Refusal, Turn};
 use vtl_base::{Bytes, ObjNo};
 
-/// What a medium of one partition is asked. A block is of sevens.
+/// A call of a medium with one partition. A block is of sevens.
 #[derive(Clone, Copy, Debug)]
 pub enum Ask {
-    // As a change, behind so many objects.
+    // As a change, after this many objects.
     Accept(ObjNo, Add),
     // By the call of its own.
     Put(ObjNo, usize),
     Marks(ObjNo, u32),
     Erase(ObjNo),
-    // The block of a number, and how many bytes it is to have.
+    // The block with a number, and its expected length.
     Fetch(ObjNo, usize),
     Settle,
     Turn,
-    // To be parked, and woken where that is done.
+    // Parks the medium, and wakes it where that succeeds.
     Reopen,
     Wake,
-    // Whether a change with so many bytes of a block has room.
+    // Whether a change with a block of this size has room.
     Room(u32),
-    // Whether a change with so many bytes of a block is taken without the device.
+    // Whether a change with a block of this size is accepted without the device.
     Alone(u32),
 }
 
-/// How it answers.
+/// Its answer.
 #[derive(Clone, Copy, PartialEq, Eq, Debug)]
 pub enum Answer {
     Done,
@@ -135,10 +135,10 @@ fn answered<M: Medium>(
     }
 }
 
-/// What is asked, the answer, and then: changes pending, whether it has failed, objects.
+/// A call, the answer, and then: changes pending, whether it has failed, objects.
 pub type Row = (Ask, Answer, usize, bool, u32);
 
-/// A medium is asked one row after another, and answers so.
+/// The calls of these rows, one after another, have these answers.
 pub fn assert_rows<M: Medium>(
     rt: &impl Abort,
     alloc: Global,

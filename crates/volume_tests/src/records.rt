@@ -25,7 +25,7 @@ static ROWS: &'static [(&'static [u8], Result<usize, usize>)] = &[
         Ok(2),
     ),
     (b"\x03\xff\xff\xff\xff\xff\0\0\0\0", Ok(1)),
-    // Another kind, at the start and behind a record.
+    // Another kind, at the start and after a record.
     (b"\x04\0\0\0\0\0\0\0\0\x05hello", Err(0)),
     (b"\x02\0\0\0\0\x01\0\0\0\x01\0\0\0\0\0\0\0\0\0\x01", Err(10)),
     // No byte, no mark, a number in an erase.
@@ -35,7 +35,7 @@ static ROWS: &'static [(&'static [u8], Result<usize, usize>)] = &[
     // 16,000,000 marks, and one more.
     (b"\x02\0\0\0\0\0\0\xf4\x24\0", Ok(1)),
     (b"\x02\0\0\0\0\0\0\xf4\x24\x01", Err(0)),
-    // A block that is not whole, one that would be too long, and no whole head.
+    // A block that is not whole, one that would be too long, and a head that is not whole.
     (b"\x01\0\0\0\0\0\0\0\0\x05hell", Err(0)),
     (b"\x01\0\0\0\0\0\0\x10\0\x01hello", Err(0)),
     (b"\x03\0\0\0\0\0\0\0\0", Err(0)),
@@ -98,7 +98,7 @@ fn spelled_changes(rt: HostRuntime) -> Result<(), Fail> {
     Ok(())
 }
 
-// The record that bytes begin with, and how many bytes it has.
+// The record at the start of bytes, and its length.
 #[test]
 fn records_at_the_front(rt: HostRuntime) {
     let bytes = *b"\x01\x03\0\0\0\x02\0\0\0\x05helloworld";

@@ -1,4 +1,5 @@
-//! An index by its single calls: runs put behind the objects, room made for them, and cuts; runs of filemarks found.
+//! An index by its single calls: runs appended to the objects, room made for them, and cuts; runs of
+//! filemarks found.
 use assertions::assert_equal;
 use record_index::{Index, MarkRun, Placed, Record, Run};
 use std::alloc::Global;
@@ -52,7 +53,7 @@ fn runs_are_put_behind_and_cut(rt: HostRuntime) -> Result<(), Fail> {
     Ok(())
 }
 
-// Blocks of one byte and filemarks, by turns: so many of each, so many times.
+// Blocks of one byte and filemarks, by turns: this many of each, this many times.
 fn striped(alloc: Global, blocks: u32, marks: u32, times: u32) -> Result<Index, Fail> {
     let mut index = Index::new(alloc, &[4_096, 1_099_511_627_776])?;
     for _ in 0..times {
@@ -64,7 +65,7 @@ fn striped(alloc: Global, blocks: u32, marks: u32, times: u32) -> Result<Index, 
     Ok(index)
 }
 
-// A block behind the objects of the second partition.
+// A block after the objects of the second partition.
 fn put(index: &Index, length: u32) -> Record {
     Record::Put {
         part: 1,
@@ -73,7 +74,7 @@ fn put(index: &Index, length: u32) -> Record {
     }
 }
 
-// Filemarks behind them.
+// Filemarks after them.
 fn marked(index: &Index, count: u32) -> Record {
     Record::Marks {
         part: 1,
@@ -82,7 +83,7 @@ fn marked(index: &Index, count: u32) -> Record {
     }
 }
 
-// The run that begins before the object of a number, and the run with the filemark of a number.
+// The run that begins before an object number, and the run with the filemark of a number.
 static FOUND: &'static [(u32, Option<MarkRun>, Option<MarkRun>)] = &[
     (
         0,

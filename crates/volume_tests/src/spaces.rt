@@ -1,4 +1,5 @@
-//! SPACE over an index of 1,000,000 runs of filemarks, by rows worked by hand, with the steps of its searches counted.
+//! SPACE over an index of 1,000,000 runs of filemarks, with values worked by hand, and the steps of its
+//! searches counted.
 ghost use Rattle.std.specs.Prelude.{◌≡◌, true};
 
 mod stepping;
@@ -31,7 +32,7 @@ fn striped(alloc: Global) -> Result<Index, Fail> {
     Ok(index)
 }
 
-// A block behind the objects.
+// A block after the objects.
 fn put(index: &mut Index) -> Result<(), Fail> {
     let block = Record::Put {
         part: 0,
@@ -52,8 +53,8 @@ fn spaced<C: Catalog>(catalog: &C, obj: u32, code: SpaceCode, count: i32) -> Opt
     }
 }
 
-// An object, a code and a count, and where SPACE ends: the object, why, and what is left. The filemarks stand at the
-// odd numbers below 2,000,000, and blocks from there up to 3,000,000.
+// An object, a code and a count, and where SPACE ends: the object, why, and what is left. The filemarks are
+// at the odd numbers below 2,000,000, and blocks from there up to 3,000,000.
 static SPACES: &'static [(u32, SpaceCode, i32, u32, Stop, u32)] = &[
     (0, SpaceCode::Filemarks, 1_000_000, 2_000_000, Stop::Done, 0),
     (0, SpaceCode::Filemarks, 999_999, 1_999_998, Stop::Done, 0),
@@ -151,7 +152,7 @@ static SPACES: &'static [(u32, SpaceCode, i32, u32, Stop, u32)] = &[
     (1, SpaceCode::Blocks, -2, 0, Stop::AtStart, 1),
 ];
 
-// The run of one filemark that has the number k, from 0 on.
+// The run of one filemark with the number k, from 0 on.
 fn single(k: u32) -> Option<MarkRun> {
     Some(MarkRun {
         first: k.saturating_mul(2).saturating_add(1),
@@ -160,7 +161,7 @@ fn single(k: u32) -> Option<MarkRun> {
     })
 }
 
-// A number, and which run begins before the object of that number.
+// A number, and the run that begins before the object with that number.
 static UPTO: &'static [(u32, Option<u32>)] = &[
     (0, None),
     (1, None),
@@ -171,7 +172,7 @@ static UPTO: &'static [(u32, Option<u32>)] = &[
     (4_294_967_295, Some(999_999)),
 ];
 
-// A number, and which run has the filemark of that number.
+// A number, and the run with the filemark of that number.
 static WITH: &'static [(u32, Option<u32>)] = &[
     (0, Some(0)),
     (1, Some(1)),
@@ -181,7 +182,7 @@ static WITH: &'static [(u32, Option<u32>)] = &[
     (4_294_967_295, None),
 ];
 
-// The searches, each in 20 steps at most: 1,000,000 has 20 binary digits.
+// The searches, each in at most 20 steps: 1,000,000 has 20 binary digits.
 fn finds(rt: &impl Abort, index: &Index) {
     for (number, run) in UPTO {
         let mut steps = Steps::new();
@@ -195,7 +196,7 @@ fn finds(rt: &impl Abort, index: &Index) {
     }
 }
 
-// Each motion makes three searches at most, and looks at no object.
+// Each motion makes at most three searches, and looks at no object.
 fn spaces(rt: &impl Abort, index: &Index) {
     for &(obj, code, count, end, stop, left) in SPACES {
         let stepping = Stepping::new(index);

@@ -1,4 +1,4 @@
-//! A medium whose side has an end and whose device fails.
+//! A medium whose side is limited and whose device fails.
 use crate::media::{Answer, Ask, PAST_END, Row, assert_rows};
 use crate::volumes::Add;
 use std::alloc::Global;
@@ -12,7 +12,7 @@ const FAULT: Answer = Answer::Not(MediumError::Device);
 
 const FAILED: Answer = Answer::Not(MediumError::Failed);
 
-// A side of 50 bytes: a block of five bytes takes 20 of it, marks 15, an erasing 15.
+// A side of 50 bytes: a block of five bytes takes 20 of it, marks 15, an erase 15.
 const FILLING: &'static [Row] = &[
     (Ask::Put(0, 5), Answer::Done, 1, false, 1),
     (Ask::Marks(1, 2), Answer::Done, 2, false, 3),
@@ -31,7 +31,7 @@ const FILLING: &'static [Row] = &[
     (Ask::Fetch(0, 5), Answer::Done, 0, false, 2),
 ];
 
-// The second storing fails: when it is asked for, in a turn, and in parking.
+// The second storing fails: when it is requested, in a turn, and in parking.
 const SETTLE_FAILS: &'static [Row] = &[
     (Ask::Put(0, 5), Answer::Done, 1, false, 1),
     (Ask::Settle, Answer::Done, 0, false, 1),
@@ -75,7 +75,7 @@ const BOTH_FAIL: &'static [Row] = &[
     (Ask::Settle, FAULT, 1, true, 2),
 ];
 
-// It is parked and woken then, and works again: without what was pending, or with it.
+// It is then parked and woken, and works again: without what was pending, or with it.
 const WITHOUT: &'static [Row] = &[
     (Ask::Reopen, Answer::Done, 0, false, 1),
     (Ask::Put(1, 3), Answer::Done, 1, false, 2),
@@ -88,7 +88,7 @@ const WITH: &'static [Row] = &[
     (Ask::Reopen, Answer::Done, 0, false, 3),
 ];
 
-// The second reading fails. What is pending then is given up, since it was not under way.
+// The second reading fails. What is pending is then discarded, since it was not in flight.
 const FETCH_FAILS: &'static [Row] = &[
     (Ask::Put(0, 5), Answer::Done, 1, false, 1),
     (Ask::Settle, Answer::Done, 0, false, 1),
@@ -137,7 +137,7 @@ const BOTH: FaultPlan = FaultPlan {
     ..FOUND
 };
 
-// Blocks of fewer than six bytes are taken without the device, and so are marks.
+// Blocks of fewer than six bytes are accepted without the device, and so are marks.
 const FEW_BYTES: &'static [Row] = &[
     (Ask::Alone(0), Answer::Has(true), 0, false, 0),
     (Ask::Alone(5), Answer::Has(true), 0, false, 0),
@@ -152,7 +152,7 @@ fn changes_of_few_bytes_are_taken_alone(rt: HostRuntime) -> Result<(), Fail> {
     assert_rows(&rt, alloc, &mut medium, FEW_BYTES)
 }
 
-// Which calls fail, the room of the side, what is asked, and what is asked then.
+// Which calls fail, the room of the side, the calls, and the calls afterwards.
 static RUNS: &'static [(FaultPlan, u64, &'static [Row], &'static [Row])] = &[
     (NO_FAULT, 50, FILLING, &[]),
     (NO_FRAME, 1_000, SETTLE_FAILS, WITHOUT),

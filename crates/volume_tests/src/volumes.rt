@@ -10,7 +10,7 @@ use vtl_base::{Bytes, ObjNo, PartNo};
 
 const TEBIBYTE: u64 = 1_099_511_627_776;
 
-/// What a change is to do: a block of so many bytes, so many marks, or nothing.
+/// What a change adds: a block of this size, this many marks, or nothing.
 #[derive(Clone, Copy, Debug)]
 pub enum Add {
     Block(usize),
@@ -31,8 +31,8 @@ pub fn make_change(alloc: Global, part: PartNo, at: ObjNo, add: Add) -> Result<C
     })
 }
 
-// A change by its partition, object number and what it adds; why it is refused; and how many objects
-// the partition has then, what they take, and whether it is in its early zone.
+// A change by its partition, object number and what it adds; why it is refused; and how many objects the
+// partition has then, what they take, and whether it is in its early zone.
 type Row = (PartNo, ObjNo, Add, Option<Refusal>, u32, u64, bool);
 
 // The change of a row is applied, or refused for its cause.
@@ -50,7 +50,7 @@ fn is_applied(rt: &impl Abort, volume: &mut Volume, change: Change, row: &Row) {
     assert_equal!(rt; applied, wanted; (add, at));
 }
 
-// What a volume has behind the change of a row.
+// The volume after the change of a row.
 fn is_left(rt: &impl Abort, volume: &Volume, row: &Row) {
     let (part, at, add, _, count, used, early) = *row;
     assert_equal!(rt; volume.count(part), count; (add, at));
@@ -201,7 +201,7 @@ static IN_THE_MIDDLE: &'static [Row] = &[
     (2, 1, Add::Nothing, None, 1, 26, false),
 ];
 
-// The kinds of objects of partition 2 behind the run of marks.
+// The kinds of objects of partition 2 after the run of marks.
 static KINDS: &'static [(ObjNo, Option<Kind>)] = &[
     (0, Some(Kind::Block)),
     (1, Some(Kind::Mark)),
@@ -218,7 +218,7 @@ static PARTS: &'static [(PartNo, u64, u32)] = &[
     (4, 0, 0),
 ];
 
-// Behind a run of marks.
+// After a run of marks.
 fn are_kinds(rt: &impl Abort, volume: &Volume) {
     assert_equal!(rt; volume.block_at(2, 1), None);
     assert_equal!(rt; volume.used(2, 1), 26);
@@ -251,7 +251,7 @@ fn a_write_in_the_middle_drops_what_is_behind(rt: HostRuntime) -> Result<(), Fai
     is_cut(&rt, rt.alloc(), &mut volume)
 }
 
-// The capacities of partitions, and whether they are taken.
+// The capacities of partitions, and whether they are accepted.
 static CAPACITIES: &'static [(&'static [u64], bool)] = &[
     (&[], false),
     (&[4_095], false),

@@ -2,22 +2,22 @@
 use Rattle.std.specs.Prelude.{◌≡◌, ◌<◌, ◌↔◌, ◌++◌, ℕ, Bool, true, false, List, [], refl}
 use Rattle.std.proofs.Common.{subst}
 
--- What a contract sees below an M that takes Cs, as a medium takes changes: how often the device has failed; whether
--- it keeps to what a disk promises; whether it is at hand, so that calls of it may be made (always so but where it
--- stands behind a lock of its own); and by accepting just which Cs, in order, one value became another (own).
+-- What a contract sees below an M that accepts Cs, as a medium accepts changes: how often the device has failed;
+-- whether it keeps the promises of a disk; whether it is at hand, so that it may be called (always, unless it is behind
+-- a lock of its own); and which Cs, in order, were accepted from one value to another (own).
 pub record Below (M C : Type 0) : Type 1 where
   pub failures : M → ℕ
   pub honest : M → Type 0
   pub at_hand : M → Type 0
   pub moves : M → List C → M → Type 0
 
--- the count of failures rose where the device failed in a call, and else it stayed (own)
+-- the count of failures rose where the device failed in a call; else it stayed (own)
 abbrev pub Counts : Bool → ℕ → ℕ → Type 0
 Counts true before now = before < now
 Counts false before now = now ≡ before
 
--- What holds of a call, whatever it answers: just these were accepted, in order; the count of failures rose where the
--- device failed in it, and else stayed; honesty is as it was, and it is at hand if it was (own).
+-- What holds after every result of a call: exactly these were accepted, in order; the count of failures rose where the
+-- device failed in it, and else stayed; honesty stays, and it is at hand if it was (own).
 pub record Advances {M C : Type 0} (below : Below M C) (old : M) (made : List C) (fault : Bool) (new : M) : Type 0 where
   pub moved : below.moves old made new
   pub counted : Counts fault (below.failures old) (below.failures new)
@@ -25,7 +25,7 @@ pub record Advances {M C : Type 0} (below : Below M C) (old : M) (made : List C)
   pub hand : below.at_hand old ↔ below.at_hand new
 
 module _ {M C : Type 0} (below : Below M C) where
-  -- nothing done is the empty list, and no fault
+  -- where nothing is done, nothing is accepted and no fault is met
   pub advances_nowhere :
       ((value : M) → below.moves value [] value) → (value : M) → Advances below value [] false value
   advances_nowhere nowhere value =
@@ -36,7 +36,7 @@ module _ {M C : Type 0} (below : Below M C) where
         hand = (λ hand. hand, λ hand. hand);
       }
 
-  -- two calls in a row, the first without a fault, append what they accepted
+  -- two calls, one after another, the first without a fault, accept the items of both
   pub advances_on :
       ((a b c : M) (first second : List C) → below.moves a first b → below.moves b second c
       → below.moves a (first ++ second) c)

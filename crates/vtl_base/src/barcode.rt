@@ -12,8 +12,7 @@ use thiserror::Error;
 #[error("a barcode has 1 to 16 of A to Z and 0 to 9")]
 pub struct BadBarcode;
 
-/// The name of a cartridge: 1 to 16 bytes of `A` to `Z` and `0` to `9` (own). To a contract it is
-/// these bytes.
+/// The name of a cartridge: 1 to 16 bytes of `A` to `Z` and `0` to `9` (own). A contract sees these bytes.
 #[derive(Clone, Debug, Drop)]
 pub struct Barcode {
     symbols: [u8; MAX_BARCODE],
@@ -44,7 +43,7 @@ fn are_symbols(bytes: &[u8]) -> bool
     bytes.iter().all(|&byte| is_symbol(byte))
 }
 
-// The bytes, and spaces behind them.
+// The bytes, filled up with spaces.
 fn padded(bytes: &[u8]) -> [u8; MAX_BARCODE]
     requires { length bytes.now ≤ MAX_BARCODE }
     ensures { take (length bytes.now) result ≡ bytes.now }
@@ -55,7 +54,7 @@ fn padded(bytes: &[u8]) -> [u8; MAX_BARCODE]
 }
 
 impl Barcode {
-    /// The barcode of these bytes, where they are one.
+    /// The barcode with these bytes, if they are valid.
     pub fn parse(bytes: &[u8]) -> Result<Self, BadBarcode>
         ensures valid { IsOk result ↔ IsBarcode bytes.now }
         ensures value { IfOk result (λ barcode. barcode ≡ bytes.now) }

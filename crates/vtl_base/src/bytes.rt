@@ -8,12 +8,11 @@ use std::alloc::Global;
 use std::marker::Model;
 use std::mem;
 
-/// So many bytes stand in the value itself, and take no memory: a command block of any known length, sense data, the
-/// list of PERSISTENT RESERVE OUT, what READ POSITION gives (own).
+/// Up to this many bytes are stored in the value itself, and take no memory: a command block of any known
+/// length, sense data, the list of PERSISTENT RESERVE OUT, the data of READ POSITION (own).
 pub const INLINE_BYTES: usize = 24;
 
-/// Bytes, as a block, a command block or data. To a contract they are a list, with no word of how
-/// they are kept.
+/// Bytes, as a block, a command block or data. A contract sees them as a list, whatever their form in memory.
 #[derive(Drop)]
 pub struct Bytes {
     buffer: SmallVec<u8, INLINE_BYTES>,
@@ -46,7 +45,7 @@ impl Bytes {
         }
     }
 
-    /// A copy of these bytes. One of 24 bytes at most takes no memory.
+    /// A copy of these bytes. A copy of at most 24 bytes takes no memory.
     pub fn from_slice(alloc: Global, bytes: &[u8]) -> Result<Self, NoMemory>
         ensures copy { IfOk result (λ b. b ≡ bytes.now) }
         ensures few { length bytes.now ≤ INLINE_BYTES → IsOk result }
@@ -57,7 +56,7 @@ impl Bytes {
         }
     }
 
-    /// The bytes, to be read.
+    /// The bytes, for reading.
     pub fn as_slice(&self) -> &[u8]
         ensures { result.now ≡ self.now }
     {
@@ -79,14 +78,14 @@ impl Bytes {
         self.buffer.is_empty()
     }
 
-    /// Keeps the first so many bytes, and all where there are fewer.
+    /// Cuts the bytes after the first `count`; all stay where there are fewer.
     pub fn truncate(&mut self, count: usize)
         ensures { self.new ≡ take count self.old }
     {
         self.buffer.truncate(count);
     }
 
-    /// Takes the bytes out: none are left. It takes no memory, and copies 24 bytes at most.
+    /// Takes the bytes out: none are left. It takes no memory, and copies at most 24 bytes.
     pub fn take(&mut self) -> Self
         ensures taken { result ≡ self.old }
         ensures left { self.new ≡ [] }

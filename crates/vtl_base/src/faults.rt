@@ -17,7 +17,6 @@ impl From<AllocError> for NoMemory {
 #[derive(Clone, Copy, PartialEq, Eq, Debug, Error)]
 #[error("device fault {failures}")]
 pub struct DevFault {
-    /// How often the device has failed so far, this time included. The number is held at its
-    /// greatest value.
+    /// How often the device has failed so far, with this failure. The number stops at 2^64 - 1.
     pub failures: u64,
 }

@@ -1,4 +1,4 @@
-//! What holds of the limits: a law, which no code calls.
+//! A law of the limits, which no code calls.
 ghost use Rattle.vtl_base.specs.Limits.{LimitsInNumbers};
 
 /// Each limit of the library is the number that its definition writes out.

@@ -1,4 +1,4 @@
-//! The limits of the library (own, but where a standard is named).
+//! The limits of the library (own, except where a standard is named).
 
 /// The partitions that a cartridge has at most. It has at least one.
 pub const MAX_PARTITIONS: u8 = 4;
@@ -19,7 +19,7 @@ pub const OBJECT_COST: u64 = 16;
 /// The objects that a partition has at most.
 pub const MAX_OBJECTS: u32 = 16_000_000;
 
-/// The bytes of the longest side file, its last closed gate included.
+/// The bytes of the longest side file, with its last closed gate.
 pub const MAX_SIDE: u64 = 1_099_511_627_776;
 
 /// The bytes of the longest frame body. The shortest has one.
@@ -40,7 +40,7 @@ pub const SLOTS: u16 = 256;
 /// The element address of the first slot. Drives have the addresses from 1 on.
 pub const FIRST_SLOT: u16 = 1_001;
 
-/// The nexuses, which is to say hosts, of a drive.
+/// The nexuses of a drive, that is its hosts.
 pub const NEXUSES: u8 = 64;
 
 /// The bytes of a barcode at most. It has at least one.

@@ -5,12 +5,11 @@ ghost use Rattle.vtl_base.specs.declared.limits.TheConstants.{NEXUSES, DRIVES, S
 use crate::limits::{DRIVES, FIRST_SLOT, NEXUSES, SLOTS};
 use std::marker::Model;
 
-/// A partition's number, from 0 on (SSC-4). Any `u8` is one, whether a tape has such a partition or
-/// not.
+/// A partition's number, from 0 on (SSC-4). Any `u8` is one, whether a tape has such a partition or not.
 pub type PartNo = u8;
 
-/// An object's number in its partition, from 0 on (SSC-4). Any `u32` is one, whether there is such
-/// an object or not.
+/// An object's number in its partition, from 0 on (SSC-4). Any `u32` is one, whether there is such an object
+/// or not.
 pub type ObjNo = u32;
 
 /// The number of a host at every drive, its nexus, from 1 to 64 (own; SAM-5 has the word).
@@ -33,7 +32,7 @@ impl Model for Nexus {
 }
 
 impl Nexus {
-    /// The nexus of this number, where there is one.
+    /// The nexus with this number, if there is one.
     pub fn new(number: u8) -> Option<Self>
         ensures valid { IsSome result ↔ ((1 ≤ number) × (number ≤ NEXUSES)) }
         ensures value { IfSome result (λ nexus. nexus ≡ number) }
@@ -83,7 +82,7 @@ impl Model for DriveNo {
 }
 
 impl DriveNo {
-    /// The drive of this number, where there is one.
+    /// The drive with this number, if there is one.
     pub fn new(number: u8) -> Option<Self>
         ensures valid { IsSome result ↔ ((1 ≤ number) × (number ≤ DRIVES)) }
         ensures value { IfSome result (λ drive. drive ≡ number) }
@@ -132,7 +131,7 @@ impl Model for SlotNo {
 }
 
 impl SlotNo {
-    /// The slot of this element address, where it is a slot's.
+    /// The slot with this element address, if there is one.
     pub fn new(address: u32) -> Option<Self>
         ensures valid { IsSome result ↔ ((FIRST_SLOT ≤ address) × (address - FIRST_SLOT < SLOTS)) }
         ensures value { IfSome result (λ slot. slot ≡ address) }

@@ -4,7 +4,7 @@ ghost use Rattle.vtl_base.specs.Steps.{ticked};
 
 use std::marker::Model;
 
-/// How many steps were taken. The number is held at its greatest value. To a contract it is the number.
+/// How many steps were taken. The number stops at 2^64 - 1. A contract sees the number.
 #[derive(Drop)]
 pub struct Steps {
     count: u64,

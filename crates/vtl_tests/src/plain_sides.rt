@@ -1,4 +1,4 @@
-//! The lines of a cartridge's side by a plain program: it reads the bytes as the layout has them.
+//! The lines of a cartridge's side by a plain program, which reads the bytes by the layout.
 use std::alloc::{AllocError, Global};
 
 const GATE: u64 = 0xa5;
@@ -10,7 +10,7 @@ struct Partition {
     costs: Vec<u64>,
 }
 
-// What a record puts behind the first objects of a partition, and where it ends.
+// What a record adds after the first objects of a partition, and where the record ends.
 #[derive(Clone, Copy)]
 struct PlainRecord {
     partition: u64,
@@ -24,7 +24,7 @@ fn part(bytes: &[u8], at: usize, count: usize) -> Option<&[u8]> {
     bytes.get(at..at.checked_add(count)?)
 }
 
-// The number that so many bytes from a place on spell.
+// The number of `width` bytes from a place on.
 fn number(bytes: &[u8], at: usize, width: usize) -> Option<u64> {
     let mut number = 0_u64;
     for byte in part(bytes, at, width)? {
@@ -33,7 +33,7 @@ fn number(bytes: &[u8], at: usize, width: usize) -> Option<u64> {
     Some(number)
 }
 
-// Whether a name is a barcode with spaces behind it.
+// Whether a name is a barcode filled up with spaces.
 fn is_name(name: &[u8]) -> bool {
     let count = name
         .iter()
@@ -42,7 +42,7 @@ fn is_name(name: &[u8]) -> bool {
     count > 0 && name.iter().skip(count).all(|byte| *byte == b' ')
 }
 
-// The empty partitions of a cartridge whose header the bytes begin with.
+// The empty partitions of a cartridge whose header begins the bytes.
 fn header(alloc: Global, bytes: &[u8]) -> Result<Option<Vec<Partition>>, AllocError> {
     let Some(name) = part(bytes, 11, 16) else {
         return Ok(None);
@@ -71,7 +71,7 @@ fn header(alloc: Global, bytes: &[u8]) -> Result<Option<Vec<Partition>>, AllocEr
     Ok(Some(partitions))
 }
 
-// The end of the body whose frame has its gate there, where the frame is whole and a byte follows.
+// The end of the body of the frame with this gate, where the frame is whole and a byte follows.
 fn frame_end(bytes: &[u8], gate: usize) -> Option<usize> {
     let length = number(bytes, gate.checked_add(1)?, 4)?;
     if length == 0 || length > 8_388_608 {

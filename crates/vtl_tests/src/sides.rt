@@ -9,26 +9,25 @@ use vtl_base::Bytes;
 use vtl_program::checking::{Checked, check_side};
 use vtl_program::programs::VtlFault;
 
-// A cartridge `T00001L6` of one partition of 4,096 bytes, with two frames, whose gates stand at 35,
-// 55 and 70: a block `hello`, and a filemark behind it.
+// A cartridge `T00001L6` of one partition of 4,096 bytes, with two frames, whose gates are at 35, 55 and 70:
+// a block `hello`, and a filemark after it.
 const SIDE: &'static [u8; 71] = b"\xa5VTLCART1\0\x01T00001L6        \0\0\0\0\0\0\x10\0\
     \xa5\0\0\0\x0f\x01\0\0\0\0\0\0\0\0\x05hello\
     \xa5\0\0\0\x0a\x02\0\0\0\0\x01\0\0\0\x01\
     \0";
 
-// How often the first disk is called until its two frames are opened: a sync and a read of up to 71 bytes, by which it
-// is found which side counts; then a sync, two reads of the front, one read at each of three gates, and one of each
-// body.
+// How often the first disk is called until its two frames are opened: a sync and a read of up to 71 bytes,
+// which show which side counts; then a sync, two reads of the front, one read at each of three gates, and one
+// of each body.
 const CALLS: u64 = 2 + 1 + 2 + 3 + 2;
 
-// The same of a store with two frames: by a sync and a read it is found that no side counts. Then it is opened as a
-// store: a sync, two reads of the front (the second one of no byte), three gates, two bodies.
+// The same for a store with two frames: a sync and a read show that no side counts. Then it is opened as a
+// store: a sync, two reads of the front (the second of no byte), three gates, two bodies.
 const STORE_CALLS: u64 = 2 + 1 + 2 + 3 + 2;
 
 const WHOLE: &str = "cartridge T00001L6 partitions 1 frames 2\npartition 0 objects 2 used 37\n";
 
-// A store `DRIVE1` with two frames, whose gates stand at 27, 45 and 63: host 1 is registered, and has
-// reserved.
+// A store `DRIVE1` with two frames, whose gates are at 27, 45 and 63: host 1 is registered, and has reserved.
 const STORE: &'static [u8; 64] = b"\xa5VTLRESV1\0\0DRIVE1          \
     \xa5\0\0\0\x0d\x01\0\0\x01\x01\0\0\0\0\0\0\0\xa1\
     \xa5\0\0\0\x0d\x01\x05\x01\x01\x01\0\0\0\0\0\0\0\xa1\
@@ -36,7 +35,7 @@ const STORE: &'static [u8; 64] = b"\xa5VTLRESV1\0\0DRIVE1          \
 
 const STORED: &str = "reservations DRIVE1 frames 2 registrations 1\n";
 
-// The lines of the side with these bytes, which stay as they are.
+// The lines of the side with these bytes, which stay unchanged.
 fn told(rt: &impl Abort, alloc: Global, bytes: &[u8]) -> Result<Bytes, Fail> {
     let disk = MemDisk::from_bytes(alloc, bytes)?;
     let Checked {
@@ -74,7 +73,7 @@ fn each_byte_with_each_value(rt: HostRuntime) -> Result<(), Fail> {
     Ok(())
 }
 
-// The lines come just where the disk stands so many calls.
+// The lines are written exactly where the disk lets this many calls pass.
 fn assert_fails_before(
     rt: &impl Abort,
     lines: Result<Bytes, VtlFault>,

@@ -1,10 +1,10 @@
-//! What a cartridge's entry may have. What is expected was worked out by hand.
+//! What a cartridge's entry may have. The expected values were worked out by hand.
 use crate::configs::{broken, refusal};
 use assertions::assert_equal;
 use std::alloc::Global;
 use vtl_config::{ConfigError, Key, Place, Rule};
 
-/// A cartridge of these values, behind drive 1 and a cartridge at slot 1001.
+/// A cartridge with these values, after drive 1 and a cartridge at slot 1001.
 pub fn second_cartridge(alloc: Global, values: &str) -> Option<ConfigError> {
     let document = format!(in alloc;
         r#"

@@ -1,4 +1,4 @@
-//! Configurations that are taken, and each refusal once. What is expected was worked out by hand.
+//! Configurations that are accepted, and each refusal once. The expected values were worked out by hand.
 use assertions::assert_equal;
 use std::alloc::Global;
 use std::process::Abort;
@@ -45,7 +45,7 @@ pub fn refusal(alloc: Global, text: &str) -> Option<ConfigError> {
     read_config(alloc, text.as_bytes()).err()
 }
 
-/// The refusal of a rule that is broken at this place.
+/// The refusal for a rule that is broken at this place.
 pub fn broken(place: Place, rule: Rule) -> Option<ConfigError> {
     Some(ConfigError::Refused { place, rule })
 }

@@ -1,11 +1,11 @@
-//! The files of a library: each cartridge has a second one. What is expected was worked out by hand.
+//! The files of a library: each cartridge has a second one. The expected values were worked out by hand.
 use crate::configs::{broken, refusal};
 use assertions::assert_equal;
 use std::alloc::Global;
 use std::test::Fail;
 use vtl_config::{ConfigError, Key, Place, Rule, read_config, second_file};
 
-// Why a library is refused of a drive with this file, and of two cartridges with these files.
+// Why a library with a drive with this file, and two cartridges with these files, is refused.
 fn refused(alloc: Global, store: &str, one: &str, two: &str) -> Option<ConfigError> {
     let document = format!(in alloc;
         r#"

@@ -1,4 +1,4 @@
-//! Which rule is reported where several are broken. What is expected was worked out by hand.
+//! Which rule is reported where several are broken. The expected values were worked out by hand.
 use crate::cartridges::second_cartridge;
 use crate::configs::{broken, refusal};
 use assertions::assert_equal;
@@ -37,7 +37,7 @@ fn the_top_comes_first_and_drives_before_cartridges(rt: HostRuntime) {
     }
 }
 
-// A drive of these values, behind drive 1 with the file `r`.
+// A drive with these values, after drive 1 with the file `r`.
 fn second_drive(alloc: Global, values: &str) -> Option<ConfigError> {
     let document = format!(in alloc;
         "drive = [{{ number = 1, reservations = \"r\" }}, {{ {values} }}]"
@@ -122,7 +122,7 @@ static OF_A_CARTRIDGE: &'static [(&'static str, Rule)] = &[
     ),
 ];
 
-// A cartridge of these values, behind drive 1 and a cartridge at slot 1001.
+// A cartridge with these values, after drive 1 and a cartridge at slot 1001.
 fn cartridge(alloc: Global, values: &str) -> Option<ConfigError> {
     match format!(in alloc; "{{ {values} }}") {
         Ok(entry) => second_cartridge(alloc, entry.as_str()),

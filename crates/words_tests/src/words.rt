@@ -1,11 +1,11 @@
-//! Words that are taken or refused. What is expected was worked out by hand.
+//! Words that are accepted or refused. The expected values were worked out by hand.
 use assertions::{assert_equal, assert_holds};
 use std::alloc::{AllocError, Global};
 use std::process::Abort;
 use std::test::Fail;
 use vtl_words::{Order, WordsError, read_words};
 
-// The order of a line, whose words are parted by single spaces. The first is the program's name.
+// The order of a line, whose words are separated by single spaces. The first is the program's name.
 fn asked(alloc: Global, line: &str) -> Result<Order, WordsError> {
     let mut words = Vec::new(alloc);
     for word in line.split(' ') {

@@ -1,4 +1,4 @@
--- What opening a side finds, step by step.
+-- The steps of opening a side.
 use Rattle.std.specs.Prelude.{◌≡◌, ℕ, List, length, None}
 use Rattle.std.specs.List.{All}
 use Rattle.gate_journal.specs.declared.header.SideKind.TheVariants.{Store}
@@ -12,8 +12,8 @@ use Rattle.aptpl_store.specs.Spelling.{IsSavable, SpellsState}
 abbrev pub IsNoState : List ℕ → Type 0
 IsNoState body = (state : PrState) → SpellsState state body → ⊥
 
--- What is noted is what just these bodies spell, as many as these extents, of a store's side: states that can be
--- spelled, none under way, the last of which is this (own).
+-- The noted states are those that exactly these bodies of a store's side spell, one for each of these extents. They can
+-- be spelled, no save is in doubt, and this is the last state (own).
 pub record HasRead (notes : NotedStates) (last : PrState) (heading : Heading) (extents : List (ℕ × ℕ))
     (bodies : List (List ℕ)) : Type 0 where
   pub kind : heading.kind ≡ Store
@@ -23,7 +23,7 @@ pub record HasRead (notes : NotedStates) (last : PrState) (heading : Heading) (e
   pub last_is : last ≡ latest notes.states
   pub spelled : bodies ≡ state_bodies notes.states
 
--- since notes and a last state these bytes of a body came, and nothing more was noted (own)
+-- after these notes and this last state, these bytes of a body came, and nothing more was noted (own)
 pub record IsWithin (noted : NotedStates) (before : PrState) (notes : NotedStates) (last : PrState) (body : List ℕ)
     (bytes : List ℕ) : Type 0 where
   pub notes_same : notes ≡ noted

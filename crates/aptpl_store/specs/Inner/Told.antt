@@ -1,4 +1,4 @@
--- What state bytes tell: the one that they spell, if they spell any.
+-- The state that bytes spell, if they spell any.
 use Rattle.std.specs.Prelude.{◌&&◌, ◌==◌, ◌-◌, ℕ, Bool, nat_le, List, [], ◌∷◌, length, drop, slice_index, Option, None, Some, if◌then◌else◌}
 use Rattle.std.specs.List.{flat_map, range_with_len}
 use Rattle.byteorder.specs.Endian.{big_number}
@@ -10,7 +10,7 @@ use Rattle.pr_core.specs.declared.states.PrState.{PrState}
 use Rattle.pr_core.specs.States.{key_of}
 use Rattle.aptpl_store.specs.Spelling.{registration}
 
--- the nexuses from one on, rising (own)
+-- the nexuses from this one on, by rising number (own)
 unfoldable pub nexuses_from : ℕ → List ℕ
 nexuses_from nexus = range_with_len nexus (65 - nexus)
 
@@ -26,25 +26,25 @@ begins_with nexus bytes = nat_le 9 (length bytes) && (slice_index bytes 0 == nex
 abbrev pub key_told : ℕ → List ℕ → Option ℕ
 key_told nexus bytes = if begins_with nexus bytes then Some (big_number 8 (drop 1 bytes)) else None
 
--- what lies behind the registration of a nexus, where the bytes begin with one (own)
+-- the bytes after the registration of a nexus, where they begin with it (own)
 abbrev pub behind : ℕ → List ℕ → List ℕ
 behind nexus bytes = if begins_with nexus bytes then drop 9 bytes else bytes
 
--- the keys of these nexuses, of which each may have its registration next (own)
+-- the keys of these nexuses, each of which may have its registration next (own)
 unfoldable pub keys_told : List ℕ → List ℕ → List (Option ℕ)
 keys_told [] bytes = []
 keys_told (nexus ∷ later) bytes = key_told nexus bytes ∷ keys_told later (behind nexus bytes)
 
--- the nexus of a number, where there is one (own)
+-- the nexus with this number, if there is one (own)
 abbrev pub nexus_told : ℕ → Option ℕ
 nexus_told number = if nat_le 1 number && nat_le number NEXUSES then Some number else None
 
--- a reservation of this type, if it is one, with this holder, if it is one (own)
+-- a reservation of this type, if there is one, with this holder, if there is one (own)
 abbrev pub held_told : Option PrType → Option ℕ → Option Reservation
 held_told None holder = None
 held_told (Some kind) holder = Some (record { kind = kind; holder = holder })
 
--- the state that four bytes and registrations tell (own)
+-- the state that is read from four bytes and registrations (own)
 abbrev pub state_told : List ℕ → PrState
 state_told body =
     record {

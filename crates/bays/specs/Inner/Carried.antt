@@ -1,4 +1,4 @@
--- What a move on what is lent says to the functions below it.
+-- What a move on lent slots and drives says to the functions below it.
 use Rattle.std.specs.Prelude.{◌≡◌, ℕ, [], nat_eq, true, false, not, ◌&&◌, ◌||◌, List, Option, None, Some, is_some, if◌then◌else◌}
 use Rattle.tape_disk.specs.Disk.{DiskState}
 use Rattle.scsi_sense.specs.declared.replies.Reply.{Reply}
@@ -13,7 +13,7 @@ use Rattle.bays.specs.declared.lent.End.{End}
 use Rattle.bays.specs.Lent.{InEach}
 use Rattle.bays.specs.Moves.{MovesMedium, refusal_of_move}
 
--- why nothing is moved between these ends, by the first cause that holds
+-- why nothing moves between these ends, by the first cause that holds
 abbrev pub refusal_between : End → End → Option Reply
 refusal_between source destination =
     if not (source.known && destination.known) then Some (check_with invalid_element_address [])
@@ -37,12 +37,12 @@ module _ {D : Type 0} where
   end_beside slots bay from to = if nat_eq from to then drive_end bay else slot_end slots to
 
 module _ {D : Type 0} (state : D → DiskState) where
-  -- a cartridge is moved, or is not; where nothing refuses it, what is loaded at its source is awake
+  -- a cartridge is moved or not; where the move is not refused, the loaded medium at its source is awake
   pub record IsMoved (from to : ℕ) (reply : Reply) (old new : HeldState D) : Type 0 where
     pub answer : MovesMedium state old from to reply new
     pub awake : refusal_of_move old from to ≡ None → IsAwakeAt state old from
 
-  -- the same in each library that has what is lent
+  -- the same in each library with these lent slots and drives
   abbrev pub MovesLent :
       ℕ → ℕ → List (Option (BufferState D)) → Option (BayState D) → Option (BayState D) → Reply
       → List (Option (BufferState D)) → Option (BayState D) → Option (BayState D) → Type 0

@@ -1,4 +1,4 @@
--- How far the writing out of a library has come.
+-- How far a library has been written out.
 use Rattle.std.specs.Prelude.{◌≡◌, ◌≤◌, ◌<◌, ℕ, Result, OnOk, OnErr}
 use Rattle.tape_disk.specs.Disk.{DiskState}
 use Rattle.bays.specs.Elements.{HeldState, bay_at}
@@ -6,7 +6,7 @@ use Rattle.bays.specs.Finish.{HasFailedAt, IsWrittenAt, TurnsAt}
 use Rattle.bays.specs.declared.finishing.Unwritten.{Unwritten}
 
 module _ {D : Type 0} (state : D → DiskState) where
-  -- the drives up to this number took a turn, and the others are what they were
+  -- the drives up to this number took a turn, and the others are unchanged
   pub record IsWrittenUpTo (count : ℕ) (old : HeldState D) (result : Result Unit Unwritten) (new : HeldState D) : Type
       0 where
     pub turns : (number : ℕ) → number ≤ count → TurnsAt state (bay_at old.bays number) (bay_at new.bays number)

@@ -1,4 +1,4 @@
--- What a move knows of the drives that it touches.
+-- The drives of a move.
 use Rattle.std.specs.Prelude.{◌≡◌, ℕ, true, Option, None, Some}
 use Rattle.tape_disk.specs.Disk.{DiskState}
 use Rattle.drive_core.specs.declared.bays.Bay.{Bay}
@@ -7,12 +7,12 @@ use Rattle.tape_buffer.specs.State.{BufferState, state_of}
 use Rattle.bays.specs.Elements.{BayState, HeldState, bay_at}
 
 module _ {D : Type 0} (state : D → DiskState) where
-  -- what is loaded is awake
+  -- the loaded medium is awake
   abbrev pub IsAwakeIn : Bay (BufferState D) → Type 0
   IsAwakeIn (Loaded medium) = (state_of state medium).awake ≡ true
   IsAwakeIn _ = Unit {0}
 
-  -- the same of the drive at this address, if there is one
+  -- the same for the drive at this address, if there is one
   abbrev pub IsAwakeBay : Option (BayState D) → Type 0
   IsAwakeBay None = Unit {0}
   IsAwakeBay (Some bay) = IsAwakeIn bay.bay

@@ -6,12 +6,12 @@ use Rattle.bays.specs.Elements.{BayState, HeldState}
 use Rattle.bays.specs.Moves.{KeepsBays, KeepsCartridges, MovesMedium}
 
 module _ {D : Type 0} where
-  -- a library in which this drive stands in the place of this number
+  -- the library with this drive at the place of this number
   abbrev pub with_bay : ℕ → BayState D → HeldState D → HeldState D
   with_bay number bay held = record held { bays = slice_set held.bays (number - 1) (Some bay) }
 
 module _ {D : Type 0} (state : D → DiskState) where
-  -- all that is said of a move
+  -- all facts of a move
   pub record IsCarried (from to : ℕ) (reply : Reply) (old new : HeldState D) : Type 0 where
     pub answer : MovesMedium state old from to reply new
     pub kept : KeepsCartridges state old from to reply new

@@ -1,4 +1,4 @@
--- What a library runs appends.
+-- Runs of a library compose.
 use Rattle.std.proofs.Common.{List, [], ◌∷◌, ◌++◌, flat_map, refl, sym, subst}
 use Rattle.std.proofs.lemmas.Grind.{flat_map-append}
 use Rattle.tape_disk.specs.Disk.{DiskState}
@@ -8,11 +8,11 @@ use Rattle.bays.specs.Elements.{HeldState}
 use Rattle.bays.specs.Runs.{AnswersOrders, LibraryAnswers, Order, orders_of}
 
 module _ {D : Type 0} (state : D → DiskState) where
-  -- no order is answered by standing still
+  -- no orders, no replies, no change
   pub held_none : (held : HeldState D) → AnswersOrders state held [] [] held
   held_none held = refl
 
-  -- what was answered goes on by what is answered from there
+  -- a run from the end of another extends it
   pub orders_on : (old mid new : HeldState D) (first rest : List Order) (replies others : List Reply)
       → AnswersOrders state old first replies mid → AnswersOrders state mid rest others new
       → AnswersOrders state old (first ++ rest) (replies ++ others) new
@@ -23,7 +23,7 @@ module _ {D : Type 0} (state : D → DiskState) where
   orders_on old mid new [] rest (reply ∷ replies) others one two = absurd one
   orders_on old mid new (order ∷ first) rest [] others one two = absurd one
 
-  -- the same of items
+  -- the same for items
   pub held_on : (old mid new : HeldState D) (first rest : List Item) (replies others : List Reply)
       → LibraryAnswers state old first replies mid → LibraryAnswers state mid rest others new
       → LibraryAnswers state old (first ++ rest) (replies ++ others) new

@@ -7,9 +7,9 @@ use pr_core::Keeper;
 use tape_buffer::Buffered;
 use tape_disk::Disk;
 
-/// Once a synchronizing command was acknowledged, a stop at any moment of whatever commands and
-/// turns come then, inside a call too, leaves the cartridge as a first part of its accepted changes
-/// leaves it, which holds every change that was accepted up to that command.
+/// After an acknowledged synchronizing command, any commands and turns follow. A stop at any moment of these,
+/// inside a call too, leaves the cartridge as a first part of its accepted changes makes it. That part has
+/// every change that was accepted up to that command.
 pub fn a_stop_keeps_acknowledged_changes<D: Disk, K: Keeper>()
     ensures { StopsKeepChanges D.state K.kept K.below }
 {
@@ -17,10 +17,11 @@ pub fn a_stop_keeps_acknowledged_changes<D: Disk, K: Keeper>()
     steps_keep_cores::<Buffered<D>>();
 }
 
-/// The same of a cartridge that is moved: once a synchronizing command was acknowledged, a stop at any moment of
-/// whatever commands, turns, moves and writings out come then, of this drive and of others, leaves the cartridge,
-/// wherever it is, as a first part of its accepted changes leaves it, which holds every change that was accepted up to
-/// that command. The same from any moment at which all that a known cartridge had accepted is safe.
+/// The same for a cartridge that is moved. After an acknowledged synchronizing command any commands, turns,
+/// moves and writings out follow, of this drive and of others. A stop at any moment of these leaves the
+/// cartridge, wherever it is, as a first part of its accepted changes makes it. That part has every change
+/// that was accepted up to that command. The same holds from any moment at which all that a known cartridge
+/// had accepted is safe.
 pub fn a_stop_keeps_acknowledged_changes_of_what_is_moved<D: Disk>()
     ensures acknowledged { StopsKeepWhatIsMoved D.state }
     ensures safe { KeepsWhatIsSafe D.state }

@@ -1,4 +1,4 @@
--- Facts that hold or don't: what a reader of an image can find out.
+-- Facts that a reader of an image can decide.
 use Rattle.std.proofs.Common.{◌≡◌, ◌⊎◌, inl, inr, ⊎_elim, ℕ, zero, suc, ◌<◌, ◌≤◌, List, [], ◌∷◌, Bool, arith, refl}
 use Rattle.std.specs.Prelude.{IsTrue}
 use Rattle.std.specs.List.{All}
@@ -29,7 +29,7 @@ all P each [] = inl (All-nil P)
 all P each (x ∷ xs) = decided_as (λ w. All-cons P x xs w.0 w.1) (λ a. (All-head P x xs a, All-tail P x xs a))
     (both (each x) (all P each xs))
 
--- some number below n
+-- a fact that is decidable for each number is decidable for some number below n
 pub some_below : (P : ℕ → Type 0) → ((k : ℕ) → Decidable (P k)) → (n : ℕ) → Decidable ((k : ℕ) × (k < n) × P k)
 some_below P each zero = inr (λ w. absurd (omega (arith, w.1)))
 some_below P each (suc n) = elim (each n) [

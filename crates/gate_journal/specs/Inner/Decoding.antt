@@ -1,4 +1,4 @@
--- What an opening that decodes finds, step by step.
+-- The steps of an opening that decodes.
 use Rattle.std.specs.Prelude.{ℕ, List, Option, None, Some}
 use Rattle.tape_disk.specs.Disk.{DiskState}
 use Rattle.gate_journal.specs.declared.error.JournalError.{JournalError}
@@ -9,7 +9,7 @@ use Rattle.gate_journal.specs.Side.{Front, Heading}
 use Rattle.gate_journal.specs.Answers.{IsFault, NoneFailed}
 use Rattle.gate_journal.specs.Decoding.{HasBadBody}
 
--- the same cause, of an opening that decodes; a full side and an earlier fault are none of an opening (own)
+-- the same cause, for an opening that decodes; a full side and an earlier fault cannot occur in an opening (own)
 abbrev pub opening_cause : JournalError → Option OpenError
 opening_cause Calls.NotOurs = Some NotOurs
 opening_cause (Calls.Damaged at) = Some (Damaged at)
@@ -18,7 +18,7 @@ opening_cause Calls.NoMemory = Some NoMemory
 opening_cause Calls.SideFull = None
 opening_cause Calls.Failed = None
 
--- why a body is not read: a fault, or memory ran out (own)
+-- why a body could not be read: a fault, or memory ran out (own)
 abbrev pub IsNotRead : OpenError → DiskState → DiskState → Type 0
 IsNotRead (Device fault) old new = IsFault fault old new
 IsNotRead NoMemory old new = NoneFailed old new

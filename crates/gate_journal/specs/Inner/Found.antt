@@ -1,4 +1,4 @@
--- What reading a side finds.
+-- What a reader of a side finds.
 use Rattle.std.specs.Prelude.{◌≡◌, ◌≢◌, ◌⊎◌, ◌<◌, ◌≤◌, ◌+◌, ◌*◌, ◌^◌, ℕ, List, ◌∷◌, ◌++◌, length, take, drop, slice_index, Result, Ok, Err, Option, Some, None, false}
 use Rattle.std.specs.List.{All, flat_map}
 use Rattle.vtl_base.specs.declared.limits.TheConstants.{MAX_BODY}
@@ -17,7 +17,7 @@ use Rattle.gate_journal.specs.Inner.Asked.{IsAsked, IsNotAsked, NotOpenedAsked}
 use Rattle.gate_journal.specs.Inner.Reading.{TellsFront, size_behind}
 use Rattle.gate_journal.specs.State.{StoresSide, IsExtent, bodies_at, extents_from}
 
--- why a reader is refused: a cause of its own, or memory, and no call failed; or a fault (own)
+-- why a reader returns an error: a cause or memory, without a failed call; or a fault (own)
 abbrev pub NotRead : JournalError → Type 0 → (ℕ → Type 0) → Type 0 → DiskState → DiskState → Type 0
 NotRead NotOurs not_ours damaged memory old new = NoneFailed old new × not_ours
 NotRead (Damaged at) not_ours damaged memory old new = NoneFailed old new × damaged at
@@ -30,27 +30,27 @@ NotRead Failed not_ours damaged memory old new = ⊥
 abbrev pub front_read : ReadFront → Front
 front_read read = front_of read.header read.copied read.pair
 
--- the bytes that the disk begins with, as many as a front with their byte for its count has; or no front has place
--- there (own)
+-- the first bytes of the disk, as many as the byte of their count says a front has; or there is no space for a front
+-- (own)
 abbrev pub FindsBytes : Result FrontBytes JournalError → DiskState → DiskState → Type 0
 FindsBytes (Ok found) old new =
     NoneFailed old new × (found.len ≡ 27 + size_behind (slice_index found.bytes 10)) × (found.len ≤ HEADER_BYTES)
     × (old.honest → (rest : List ℕ) × (old.seen ≡ take found.len found.bytes ++ rest))
 FindsBytes (Err error) old new = NotRead error (old.honest → IsNotOurs old.seen) (λ at. ⊥) ⊥ old new
 
--- the bytes of the front that the disk begins with, and what is read in them; or it begins with none (own)
+-- the bytes of the front at the start of the disk, with what is read from them; or there is no front (own)
 abbrev pub FindsTold : Result (FrontBytes × ToldFront) JournalError → DiskState → DiskState → Type 0
 FindsTold (Ok found) old new =
     NoneFailed old new × (found.0.len ≤ HEADER_BYTES) × TellsFront (take found.0.len found.0.bytes) (Some found.1)
     × (old.honest → (rest : List ℕ) × (old.seen ≡ take found.0.len found.0.bytes ++ rest))
 FindsTold (Err error) old new = NotRead error (old.honest → IsNotOurs old.seen) (λ at. ⊥) ⊥ old new
 
--- what is read of the front that the disk begins with, or that it begins with none (own)
+-- what is read from the front at the start of the disk; or there is no front (own)
 abbrev pub FindsStart : Result ToldFront JournalError → DiskState → DiskState → Type 0
 FindsStart (Ok told) old new = NoneFailed old new × (old.honest → TellsFront old.seen (Some told))
 FindsStart (Err error) old new = NotRead error (old.honest → IsNotOurs old.seen) (λ at. ⊥) ⊥ old new
 
--- the front that the disk begins with, and the place behind it; or none (own)
+-- the front at the start of the disk, and the place after it; or there is no front (own)
 abbrev pub FindsFront : Result ReadFront JournalError → DiskState → DiskState → Type 0
 FindsFront (Ok read) old new =
     NoneFailed old new × IsFront (front_read read) × (read.start ≡ length (spell_front (front_read read)))
@@ -58,14 +58,14 @@ FindsFront (Ok read) old new =
 FindsFront (Err error) old new =
     NotRead error (old.honest → IsNotOurs old.seen) (λ at. ⊥) (old.honest → 27 ≤ length old.seen) old new
 
--- the front that the disk begins with, of the kind that is asked for, or none (own)
+-- the front at the start of the disk, of the required kind; or there is none (own)
 abbrev pub FindsAsked : Option SideKind → Result ReadFront JournalError → DiskState → DiskState → Type 0
 FindsAsked asked (Ok read) old new = FindsFront (Ok read) old new × IsAsked asked read.header.kind
 FindsAsked asked (Err error) old new =
     NotRead error (old.honest → IsNotAsked asked old.seen) (λ at. ⊥) (old.honest → 27 ≤ length old.seen) old new
 
--- a closed gate at that place; a whole frame and a further byte, with the length of its body; or an open gate and no
--- such frame (own)
+-- None at a closed gate; the length of the body at a whole frame with a further byte; an error at an open gate without
+-- such a frame (own)
 abbrev pub FindsMark : Result (Option ℕ) JournalError → ℕ → ℕ → DiskState → DiskState → Type 0
 FindsMark (Ok None) at len old new =
     NoneFailed old new
@@ -88,14 +88,14 @@ pub record Walked (seen : List ℕ) (start : ℕ) (bodies : List (List ℕ)) (ex
   pub extents_are : extents ≡ extents_from start bodies
   pub at_is : at ≡ start + length (flat_map frame bodies)
 
--- Whole frames lie from the start up to that place. There they break off, or a gate is closed before there are as many
+-- Whole frames lie from the start up to that place. There they break off, or a closed gate comes before as many frames
 -- as the base (own).
 abbrev pub BreaksOff : List ℕ → ℕ → ℕ → ℕ → Type 0
 BreaksOff seen start base at =
     (bodies : List (List ℕ)) × (extents : List (ℕ × ℕ)) × Walked seen start bodies extents at
     × (IsBroken bodies (drop at seen) ⊎ AreTooFew base bodies (drop at seen))
 
--- the frames up to a closed gate, no fewer than the base, or the place where they break off (own)
+-- the frames up to a closed gate, at least as many as the base; or the place where they break off (own)
 abbrev pub FindsFrames : Result Frames JournalError → ℕ → ℕ → DiskState → DiskState → Type 0
 FindsFrames (Ok frames) start base old new =
     NoneFailed old new × (frames.end + 1 < 2 ^ 64) × (start ≤ frames.end) × (base ≤ length frames.extents.items)
@@ -105,7 +105,7 @@ FindsFrames (Ok frames) start base old new =
 FindsFrames (Err error) start base old new =
     NotRead error ⊥ (λ at. old.honest → BreaksOff old.seen start base at) (Unit {0}) old new
 
--- an open side of the kind that is asked for and why it is one, or why it is none (own)
+-- an open side of the required kind, with its proof; or why there is none (own)
 abbrev pub FindsSide : Option SideKind → Result (ReadFront × Frames) JournalError → DiskState → DiskState → Type 0
 FindsSide asked (Ok side) old new =
     NoneFailed old new × IsAsked asked side.0.header.kind × IsFront (front_read side.0) × (side.1.end + 1 < 2 ^ 64)

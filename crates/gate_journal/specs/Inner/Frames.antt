@@ -1,4 +1,4 @@
--- One frame after the other: a row of bytes has one reading.
+-- Frames one after another: bytes have one reading.
 use Rattle.std.proofs.Common.{◌≡◌, ◌⊎◌, inl, inr, ⊎_elim, ℕ, zero, suc, ◌≤◌, ◌+◌, List, [], ◌∷◌, ◌++◌, length, take, drop, refl, sym, ◌∙◌, ap, subst, arith, append_assoc, length-append}
 use Rattle.std.specs.List.{All, flat_map}
 use Rattle.std.specs.Int.{to_be_bytes, w32}
@@ -12,7 +12,7 @@ use Rattle.gate_journal.specs.Inner.Deciding.{Decidable, below, both, same}
 pub length-frame : (body : List ℕ) → length (frame body) ≡ 5 + length body
 length-frame body = omega (arith, length-append (to_be_bytes w32 (length body)) body)
 
--- nothing more can be read there: no frame with a further byte, and something at all unless nothing was read before
+-- no frame with a further byte follows, and some byte follows unless no frame came before
 abbrev pub NoMoreFrames : List (List ℕ) → List ℕ → Type 0
 NoMoreFrames bodies rest = (BeginsWithFrame rest → ⊥) × ((bodies ≡ []) ⊎ ((x : ℕ) × (xs : List ℕ) × (rest ≡ x ∷ xs)))
 
@@ -20,7 +20,7 @@ module _ (body : List ℕ) (ok : IsBody body) (rest : List ℕ) where
   regrouped : frame body ++ rest ≡ OPEN ∷ (to_be_bytes w32 (length body) ++ (body ++ rest))
   regrouped = simp append_assoc
 
-  -- the length that stands behind the gate
+  -- the length that follows the gate
   pub length_told : big_from 0 4 (drop 1 (frame body ++ rest)) ≡ length body
   length_told =
       ap (λ (l : List ℕ). big_from 0 4 (drop 1 l)) regrouped
@@ -49,7 +49,7 @@ some_front : (xs : List ℕ) (y : ℕ) (ys : List ℕ) → (z : ℕ) × (zs : Li
 some_front [] y ys = (y, ys, refl)
 some_front (x ∷ xs) y ys = (x, xs ++ y ∷ ys, refl)
 
--- where something stands at the end, a frame is no end
+-- where bytes begin with a frame and more frames, an end follows later
 frame_goes_on : (x : List ℕ) (bs : List (List ℕ)) (r s : List ℕ) → IsBody x → NoMoreFrames (x ∷ bs) r →
     flat_map frame (x ∷ bs) ++ r ≡ s → BeginsWithFrame s
 frame_goes_on x bs r s ok (none, inl e) is = absurd (cc)
@@ -81,7 +81,7 @@ one_end (x ∷ bs) (y ∷ cs) r s okb okc e endb endc =
     (ends_tail x bs r endb) (ends_tail y cs s endc) in
     (λ i. split.0 i ∷ others.0 i, others.1)
 
--- the one body and the one rest that the bytes may begin with
+-- the only body and the only rest that the bytes can begin with
 abbrev pub told_length : List ℕ → ℕ
 told_length bytes = big_from 0 4 (drop 1 bytes)
 

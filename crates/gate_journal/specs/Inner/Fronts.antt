@@ -1,4 +1,4 @@
--- A front is spelled in one way, and one can find out whether bytes begin with one.
+-- A front has one spelling, and whether bytes begin with one is decidable.
 use Rattle.std.proofs.Common.{◌≡◌, ◌⊎◌, inl, inr, ℕ, ◌≤◌, ◌+◌, ◌*◌, List, [], ◌∷◌, ◌++◌, length, take, drop, get_or, refl, sym, ◌∙◌, ap, subst, arith, append_assoc, length-append, Bool, true, false, nat_lt}
 use Rattle.std.specs.Prelude.{Option, None, Some, ◌-◌, if◌then◌else◌}
 use Rattle.std.proofs.lemmas.Bool.{cases_eq, le-ltb, lt-ltb}
@@ -14,29 +14,29 @@ use Rattle.gate_journal.specs.Inner.HeadsRead.{any_head_is, decided_copied, kind
 use Rattle.gate_journal.specs.Inner.Headings.{decided_heading, few_capacities}
 use Rattle.gate_journal.specs.Inner.Reading.{BeginsWithFront, copied_size, size_behind}
 
--- the front of that kind, of a copy or not, that the bytes may begin with
+-- the front of that kind, of a copy or not, with which the bytes can begin
 abbrev pub front_as : SideKind → Bool → List ℕ → Front
 front_as kind copy bytes = record { head = head_as kind copy (drop 10 bytes); pair = get_or bytes 9 0 }
 
--- what stands behind the ten bytes
+-- the bytes after the first ten
 pub behind_start : (kind : SideKind) (pair : ℕ) (head rest : List ℕ) →
     drop 10 (start OPEN kind pair ++ head ++ rest) ≡ head ++ rest
 behind_start Cartridge pair head rest = refl
 behind_start Store pair head rest = refl
 
--- the pair gate among them
+-- the pair gate is at place 9
 pub pair_there : (kind : SideKind) (pair : ℕ) (head rest : List ℕ) →
     get_or (start OPEN kind pair ++ head ++ rest) 9 0 ≡ pair
 pair_there Cartridge pair head rest = refl
 pair_there Store pair head rest = refl
 
--- the letter of the mark among them
+-- the letter of the mark is at place 4
 letter_there : (kind : SideKind) (pair : ℕ) (head rest : List ℕ) →
     get_or (start OPEN kind pair ++ head ++ rest) 4 0 ≡ get_or (mark kind) 3 0
 letter_there Cartridge pair head rest = refl
 letter_there Store pair head rest = refl
 
--- the first byte behind them
+-- the byte of the count is at place 10
 byte_there : (kind : SideKind) (pair byte : ℕ) (head rest : List ℕ) →
     get_or (start OPEN kind pair ++ (byte ∷ head) ++ rest) 10 0 ≡ byte
 byte_there Cartridge pair byte head rest = refl
@@ -46,7 +46,7 @@ pub length_start : (kind : SideKind) (pair : ℕ) → length (start OPEN kind pa
 length_start Cartridge pair = refl
 length_start Store pair = refl
 
--- a front is read as it was spelled
+-- reading the spelling of a front gives the front
 pub front_is : (f : Front) (rest : List ℕ) → IsFront f →
     front_as f.head.heading.kind (is_copy f.head.copied) (spell_front f ++ rest) ≡ f
 front_is f rest ok =
@@ -58,7 +58,7 @@ front_is f rest ok =
       pair = pair_there kind f.pair head rest i;
     }
 
--- the mark tells the kind
+-- the letter of the mark decides the kind
 told_kind : (k l : SideKind) → get_or (mark k) 3 0 ≡ get_or (mark l) 3 0 → k ≡ l
 told_kind Cartridge Cartridge e = refl
 told_kind Store Store e = refl
@@ -78,7 +78,7 @@ module _ (f : Front) (rest image : List ℕ) (is : image ≡ spell_front f ++ re
       ap (λ (l : List ℕ). get_or l 4 0) is
       ∙ letter_there f.head.heading.kind f.pair (spell_side_head f.head) rest
 
--- bytes begin with one front
+-- bytes begin with at most one front
 pub same_front : (f g : Front) (r s : List ℕ) → IsFront f → IsFront g → spell_front f ++ r ≡ spell_front g ++ s →
     (f ≡ g) × (r ≡ s)
 same_front f g r s okf okg e =
@@ -93,7 +93,7 @@ same_front f g r s okf okg e =
       append_cancel_left (spell_front g) r s (ap (λ (h : Front). spell_front h ++ r) (sym one) ∙ e),
     )
 
--- a store's front is plain
+-- the front of a store is plain
 pub store_is_plain : (f : Front) → IsFront f → f.head.heading.kind ≡ Store → f ≡ plain f.head.heading
 store_is_plain f ok store =
     let none : f.head.copied ≡ None =
@@ -105,7 +105,7 @@ store_is_plain f ok store =
     never_copy None is = refl
     never_copy (Some copied) is = absurd is
 
--- and a heading that can be spelled has such a front
+-- a heading that can be spelled has a front that can be spelled
 pub plain_front : (h : Heading) → IsHeading h → IsFront (plain h)
 plain_front h ok = record { head = record { heading = ok; copied = tt }; pair = shut h.kind }
   where
@@ -113,7 +113,7 @@ plain_front h ok = record { head = record { heading = ok; copied = tt }; pair = 
     shut Cartridge = tt
     shut Store = refl
 
--- how long a front is
+-- the length of a front
 pub length_front : (f : Front) → IsFront f →
     length (spell_front f) ≡ 27 + 8 * length f.head.heading.capacities + copied_size f.head.copied
 length_front f ok = omega (
@@ -131,7 +131,7 @@ short_front f ok = omega (
   length-append (start OPEN f.head.heading.kind f.pair) (spell_side_head f.head),
 )
 
--- whether bytes begin with a front
+-- it is decidable whether a front can be spelled
 decided_pair : (kind : SideKind) (pair : ℕ) → Decidable (IsPairGate kind pair)
 decided_pair Cartridge pair = inl tt
 decided_pair Store pair = cases_eq pair 0
@@ -209,7 +209,7 @@ either_kind P each = elim (each Cartridge) [
     none never nor (Cartridge, p) = never p
     none never nor (Store, p) = nor p
 
--- whether bytes begin with a front
+-- it is decidable whether bytes begin with a front
 pub begin_decided : (bytes : List ℕ) → Decidable (BeginsWithFront bytes)
 begin_decided bytes =
     decided_as
@@ -219,7 +219,7 @@ begin_decided bytes =
     (either_kind (λ kind. (copy : Bool) × OfKind bytes kind copy)
     (λ kind. either_copy (OfKind bytes kind) (decided_of_kind bytes kind)))
 
--- how many bytes of a front stand behind its first 27, by the byte of its count
+-- the length of a front after its first 27 bytes, by the byte of its count
 size_told : (copied : Option Copied) (n : ℕ) → n ≤ 4 → size_behind (count_byte copied n) ≡ 8 * n + copied_size copied
 size_told None n few =
     let small : nat_lt n 128 ≡ true = lt-ltb n 128 (omega (arith, few)) in
@@ -230,7 +230,7 @@ size_told (Some copied) n few =
     ap (λ (b : Bool). if b then 8 * (128 + n) else 8 * (128 + n - 128) + 12) big
     ∙ ap (λ (m : ℕ). 8 * m + 12) less
 
--- what an image that begins with a front has in front
+-- the first bytes of an image that begins with a front
 module _ (f : Front) (rest image : List ℕ) (ok : IsFront f) (is : image ≡ spell_front f ++ rest) where
   pub sized_by : length (spell_front f) ≡ 27 + size_behind (get_or image 10 0)
   sized_by =

@@ -8,12 +8,12 @@ use Rattle.gate_journal.specs.Gates.{FindsGates}
 use Rattle.gate_journal.specs.Inner.Found.{BreaksOff, NotRead, Walked}
 use Rattle.gate_journal.specs.Side.{OPEN, IsNotOurs, IsDamagedAt}
 
--- the last open gate of a side whose bodies lie there: that of the last frame, or of the side where there is none (own)
+-- the last open gate of a side with these extents: that of the last frame, or of the side where it has no frame (own)
 abbrev pub gate_before : List (ℕ × ℕ) → ℕ
 gate_before extents = if length extents == 0 then 0 else (slice_index_or extents (length extents - 1) (0, 0)).0 - 5
 
--- the last gates of the frames from the start up to a closed gate, no fewer than the base, or the place where they
--- break off (own)
+-- the last gates of the frames from the start up to a closed gate, at least as many as the base; or the place where the
+-- frames break off (own)
 abbrev pub FindsLast : Result Gates JournalError → ℕ → ℕ → DiskState → DiskState → Type 0
 FindsLast (Ok gates) start base old new =
     NoneFailed old new
@@ -24,7 +24,7 @@ FindsLast (Ok gates) start base old new =
 FindsLast (Err error) start base old new =
     NotRead error ⊥ (λ at. old.honest → BreaksOff old.seen start base at) ⊥ old new
 
--- the last gates of a side that reads whole, or why there is none (own)
+-- the last gates of a whole side, or why there is none (own)
 abbrev pub FindsWhole : Result Gates JournalError → DiskState → DiskState → Type 0
 FindsWhole (Ok gates) old new = FindsGates (Ok (Some gates)) old new
 FindsWhole (Err error) old new =

@@ -1,4 +1,4 @@
--- What can be spelled in a heading, how long it is, and that one can find out whether a heading can be spelled.
+-- Which headings can be spelled, how long they are, and that this is decidable.
 use Rattle.std.proofs.Common.{◌≡◌, ℕ, ◌<◌, ◌≤◌, ◌+◌, ◌-◌, ◌*◌, ◌^◌, List, [], ◌∷◌, ◌++◌, length, take, drop, get_or, replicate, refl, sym, ◌∙◌, ap, subst, arith, append_assoc, length-append, true, false, cond, nat_lt}
 use Rattle.std.specs.Prelude.{codes, Bool, IsTrue, nat_le, ◌&&◌}
 use Rattle.std.specs.List.{All, flat_map}
@@ -49,7 +49,7 @@ numbers_again (w ∷ ws) ok =
     let fits : w < 2 ^ 64 = omega (arith, below) in
     λ i. big_number-reads_back 8 w [] fits i ∷ numbers_again ws (All-tail Allowed w ws ok) i
 
--- whether a heading can be spelled
+-- it is decidable whether a heading can be spelled
 decided_barcode : (bytes : List ℕ) → Decidable (IsBarcode bytes)
 decided_barcode bytes =
     decided_as (λ w. record { some = w.0.0; short = w.0.1; symbols = w.1 }) (λ b. ((b.some, b.short), b.symbols))

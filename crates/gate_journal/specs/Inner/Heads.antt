@@ -1,4 +1,4 @@
--- What a reader takes for the head of a cartridge's side, before it is known to be one.
+-- What a reader takes for the head of a cartridge's side, before it is known to be a head.
 use Rattle.std.specs.Prelude.{ℕ, ◌-◌, ◌*◌, List, take, drop, slice_index, Bool, true, false, Option, None, Some}
 use Rattle.byteorder.specs.Endian.{big_number}
 use Rattle.gate_journal.specs.declared.header.SideKind.{SideKind}
@@ -8,26 +8,26 @@ use Rattle.gate_journal.specs.Side.{Heading}
 use Rattle.gate_journal.specs.Heads.{Head}
 use Rattle.gate_journal.specs.Inner.Reading.{numbers_of}
 
--- name and capacities, of the bytes of a head up to these (own)
+-- name and capacities in the bytes of a head that end with these (own)
 abbrev pub heading_in : List ℕ → Heading
 heading_in bytes = record { kind = Cartridge; name = take 16 (drop 1 bytes); capacities = numbers_of (drop 17 bytes) }
 
--- whether a head is that of a copy (own)
+-- a head is that of a copy (own)
 abbrev pub is_copy : Option Copied → Bool
 is_copy None = false
 is_copy (Some copied) = true
 
--- how many capacities that byte tells (own)
+-- how many capacities the byte of the count says (own)
 abbrev pub count_in : Bool → ℕ → ℕ
 count_in false byte = byte
 count_in true byte = byte - 128
 
--- epoch and base at the front of bytes (own)
+-- epoch and base at the start of bytes (own)
 abbrev pub copied_in : Bool → List ℕ → Option Copied
 copied_in false bytes = None
 copied_in true bytes = Some (record { epoch = big_number 8 bytes; base = big_number 4 (drop 8 bytes) })
 
--- the head, of that kind of side, of a copy or not, that the bytes may begin with (own)
+-- the head of this kind of side, of a copy or not, with which the bytes can begin (own)
 abbrev pub head_as : SideKind → Bool → List ℕ → Head
 head_as kind copy bytes = record {
   heading = record {

@@ -1,4 +1,4 @@
--- A head is spelled in one way, and one can find out whether bytes begin with one.
+-- A head has one spelling, and whether bytes begin with one is decidable.
 use Rattle.std.proofs.Common.{◌≡◌, ◌⊎◌, inl, inr, ⊎_elim, ℕ, ◌<◌, ◌≤◌, ◌+◌, ◌*◌, ◌^◌, List, ◌∷◌, ◌++◌, length, take, drop, get_or, refl, sym, ◌∙◌, ap, subst, arith, append_assoc, length-append, Bool, true, false}
 use Rattle.std.specs.Prelude.{IsTrue, Option, None, Some, slice_index}
 use Rattle.std.specs.List.{All, flat_map}
@@ -90,7 +90,7 @@ module _ (name capacities : List ℕ) (copied : Option Copied) (rest : List ℕ)
     copied = copied_told i;
   }
 
--- a head of any kind of side is read as it was spelled
+-- reading the spelling of a head gives the head, for any kind of side
 pub any_head_is : (h : Head) (rest : List ℕ) → IsHead h →
     head_as h.heading.kind (is_copy h.copied) (spell_side_head h ++ rest) ≡ h
 any_head_is h rest ok =
@@ -102,7 +102,7 @@ pub head_is : (h : Head) (rest : List ℕ) → h.heading.kind ≡ Cartridge → 
 head_is h rest is ok =
     (λ i. head_as (sym is i) (is_copy h.copied) (spell_side_head h ++ rest)) ∙ any_head_is h rest ok
 
--- the count tells whether a head is that of a copy
+-- the byte of the count decides whether a head is that of a copy
 pub told_copy : (a b : Option Copied) (m n : ℕ) → m ≤ 4 → n ≤ 4 → count_byte a m ≡ count_byte b n →
     is_copy a ≡ is_copy b
 told_copy None None m n few less e = refl
@@ -110,7 +110,7 @@ told_copy (Some a) (Some b) m n few less e = refl
 told_copy None (Some b) m n few less e = absurd (omega (arith, few, less, e))
 told_copy (Some a) None m n few less e = absurd (omega (arith, few, less, e))
 
--- bytes begin with one head
+-- bytes begin with at most one head
 pub same_head : (h k : Head) (r s : List ℕ) → h.heading.kind ≡ Cartridge → k.heading.kind ≡ Cartridge → IsHead h →
     IsHead k → spell_side_head h ++ r ≡ spell_side_head k ++ s → (h ≡ k) × (r ≡ s)
 same_head h k r s hc kc okh okk e =
@@ -182,7 +182,7 @@ one_of_two bytes (h, rest, kind, ok, is) = go (is_copy h.copied) refl
     go false e = inl (h, rest, kind, ok, is, e)
     go true e = inr (h, rest, kind, ok, is, e)
 
--- whether bytes begin with a head
+-- it is decidable whether bytes begin with a head
 pub decided_head : (bytes : List ℕ) → Decidable (BeginsWithHead bytes)
 decided_head bytes = elim (decided_of_kind false bytes) [
   | inl w ↦ inl (w.0, w.1, w.2, w.3, w.4)
@@ -214,6 +214,6 @@ copied_short : (copied : Option Copied) → copied_size copied ≤ 12
 copied_short None = omega arith
 copied_short (Some copied) = omega arith
 
--- no head is longer than that of a copy with four capacities
+-- the longest head is that of a copy with four capacities
 pub short_head : (h : Head) → IsHead h → length (spell_side_head h) ≤ 61
 short_head h ok = omega (arith, length_head h ok, few_capacities h.heading ok.heading, copied_short h.copied)

@@ -1,12 +1,12 @@
--- How far a body was given to a decoder, piece by piece.
+-- How much of a body was given to a decoder, piece by piece.
 use Rattle.std.specs.Prelude.{◌≡◌, ◌<◌, ◌≤◌, ℕ, List, length, take, Bool}
 use Rattle.gate_journal.specs.declared.pieces.SoFar.{SoFar}
 use Rattle.gate_journal.specs.declared.pieces.TheConstants.{PIECE_BYTES}
 use Rattle.gate_journal.specs.Decoding.{TakesBody, TakesPiece}
 use Rattle.gate_journal.specs.Side.{Heading}
 
--- So many bytes were taken, of a body of that size: its first ones, where the disk is honest; and some are read next,
--- no more than a piece has (own).
+-- The first bytes of a body of that size were taken; they are the body's own where the disk is honest. The next piece
+-- has at least one byte and at most the length of a piece (own).
 pub record IsSoFar (so_far : SoFar) (size : ℕ) (honest : Type 0) (body : List ℕ) : Type 0 where
   pub within : so_far.from ≤ size
   pub some : 1 ≤ so_far.wide
@@ -24,8 +24,8 @@ module _ {T : Type 0} (has_read : T → Heading → List (ℕ × ℕ) → List (
     pub takes : (start : T) → is_within start old extent.0 before.bytes.bytes
         → TakesPiece has_read refuses is_within good start new extent.0 after.bytes.bytes
 
-  -- What a decoder makes of a body in that extent: some body of that size, which is this one where the disk is honest,
-  -- is taken, or is bad (own).
+  -- The result of giving a decoder the body in that extent: some body of that size, which is this one where the disk is
+  -- honest, is taken or is bad (own).
   pub record DecodesBody (good : Bool) (old new : T) (extent : ℕ × ℕ) (honest : Type 0) (body : List ℕ)
       : Type 0 where
     pub read : List ℕ

@@ -1,4 +1,4 @@
--- What a reader takes for a front, before it is known to be one.
+-- What a reader takes for a front, before it is known to be a front.
 use Rattle.std.specs.Prelude.{◌≡◌, ℕ, ◌+◌, ◌-◌, ◌*◌, List, [], ◌∷◌, ◌++◌, length, take, drop, slice_index, slice_range, ◌==◌, if◌then◌else◌, nat_lt, Option, None, Some, Bool}
 use Rattle.byteorder.specs.Endian.{big_number}
 use Rattle.gate_journal.specs.declared.fronts.ToldFront.{ToldFront}
@@ -7,43 +7,43 @@ use Rattle.gate_journal.specs.declared.header.SideKind.TheVariants.{Cartridge, S
 use Rattle.gate_journal.specs.declared.heads.Copied.{Copied}
 use Rattle.gate_journal.specs.Side.{Front, Heading, IsFront, spell_front}
 
--- eight bytes at a time as numbers (own)
+-- the numbers in groups of eight bytes (own)
 abbrev pub numbers_of : List ℕ → List ℕ
 numbers_of (a ∷ b ∷ c ∷ d ∷ e ∷ f ∷ g ∷ h ∷ rest) =
     big_number 8 (a ∷ b ∷ c ∷ d ∷ e ∷ f ∷ g ∷ h ∷ []) ∷ numbers_of rest
 numbers_of rest = []
 
--- the kind by the one letter in which the marks differ first (own)
+-- the kind, by the first letter in which the marks differ (own)
 abbrev pub kind_by_letter : ℕ → SideKind
 kind_by_letter byte = if byte == 67 then Cartridge else Store
 
--- how many bytes of a front stand behind its first 27, by the byte of its count (own)
+-- the length of a front after its first 27 bytes, by the byte of its count (own)
 abbrev pub size_behind : ℕ → ℕ
 size_behind byte = if nat_lt byte 128 then 8 * byte else 8 * (byte - 128) + 12
 
--- how many bytes say of a copy how it came about (own)
+-- the bytes that epoch and base take in the front of a copy (own)
 abbrev pub copied_size : Option Copied → ℕ
 copied_size None = 0
 copied_size (Some copied) = 12
 
--- the bytes begin with a front's spelling (own)
+-- the bytes begin with the spelling of a front (own)
 abbrev pub BeginsWithFront : List ℕ → Type 0
 BeginsWithFront bytes = (front : Front) × (rest : List ℕ) × IsFront front × (bytes ≡ spell_front front ++ rest)
 
--- what is read of a front: its kind, its pair gate's byte, what it says of a copy, and how many bytes it takes (own)
+-- what is read from a front: its kind, its pair gate, epoch and base if it is of a copy, and its length (own)
 pub record IsToldFront (told : ToldFront) (front : Front) : Type 0 where
   pub kind : told.kind ≡ front.head.heading.kind
   pub pair : told.pair ≡ front.pair
   pub copied : told.copied ≡ front.head.copied
   pub size : told.size ≡ length (spell_front front)
 
--- what is read of the front that bytes begin with, or that they begin with none (own)
+-- what is read from the front at the start of the bytes; None where they begin with no front (own)
 abbrev pub TellsFront : List ℕ → Option ToldFront → Type 0
 TellsFront bytes None = BeginsWithFront bytes → ⊥
 TellsFront bytes (Some told) =
     (front : Front) × (rest : List ℕ) × IsFront front × (bytes ≡ spell_front front ++ rest) × IsToldFront told front
 
--- the heading in the bytes of a front, of which this was read (own)
+-- the heading in the bytes of a front, given what was read from it (own)
 abbrev pub heading_told : ToldFront → List ℕ → Heading
 heading_told told bytes = record {
   kind = told.kind;

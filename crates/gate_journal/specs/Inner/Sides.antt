@@ -1,4 +1,4 @@
--- What an image stands for is decided of each image, in one way.
+-- Each image has exactly one decision: a side, not ours, or damaged.
 use Rattle.std.proofs.Common.{◌≡◌, ◌≢◌, ◌⊎◌, inl, inr, ℕ, List, [], ◌∷◌, ◌++◌, length, drop, refl, sym, ◌∙◌, ap, subst, append_assoc, arith}
 use Rattle.std.specs.List.{All, flat_map}
 use Rattle.std.proofs.lemmas.Bool.{cases_eq, cases_lt}
@@ -48,7 +48,7 @@ decided image = elim (begin_decided image) [
       (f, rest, ok, is ∙ ap (λ (l : List ℕ). l ++ rest) (append-nil (spell_front f)))))
 ]
 
--- the reading of an image
+-- the reading of an image: a front, bodies, and the rest
 pub record Reads (image : List ℕ) (f : Front) (bodies : List (List ℕ)) (rest : List ℕ) : Type 0 where
   pub begins : IsFront f
   pub holds : All IsBody bodies

@@ -8,22 +8,22 @@ use Rattle.gate_journal.specs.Side.{CLOSED, OPEN}
 abbrev pub Touched : ℕ → ℕ → (List ℕ → Type 0) → List ℕ → Type 0
 Touched at n images image = (before : List ℕ) × images before × Smeared at n before image
 
--- the front and the gate, and then anything (own)
+-- the front, the gate, and then any bytes (own)
 abbrev pub Behind : List ℕ → ℕ → List ℕ → Type 0
 Behind front gate image = (rest : List ℕ) × (image ≡ front ++ gate ∷ rest)
 
--- the front, some gate, and these bytes behind it (own)
+-- the front, some gate, these bytes, and then any bytes (own)
 abbrev pub Gated : List ℕ → List ℕ → List ℕ → Type 0
 Gated front bytes image = (gate : ℕ) × (rest : List ℕ) × (image ≡ front ++ gate ∷ bytes ++ rest)
 
--- anything behind the old gate, or these bytes behind some gate (own)
+-- any bytes after the old gate, or these bytes after some gate (own)
 abbrev pub BehindOrGated : List ℕ → ℕ → List ℕ → List ℕ → Type 0
 BehindOrGated front gate bytes image = Behind front gate image ⊎ Gated front bytes image
 
--- the front, an open gate, and these bytes behind it (own)
+-- the front, an open gate, these bytes, and then any bytes (own)
 abbrev pub Opened : List ℕ → List ℕ → List ℕ → Type 0
 Opened front bytes image = (rest : List ℕ) × (image ≡ front ++ OPEN ∷ bytes ++ rest)
 
--- what is written behind the gate: a length, a body, and the next gate, closed (own)
+-- what is written after the gate: a length, a body, and the next gate, closed (own)
 abbrev pub tail_of : List ℕ → List ℕ
 tail_of body = to_be_bytes w32 (length body) ++ body ++ CLOSED ∷ []

@@ -1,8 +1,8 @@
--- What a contract sees of one ledger.
+-- One ledger, as a contract sees it.
 use Rattle.std.specs.Prelude.{ℕ}
 use Rattle.ledgers.specs.Ledgers.{Gathered}
 
--- a ledger while changes are entered: how many were, and how many parties have no share yet (own)
+-- a ledger while changes are entered: how many were entered, and how many parties have no share yet (own)
 pub record OpenState : Type 0 where
   pub total : ℕ
   pub left : ℕ

@@ -1,4 +1,4 @@
--- What a crew runs goes on.
+-- Runs of a crew compose.
 use Rattle.std.proofs.Common.{◌≡◌, Bool, List, [], ◌∷◌, ◌++◌, flat_map, refl, sym, subst, ◌∙◌}
 use Rattle.std.proofs.lemmas.Grind.{flat_map-append}
 use Rattle.tape_disk.specs.Disk.{DiskState}
@@ -10,7 +10,7 @@ use Rattle.bays.specs.Runs.{Order, orders_of}
 use Rattle.library.specs.Crews.{AnswersAllAmong, AnswersCrew, CrewState}
 
 module _ {D : Type 0} (state : D → DiskState) where
-  -- what was answered goes on by what is answered from there
+  -- a run from the end of another extends it
   pub among_on : (drives : List Bool) (old mid new : List SeatState) (first rest : List Order)
       (replies others : List Reply)
       → AnswersAllAmong state drives old first replies mid → AnswersAllAmong state drives mid rest others new
@@ -22,16 +22,16 @@ module _ {D : Type 0} (state : D → DiskState) where
   among_on drives old mid new [] rest (reply ∷ replies) others one two = absurd one
   among_on drives old mid new (order ∷ first) rest [] others one two = absurd one
 
-  -- the drives stay in their places
+  -- the same drives are configured
   pub crew_drives : (old new : CrewState) (items : List Item) (replies : List Reply)
       → AnswersCrew state old items replies new → new.drives ≡ old.drives
   crew_drives old new items replies answered = answered.drives
 
-  -- no item is answered by standing still
+  -- no items, no replies, no change
   pub crew_none : (crew : CrewState) → AnswersCrew state crew [] [] crew
   crew_none crew = record { drives = refl; orders = refl }
 
-  -- nor is a phase of no command
+  -- the same for a phase without commands
   pub crew_empty : (crew : CrewState) → AnswersCrew state crew (Phase [] ∷ []) [] crew
   crew_empty crew = record { drives = refl; orders = refl }
 

@@ -1,4 +1,4 @@
--- Jobs that are done: what their lines were answered, one after another.
+-- Jobs that are done: the replies to their lines, one after another.
 use Rattle.std.proofs.Common.{zero, suc, ◌≡◌, ◌<◌, ℕ, Bool, List, [], ◌∷◌, ◌++◌, length, get_or, set, map, Some, refl, sym, ap, subst, arith}
 use Rattle.std.proofs.lemmas.List.{append_assoc, length-append, map-append}
 use Rattle.std.specs.List.{slice_get}
@@ -13,7 +13,7 @@ use Rattle.library.specs.Inner.Jobs.{AreDone, IsDone, JobState, lines_of, replie
 use Rattle.library.specs.Sessions.{AnswersSession}
 
 module _ {X : Type 0} where
-  -- what stands behind a row, before another
+  -- the element after a list, before another
   at_end : (front back : List X) (x : X) → slice_get (front ++ x ∷ back) (length front) ≡ Some x
   at_end [] back x = refl
   at_end (y ∷ front) back x = at_end front back x
@@ -23,7 +23,7 @@ module _ {X : Type 0} where
   set_end (z ∷ front) back x y = ap (λ (l : List X). z ∷ l) (set_end front back x y)
 
 module _ {D : Type 0} (state : D → DiskState) (drives : List Bool) where
-  -- the lines of one host, whose seat stands between others, are answered one after another
+  -- the lines of one host, whose seat is between others, are answered one after another
   session_among : (front back : List SeatState) (before after : SeatState) (lines : List Line) (replies : List Reply)
       → AnswersSession state before lines replies after
       → AnswersAllAmong state drives (front ++ before ∷ back) (map Command lines) replies (front ++ after ∷ back)

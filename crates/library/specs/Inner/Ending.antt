@@ -12,32 +12,32 @@ use Rattle.library.specs.Kept.{IsLeftAt}
 use Rattle.library.specs.declared.finishing.FinishError.{FinishError}
 use Rattle.library.specs.declared.finishing.FinishError.TheVariants as Errors
 
--- how a library ends, by what was written out and what the ledgers say
+-- the result at the end of a library, by what was written out and what the ledgers say
 abbrev pub outcome_of :
     Result Unit Unwritten → List (Option ℕ) → Result ℕ SeatsMissing → Result (List (Option ℕ)) FinishError
 outcome_of (Err unwritten) counts compared = Err Errors.Unwritten
 outcome_of (Ok done) counts (Ok total) = Ok counts
 outcome_of (Ok done) counts (Err missing) = Err (Errors.SeatsMissing missing.total missing.seats)
 
--- the first of two refusals
+-- the first of two errors, if there is one
 abbrev pub worse_of : Result Unit Unwritten → Result Unit Unwritten → Result Unit Unwritten
 worse_of (Err unwritten) second = Err unwritten
 worse_of (Ok done) second = second
 
 module _ {X : Type 0} where
-  -- this is so of each of these
+  -- each of these has P
   abbrev pub OfEach : (X → Type 0) → List X → Type 0
   OfEach P [] = Unit {0}
   OfEach P (x ∷ xs) = P x × OfEach P xs
 
 module _ {D : Type 0} (state : D → DiskState) where
-  -- what is loaded in one of these drives has failed
+  -- the loaded medium of one of these drives has failed
   abbrev pub OneHasFailed : List (Option (BayState D)) → Type 0
   OneHasFailed [] = ⊥
   OneHasFailed (bay ∷ bays) = HasFailedAt state bay ⊎ OneHasFailed bays
 
-  -- drives that were shared have ended as these: each is where it was, and took a turn; the shares of all were
-  -- gathered, and with them the changes that the drives counted; and nothing is left to be written, or one has failed
+  -- Shared drives have ended as these: each is in its place, and took a turn. The shares of all were gathered, with the
+  -- changes that the drives counted. Nothing is left to write, or one has failed.
   pub record HaveEnded {X : Type 0}
       (shared : List (Option X)) (bays : List (Option (BayState D))) (gathered : Gathered)
       (written : Result Unit Unwritten) : Type 0 where

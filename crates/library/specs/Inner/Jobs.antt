@@ -8,20 +8,20 @@ use Rattle.vtl_script.specs.declared.lines.Line.{Line}
 use Rattle.library.specs.Counts.{has_drive}
 use Rattle.library.specs.Sessions.{AnswersSession}
 
--- the seat of a host, its lines in a phase, their replies, and how many replies there is room for
+-- the seat of a host, its lines in a phase, their replies, and the room for replies
 pub record JobState : Type 0 where
   pub seat : SeatState
   pub lines : List Line
   pub replies : List Reply
   pub room : ℕ
 
--- the lines of a job are of its host, none has its reply, and there is room for them
+-- the lines of a job are its host's, none has a reply yet, and there is room for all replies
 pub record IsDealt (job : JobState) : Type 0 where
   pub host : list_all (λ line. nat_eq line.host job.seat.nexus) job.lines ≡ true
   pub none : job.replies ≡ []
   pub room : length job.lines ≤ job.room
 
--- and they are for drives that there are
+-- and each line names a configured drive
 pub record IsReady (drives : List Bool) (job : JobState) : Type 0 where
   pub dealt : IsDealt job
   pub configured : list_all (λ line. has_drive drives line.drive) job.lines ≡ true
@@ -57,7 +57,7 @@ module _ {D : Type 0} (state : D → DiskState) where
   AreDone old new =
       (i : ℕ) (d : JobState) → i < length old → IsDone (slice_index_or old i d) (slice_index_or new i d)
 
-  -- and each is, of the same library
+  -- and each is done, with the same drives
   pub record IsServedStage (old new : StageState) : Type 0 where
     pub drives : new.drives ≡ old.drives
     pub long : length new.jobs ≡ length old.jobs

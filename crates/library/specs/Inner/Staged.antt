@@ -1,4 +1,4 @@
--- The hosts of a library, as their jobs show them.
+-- The hosts of a library, by their jobs.
 use Rattle.std.specs.Prelude.{List}
 use Rattle.std.specs.List.{All}
 use Rattle.scsi_sense.specs.declared.replies.Reply.{Reply}

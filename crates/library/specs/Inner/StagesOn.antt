@@ -1,4 +1,4 @@
--- What the hosts of a library have answered once each has carried out what was dealt to it.
+-- The hosts of a library after each has carried out the lines that were dealt to it.
 use Rattle.std.proofs.Common.{◌≡◌, List, [], ◌∷◌, length, map, ap, sym, subst, ◌∙◌}
 use Rattle.std.proofs.lemmas.List.{append-nil}
 use Rattle.tape_disk.specs.Disk.{DiskState}

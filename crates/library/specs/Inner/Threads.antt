@@ -1,4 +1,4 @@
--- What a function leaves of each of some values.
+-- What a function leaves of each value in a list.
 use Rattle.std.specs.Prelude.{ℕ, ◌<◌, List, length, slice_index_or}
 use Rattle.std.specs.Fork.{ChangesAt}
 use denote.Ref.{MutBor}

@@ -1,4 +1,4 @@
-//! Moves of cartridges out of drives that were locked, and into them.
+//! Moves of cartridges out of locked drives, and into them.
 ghost use Rattle.std.specs.Prelude.{◌≢◌, None, Some};
 ghost use Rattle.bays.specs.Lent.{IsDriveAddress};
 ghost use Rattle.library.specs.MovesAt.{MovesEach};

@@ -1,4 +1,4 @@
--- Each row of bytes spells one list of changes, or is bad at one place.
+-- Bytes spell one list of changes, or are bad at one place.
 use Rattle.std.proofs.Common.{◌≡◌, ◌⊎◌, inl, inr, ℕ, zero, suc, ◌<◌, ◌≤◌, ◌^◌, List, [], ◌∷◌, ◌++◌, length, drop, refl, sym, ◌∙◌, ap, subst, arith, append_assoc, length-append}
 use Rattle.std.specs.Prelude.{Option, None, Some}
 use Rattle.std.specs.List.{All}
@@ -23,7 +23,7 @@ ten_at_least (Records.Put part at size) = omega arith
 ten_at_least (Records.Marks part at count) = omega arith
 ten_at_least (Records.Erase part at) = omega arith
 
--- there is a byte in each record
+-- each record has a byte
 pub some_byte : (change : Change) (rest : List ℕ) → spell_change change ++ rest ≡ [] → ⊥
 some_byte (Put part at block) rest e = cc
 some_byte (Marks part at count) rest e = cc
@@ -39,7 +39,7 @@ is_record (Marks part at count) =
     both3 (both (less part (2 ^ 8)) (less at (2 ^ 32))) (below 1 count) (below count MAX_OBJECTS)
 is_record (Erase part at) = both (less part (2 ^ 8)) (less at (2 ^ 32))
 
--- one can find out whether bytes begin with a record
+-- it is decidable whether bytes begin with a record
 pub begins : (bytes : List ℕ) → Decidable (BeginsWithRecord bytes)
 begins bytes = by (told bytes) refl
   where
@@ -68,7 +68,7 @@ begins bytes = by (told bytes) refl
               w.3 ∙ (λ i. spell_change (change i) ++ rest i),
             )
 
--- records, and then what begins with none
+-- records, and then bytes that begin with none
 abbrev pub Split : List ℕ → Type 0
 Split bytes =
     (changes : List Change) × (rest : List ℕ) × All IsRecord changes × (bytes ≡ spell_all changes ++ rest)
@@ -115,7 +115,7 @@ decide bytes (changes, x ∷ rest, ok, is, never) = inr (
 pub decided : (bytes : List ℕ) → IsDecided bytes
 decided bytes = decide bytes (split_within (length bytes) bytes (omega arith))
 
--- the records at the front of bytes are one list, where what follows begins with none
+-- the records at the start of bytes are one list, where the rest begins with none
 pub one_end : (changes others : List Change) (r s : List ℕ) → All IsRecord changes → All IsRecord others
     → spell_all changes ++ r ≡ spell_all others ++ s → (BeginsWithRecord r → ⊥) → (BeginsWithRecord s → ⊥)
     → (changes ≡ others) × (r ≡ s)
@@ -143,7 +143,7 @@ one_end (c ∷ cs) (d ∷ ds) r s okc oko is noner nones =
     let others = one_end cs ds r s (All-tail IsRecord c cs okc) (All-tail IsRecord d ds oko) first.1 noner nones in
     (λ i. first.0 i ∷ others.0 i, others.1)
 
--- a list spelled is its records and no rest
+-- a spelled list is its records, without a rest
 ends : (bytes : List ℕ) (changes : List Change) → SpellsAll bytes changes → bytes ≡ spell_all changes ++ []
 ends bytes changes spells = spells.1 ∙ sym (append-nil (spell_all changes))
 

@@ -1,4 +1,4 @@
--- Facts that hold or don't: what a reader of bytes can find out.
+-- Facts that a reader of bytes can decide.
 use Rattle.std.proofs.Common.{◌≡◌, ◌⊎◌, inl, inr, ⊎_elim, ℕ, ◌<◌, ◌≤◌, List, [], ◌∷◌, arith, refl}
 use Rattle.std.proofs.lemmas.Bool.{cases_eq, cases_lt}
 

@@ -1,4 +1,4 @@
--- A record is told by the bytes that it begins: no spelling begins another.
+-- The bytes at the start decide the record: no spelling begins another.
 use Rattle.std.proofs.Common.{◌≡◌, ℕ, ◌<◌, ◌+◌, ◌-◌, ◌^◌, List, ◌++◌, length, drop, refl, sym, ◌∙◌, ap, arith, length-append}
 use Rattle.std.specs.Prelude.{None, Some, nat_lt, nat_le, ◌&&◌}
 use Rattle.std.specs.Int.{to_be_bytes, w32}
@@ -28,7 +28,7 @@ module _ (kind part at number : ℕ) (behind : List ℕ) (at_fits : at < 2 ^ 32)
       (big_number-reads_back 4 at (to_be_bytes w32 number ++ behind) at_fits i)
       (big_number-reads_back 4 number behind number_fits i) (left i))
 
--- a change's spelling tells its record, whatever follows
+-- the spelling of a change gives its record, whatever follows
 pub told_again : (change : Change) (rest : List ℕ) → IsRecord change → told (spell_change change ++ rest)
     ≡ Some (record_of change)
 told_again (Put part at block) rest ok =
@@ -49,7 +49,7 @@ length-spell (Put part at block) = omega arith
 length-spell (Marks part at count) = refl
 length-spell (Erase part at) = refl
 
--- a change is what stands behind its record's head
+-- a change is what follows the head of its record
 pub change_again : (change : Change) (rest : List ℕ) → change_in (record_of change) (spell_change change ++ rest) ≡
     change
 change_again (Put part at block) rest = ap (Put part at) (take_at block rest (length block) refl)
@@ -63,7 +63,7 @@ rest_again change rest = drop_at (spell_change change) rest (size_of (record_of 
 same_some : {A : Type 0} (x y : A) → Some x ≡ Some y → x ≡ y
 same_some x y e = cc
 
--- no change's spelling begins another's
+-- the spelling of a change does not begin that of another
 pub one_front : (change other : Change) (x y : List ℕ) → IsRecord change → IsRecord other
     → spell_change change ++ x ≡ spell_change other ++ y → (change ≡ other) × (x ≡ y)
 one_front change other x y ok also same =

@@ -5,7 +5,7 @@ use Rattle.byteorder.specs.Endian.{big_number}
 use Rattle.record_index.specs.declared.records.Record.{Record}
 use Rattle.record_index.specs.declared.records.Record.TheVariants.{Put, Marks, Erase}
 
--- a block of 1 to 1,048,576 bytes, of which so many are there (own)
+-- a block of 1 to 1,048,576 bytes, for which at least as many are there (own)
 abbrev pub block_told : ℕ → ℕ → ℕ → ℕ → Option Record
 block_told part at number there =
     if nat_le 1 number && nat_le number MAX_BLOCK && nat_le number there then Some (Put part at number) else None
@@ -27,11 +27,11 @@ kind_told kind part at number there =
     else (if kind == 3 then erase_told part at number
     else None))
 
--- the record whose head bytes begin with, where so many bytes of its block are there (own)
+-- the record whose head begins the bytes, if the `there` bytes after it suffice for its block (own)
 abbrev pub head_told : List ℕ → ℕ → Option Record
 head_told head there =
     kind_told (slice_index head 0) (slice_index head 1) (big_number 4 (drop 2 head)) (big_number 4 (drop 6 head)) there
 
--- the record that bytes begin with, where they begin with one (own)
+-- the record that begins the bytes, if there is one (own)
 abbrev pub told : List ℕ → Option Record
 told bytes = if nat_lt (length bytes) 10 then None else head_told bytes (length bytes - 10)

@@ -26,11 +26,11 @@ set_of_bits bits = record {
   mode_changed = bit_at bits 5 == 1;
 }
 
--- the byte that has the bits of a set (own)
+-- the byte with the bits of a set (own)
 abbrev pub bits_of : AttentionSet → ℕ
 bits_of set = sum (map (λ attention. if contains attention set then bit_of attention else 0) in_order)
 
--- a byte of six bits is had back from its set
+-- the set of a byte of six bits gives the byte
 pub bits_of-set_of_bits : (bits : ℕ) → bits < 64 → bits_of (set_of_bits bits) ≡ bits
 bits_of-set_of_bits bits fits =
     eqb-true (bits_of (set_of_bits bits)) bits

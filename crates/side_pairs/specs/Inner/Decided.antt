@@ -1,4 +1,4 @@
--- Each pair stands for one thing, is not ours, or is damaged at one place.
+-- Each pair stands for one head and frames, is not ours, or is damaged at one place.
 use Rattle.std.proofs.Common.{◌≡◌, ◌≢◌, ◌⊎◌, inl, inr, ⊎_elim, ℕ, ◌<◌, List, [], ◌∷◌, ◌++◌, length, drop, get_or, refl, sym, ◌∙◌, ap, subst, arith}
 use Rattle.std.specs.Prelude.{Option, None, Some}
 use Rattle.std.specs.List.{All, flat_map}
@@ -14,7 +14,7 @@ use Rattle.side_pairs.specs.Passes.{HasStart}
 use Rattle.side_pairs.specs.Inner.{IsOpenWith, IsHeadless}
 use Rattle.side_pairs.specs.Inner.Starts.{has_head, same_head}
 
--- the ten bytes tell their two gates and the rest
+-- the ten bytes have two gates and a rest, each only one
 pub same_pair : (a b p q : ℕ) (xs ys : List ℕ) → begun a p ++ xs ≡ begun b q ++ ys → p ≡ q
 same_pair a b p q xs ys e = ap (λ (l : List ℕ). get_or l 9 0) e
 
@@ -24,7 +24,7 @@ same_side a b p q xs ys e = ap (λ (l : List ℕ). get_or l 0 0) e
 pub same_rest : (a b p q : ℕ) (xs ys : List ℕ) → begun a p ++ xs ≡ begun b q ++ ys → xs ≡ ys
 same_rest a b p q xs ys e = ap (λ (l : List ℕ). drop 10 l) e
 
--- what is known of one image: it has no ten bytes of a side, or it is closed, or open with a heading, or open without
+-- the cases of one image: without the ten bytes of a side; closed; open with a head; open without one
 abbrev pub View : List ℕ → Type 0
 View image = (HasStart image → ⊥)
     ⊎ ((pair : ℕ) × (IsClosedSide pair image ⊎ (IsOpenWith pair image ⊎ IsHeadless pair image)))
@@ -60,7 +60,7 @@ viewed image = elim (start_known image) [
   )
 ]
 
--- an open side has one heading
+-- an open side has one head
 pub one_side : (p q : ℕ) (h k : Head) (r s image : List ℕ) → IsOpenSide p h r image → IsOpenSide q k s image →
     (p ≡ q) × ((h ≡ k) × (r ≡ s))
 one_side p q h k r s image a b =
@@ -70,12 +70,12 @@ one_side p q h k r s image a b =
           (spell_side_head k ++ s) e),
     )
 
--- a side that is open is not closed
+-- an open side is not closed
 pub open_shut : (p q : ℕ) (h : Head) (r image : List ℕ) → IsOpenSide p h r image → IsClosedSide q image → ⊥
 open_shut p q h r image a (gate, rest, shut, is) =
     shut (same_side gate OPEN q p rest (spell_side_head h ++ r) (sym is ∙ a.image_is))
 
--- what yields to an epoch, and is open, has a lesser one
+-- an open side that yields to an epoch has a lesser one
 pub lesser : (epoch p q : ℕ) (h : Head) (r image : List ℕ) → IsOpenSide p h r image → YieldsTo epoch q image →
     epoch_of h < epoch
 lesser epoch p q h r image a (inl shut) = absurd (open_shut p q h r image a shut)
@@ -101,7 +101,7 @@ not_both h k r s first second (p, a, inr (is, (o, shut, y))) (q, closed, b, z) =
     let two = lesser (epoch_of h) q o k s second b y in
     absurd (omega (arith, one, two))
 
--- one side counts
+-- at most one side counts
 pub one_counts : (w v : Which) (h k : Head) (r s first second : List ℕ) →
     SideCounts w h r first second → SideCounts v k s first second → Same w h r v k s
 one_counts First First h k r s first second (p, a, x) (q, b, y) = (refl, (one_side p q h k r s first a b).1)
@@ -128,7 +128,7 @@ module _ (first second : List ℕ) where
   no_first never Second h r (p, m, a, y) =
       let w = yields_start (epoch_of h) OPEN first y in never (w.0, OPEN, w.1, w.2)
 
-  -- the first image is read alone, and has no heading, or is closed, or is a copy
+  -- the first image is read alone, and has no head, or is closed, or is a copy
   pub not_alone : (p : ℕ) → p ≢ OPEN → HasPair p first →
       ((h : Head) (r : List ℕ) → IsOpenSide p h r first → h.copied ≡ None → ⊥) → IsNoPair first second
   not_alone p shut (side, rest, is) never First h r (q, a, x) =
@@ -371,7 +371,7 @@ decided first second = elim (counts_decided first second) [
   | inr never ↦ inr (inl never)
 ]
 
--- the reading of a pair: its frames, and what no further frame begins
+-- the reading of a pair: its frames, and a rest with which no further frame begins
 pub record Reads (w : Which) (h : Head) (bodies : List (List ℕ)) (rest first second : List ℕ) : Type 0 where
   pub each : All IsBody bodies
   pub counts : SideCounts w h (flat_map frame bodies ++ rest) first second

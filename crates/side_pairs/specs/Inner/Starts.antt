@@ -1,4 +1,4 @@
--- A cartridge's side begins in one way.
+-- A cartridge's side has one beginning.
 use Rattle.std.proofs.Common.{◌≡◌, List, ℕ, ◌++◌}
 use Rattle.gate_journal.specs.Heads.{Head, BeginsWithHead, spell_side_head}
 use Rattle.gate_journal.specs.Inner.Deciding.{Decidable, decided_as}
@@ -6,7 +6,7 @@ use Rattle.gate_journal.specs.Inner.HeadsRead as heads
 use Rattle.side_pairs.specs.Pairs.{IsOfCartridge}
 use Rattle.side_pairs.specs.Inner.{HasHead}
 
--- bytes begin with one head
+-- bytes begin with at most one head
 pub same_head : (h k : Head) (r s : List ℕ) → IsOfCartridge h → IsOfCartridge k →
     spell_side_head h ++ r ≡ spell_side_head k ++ s → (h ≡ k) × (r ≡ s)
 same_head h k r s okh okk e = heads.same_head h k r s okh.kind okk.kind okh.spelled okk.spelled e
@@ -17,6 +17,6 @@ to_plain bytes (h, rest, ok, is) = (h, rest, ok.kind, ok.spelled, is)
 pub from_plain : (bytes : List ℕ) → BeginsWithHead bytes → HasHead bytes
 from_plain bytes (h, rest, kind, ok, is) = (h, rest, record { kind = kind; spelled = ok }, is)
 
--- whether bytes begin with a head
+-- it is decidable whether bytes begin with a head
 pub has_head : (bytes : List ℕ) → Decidable (HasHead bytes)
 has_head bytes = decided_as (from_plain bytes) (to_plain bytes) (heads.decided_head bytes)

@@ -4,6 +4,6 @@ use Rattle.tape_disk.specs.Faults.{with_failures}
 use Rattle.tape_disk.specs.declared.failing.Failing.{Failing}
 
 module _ {D : Type 0} (state : D → DiskState) where
-  -- that of the disk below, but for the failures (own)
+  -- the state of the disk below, except for the failures (own)
   abbrev pub failing_state : Failing D → DiskState
   failing_state failing = with_failures (state failing.disk) failing.failures.count.value

@@ -1,4 +1,4 @@
-//! A catalog that counts the objects that are looked at, and the filemarks that are asked for.
+//! A catalog that counts the objects that are looked at, and the searches for filemarks.
 ghost use Rattle.std.specs.Prelude.{◌≡◌};
 
 use std::cell::Cell;

@@ -104,12 +104,12 @@ fn goes_alike(rt: &impl Abort, medium: &PlainMedium, objects: &[u8], from: usize
     }
 }
 
-// The next number of a row below 65,537 that looks random (Lehmer's, with 75 and 74).
+// The next pseudo-random number below 65,537 (Lehmer's sequence, with 75 and 74).
 fn next(number: u32) -> u32 {
     number.saturating_mul(75).saturating_add(74) % 65_537
 }
 
-// How many objects a tape has, how many of eight are filemarks, and the number that it is made from.
+// How many objects a tape has, how many of eight are filemarks, and the seed that it is made from.
 static RANDOM: &'static [(u32, u32, u32)] = &[
     (60, 0, 3),
     (60, 1, 5),

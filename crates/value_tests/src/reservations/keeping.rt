@@ -1,10 +1,10 @@
-//! A keeper whose store fills, or one of whose saves fails.
+//! A keeper whose store becomes full, or one of whose saves fails.
 use super::{ONE_REGISTERS, TWO_REGISTER, after};
 use assertions::{assert_equal, assert_holds};
 use pr_core::{Keeper, KeeperError, Reservations, SaveFault, SavePlan, StagedKeeper};
 use std::process::Abort;
 
-// How the fourth and each earlier save is answered where the save behind so many fails.
+// The result of one of the first four saves, where the save after this many fails.
 fn answer(save: u32, after: u32, by: SaveFault) -> Result<(), KeeperError> {
     match by {
         SaveFault::NoMemory if save == after => Err(KeeperError::NoMemory),
@@ -14,12 +14,12 @@ fn answer(save: u32, after: u32, by: SaveFault) -> Result<(), KeeperError> {
     }
 }
 
-// Whether a keeper holds just these as the reservations that were saved last.
+// Whether the reservations that a keeper saved last are exactly these.
 fn holds(rt: &impl Abort, keeper: &StagedKeeper, state: &Reservations) {
     assert_holds!(rt; !keeper.saved().needs_save(state));
 }
 
-// How many saves come before the one that fails, how that fails, and how many hosts are registered in what was
+// How many saves come before the one that fails, how it fails, and how many hosts are registered in what was
 // saved last.
 static FAULTS: &'static [(u32, SaveFault, u8)] = &[
     (0, SaveFault::NoMemory, 2),
@@ -58,7 +58,7 @@ fn one_save_fails(rt: HostRuntime) {
     }
 }
 
-// Whether a host is registered in what is saved, the answer, and the room that is left.
+// Whether a host is registered in what is saved, the result, and the room that is left.
 static SAVES: &'static [(bool, Result<(), KeeperError>, u64)] = &[
     (true, Ok(()), 17),
     (true, Err(KeeperError::SideFull), 17),
@@ -81,7 +81,7 @@ fn a_store_fills(rt: HostRuntime) {
     assert_holds!(rt; !keeper.has_failed());
 }
 
-// What was under way as the device failed is told apart from what was saved.
+// The state in doubt after a device fault is distinguished from what was saved.
 #[test]
 fn a_save_is_torn(rt: HostRuntime) {
     let one = after(&rt, ONE_REGISTERS);

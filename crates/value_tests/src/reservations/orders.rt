@@ -43,7 +43,7 @@ fn held_by_1(kind: PrType) -> (u8, u8) {
     (kind.number(), if kind.number() >= 7 { 0 } else { 1 })
 }
 
-// With APTPL a reservation outlives a loss of power, with the registration of who made it.
+// With APTPL a reservation outlives a loss of power, with the registration of its holder.
 #[test]
 fn a_reservation_outlives_a_loss_of_power(rt: HostRuntime) {
     for &kind in TYPES {

@@ -1,4 +1,4 @@
-//! What PERSISTENT RESERVE IN reads, byte for byte; a keeper that keeps nothing.
+//! The data of PERSISTENT RESERVE IN, byte for byte; a keeper that saves nothing.
 use super::{A, ONE_REGISTERS, TWO_REGISTER, reserved};
 use assertions::{assert_equal, assert_holds};
 use pr_core::{Keeper, NoKeeper, Reservations};
@@ -7,7 +7,7 @@ use std::alloc::Global;
 use std::process::Abort;
 use std::test::Fail;
 
-// These are read so, cut to each room: the keys, and the reservation.
+// These are the data, cut to each room: of the keys, and of the reservation.
 fn reads(
     rt: &impl Abort,
     alloc: Global,

@@ -1,4 +1,4 @@
-//! The data that a drive gives of itself, byte by byte.
+//! The data in which a drive describes itself, byte by byte.
 use assertions::assert_equal;
 use scsi_wire::{block_limits, cut_to, inquiry_data};
 
@@ -17,7 +17,7 @@ fn data_of_the_drive(rt: HostRuntime) {
     assert_equal!(rt; block_limits().as_slice(), BLOCK_LIMITS);
 }
 
-// Bytes, the room for them, and what is given.
+// Bytes, the room for them, and the part that fits.
 static CUTS: &'static [(&'static [u8], usize, &'static [u8])] = &[
     (b"hello", 0, b""),
     (b"hello", 1, b"h"),

@@ -46,7 +46,7 @@ const REGISTER_NOTHING: Command = Command::PersistentReserveOut {
     length: 0,
 };
 
-// A code, and what a block is that has it and is 0 behind it, and how many bytes that block has.
+// A code, the command of a block with it and 0 in all other bytes, and the length of that block.
 static KNOWN: &'static [(u8, Opcode, Command, usize)] = &[
     (0x00, Opcode::TestUnitReady, Command::TestUnitReady, 6),
     (0x01, Opcode::Rewind, Command::Rewind, 6),

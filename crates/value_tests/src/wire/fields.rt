@@ -1,4 +1,4 @@
-//! Fields whose values no script shows: bits that are not looked at, and numbers beyond what a drive has.
+//! Fields whose values no script shows: bits that are ignored, and numbers beyond those of a drive.
 use super::is_decoded;
 use scsi_lists::{PrAction, PrType};
 use scsi_wire::{Command, PrRead};
@@ -53,7 +53,7 @@ const SENSE_MODE: Command = Command::ModeSense {
     disable_descriptors: false,
 };
 
-// A block, its command, and the bytes that are sent with it; a block with no command has an invalid field.
+// A block, its command, and the bytes that are sent with it; a block without a command has an invalid field.
 static FIELDS: &'static [(&'static [u8], Option<Command>, u32)] = &[
     (
         b"\x0a\xfe\x10\x00\x00\xff",

@@ -1,9 +1,9 @@
--- What was packed so far.
+-- The totals of a packing so far.
 use Rattle.std.specs.Prelude.{◌+◌, ℕ, nat_le, if◌then◌else◌}
 use Rattle.volume_copy.specs.declared.totals.Packed.{Packed}
 use Rattle.volume_copy.specs.declared.totals.TheConstants.{FRAME_BODY}
 
--- with a record of so many bytes more: in the last frame, if it fits there (own)
+-- the totals with one more record of this size: in the last frame, if it fits there (own)
 abbrev pub packed_with : Packed → ℕ → Packed
 packed_with packed size =
     if nat_le (packed.last + size) FRAME_BODY

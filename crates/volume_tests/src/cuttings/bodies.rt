@@ -1,4 +1,4 @@
-//! Bodies of records by chance, and a plain program that reads them.
+//! Random bodies of records, and a plain program that reads them.
 ghost use Rattle.std.specs.Prelude.{◌≤◌, ◌<◌};
 
 use super::{Answer, next};
@@ -22,7 +22,8 @@ fn drawn(state: &mut u32, bound: u32) -> u32
     (*state >> 16) % bound
 }
 
-// A record of any partition and any object number: a block of 40 bytes at most, up to 16,000,000 marks, or an erase.
+// A record with any partition and any object number: a block of at most 40 bytes, up to 16,000,000 marks, or
+// an erase.
 fn drawn_record(state: &mut u32) -> Record {
     let kind = drawn(state, 3);
     let part = drawn(state, 256) as u8;
@@ -44,7 +45,7 @@ fn drawn_record(state: &mut u32) -> Record {
     }
 }
 
-// Its bytes, behind others. Those of a block are 0 to 3, as if records began there.
+// Appends its bytes to others. Those of a block are 0 to 3, as if records began there.
 fn spell(state: &mut u32, item: Record, bytes: &mut Vec<u8>) -> Result<(), Fail> {
     let (kind, part, at, number, block) = match item {
         Record::Put { part, at, length } => (1, part, at, length, length),
@@ -73,7 +74,7 @@ pub(crate) fn drawn_body(alloc: Global, state: &mut u32) -> Result<Body, Fail> {
     Ok(Body { bytes, found })
 }
 
-/// Places for cuts of so many bytes, and more: pieces of 60 bytes at most.
+/// Places for cuts of this many bytes, and more: pieces of at most 60 bytes.
 pub(crate) fn drawn_cuts(alloc: Global, state: &mut u32, end: usize) -> Result<Vec<usize>, Fail> {
     let widest = 1 + drawn(state, 60);
     let mut cuts = Vec::new(alloc);
@@ -85,7 +86,7 @@ pub(crate) fn drawn_cuts(alloc: Global, state: &mut u32, end: usize) -> Result<V
     Ok(cuts)
 }
 
-/// A place among so many bytes, of which there are 1,000 at most; 0 where there are none.
+/// A place among this many bytes, at most 1,000; 0 where there are none.
 pub(crate) fn drawn_place(state: &mut u32, count: usize) -> usize {
     let count = count.min(1_000) as u32;
     if count == 0 {
@@ -103,7 +104,7 @@ pub(crate) fn damage(state: &mut u32, bytes: &mut [u8]) {
     }
 }
 
-// The record that bytes begin with, and those behind it; None where they begin with none.
+// The record at the start of bytes, and those after it; None where they begin with none.
 fn plain_record(bytes: &[u8]) -> Option<(Record, &[u8])> {
     let [kind, part, a, b, c, d, e, f, g, h, block @ ..] = bytes else {
         return None;

@@ -36,7 +36,7 @@ impl<'a> Stepping<'a> {
         self.looks.get()
     }
 
-    // One search more, of so many steps.
+    // One more search, of this many steps.
     fn searched(&self, steps: &Steps) {
         self.searches.set(self.searches.get().saturating_add(1));
         self.steps

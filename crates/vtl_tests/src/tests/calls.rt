@@ -18,7 +18,8 @@ const DEVICE: &str = "vtl: device fault\n";
 
 const DEVICE_ERROR: FileError = FileError::Device(DevFault { failures: 1 });
 
-// One run: what fails and the words behind the name; what is wanted: the calls, the text, and the line with the status.
+// One run: what fails and the words after the name; expected: the calls, the text, and the line with the
+// status.
 pub type Row<'a> = (Failing, &'a str, &'a str, &'a str, (&'a str, u8));
 
 pub const DONE: (&str, u8) = ("", 0);
@@ -362,7 +363,7 @@ fn refused_words_ask_for_no_file(rt: HostRuntime) -> Result<(), Fail> {
 
 static HELPS: &'static [&'static str] = &["vtl --help", "vtl run -h"];
 
-// The help that these words ask for.
+// The help for these words.
 fn help(alloc: Global, line: &str) -> Result<String, Fail> {
     let words = words_of(alloc, line)?;
     match read_words(alloc, words.as_slice()) {

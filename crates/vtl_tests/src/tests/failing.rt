@@ -25,7 +25,7 @@ struct FailingSides {
     calls: u64,
 }
 
-// A new cartridge on a disk that fails at the call after this many; None where that was in its making.
+// A new cartridge on a disk that fails at the call after this many; None where that was during its creation.
 fn failing_cartridge(
     alloc: Global,
     calls: u64,
@@ -111,7 +111,7 @@ fn run_over<R: Threads + Wait + Clock + Sync>(
     run_started(rt, alloc, sides, held, &mut reader, writer)
 }
 
-// What a script ends with, and what it writes.
+// How a script ends, and what it writes.
 type Ran = (Vec<u8>, Result<(), VtlFault>);
 
 // Runs a script over a library whose cartridge fails at that call.
@@ -130,14 +130,14 @@ fn ran<R: Threads + Wait + Clock + Sync>(
     Ok((writer.into_text(), outcome))
 }
 
-// A block that waits until the end; and one behind which a line is refused.
+// A block that waits until the end; and one after which a line is refused.
 const WAITS: &[u8] = b"1 1 000000000000\n1 1 0a0000000100 61\n";
 
 const REFUSED: &[u8] = b"1 1 000000000000\n1 1 0a0000000100 61\n--\nx\n";
 
 const GOOD: &str = "CHECK 700006000000000a00000000290000000000\nGOOD\n";
 
-// How a script ends that writes what it should; None where it writes something else.
+// How a script ends that writes the expected text; None where it writes something else.
 fn end_of<R: Threads + Wait + Clock + Sync>(
     rt: &R,
     alloc: Global,

@@ -1,4 +1,4 @@
-//! Files in memory, of a test's own, that note what they are asked for.
+//! Files in memory, of a test's own, that note their calls.
 use bays::Held;
 use file_disk::FileError;
 use std::alloc::{AllocError, Global};
@@ -19,15 +19,15 @@ const CONFIG: &[u8] = b"cartridge = [\
 /// The side of its first cartridge, new.
 pub const CARTRIDGE: &[u8] = b"\xa5VTLCART1\0\x01T00001L6        \0\0\0\0\0\0\x10\0\0";
 
-// What is no side, but can stand beside one of a pair.
+// Bytes that are no side, but can be beside one of a pair.
 const SPARE: &[u8] = b"\0VTLCART1\0";
 
 // The side of its first drive, new.
 const STORE: &[u8] = b"\xa5VTLRESV1\0\0DRIVE1          \0";
 
-/// What fails: nothing; the call for a file of this number (from 1 on), with what it answers; the memory for a text;
-/// the disk of this name after this many calls; the side of this name, which has these bytes; or the call of the writer
-/// of this number (from 1 on).
+/// What fails: nothing; the call for a file with this number (from 1 on), with its error; the memory for a
+/// text; the disk with this name after this many calls; the side with this name, which has these bytes; or
+/// the call of the writer with this number (from 1 on).
 #[derive(Clone, Copy)]
 pub enum Failing {
     Nothing,
@@ -57,7 +57,7 @@ impl NotedFiles {
         }
     }
 
-    /// The calls, each with a semicolon behind it.
+    /// The calls, each followed by a semicolon.
     pub fn into_note(self) -> Vec<u8> {
         self.note.into_inner()
     }
@@ -72,7 +72,7 @@ impl NotedFiles {
         Ok(())
     }
 
-    // Notes a call, and fails where it is the one that is to fail.
+    // Notes a call, and fails if it is the one that is to fail.
     fn call(&self, word: &str, name: &str) -> Result<(), FileError> {
         self.calls.set(self.calls.get().saturating_add(1));
         if self.noted(word, name).is_err() {

@@ -199,8 +199,8 @@ fn fault_lines(rt: HostRuntime) -> Result<(), Fail> {
     Ok(())
 }
 
-// How many bytes a writer takes at once and what its first calls answer; what is then out of `abcdef`, and whether that
-// is all.
+// How many bytes a writer takes at once and the results of its first calls; what is then out of `abcdef`, and
+// whether that is all.
 type Parts<'a> = (usize, &'a [Option<ErrorKind>], &'a [u8], bool);
 
 static WRITTEN_IN_PARTS: &'static [Parts<'static>] = &[

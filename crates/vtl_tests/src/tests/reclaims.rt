@@ -8,7 +8,7 @@ const RECLAIM: &str = "vtl reclaim --config c T00001L6";
 
 const OPENED: &str = "read c;open t;second t.2;back t;back t.2;";
 
-// A side of a pair that can be reclaimed no more: its epoch is the greatest.
+// A side of a pair that cannot be reclaimed again: its epoch is the greatest.
 const SPENT: &[u8] = b"\xa5VTLCART1\xa5\x81T00001L6        \0\0\0\0\0\0\x10\0\
     \xff\xff\xff\xff\xff\xff\xff\xff\0\0\0\0\0";
 

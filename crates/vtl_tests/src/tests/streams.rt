@@ -6,7 +6,7 @@ use std::io::{ErrorKind, Read, Write};
 /// The call that fails, if any; calls are counted from 1 on.
 pub type BadCall = Option<u32>;
 
-// Counts a call, and fails where it is the one that is to fail.
+// Counts a call, and fails if it is the one that is to fail.
 fn call(calls: &mut u32, bad: BadCall) -> io::Result<()> {
     *calls = calls.saturating_add(1);
     if bad == Some(*calls) {
@@ -80,8 +80,8 @@ impl Write for BadWriter {
     }
 }
 
-/// A writer that takes so many bytes of a write at most, and whose first calls answer with these errors, where there
-/// are some.
+/// A writer that takes at most this many bytes of a write, and whose first calls return these errors, if
+/// there are some.
 #[derive(Drop)]
 pub struct PartWriter<'a> {
     text: Vec<u8>,

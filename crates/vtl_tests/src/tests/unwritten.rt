@@ -1,4 +1,4 @@
-//! A creation of whose lines one is not out: it ends there.
+//! A creation of which one line is not written: it ends there.
 use super::calls::{FAILED, Row, assert_rows};
 use super::noted_files::Failing;
 use std::test::Fail;
@@ -13,7 +13,7 @@ const FIRST: &str = "created T00001L6\n";
 
 const BOTH: &str = "created T00001L6\ncreated T00002L6\n";
 
-// A line is not written, or not flushed: no file behind it is made.
+// A line is not written, or not flushed: no file after it is made.
 static NOT_OUT: &'static [Row<'static>] = &[
     (Failing::Write(1), CREATE, ONE, "", FAILED),
     (Failing::Write(2), CREATE, ONE, FIRST, FAILED),

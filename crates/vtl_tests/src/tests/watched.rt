@@ -30,8 +30,8 @@ impl Progress for Reported {
     }
 }
 
-// The call of the disk below that fails, counted from 0; which of the five calls are done; how many writes were
-// reported, and of how many bytes; and the bytes that stand.
+// The call of the disk below that fails, counted from 0; which of the five calls succeed; how many writes
+// were reported, and of how many bytes; and the bytes on the disk.
 static CALLS: &'static [(u64, [bool; 5], (u64, u64), &'static [u8])] = &[
     (0, [false, true, true, true, true], (2, 7), b"xyzd"),
     (1, [true, false, true, true, true], (2, 7), b"xyzd"),
@@ -77,7 +77,7 @@ fn a_read_gives_the_bytes_below(rt: HostRuntime) -> Result<(), Fail> {
     Ok(())
 }
 
-// A count before a write and behind it, and the GiB that are then full, where one more is.
+// A count before a write and after it, and the GiB that are then full, if one more is.
 static COUNTS: &'static [(u64, u64, Option<u64>)] = &[
     (0, 0, None),
     (0, 1_073_741_823, None),

@@ -8,7 +8,7 @@ use Rattle.gate_journal.specs.Reads.{reads_one, reads_then}
 use Rattle.gate_journal.proofs.Walks.{too_short, begins_with}
 use Rattle.gate_journal.proofs.reading.read_bytes.Goals as goal
 
--- a read of the first bytes, in front of others
+-- a read of the first bytes, followed by others
 module _ (read more : List ℕ) (sized : length read ≡ 27) where
   abbrev told : ℕ
   told = get_or (read ++ more) 10 0
@@ -18,7 +18,7 @@ module _ (read more : List ℕ) (sized : length read ≡ 27) where
       get_or_append_left read more 0 10 (omega (arith, sized)) ∙ ap (λ (l : List ℕ). get_or l 10 0) is
       ∙ get_or-take 27 image 10 0 (omega arith)
 
-  -- and a second one of so many bytes, behind the first
+  -- and a second read of `count` bytes, after the first
   module _ (second : List ℕ) (count : ℕ) where
     abbrev filled : List ℕ
     filled = put_mid 27 (27 + count - 27) (read ++ more) second

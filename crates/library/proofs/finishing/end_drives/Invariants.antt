@@ -2,7 +2,7 @@ use Rattle.std.proofs.Common.{◌≡◌, ◌≤◌, ◌++◌, length, drop, vec_
 use Rattle.library.specs.Inner.Ending.{HaveEnded}
 use Rattle.library.proofs.finishing.end_drives.Given as goal
 
--- behind those that are left, drives have ended
+-- the drives after those that are left have ended
 abbrev pub invariant-loop-bay : goal.invariant-loop-bay
 invariant-loop-bay g l = record {
   ended :

@@ -2,7 +2,7 @@ use Rattle.std.proofs.Common.{◌≡◌, ◌+◌, vec_len}
 use Rattle.library.specs.Ends.{sum_of_seats}
 use Rattle.library.proofs.finishing.take_seats.Given as goal
 
--- what was gathered of the hosts and what the seats have that are left is together what it was
+-- the gathered amounts and those of the seats that are left have together the same sum
 abbrev pub invariant-loop-seat : goal.invariant-loop-seat
 invariant-loop-seat g l = record {
   shares :

@@ -3,7 +3,7 @@ use Rattle.bays.specs.Elements.{BayState}
 use Rattle.library.specs.Counts.{places_filled, which_are_there}
 use Rattle.library.proofs.opening.share_all.Given as goal
 
--- the drives so far stand behind their locks, each with a share, and the others are in the row still
+-- the drives so far are behind their locks, each with a share, and the others are still in the list
 abbrev pub invariant-loop-place : goal.invariant-loop-place
 invariant-loop-place g l = record {
   counted : vec_len l.shared ≡ l.place;

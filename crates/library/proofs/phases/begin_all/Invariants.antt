@@ -2,7 +2,7 @@ use Rattle.std.proofs.Common.{◌≡◌, ◌<◌, ℕ, [], get_or}
 use Rattle.library.specs.Inner.Jobs.{JobState, seats_of}
 use Rattle.library.proofs.phases.begin_all.Given as goal
 
--- the jobs so far have no line and no reply, and each has its seat still
+-- the jobs so far have no line and no reply, and each still has its seat
 abbrev pub invariant-loop-job : goal.invariant-loop-job
 invariant-loop-job g l = record {
   seats : seats_of l.job-items ≡ seats_of l.fn.jobs;

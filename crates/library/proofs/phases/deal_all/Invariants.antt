@@ -3,8 +3,7 @@ use Rattle.vtl_script.specs.declared.lines.Line.{Line}
 use Rattle.library.specs.Inner.Jobs.{IsDealt, JobState, lines_of, seats_of}
 use Rattle.library.proofs.phases.deal_all.Given as goal
 
--- the lines so far are with the jobs of their hosts, the jobs behind all these have none, and the other lines are as
--- they were
+-- the lines so far are with the jobs of their hosts, later jobs have none, and the other lines are unchanged
 abbrev pub invariant-loop-line : goal.invariant-loop-line
 invariant-loop-line g l = record {
   seats : seats_of l.jobs ≡ seats_of l.fn.jobs;

@@ -2,7 +2,7 @@ use Rattle.std.proofs.Common.{◌≡◌, ◌≤◌, ℕ, get_or, take, length, v
 use Rattle.library.specs.Inner.Jobs.{JobState, replies_of, seats_of}
 use Rattle.library.proofs.phases.give_all.Given as goal
 
--- the replies of the jobs so far are behind each other, there is room for all, and the other jobs are as they were
+-- the replies of the jobs so far follow one another, there is room for all, and the other jobs are unchanged
 abbrev pub invariant-loop-job : goal.invariant-loop-job
 invariant-loop-job g l = record {
   seats : seats_of l.job-items ≡ seats_of l.fn.jobs;

@@ -7,7 +7,7 @@ use Rattle.library.specs.Inner.Jobs.{seats_of}
 use Rattle.library.proofs.phases.serve_in_turn.Given as goal
 
 -- the lines so far were answered, there is room for all replies, the seats are in their places, and the other lines
--- have their data still
+-- still have their data
 abbrev pub invariant-loop-line : goal.invariant-loop-line
 invariant-loop-line g l = record {
   answered :

@@ -3,7 +3,7 @@ use Rattle.std.specs.Prelude.{slice_get}
 use Rattle.record_index.specs.Inner.Tables.{IsBelow, IsNoLower}
 use Rattle.record_index.proofs.halving.blocks_before.Given as goal
 
--- where the entries part lies between the two bounds
+-- the place that parts the entries lies between the two bounds
 abbrev pub invariant-loop-low : goal.invariant-loop-low
 invariant-loop-low l = record {
   ordered : l.low ≤ l.high;

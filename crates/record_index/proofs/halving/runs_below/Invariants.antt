@@ -3,7 +3,7 @@ use Rattle.std.specs.Prelude.{slice_get}
 use Rattle.record_index.specs.Inner.RunSearch.{IsLastBelow, IsNotBelow}
 use Rattle.record_index.proofs.halving.runs_below.Given as goal
 
--- where the runs part lies between the two bounds, and each step halves what lies between
+-- the place that parts the runs lies between the two bounds, and each step halves their distance
 abbrev pub invariant-loop-from : goal.invariant-loop-from
 invariant-loop-from l = record {
   ordered : l.from ≤ l.to;

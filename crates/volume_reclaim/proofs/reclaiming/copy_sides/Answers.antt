@@ -32,7 +32,7 @@ use Rattle.volume_reclaim.proofs.GivenLemmas.{all_given, all_read}
 use Rattle.volume_reclaim.proofs.SidesLemmas.{Rests, both_move, each_of_two, honest_by, kept_beside, lies_by, may_take, rests, stands_as, sure_by, takes_as}
 use Rattle.volume_reclaim.proofs.reclaiming.copy_sides.Goals as goal
 
--- what is left of the copy at its beginning
+-- the entries that are left at the beginning of the copy
 whole : (parts : List PlacedPart) (part at : ℕ) → part ≡ 0 → at ≡ 0 → entries_from parts part at ≡ entries_in parts
 whole parts part at first begins = (λ i. entries_from parts (first i) (begins i)) ∙ part_begins parts 0
 
@@ -51,7 +51,7 @@ module _ {D : Type 0} (state : D → DiskState) (laws : (disk : D) → (state di
       spare_old spare_new
   rested = rests (SourceGives state) (SourceFails state) (disk_of state) reads (λ a fault b fails. fails)
 
-  -- what was given is the copy of the volume
+  -- the bodies that were given are the copy of the volume
   copy_given : (old new : Source D) (parts : List PlacedPart) (volume : List Part) (copies : List (List ℕ)) (base : ℕ)
       → items_of state old ≡ entries_in parts → (disk_of state old).honest
       → Indexes (LiesOnDisk (disk_of state old)) volume parts → base ≡ length (frames_by entry_size (entries_in parts))

@@ -1,4 +1,4 @@
--- What is noted owns nothing, so it may go to another thread.
+-- The notes own nothing, so they may go to another thread.
 use denote.Param.Send.{IsSend, owning_send, sendable}
 use Rattle.aptpl_store.specs.contracts.noted.Noted.{the_row, the_type}
 

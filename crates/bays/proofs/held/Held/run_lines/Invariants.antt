@@ -5,8 +5,8 @@ use Rattle.bays.specs.Moves.{KeepsBays}
 use Rattle.bays.specs.Runs.{LibraryAnswers}
 use Rattle.bays.proofs.held.Held.run_lines.Given as goal
 
--- the lines so far were run and answered, there is room for all answers, the drives are where they were, and the other
--- lines have their data still
+-- the lines so far were run and answered, there is room for all answers, the same drives are configured, and the other
+-- lines still have their data
 abbrev pub invariant-loop-line : goal.invariant-loop-line
 invariant-loop-line g l =
     LibraryAnswers g.D.Disk.state l.fn.self (Phase (take l.line-index l.fn.lines) ∷ []) l.replies.items l.self

@@ -5,7 +5,7 @@ use Rattle.vtl_script.specs.declared.items.Item.TheVariants.{Phase, Move}
 use Rattle.vtl_script.specs.Runs.{AnswersSome}
 use Rattle.script_tests.proofs.echoes.EchoRunner.run.Goals as goal
 
--- whatever answers all is answered in part
+-- a relation that holds for all items holds for a part of them
 some_of : {P : Type 0} (answers : P → List Item → List Reply → P → Type 0)
     → ((old new : P) (items : List Item) (replies : List Reply) → answers old items replies new)
     → (old new : P) (item : Item) → AnswersSome answers old item new
