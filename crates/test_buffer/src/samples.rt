@@ -1,0 +1,274 @@
+//! A drive over a cartridge on two disks, and the commands of the tests.
+use crate::drives::{Tape, switched_on};
+use cartridge::{Cartridge, Shelved};
+use scsi_sense::{Reply, Status};
+use std::alloc::Global;
+use std::process::Abort;
+use std::test::Fail;
+use tape_disk::{Disk, MemDisk};
+use test_assertions::assert_equal;
+use volume_core::{Kind, Turn};
+use vtl_base::{Bytes, Nexus};
+
+// The expected reply: its sense data, if any, by bytes 0 and 2, INFORMATION, additional code and qualifier;
+// and its bytes.
+pub type Wanted<'a> = (Option<(u8, u8, u32, u8, u8)>, &'a [u8]);
+
+// A host, its command and the bytes that it sends, and the expected reply.
+pub type Row<'a> = (u8, &'a [u8], &'a [u8], Wanted<'a>);
+
+/// A cartridge `T00001L6` of one partition of 16,777,216 bytes, with no frames.
+pub static EMPTY: &'static [u8] = b"\xa5VTLCART1\0\x01T00001L6        \0\0\0\0\x01\0\0\0\0";
+
+/// The same with one frame: the block `a`.
+pub static ONE: &'static [u8] = b"\xa5VTLCART1\0\x01T00001L6        \0\0\0\0\x01\0\0\0\
+    \xa5\0\0\0\x0b\x01\0\0\0\0\0\0\0\0\x01a\0";
+
+pub const NONE: &'static [u8] = &[];
+
+pub const TEST_UNIT_READY: &'static [u8] = &[0; 6];
+
+pub const REWIND: &'static [u8] = &[0x01, 0, 0, 0, 0, 0];
+
+pub const READ_1: &'static [u8] = &[0x08, 0, 0, 0, 1, 0];
+
+pub const WRITE_1: &'static [u8] = &[0x0a, 0, 0, 0, 1, 0];
+
+pub const WRITE_OUT: &'static [u8] = &[0x10, 0, 0, 0, 0, 0];
+
+pub const MARK: &'static [u8] = &[0x10, 0, 0, 0, 1, 0];
+
+pub const MARK_AT_ONCE: &'static [u8] = &[0x10, 1, 0, 0, 1, 0];
+
+pub const INQUIRY: &'static [u8] = &[0x12, 0, 0, 0, 36, 0];
+
+pub const REQUEST_SENSE: &'static [u8] = &[0x03, 0, 0, 0, 18, 0];
+
+pub const SELECT_4: &'static [u8] = &[0x15, 0, 0, 0, 4, 0];
+
+pub const ERASE: &'static [u8] = &[0x19, 0, 0, 0, 0, 0];
+
+pub const LOAD: &'static [u8] = &[0x1b, 0, 0, 0, 1, 0];
+
+pub const UNLOAD: &'static [u8] = &[0x1b, 0, 0, 0, 0, 0];
+
+pub const LOCATE_0: &'static [u8] = &[0x2b, 0, 0, 0, 0, 0, 0, 0, 0, 0];
+
+pub const LOCATE_1: &'static [u8] = &[0x2b, 0, 0, 0, 0, 0, 1, 0, 0, 0];
+
+pub const READ_POSITION: &'static [u8] = &[0x34, 0, 0, 0, 0, 0, 0, 0, 0, 0];
+
+pub const MODE_0: &'static [u8] = &[0, 0, 0, 0];
+
+pub const MODE_1: &'static [u8] = &[0, 0, 0x10, 0];
+
+pub const GOOD: Wanted<'static> = (None, &[]);
+
+pub const POWERED_ON: Wanted<'static> = (Some((0x70, 6, 0, 0x29, 0)), &[]);
+
+pub const CHANGED: Wanted<'static> = (Some((0x70, 6, 0, 0x28, 0)), &[]);
+
+pub const NO_MEDIUM: Wanted<'static> = (Some((0x70, 2, 0, 0x3a, 0)), &[]);
+
+pub const WRITE_ERROR: Wanted<'static> = (Some((0x70, 3, 0, 0x0c, 0)), &[]);
+
+pub const READ_ERROR: Wanted<'static> = (Some((0x70, 3, 0, 0x11, 0)), &[]);
+
+pub const LATE_ERROR: Wanted<'static> = (Some((0x71, 3, 0, 0x0c, 0)), &[]);
+
+pub const FAILED: Wanted<'static> = (Some((0x70, 4, 0, 0x44, 0)), &[]);
+
+// The end of data, for a request of one byte.
+pub const END: Wanted<'static> = (Some((0xf0, 8, 1, 0, 5)), &[]);
+
+// A filemark, for a request of one byte.
+pub const AT_MARK: Wanted<'static> = (Some((0xf0, 0x80, 1, 0, 1)), &[]);
+
+pub const INQUIRED: Wanted<'static> = (
+    None,
+    b"\x01\x80\x06\x02\x1f\0\0\0VTLIB   TAPE DRIVE      0001",
+);
+
+/// How a drive gets the data of a host: borrowed, and copied where they are written; or lent, and taken.
+#[derive(Clone, Copy, Debug)]
+pub enum Sending {
+    Shown,
+    Lent,
+}
+
+// The expected status, 18 bytes of sense data and bytes.
+type Told<'a> = (Status, Option<[u8; 18]>, &'a [u8]);
+
+fn told(wanted: Wanted) -> Told {
+    let (sense, bytes) = wanted;
+    let Some((response, key, information, code, qualifier)) = sense else {
+        return (Status::Good, None, bytes);
+    };
+    let [a, b, c, d] = information.to_be_bytes();
+    let sense = [
+        response, 0, key, a, b, c, d, 0x0a, 0, 0, 0, 0, code, qualifier, 0, 0, 0, 0,
+    ];
+    (Status::Check, Some(sense), bytes)
+}
+
+// The status, sense data and bytes of a reply.
+fn heard(reply: &Reply) -> Told<'_> {
+    let sense = match &reply.sense {
+        Some(sense) => Some(sense.bytes()),
+        None => None,
+    };
+    (reply.status, sense, reply.bytes.as_slice())
+}
+
+/// A command has the expected reply.
+pub fn ask<D: Disk + Drop>(rt: &impl Abort, drive: &mut Tape<D>, row: Row, at: usize) {
+    let (host, cdb, sent, wanted) = row;
+    let nexus = Nexus::new(host).expect(rt, "a nexus");
+    let reply = drive.execute(nexus, cdb, sent);
+    assert_equal!(rt; heard(&reply), told(wanted); at);
+}
+
+// The same for a command with lent data.
+fn ask_lent<D: Disk + Drop>(
+    rt: &impl Abort,
+    alloc: Global,
+    drive: &mut Tape<D>,
+    row: Row,
+    at: usize,
+) {
+    let (host, cdb, sent, wanted) = row;
+    let nexus = Nexus::new(host).expect(rt, "a nexus");
+    let mut lent = Bytes::from_slice(alloc, sent).expect(rt, "memory");
+    let reply = drive.execute_lent(nexus, cdb, &mut lent);
+    assert_equal!(rt; heard(&reply), told(wanted); at);
+}
+
+/// The same for a command whose data are sent in this way.
+pub fn ask_by<D: Disk + Drop>(
+    rt: &impl Abort,
+    alloc: Global,
+    drive: &mut Tape<D>,
+    way: Sending,
+    row: Row,
+    at: usize,
+) {
+    match way {
+        Sending::Shown => ask(rt, drive, row, at),
+        Sending::Lent => ask_lent(rt, alloc, drive, row, at),
+    }
+}
+
+pub fn asks<D: Disk + Drop>(rt: &impl Abort, drive: &mut Tape<D>, rows: &[Row]) {
+    for (at, row) in rows.iter().enumerate() {
+        ask(rt, drive, *row, at);
+    }
+}
+
+/// Whether each command has the expected reply; it ends at the first that has not.
+pub fn answered<D: Disk + Drop>(drive: &mut Tape<D>, rows: &[Row]) -> bool {
+    for &(host, cdb, sent, wanted) in rows {
+        let Some(nexus) = Nexus::new(host) else {
+            return false;
+        };
+        let reply = drive.execute(nexus, cdb, sent);
+        if heard(&reply) != told(wanted) {
+            return false;
+        }
+    }
+    true
+}
+
+// The power on is reported to hosts 1 and 2.
+static GREETINGS: &'static [Row<'static>] = &[
+    (1, TEST_UNIT_READY, NONE, POWERED_ON),
+    (2, TEST_UNIT_READY, NONE, POWERED_ON),
+];
+
+/// A drive with the cartridge on two disks. Its power on was reported to hosts 1 and 2.
+pub fn greeted<D: Disk + Drop>(
+    rt: &impl Abort,
+    alloc: Global,
+    first: D,
+    second: D,
+) -> Result<Tape<D>, Fail> {
+    let Some(mut drive) = switched_on(alloc, first, second) else {
+        return Err(Fail::from("not switched on"));
+    };
+    asks(rt, &mut drive, GREETINGS);
+    Ok(drive)
+}
+
+/// A flusher's turn has this result.
+pub fn assert_turn<D: Disk + Drop>(rt: &impl Abort, drive: &mut Tape<D>, wanted: Turn) {
+    let turn = drive.turn();
+    assert_equal!(rt; turn, wanted);
+}
+
+/// Host 1 writes a block of this size, which is GOOD.
+pub fn write<D: Disk + Drop>(
+    rt: &impl Abort,
+    alloc: Global,
+    drive: &mut Tape<D>,
+    way: Sending,
+    size: u32,
+) {
+    let [_, high, middle, low] = size.to_be_bytes();
+    let block = vec![in alloc; 0x5a; size as usize].expect(rt, "memory");
+    let cdb = [0x0a, 0, high, middle, low, 0];
+    ask_by(rt, alloc, drive, way, (1, &cdb, &block, GOOD), 0);
+}
+
+/// The tape has these objects from the position on, blocks of one byte and `|` for a filemark, and then the
+/// end of data.
+pub fn reads<D: Disk + Drop>(rt: &impl Abort, drive: &mut Tape<D>, objects: &[u8]) {
+    for i in 0..objects.len() {
+        let wanted: Wanted = match objects[i] {
+            b'|' => AT_MARK,
+            _ => (None, &objects[i..i + 1]),
+        };
+        ask(rt, drive, (1, READ_1, NONE, wanted), i);
+    }
+    ask(rt, drive, (1, READ_1, NONE, END), objects.len());
+}
+
+/// The syncs of the disk with the side that counts.
+pub fn syncs(drive: &Tape<MemDisk>) -> u64 {
+    match drive.medium() {
+        Some(medium) => medium.disk().syncs(),
+        None => 0,
+    }
+}
+
+// Appends an object to what was found: the bytes of a block, or `|` for a filemark.
+fn find<D: Disk>(
+    cartridge: &mut Cartridge<D>,
+    at: u32,
+    block: &mut Vec<u8>,
+    text: &mut Vec<u8>,
+) -> Result<(), Fail> {
+    match cartridge.kind_at(0, at) {
+        Some(Kind::Block) => {
+            cartridge.fetch(0, at, block)?;
+            text.extend_from_slice(block)?;
+        }
+        _ => text.push(b'|')?,
+    }
+    Ok(())
+}
+
+fn found_in<D: Disk>(alloc: Global, cartridge: &mut Cartridge<D>) -> Result<Vec<u8>, Fail> {
+    let mut text = Vec::new(alloc);
+    let mut block = Vec::new(alloc);
+    for at in 0..cartridge.count(0) {
+        find(cartridge, at, &mut block, &mut text)?;
+    }
+    Ok(text)
+}
+
+/// The contents of the cartridge on a disk, with an empty second one.
+pub fn found(alloc: Global, disk: MemDisk) -> Result<Vec<u8>, Fail> {
+    match Cartridge::open(alloc, Shelved::of(disk, MemDisk::new(alloc))) {
+        Ok(mut cartridge) => found_in(alloc, &mut cartridge),
+        Err(_) => Err(Fail::from("no cartridge")),
+    }
+}

@@ -1,0 +1,133 @@
+//! A side of two frames, and what tests do with it.
+use cartridge::{Cartridge, CartridgeError, Shelved};
+use std::alloc::Global;
+use std::test::Fail;
+use tape_disk::{Disk, FuseDisk, MemDisk};
+use test_known::Known;
+use volume_core::{Change, Kind};
+use vtl_base::{Bytes, DevFault, NoMemory, ObjNo, PartNo};
+
+/// A cartridge `T00001L6` of one partition of 4,096 bytes, with two frames, whose gates are at 35, 55 and 70:
+/// the block `hello`, and one mark after it.
+pub const SIDE: &'static [u8; 71] = b"\xa5VTLCART1\0\x01T00001L6        \0\0\0\0\0\0\x10\0\
+    \xa5\0\0\0\x0f\x01\0\0\0\0\0\0\0\0\x05hello\
+    \xa5\0\0\0\x0a\x02\0\0\0\0\x01\0\0\0\x01\
+    \0";
+
+/// A store of drive 1 with no frames.
+pub const STORE: &'static [u8; 28] = b"\xa5VTLRESV1\0\0DRIVE1          \0";
+
+/// The first fault of a disk.
+pub const FAULT: CartridgeError = CartridgeError::Device(DevFault { failures: 1 });
+
+/// A block after the first objects of a partition.
+pub fn block(alloc: Global, part: PartNo, at: ObjNo, bytes: &[u8]) -> Result<Change, NoMemory> {
+    let block = Bytes::from_slice(alloc, bytes)?;
+    Ok(Change::Put { part, at, block })
+}
+
+/// Some marks after the first objects of a partition.
+pub fn marks(part: PartNo, at: ObjNo, count: u32) -> Change {
+    Change::Marks { part, at, count }
+}
+
+/// The cartridge on two disks, or why they hold none.
+pub fn opened<D: Disk + Drop>(
+    alloc: Global,
+    first: D,
+    second: D,
+) -> Result<Cartridge<D>, CartridgeError> {
+    match Cartridge::open(alloc, Shelved::of(first, second)) {
+        Ok(cartridge) => Ok(cartridge),
+        Err(refused) => Err(refused.error),
+    }
+}
+
+/// Stores a frame of one block.
+pub fn store_block<D: Disk + Drop>(
+    alloc: Global,
+    known: &mut Known<D>,
+    part: PartNo,
+    at: ObjNo,
+    bytes: &[u8],
+) -> Result<(), CartridgeError> {
+    known.store(alloc, &[block(alloc, part, at, bytes)?])
+}
+
+/// Stores a block and a mark, in one frame each.
+pub fn store_side<D: Disk + Drop>(
+    alloc: Global,
+    known: &mut Known<D>,
+) -> Result<(), CartridgeError> {
+    store_block(alloc, known, 0, 0, b"hello")?;
+    known.store(alloc, &[marks(0, 1, 1)])
+}
+
+/// A new cartridge with these capacities.
+pub fn made(alloc: Global, capacities: &[u64]) -> Result<Known<MemDisk>, Fail> {
+    match Known::made(alloc, MemDisk::new(alloc), MemDisk::new(alloc), capacities) {
+        Ok(known) => Ok(known),
+        Err(_) => Err(Fail::from("not made")),
+    }
+}
+
+/// Stores a block in place of the mark of the side, and two marks after it.
+pub fn store_two<D: Disk + Drop>(
+    alloc: Global,
+    known: &mut Known<D>,
+) -> Result<(), CartridgeError> {
+    known.store(alloc, &[block(alloc, 0, 1, b"abc")?, marks(0, 2, 2)])
+}
+
+/// Frames, the objects of the first partition and what they take.
+pub fn told<D: Disk>(cartridge: &Cartridge<D>) -> (usize, ObjNo, u64) {
+    let count = cartridge.count(0);
+    (cartridge.frames(), count, cartridge.used(0, count))
+}
+
+/// The same for the cartridge on a disk with an empty second one, or why there is none.
+pub fn found(alloc: Global, disk: MemDisk) -> Result<(usize, ObjNo, u64), CartridgeError> {
+    let cartridge = opened(alloc, disk, MemDisk::new(alloc))?;
+    Ok(told(&cartridge))
+}
+
+/// An empty disk that never fails.
+pub fn spare(alloc: Global) -> FuseDisk<MemDisk> {
+    FuseDisk::new(MemDisk::new(alloc), u64::MAX)
+}
+
+/// Whether a block has these bytes; without a block there are none.
+pub fn has<D: Disk>(
+    alloc: Global,
+    cartridge: &mut Cartridge<D>,
+    part: PartNo,
+    at: ObjNo,
+    wanted: &[u8],
+) -> Result<bool, CartridgeError> {
+    let mut bytes = Vec::new(alloc);
+    if cartridge.kind_at(part, at) == Some(Kind::Block) {
+        cartridge.fetch(part, at, &mut bytes)?;
+    }
+    Ok(bytes.as_slice() == wanted)
+}
+
+/// The side on a disk, with one of its bytes set to a value.
+pub fn changed(alloc: Global, place: usize, value: u8) -> Result<MemDisk, NoMemory> {
+    let mut bytes = *SIDE;
+    if place < bytes.len() {
+        bytes[place] = value;
+    }
+    MemDisk::from_bytes(alloc, &bytes)
+}
+
+/// The first bytes of the side.
+pub fn cut(len: usize) -> &'static [u8] {
+    &SIDE[..SIDE.len().min(len)]
+}
+
+/// Erases the first partition.
+pub fn erased<D: Disk>(cartridge: &mut Cartridge<D>) -> Result<(), CartridgeError> {
+    // Called for the proof: every cartridge has this partition.
+    let _ = cartridge.parts();
+    cartridge.store(&[Change::Erase { part: 0, at: 0 }])
+}

@@ -1,0 +1,13 @@
+use Rattle.test_library.proofs.days.spend.Given as goal
+
+abbrev pub ghosts-spend_over-B-Ledger : goal.ghosts-spend_over-B-Ledger
+ghosts-spend_over-B-Ledger g a = record { name = a.bay_ledger.name; parts = a.bay_ledger.parts }
+
+abbrev pub ghosts-spend_over-B-Parties : goal.ghosts-spend_over-B-Parties
+ghosts-spend_over-B-Parties g a = record { all = a.bay_ledger.parts }
+
+abbrev pub ghosts-spend_over-H-Ledger : goal.ghosts-spend_over-H-Ledger
+ghosts-spend_over-H-Ledger g a = record { name = a.host_ledger.name; parts = a.host_ledger.parts }
+
+abbrev pub ghosts-spend_over-H-Parties : goal.ghosts-spend_over-H-Parties
+ghosts-spend_over-H-Parties g a = record { all = a.host_ledger.parts }

@@ -1,0 +1,20 @@
+use Rattle.std.proofs.Common.{◌∙◌, refl}
+use Rattle.test_library.proofs.scripts.runs.Goals as goal
+
+pub run_library-ran-requires-clause-places : goal.run_library-ran-requires-clause-places
+run_library-ran-requires-clause-places g c κs within =
+    rw c.as_slice.ensures.value at c.in_ok-drives.ensures.places
+
+pub run_library-ran-requires-clause-fresh : goal.run_library-ran-requires-clause-fresh
+run_library-ran-requires-clause-fresh g c κs within =
+    rw c.as_slice.ensures.value at c.in_ok-drives.ensures.fresh
+
+pub run_library-ran-requires-clause-bay_ledger : goal.run_library-ran-requires-clause-bay_ledger
+run_library-ran-requires-clause-bay_ledger g c κs within = (
+  record {
+    named = refl;
+    cut = refl;
+    one_each = refl;
+  },
+  c.new.ensures ∙ rw c.as_slice.ensures.value at c.in_ok-drives.ensures.count,
+)

@@ -1,0 +1,13 @@
+use Rattle.test_library.proofs.scripts.runs.Given as goal
+
+abbrev pub ghosts-run_library-B-Ledger : goal.ghosts-run_library-B-Ledger
+ghosts-run_library-B-Ledger g a = record { name = a.bay_ledger.name; parts = a.bay_ledger.parts }
+
+abbrev pub ghosts-run_library-B-Parties : goal.ghosts-run_library-B-Parties
+ghosts-run_library-B-Parties g a = record { all = a.bay_ledger.parts }
+
+abbrev pub ghosts-run_library-H-Ledger : goal.ghosts-run_library-H-Ledger
+ghosts-run_library-H-Ledger g a = record { name = a.host_ledger.name; parts = a.host_ledger.parts }
+
+abbrev pub ghosts-run_library-H-Parties : goal.ghosts-run_library-H-Parties
+ghosts-run_library-H-Parties g a = record { all = a.host_ledger.parts }

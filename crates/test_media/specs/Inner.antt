@@ -1,0 +1,3 @@
+-- What only private contracts use.
+pub mod StagedMedium
+pub mod Fuses

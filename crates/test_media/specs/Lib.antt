@@ -1,0 +1,3 @@
+pub mod StagedMedium
+pub mod StagedKeeper
+pub mod Inner

@@ -1,0 +1,159 @@
+//! Configurations that are refused, and the lines that say why. Each was written by hand from FORMATS.md (docs).
+use config_reasons::reason_of;
+use explanations::Explanation;
+use std::alloc::{AllocError, Global};
+use std::process::Abort;
+use std::test::Fail;
+use test_assertions::assert_equal;
+use vtl_config::{ConfigError, read_config};
+
+/// A text, and the lines that say why it is refused.
+pub(crate) type Row = (&'static [u8], &'static str);
+
+// The lines for a text in the file `a.toml`.
+fn lines_of(alloc: Global, text: &[u8]) -> Result<Explanation, AllocError> {
+    let mut lines = Explanation::new(alloc);
+    if let Err(ConfigError::Refused { place, rule }) = read_config(alloc, text) {
+        if let Some(reason) = reason_of(alloc, text, place, rule) {
+            reason.add_to(alloc, "a.toml", &mut lines)?;
+        }
+    }
+    Ok(lines)
+}
+
+/// Compares the lines for each text.
+pub(crate) fn check_rows(rt: &impl Abort, alloc: Global, rows: &[Row]) -> Result<(), Fail> {
+    for (text, wanted) in rows {
+        let lines = lines_of(alloc, text)?;
+        assert_equal!(*rt; lines.as_str(), *wanted);
+    }
+    Ok(())
+}
+
+static TEXTS: &'static [Row] = &[
+    (
+        &[b'a', 0xe9, b'='],
+        "refused: the text is no UTF-8\n\
+        where: a.toml, line 1, column 2\n\
+        allowed: UTF-8\n\
+        to do: save the file as UTF-8\n",
+    ),
+    (b"drive = []\ncartridge = []\n", ""),
+];
+
+#[test]
+fn what_is_no_text(rt: HostRuntime) -> Result<(), Fail> {
+    check_rows(&rt, rt.alloc(), TEXTS)
+}
+
+// Whether the lines for a text begin so: the parser's message is its own.
+fn is_no_toml_at(rt: &impl Abort, alloc: Global, text: &[u8], place: &str) -> Result<(), Fail> {
+    let lines = lines_of(alloc, text)?;
+    let text = lines.as_str();
+    assert_equal!(*rt; text.starts_with("refused: the text is no TOML: "), true);
+    assert_equal!(*rt; text.contains(place), true);
+    let wanted = "\nallowed: TOML\nto do: correct the text there, or on the lines before\n";
+    assert_equal!(*rt; text.ends_with(wanted), true);
+    Ok(())
+}
+
+#[test]
+fn what_is_no_document(rt: HostRuntime) -> Result<(), Fail> {
+    is_no_toml_at(
+        &rt,
+        rt.alloc(),
+        b"[[drive]\nnumber = 1\n",
+        "\nwhere: a.toml, line 1, column 9\n",
+    )?;
+    is_no_toml_at(
+        &rt,
+        rt.alloc(),
+        b"drive = []\nhome = 01",
+        "\nwhere: a.toml, line 2, column ",
+    )
+}
+
+// The parser says something.
+#[test]
+fn the_parser_has_a_message(rt: HostRuntime) -> Result<(), Fail> {
+    for text in [
+        b"[[drive]\nnumber = 1\n".as_slice(),
+        b"drive = []\nhome = 01",
+    ] {
+        let lines = lines_of(rt.alloc(), text)?;
+        let said = lines.as_str().split('\n').next().unwrap_or("");
+        assert_equal!(rt; said.len() > "refused: the text is no TOML: ".len(), true);
+    }
+    Ok(())
+}
+
+static KEYS: &'static [Row] = &[
+    (
+        b"drives = []",
+        "refused: the key drives\n\
+        where: a.toml, outside all entries\n\
+        allowed: cartridge and drive\n\
+        to do: remove the key, or correct its name\n",
+    ),
+    (
+        b"[[drive]]\nnumber = 1\nreservation = \"r\"\n",
+        "refused: the key reservation\n\
+        where: a.toml, drive entry 1\n\
+        allowed: number and reservations\n\
+        to do: remove the key, or correct its name\n",
+    ),
+    (
+        b"[[cartridge]]\nbarcode = \"A\"\nname = 1\n",
+        "refused: the key name\n\
+        where: a.toml, cartridge entry 1, A\n\
+        allowed: barcode, file, capacities and home\n\
+        to do: remove the key, or correct its name\n",
+    ),
+    (
+        b"[[drive]]\nnumber = 1\n",
+        "refused: the key reservations is missing\n\
+        where: a.toml, drive entry 1\n\
+        allowed: a text, the name of a file\n\
+        to do: add the key to the entry\n",
+    ),
+    (
+        b"[[drive]]\nreservations = \"r\"\n",
+        "refused: the key number is missing\n\
+        where: a.toml, drive entry 1\n\
+        allowed: a whole number, 1 to 16\n\
+        to do: add the key to the entry\n",
+    ),
+    (
+        b"[[cartridge]]\nbarcode = \"A\"\nfile = \"a\"\ncapacities = [4096]\n",
+        "refused: the key home is missing\n\
+        where: a.toml, cartridge entry 1, A\n\
+        allowed: a whole number: 1 to 16, a drive, or 1001 to 1256, a slot\n\
+        to do: add the key to the entry\n",
+    ),
+    (
+        b"[[cartridge]]\nbarcode = \"A\"\ncapacities = [4096]\nhome = 1001\n",
+        "refused: the key file is missing\n\
+        where: a.toml, cartridge entry 1, A\n\
+        allowed: a text, the name of a file\n\
+        to do: add the key to the entry\n",
+    ),
+    (
+        b"[[cartridge]]\nbarcode = \"A\"\nfile = \"a\"\nhome = 1001\n",
+        "refused: the key capacities is missing\n\
+        where: a.toml, cartridge entry 1, A\n\
+        allowed: a list of 1 to 4 whole numbers, each of 4096 to 1099511627776\n\
+        to do: add the key to the entry\n",
+    ),
+    (
+        b"[[cartridge]]\nfile = \"a\"\ncapacities = [4096]\nhome = 1001\n",
+        "refused: the key barcode is missing\n\
+        where: a.toml, cartridge entry 1\n\
+        allowed: a text of 1 to 16 characters, A to Z and 0 to 9\n\
+        to do: add the key to the entry\n",
+    ),
+];
+
+#[test]
+fn keys_that_are_none_or_missing(rt: HostRuntime) -> Result<(), Fail> {
+    check_rows(&rt, rt.alloc(), KEYS)
+}

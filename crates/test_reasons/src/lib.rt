@@ -1,0 +1,21 @@
+//! The tests of explanations, config_reasons, file_reasons, script_reasons and answer_notes.
+#![tactic(auto)]
+
+#[cfg(test)]
+mod answers;
+#[cfg(test)]
+mod asserted;
+#[cfg(test)]
+mod config_doubles;
+#[cfg(test)]
+mod config_values;
+#[cfg(test)]
+mod configs;
+#[cfg(test)]
+mod damages;
+#[cfg(test)]
+mod files;
+#[cfg(test)]
+mod lines;
+#[cfg(test)]
+mod scripts;

@@ -1,0 +1,98 @@
+//! What crashes leave of a drive.
+use crate::drives::{Disks, NEVER, TestDisk, TestDrive};
+use crate::samples::{
+    HELD_BY_A, KEY_A, NOBODY, NONE, POWERED_ON, READ_KEYS, READ_RESERVATION, READY, answers, reads,
+};
+use std::alloc::Global;
+use std::fmt::Debug;
+use std::process::Abort;
+use std::test::Fail;
+use tape_disk::MemDisk;
+use test_assertions::{assert_equal, assert_holds};
+
+/// What is found when a drive is switched on: the blocks of its tape, of one byte each; and the data of READ
+/// KEYS and READ RESERVATION.
+pub type Left = (&'static [u8], Held);
+
+pub type Held = (&'static [u8], &'static [u8]);
+
+pub const NOTHING: Held = (NOBODY, NOBODY);
+
+pub const REGISTERED: Held = (KEY_A, NOBODY);
+
+pub const RESERVED: Held = (KEY_A, HELD_BY_A);
+
+// How many of the bytes that are not synced land in a crash, and what the others hold.
+static CRASHES: &'static [(u64, u8)] = &[
+    (0, 0x00),
+    (0, 0xa5),
+    (0, 0xff),
+    (1, 0x00),
+    (1, 0xa5),
+    (1, 0xff),
+    (u64::MAX, 0x00),
+    (u64::MAX, 0xa5),
+    (u64::MAX, 0xff),
+];
+
+// Whether a drive that was just switched on has this.
+fn shows<D: TestDisk, S: TestDrive<D>>(drive: &mut S, left: Left) -> bool {
+    let (tape, (keys, reservation)) = left;
+    answers(drive, (1, READY, NONE, POWERED_ON))
+        && reads(drive, tape)
+        && answers(drive, (1, READ_KEYS, NONE, (None, keys)))
+        && answers(drive, (1, READ_RESERVATION, NONE, (None, reservation)))
+}
+
+/// A drive over these disks, of which no call fails.
+pub fn restarted<D: TestDisk, S: TestDrive<D>>(alloc: Global, disks: Disks) -> Result<S, Fail> {
+    let Disks { tape, store } = disks;
+    let second = D::over(MemDisk::new(alloc), NEVER);
+    match S::switched_on(alloc, D::over(tape, NEVER), second, D::over(store, NEVER)) {
+        Ok(drive) => Ok(drive),
+        Err(_) => Err(Fail::from("not switched on")),
+    }
+}
+
+/// Whether this is found on the disks.
+pub fn has<D: TestDisk, S: TestDrive<D>>(
+    alloc: Global,
+    disks: Disks,
+    left: Left,
+) -> Result<bool, Fail> {
+    let mut drive = restarted::<D, S>(alloc, disks)?;
+    Ok(shows(&mut drive, left))
+}
+
+// How many of nine crashes leave this.
+fn crashes_with<D: TestDisk, S: TestDrive<D>>(
+    alloc: Global,
+    reached: &Disks,
+    left: Left,
+) -> Result<u32, Fail> {
+    let mut count = 0u32;
+    for (keep, fill) in CRASHES {
+        if has::<D, S>(alloc, reached.copy()?.crash(*keep, *fill)?, left)? {
+            count = count.saturating_add(1);
+        }
+    }
+    Ok(count)
+}
+
+/// Each of nine crashes leaves one of these, and each of these is left by one.
+pub fn are_left<D: TestDisk, S: TestDrive<D>>(
+    rt: &impl Abort,
+    alloc: Global,
+    reached: &Disks,
+    lefts: &[Left],
+    at: &impl Debug,
+) -> Result<(), Fail> {
+    let mut all = 0u32;
+    for left in lefts {
+        let count = crashes_with::<D, S>(alloc, reached, *left)?;
+        assert_holds!(rt; count > 0; (at, left));
+        all = all.saturating_add(count);
+    }
+    assert_equal!(rt; all, 9; at);
+    Ok(())
+}

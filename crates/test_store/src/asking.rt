@@ -1,0 +1,115 @@
+//! Commands of hosts to a drive over a store, and their answers.
+ghost use Rattle.std.specs.Prelude.{◌≡◌, [], IfOk};
+ghost use Rattle.aptpl_store.specs.Kept.{store_kept};
+ghost use Rattle.drive_core.specs.State.{left_of};
+
+use aptpl_store::{AptplStore, StoreError, StoreRefused};
+use drive_core::Drive;
+use pr_core::Reservations;
+use scsi_sense::Reply;
+use std::alloc::Global;
+use std::process::Abort;
+use tape_disk::Disk;
+use test_assertions::{assert_equal, assert_holds};
+use volume_core::PlainMedium;
+use vtl_base::{DriveNo, Nexus};
+
+/// An empty drive over a store.
+pub type Host<D> = Drive<PlainMedium, AptplStore<D>>;
+
+/// A host, its command and the bytes that it sends; the status of the answer, with sense data or with bytes;
+/// and how many frames the store has then.
+pub type Row = (u8, &'static [u8], &'static [u8], u8, &'static [u8], usize);
+
+pub const GOOD: u8 = 0x00;
+
+pub const CHECK: u8 = 0x02;
+
+pub const CONFLICT: u8 = 0x18;
+
+pub const NONE: &'static [u8] = b"";
+
+pub const POWERED_ON: &'static [u8] = b"\x70\0\x06\0\0\0\0\x0a\0\0\0\0\x29\0\0\0\0\0";
+
+pub const FAILED: &'static [u8] = b"\x70\0\x04\0\0\0\0\x0a\0\0\0\0\x44\0\0\0\0\0";
+
+pub const TEST_UNIT_READY: &'static [u8] = b"\0\0\0\0\0\0";
+
+pub const REWIND: &'static [u8] = b"\x01\0\0\0\0\0";
+
+pub const REGISTER: &'static [u8] = b"\x5f\0\0\0\0\0\0\0\x18\0";
+
+pub const REGISTER_AND_IGNORE: &'static [u8] = b"\x5f\x06\0\0\0\0\0\0\x18\0";
+
+pub const RESERVE_5: &'static [u8] = b"\x5f\x01\x05\0\0\0\0\0\x18\0";
+
+pub const READ_KEYS: &'static [u8] = b"\x5e\0\0\0\0\0\0\0\x10\0";
+
+pub const READ_RESERVATION: &'static [u8] = b"\x5e\x01\0\0\0\0\0\0\x18\0";
+
+/// Parameter lists: the reservation key, the key of the service action, and APTPL in the last row.
+pub const A_NEW: &'static [u8] = b"\0\0\0\0\0\0\0\0\0\0\0\0\0\0\0\xa1\0\0\0\0\x01\0\0\0";
+
+pub const BY_A: &'static [u8] = b"\0\0\0\0\0\0\0\xa1\0\0\0\0\0\0\0\0\0\0\0\0\0\0\0\0";
+
+pub const A_OVER_A: &'static [u8] = b"\0\0\0\0\0\0\0\xa1\0\0\0\0\0\0\0\xa1\0\0\0\0\x01\0\0\0";
+
+pub const A_WITHOUT_APTPL: &'static [u8] = b"\0\0\0\0\0\0\0\xa1\0\0\0\0\0\0\0\xa1\0\0\0\0\0\0\0\0";
+
+pub const NO_KEYS: &'static [u8] = b"\0\0\0\0\0\0\0\0";
+
+/// A new store of drive 1.
+pub fn made<D: Disk + Drop>(alloc: Global, disk: D) -> Result<AptplStore<D>, StoreRefused<D>>
+    ensures { IfOk result (λ store. store.states ≡ []) }
+{
+    let Some(drive) = DriveNo::new(1) else {
+        unreachable!()
+    };
+    AptplStore::create(alloc, disk, drive)
+}
+
+fn switched_on<D: Disk + Drop>(
+    alloc: Global,
+    store: AptplStore<D>,
+    left: Reservations,
+) -> Result<Host<D>, StoreRefused<D>>
+    requires { left ≡ left_of (store_kept store).saved }
+{
+    match Drive::power_on(alloc, store, left, None) {
+        Ok(drive) => Ok(drive),
+        Err((_, store, _)) => Err(StoreRefused {
+            error: StoreError::NoMemory,
+            disk: store.close(),
+        }),
+    }
+}
+
+/// A drive that was just switched on, over a new store of drive 1.
+pub fn new_host<D: Disk + Drop>(alloc: Global, disk: D) -> Result<Host<D>, StoreRefused<D>> {
+    switched_on(alloc, made(alloc, disk)?, Reservations::empty())
+}
+
+/// A drive that was just switched on, over the store on the disk.
+pub fn host_over<D: Disk + Drop>(alloc: Global, disk: D) -> Result<Host<D>, StoreRefused<D>> {
+    let (store, left) = AptplStore::open(alloc, disk)?;
+    switched_on(alloc, store, left)
+}
+
+// Whether a reply has this status, with this sense data or these bytes.
+fn is_answer(reply: &Reply, status: u8, told: &[u8]) -> bool {
+    let is_told = match &reply.sense {
+        Some(sense) => sense.bytes().as_slice() == told && reply.bytes.is_empty(),
+        None => reply.bytes.as_slice() == told,
+    };
+    reply.status.code() == status && is_told
+}
+
+/// Commands of hosts, one after another, have these answers.
+pub fn ask_all<D: Disk + Drop>(rt: &impl Abort, drive: &mut Host<D>, rows: &[Row]) {
+    for (at, (host, cdb, sent, status, told, frames)) in rows.iter().enumerate() {
+        let nexus = Nexus::new(*host).expect(rt, "a nexus");
+        let reply = drive.execute(nexus, cdb, sent);
+        assert_holds!(rt; is_answer(&reply, *status, told); at);
+        assert_equal!(rt; drive.keeper().frames(), *frames; at);
+    }
+}

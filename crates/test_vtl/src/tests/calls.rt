@@ -1,0 +1,381 @@
+//! Which calls for files the program makes, in which order, and where it stops.
+use super::noted_files::{DEVICE_ERROR, Failing, NotedFiles};
+use super::streams::{BadReader, BadWriter};
+use file_disk::FileError;
+use std::alloc::Global;
+use std::process::Abort;
+use std::sync::Wait;
+use std::test::Fail;
+use std::thread::Threads;
+use std::time::Clock;
+use test_assertions::{assert_equal, assert_holds};
+use vtl_program::orders::run;
+use vtl_program::programs::Ended;
+use vtl_words::{WordsError, read_words};
+
+const DEVICE: &str = "vtl: device fault\n";
+
+// One run: what fails and the words after the name; expected: the calls, the text, and the line with the
+// status.
+pub type Row<'a> = (Failing, &'a str, &'a str, &'a str, (&'a str, u8));
+
+pub const DONE: (&str, u8) = ("", 0);
+
+pub const REFUSED_WORDS: (&str, u8) = ("vtl: command line refused\n", 1);
+
+pub const FAILED: (&str, u8) = (DEVICE, 2);
+
+pub const NO_MEMORY: (&str, u8) = ("vtl: out of memory\n", 3);
+
+pub fn words_of(alloc: Global, line: &str) -> Result<Vec<String>, Fail> {
+    let mut words = Vec::new(alloc);
+    for word in line.split(' ') {
+        words.push(String::from_str(alloc, word)?)?;
+    }
+    Ok(words)
+}
+
+// A run over these files with these words, which writes to these streams.
+fn ran_over<R: Threads + Wait + Clock + Sync>(
+    rt: &R,
+    alloc: Global,
+    files: &NotedFiles,
+    line: &str,
+    writer: &mut BadWriter,
+    lines: &mut BadWriter,
+) -> Result<Ended, Fail> {
+    let words = words_of(alloc, line)?;
+    let mut reader = BadReader::new(b"", None);
+    Ok(run(rt, alloc, files, Ok(words), &mut reader, writer, lines))
+}
+
+// The text and the line that a run over these files writes, and how it ends. The call of the writer of this number
+// fails, if one does.
+fn ran<R: Threads + Wait + Clock + Sync>(
+    rt: &R,
+    alloc: Global,
+    files: &NotedFiles,
+    line: &str,
+    bad: Option<u32>,
+) -> Result<(Vec<u8>, Vec<u8>, Ended), Fail> {
+    let mut writer = BadWriter::new(alloc, bad);
+    let mut lines = BadWriter::new(alloc, None);
+    let ended = ran_over(rt, alloc, files, line, &mut writer, &mut lines)?;
+    Ok((writer.into_text(), lines.into_text(), ended))
+}
+
+fn is_told<R: Abort + Threads + Wait + Clock + Sync>(
+    rt: &R,
+    alloc: Global,
+    files: &NotedFiles,
+    row: Row,
+    at: usize,
+) -> Result<(), Fail> {
+    let (failing, words, _, text, (line, status)) = row;
+    let bad = match failing {
+        Failing::Write(call) => Some(call),
+        _ => None,
+    };
+    let (told, reported, ended) = ran(rt, alloc, files, words, bad)?;
+    assert_equal!(rt; told.as_slice(), text.as_bytes(); at);
+    assert_equal!(rt; reported.as_slice(), line.as_bytes(); at);
+    let wanted = Ended {
+        status,
+        is_reported: true,
+    };
+    assert_equal!(rt; ended, wanted; at);
+    Ok(())
+}
+
+fn assert_row<R: Abort + Threads + Wait + Clock + Sync>(
+    rt: &R,
+    alloc: Global,
+    row: Row,
+    at: usize,
+) -> Result<(), Fail> {
+    let files = NotedFiles::new(alloc, row.0);
+    is_told(rt, alloc, &files, row, at)?;
+    let called = files.into_note();
+    assert_equal!(rt; called.as_slice(), row.2.as_bytes(); at);
+    Ok(())
+}
+
+pub fn assert_rows<R: Abort + Threads + Wait + Clock + Sync>(
+    rt: &R,
+    alloc: Global,
+    rows: &[Row],
+) -> Result<(), Fail> {
+    for (at, row) in rows.iter().enumerate() {
+        assert_row(rt, alloc, *row, at)?;
+    }
+    Ok(())
+}
+
+const RUN: &str = "vtl run --config c";
+
+const THREE: &str = "read c;open t;second t.2;open u;second u.2;open 1;give up;";
+
+const FOUR: &str = "read c;open t;second t.2;open u;second u.2;open 1;open 2;give up;";
+
+const ALL: &str = "read c;open t;second t.2;open u;second u.2;open 1;open 2;close all;";
+
+static RUNS: &'static [Row<'static>] = &[
+    (Failing::Nothing, RUN, ALL, "", DONE),
+    (
+        Failing::Nothing,
+        "vtl run --memory --config c",
+        "read c;",
+        "",
+        DONE,
+    ),
+    (Failing::Nothing, "vtl run", "", "", DONE),
+    (Failing::Nothing, "vtl run --memory", "", "", DONE),
+    (
+        Failing::Call(1, FileError::Missing),
+        RUN,
+        "read c;",
+        "",
+        FAILED,
+    ),
+    (
+        Failing::Call(2, FileError::Missing),
+        RUN,
+        "read c;open t;give up;",
+        "",
+        FAILED,
+    ),
+    (
+        Failing::Call(3, FileError::InUse),
+        RUN,
+        "read c;open t;second t.2;back t;give up;",
+        "",
+        FAILED,
+    ),
+    (
+        Failing::Call(4, FileError::Missing),
+        RUN,
+        "read c;open t;second t.2;open u;give up;",
+        "",
+        FAILED,
+    ),
+    (
+        Failing::Call(5, DEVICE_ERROR),
+        RUN,
+        "read c;open t;second t.2;open u;second u.2;back u;give up;",
+        "",
+        FAILED,
+    ),
+    (Failing::Call(6, FileError::Missing), RUN, THREE, "", FAILED),
+    (Failing::Call(7, FileError::Missing), RUN, FOUR, "", FAILED),
+    (Failing::Memory, RUN, "read c;", "", NO_MEMORY),
+    // The first call of a cartridge's disk would fail, in a slot and in a drive, or the file is no cartridge's.
+    (Failing::Disk("t", 0), RUN, ALL, "", DONE),
+    (Failing::Disk("u", 0), RUN, ALL, "", DONE),
+    (Failing::Side("t", b"mine"), RUN, ALL, "", DONE),
+    (Failing::Side("u", b"mine"), RUN, ALL, "", DONE),
+];
+
+#[test]
+fn a_run_opens_cartridges_and_then_stores(rt: HostRuntime) -> Result<(), Fail> {
+    assert_rows(&rt, rt.alloc(), RUNS)
+}
+
+const CREATE: &str = "vtl create --config c";
+
+static MADE: &'static [Row<'static>] = &[
+    (
+        Failing::Nothing,
+        CREATE,
+        "read c;make t;second t.2;leave t;back t.2;make u;second u.2;leave u;back u.2;make 1;leave 1;make 2;leave 2;",
+        "created T00001L6\ncreated T00002L6\ncreated DRIVE1\ncreated DRIVE2\n",
+        DONE,
+    ),
+    (
+        Failing::Call(4, FileError::Exists),
+        CREATE,
+        "read c;make t;second t.2;leave t;back t.2;make u;make 1;leave 1;make 2;leave 2;",
+        "created T00001L6\nkept T00002L6\ncreated DRIVE1\ncreated DRIVE2\n",
+        DONE,
+    ),
+    (
+        Failing::Call(7, FileError::Exists),
+        CREATE,
+        "read c;make t;second t.2;leave t;back t.2;make u;second u.2;leave u;back u.2;make 1;leave 1;make 2;",
+        "created T00001L6\ncreated T00002L6\ncreated DRIVE1\nkept DRIVE2\n",
+        DONE,
+    ),
+];
+
+#[test]
+fn a_creation_makes_what_is_missing(rt: HostRuntime) -> Result<(), Fail> {
+    assert_rows(&rt, rt.alloc(), MADE)
+}
+
+const ONE: &str = "read c;make t;second t.2;leave t;back t.2;make u;";
+
+const TWO: &str =
+    "read c;make t;second t.2;leave t;back t.2;make u;second u.2;leave u;back u.2;make 1;";
+
+const FIRST: &str = "created T00001L6\n";
+
+const BOTH: &str = "created T00001L6\ncreated T00002L6\n";
+
+static TAKEN_AWAY: &'static [Row<'static>] = &[
+    (
+        Failing::Call(1, FileError::Missing),
+        CREATE,
+        "read c;",
+        "",
+        FAILED,
+    ),
+    (
+        Failing::Call(2, FileError::Missing),
+        CREATE,
+        "read c;make t;",
+        "",
+        FAILED,
+    ),
+    (
+        Failing::Call(2, FileError::InUse),
+        CREATE,
+        "read c;make t;",
+        "",
+        FAILED,
+    ),
+    (
+        Failing::Call(3, FileError::InUse),
+        CREATE,
+        "read c;make t;second t.2;take t;",
+        "",
+        FAILED,
+    ),
+    (Failing::Call(4, DEVICE_ERROR), CREATE, ONE, FIRST, FAILED),
+    (Failing::Call(6, DEVICE_ERROR), CREATE, TWO, BOTH, FAILED),
+    (
+        Failing::Disk("t", 0),
+        CREATE,
+        "read c;make t;second t.2;take t;back t.2;",
+        "",
+        FAILED,
+    ),
+    (
+        Failing::Disk("t", 1),
+        CREATE,
+        "read c;make t;second t.2;take t;back t.2;",
+        "",
+        FAILED,
+    ),
+    (
+        Failing::Disk("u", 0),
+        CREATE,
+        "read c;make t;second t.2;leave t;back t.2;make u;second u.2;take u;back u.2;",
+        FIRST,
+        FAILED,
+    ),
+    (
+        Failing::Disk("1", 1),
+        CREATE,
+        "read c;make t;second t.2;leave t;back t.2;make u;second u.2;leave u;back u.2;make 1;take 1;",
+        BOTH,
+        FAILED,
+    ),
+];
+
+#[test]
+fn a_creation_takes_away_what_is_not_whole(rt: HostRuntime) -> Result<(), Fail> {
+    assert_rows(&rt, rt.alloc(), TAKEN_AWAY)
+}
+
+const CHECK: &str = "vtl check t";
+
+static CHECKS: &'static [Row<'static>] = &[
+    (
+        Failing::Nothing,
+        CHECK,
+        "look t;look t.2;close t;close t.2;",
+        "cartridge T00001L6 partitions 1 frames 0\npartition 0 objects 0 used 0\n",
+        DONE,
+    ),
+    (
+        Failing::Nothing,
+        "vtl check 1",
+        "look 1;look 1.2;close 1;close 1.2;",
+        "reservations DRIVE1 frames 0 registrations 0\n",
+        DONE,
+    ),
+    (
+        Failing::Call(1, FileError::InUse),
+        CHECK,
+        "look t;",
+        "",
+        FAILED,
+    ),
+    (
+        Failing::Call(2, FileError::Missing),
+        CHECK,
+        "look t;look t.2;close t;close t.2;",
+        "cartridge T00001L6 partitions 1 frames 0\npartition 0 objects 0 used 0\n",
+        DONE,
+    ),
+    (
+        Failing::Call(2, FileError::InUse),
+        CHECK,
+        "look t;look t.2;close t;",
+        "",
+        FAILED,
+    ),
+    (
+        Failing::Disk("t", 0),
+        CHECK,
+        "look t;look t.2;close t;close t.2;",
+        "",
+        FAILED,
+    ),
+    (
+        Failing::Disk("t.2", 0),
+        CHECK,
+        "look t;look t.2;close t;close t.2;",
+        "",
+        FAILED,
+    ),
+];
+
+#[test]
+fn a_check_opens_both_files_to_read(rt: HostRuntime) -> Result<(), Fail> {
+    assert_rows(&rt, rt.alloc(), CHECKS)
+}
+
+static REFUSED: &'static [Row<'static>] = &[
+    (Failing::Nothing, "vtl", "", "", REFUSED_WORDS),
+    (Failing::Nothing, "vtl walk", "", "", REFUSED_WORDS),
+    (Failing::Nothing, "vtl create", "", "", REFUSED_WORDS),
+    (Failing::Nothing, "vtl check", "", "", REFUSED_WORDS),
+    (Failing::Nothing, "vtl run --config", "", "", REFUSED_WORDS),
+];
+
+#[test]
+fn refused_words_ask_for_no_file(rt: HostRuntime) -> Result<(), Fail> {
+    assert_rows(&rt, rt.alloc(), REFUSED)
+}
+
+static HELPS: &'static [&'static str] = &["vtl --help", "vtl run -h"];
+
+// The help for these words.
+fn help(alloc: Global, line: &str) -> Result<String, Fail> {
+    let words = words_of(alloc, line)?;
+    match read_words(alloc, words.as_slice()) {
+        Err(WordsError::Help(text)) => Ok(text),
+        _ => Err(Fail::from("no help")),
+    }
+}
+
+#[test]
+fn help_is_written_as_it_was_given(rt: HostRuntime) -> Result<(), Fail> {
+    for (at, line) in HELPS.iter().enumerate() {
+        let text = help(rt.alloc(), line)?;
+        assert_holds!(rt; !text.is_empty(); at);
+        let row = (Failing::Nothing, *line, "", text.as_str(), DONE);
+        assert_row(&rt, rt.alloc(), row, at)?;
+    }
+    Ok(())
+}

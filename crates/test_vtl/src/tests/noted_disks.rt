@@ -1,0 +1,297 @@
+//! Files that note which of their calls failed: the lines that explain it, of which file.
+use explanations::Explanation;
+use file_disk::{DiskOver, FailedCall, FileDisk, SystemCall, SystemFile};
+use std::alloc::{AllocError, Global};
+use std::fs::{File, OpenOptions};
+use std::hash::{BuildHasher, RandomState};
+use std::io::ErrorKind;
+use std::process::Abort;
+use std::test::Fail;
+use std::{env, fs};
+use tape_disk::{Disk, MemDisk, OnceDisk};
+use test_assertions::assert_equal;
+use vtl_base::DevFault;
+use vtl_program::notes::Notes;
+use vtl_program::open_files::{NotedDisk, OpenFiles, SaysFailed};
+
+// A disk that says of each call that it failed so.
+#[derive(Drop)]
+struct ToldDisk<D> {
+    disk: D,
+    failed: Option<FailedCall>,
+}
+
+impl<D: Disk> Disk for ToldDisk<D> {
+    ghost state = { λ told. D.state told.disk };
+
+    ghost effect = { λ call result old new. D.effect call result old.disk new.disk };
+
+    ghost is_disk = { λ told honest. D.is_disk told.disk honest };
+
+    fn len(&self) -> u64 {
+        self.disk.len()
+    }
+
+    fn read_at(&mut self, at: u64, buffer: &mut [u8]) -> Result<(), DevFault> {
+        self.disk.read_at(at, buffer)
+    }
+
+    fn write_at(&mut self, at: u64, bytes: &[u8]) -> Result<(), DevFault> {
+        self.disk.write_at(at, bytes)
+    }
+
+    fn cut(&mut self, len: u64) -> Result<(), DevFault> {
+        self.disk.cut(len)
+    }
+
+    fn sync(&mut self) -> Result<(), DevFault> {
+        self.disk.sync()
+    }
+}
+
+impl<D> SaysFailed for ToldDisk<D> {
+    fn failed(&self) -> Option<FailedCall> {
+        self.failed
+    }
+}
+
+const SYNC: FailedCall = FailedCall {
+    call: SystemCall::Sync,
+    kind: ErrorKind::Uncategorized,
+    number: Some(5),
+};
+
+const FULL: FailedCall = FailedCall {
+    call: SystemCall::WriteAt,
+    kind: ErrorKind::StorageFull,
+    number: Some(28),
+};
+
+// A disk of four bytes whose call after this many fails, so.
+fn failing(
+    alloc: Global,
+    calls: u64,
+    failed: Option<FailedCall>,
+) -> Result<ToldDisk<OnceDisk<MemDisk>>, Fail> {
+    let disk = OnceDisk::new(MemDisk::from_bytes(alloc, b"abcd")?, calls);
+    Ok(ToldDisk { disk, failed })
+}
+
+// Each call of the disk of this file once: which of them succeed.
+fn used<D: Disk + Drop + SaysFailed>(files: &OpenFiles, number: u64, disk: D) -> [bool; 4] {
+    let mut disk = NotedDisk {
+        disk,
+        number,
+        files,
+    };
+    [
+        disk.read_at(0, &mut []).is_ok(),
+        disk.cut(0).is_ok(),
+        disk.write_at(0, b"x").is_ok(),
+        disk.sync().is_ok(),
+    ]
+}
+
+// The lines of the calls that failed.
+fn lines_of(alloc: Global, files: &OpenFiles) -> Result<Explanation, AllocError> {
+    let mut lines = Explanation::new(alloc);
+    let _ = files.add_failed(alloc, &mut lines)?;
+    Ok(lines)
+}
+
+// The call that fails, counted from 0, and which succeed.
+static CALLS: &'static [(u64, [bool; 4])] = &[
+    (0, [false, true, true, true]),
+    (1, [true, false, true, true]),
+    (2, [true, true, false, true]),
+    (3, [true, true, true, false]),
+    (4, [true, true, true, true]),
+];
+
+const SYNC_OF_B: &str = "failed: sync, of the file b\nanswer: Input/output error (os error 5)\n\
+    to do: look at the device, and at what the system has logged of it\n";
+
+// Whatever call of a disk fails, it is noted as the disk says, with the name of its file.
+#[test]
+fn each_call_that_fails_is_noted(rt: HostRuntime) -> Result<(), Fail> {
+    let alloc = rt.alloc();
+    for &(bad, done) in CALLS {
+        let files = OpenFiles::new(alloc, true);
+        let (first, second) = (files.enter(alloc, "a"), files.enter(alloc, "b"));
+        assert_equal!(rt; (first, second), (1, 2); bad);
+        assert_equal!(rt; used(&files, second, failing(alloc, bad, Some(SYNC))?), done; bad);
+        let wanted = if bad < 4 { SYNC_OF_B } else { "" };
+        assert_equal!(rt; lines_of(alloc, &files)?.as_str(), wanted; bad);
+        assert_equal!(rt; files.has_failed(), bad < 4; bad);
+    }
+    Ok(())
+}
+
+// Two files, of each the first call that failed; the number 0 is of a file that is left out.
+#[test]
+fn each_file_has_its_first_failure(rt: HostRuntime) -> Result<(), Fail> {
+    let alloc = rt.alloc();
+    let files = OpenFiles::new(alloc, true);
+    let (first, second) = (files.enter(alloc, "a"), files.enter(alloc, "b"));
+    let _ = used(&files, 0, failing(alloc, 0, Some(SYNC))?);
+    assert_equal!(rt; (files.has_failed(), lines_of(alloc, &files)?.as_str()), (true, ""));
+    assert_equal!(rt; (files.has_failed_for(0), files.has_failed_for(second)), (true, false));
+    let _ = used(&files, second, failing(alloc, 3, Some(SYNC))?);
+    assert_equal!(rt; (files.has_failed_for(first), files.has_failed_for(second)), (false, true));
+    let _ = used(&files, second, failing(alloc, 2, Some(FULL))?);
+    let _ = used(&files, first, failing(alloc, 1, None)?);
+    let wanted = format!(in alloc;
+        "failed: look at, of the file a\nanswer: the system reported an error\n\
+        to do: look at the device, and at what the system has logged of it\n{SYNC_OF_B}"
+    )?;
+    assert_equal!(rt; lines_of(alloc, &files)?.as_str(), wanted.as_str());
+    Ok(())
+}
+
+// A file of reservations is refused for what is in it, though a call for another file failed before; not where one for
+// this file did.
+#[test]
+fn a_refused_store_is_told_by_its_own_calls(rt: HostRuntime) -> Result<(), Fail> {
+    let alloc = rt.alloc();
+    for (failed, is_told) in [("a", true), ("b", false)] {
+        let notes = Notes::new(alloc, true);
+        let (first, second) = (
+            notes.files().enter(alloc, "a"),
+            notes.files().enter(alloc, "b"),
+        );
+        let bad = if failed == "a" { first } else { second };
+        let _ = used(notes.files(), bad, failing(alloc, 3, Some(SYNC))?);
+        notes.give_back(alloc, "b", second);
+        let mut lines = Explanation::new(alloc);
+        assert_equal!(rt; notes.add_store(alloc, &mut lines)?, is_told; failed);
+        let begin = "refused: what is in the file b\n";
+        assert_equal!(rt; lines.as_str().starts_with(begin), is_told; failed);
+    }
+    Ok(())
+}
+
+// Where no explanation is asked for, no file is kept.
+#[test]
+fn no_file_is_kept_unasked(rt: HostRuntime) -> Result<(), Fail> {
+    let alloc = rt.alloc();
+    let files = OpenFiles::new(alloc, false);
+    let number = files.enter(alloc, "a");
+    let _ = used(&files, number, failing(alloc, 0, Some(SYNC))?);
+    assert_equal!(rt; (number, lines_of(alloc, &files)?.as_str()), (0, ""));
+    Ok(())
+}
+
+// The file that is named where memory ran out.
+fn last_of(alloc: Global, files: &OpenFiles) -> Result<Explanation, AllocError> {
+    let mut lines = Explanation::new(alloc);
+    files.add_last(alloc, &mut lines)?;
+    Ok(lines)
+}
+
+const MORE: &str =
+    "to do: give the program more memory; a loaded cartridge takes 24 bytes for each block\n";
+
+// Memory ran out at the file that was opened or read last.
+#[test]
+fn memory_ran_out_at_the_file_that_was_used_last(rt: HostRuntime) -> Result<(), Fail> {
+    let alloc = rt.alloc();
+    let files = OpenFiles::new(alloc, true);
+    assert_equal!(rt; last_of(alloc, &files)?.as_str(), "");
+    let first = files.enter(alloc, "a");
+    let _ = files.enter(alloc, "b");
+    let opened = format!(in alloc; "memory ran out: as it was opened or read, the file b\n{MORE}")?;
+    assert_equal!(rt; last_of(alloc, &files)?.as_str(), opened.as_str());
+    let _ = used(&files, first, failing(alloc, 4, None)?);
+    let read = format!(in alloc; "memory ran out: as it was opened or read, the file a\n{MORE}")?;
+    assert_equal!(rt; last_of(alloc, &files)?.as_str(), read.as_str());
+    Ok(())
+}
+
+// How a file of the system is open, and a call of a disk over it.
+#[derive(Clone, Copy, Debug)]
+enum Step {
+    ReadOfAWrittenFile,
+    WriteOfAReadFile,
+    CutOfAReadFile,
+    SyncOfADevice,
+}
+
+// The call, and what Linux answers (EBADF, EBADF, EINVAL, EINVAL).
+static ANSWERS: &'static [(Step, &'static str)] = &[
+    (
+        Step::ReadOfAWrittenFile,
+        "failed: read at, of the file a\nanswer: Bad file descriptor (os error 9)\n",
+    ),
+    (
+        Step::WriteOfAReadFile,
+        "failed: write at, of the file a\nanswer: Bad file descriptor (os error 9)\n",
+    ),
+    (
+        Step::CutOfAReadFile,
+        "failed: cut, of the file a\nanswer: Invalid argument (os error 22)\n",
+    ),
+    (
+        Step::SyncOfADevice,
+        "failed: sync, of the file a\nanswer: Invalid argument (os error 22)\n",
+    ),
+];
+
+// A disk over the file of this name, of four bytes, or over a device.
+fn opened(rt: &HostRuntime, path: &str, step: Step) -> Result<FileDisk, Fail> {
+    let mut options = OpenOptions::new();
+    let file = match step {
+        Step::ReadOfAWrittenFile => options.write(true).open(rt, path)?,
+        Step::WriteOfAReadFile | Step::CutOfAReadFile => File::open(rt, path)?,
+        Step::SyncOfADevice => options.read(true).open(rt, "/dev/null")?,
+    };
+    Ok(DiskOver::new(SystemFile::over(file)))
+}
+
+// Makes the call: whether it succeeds, and how long the disk is. A read is of all of it.
+fn made<D: Disk>(disk: &mut D, step: Step) -> (bool, u64) {
+    let mut bytes = [0; 4];
+    let len = disk.len();
+    let count = bytes.len().min(len as usize);
+    let answer = match step {
+        Step::ReadOfAWrittenFile => disk.read_at(0, &mut bytes[..count]),
+        Step::WriteOfAReadFile => disk.write_at(0, b"x"),
+        Step::CutOfAReadFile => disk.cut(0),
+        Step::SyncOfADevice => disk.sync(),
+    };
+    (answer.is_ok(), len)
+}
+
+// A file of the system says itself what it was answered.
+fn of_the_system(abort: &impl Abort, rt: &HostRuntime, path: &str) -> Result<(), Fail> {
+    let alloc = rt.alloc();
+    for &(step, told) in ANSWERS {
+        let files = OpenFiles::new(alloc, true);
+        let mut disk = NotedDisk {
+            disk: opened(rt, path, step)?,
+            number: files.enter(alloc, "a"),
+            files: &files,
+        };
+        let len = match step {
+            Step::SyncOfADevice => 0,
+            _ => 4,
+        };
+        assert_equal!(abort; made(&mut disk, step), (false, len); step);
+        let wanted = format!(in alloc;
+            "{told}to do: look at the device, and at what the system has logged of it\n"
+        )?;
+        assert_equal!(abort; lines_of(alloc, &files)?.as_str(), wanted.as_str(); step);
+    }
+    Ok(())
+}
+
+#[test]
+fn a_file_of_the_system_says_what_it_was_answered(rt: HostRuntime) -> Result<(), Fail> {
+    let alloc = rt.alloc();
+    let key = RandomState::new(&rt)?.hash_one(&0u8);
+    let parent = env::temp_dir(&rt)?;
+    let path = format!(in alloc; "{}/vtl_noted_{key:016x}", parent.as_str())?;
+    fs::write(&rt, path.as_str(), b"abcd")?;
+    of_the_system(&rt, &rt, path.as_str())?;
+    fs::remove_file(&rt, path.as_str())?;
+    Ok(())
+}

@@ -1,0 +1,253 @@
+//! Files in memory, of a test's own, that note their calls.
+use bays::Held;
+use file_disk::{FailedCall, FileError, SystemCall};
+use std::alloc::{AllocError, Global};
+use std::cell::{Cell, RefCell};
+use std::io::{self, ErrorKind};
+use tape_disk::{MemDisk, OnceDisk};
+use vtl_config::{FileName, UsedName};
+use vtl_program::files::{ChangeFiles, MakeFiles, ReadFiles, SecondFiles, TakesBack, TextFiles};
+use vtl_program::starting::NotStarted;
+
+/// An opening that failed.
+pub const DEVICE_ERROR: FileError = FileError::Device(FailedCall {
+    call: SystemCall::Open,
+    kind: ErrorKind::Other,
+    number: None,
+});
+
+// A configuration of two cartridges, in slot 1001 and in drive 2, and of two drives.
+const CONFIG: &[u8] = b"cartridge = [\
+    { barcode = \"T00001L6\", file = \"t\", capacities = [4096], home = 1001 }, \
+    { barcode = \"T00002L6\", file = \"u\", capacities = [4096, 4096], home = 2 }]\n\
+    drive = [{ number = 1, reservations = \"1\" }, { number = 2, reservations = \"2\" }]\n";
+
+/// The side of its first cartridge, new.
+pub const CARTRIDGE: &[u8] = b"\xa5VTLCART1\0\x01T00001L6        \0\0\0\0\0\0\x10\0\0";
+
+// Bytes that are no side, but can be beside one of a pair.
+const SPARE: &[u8] = b"\0VTLCART1\0";
+
+// The side of its first drive, new.
+const STORE: &[u8] = b"\xa5VTLRESV1\0\0DRIVE1          \0";
+
+/// What fails, if anything: the call for a file with this number, with its error; the memory for a text;
+/// the disk with this name after this many calls. Or the side with this name has these bytes, or the call
+/// of the writer with this number fails. Numbers are from 1 on.
+#[derive(Clone, Copy)]
+pub enum Failing {
+    Nothing,
+    Call(u32, FileError),
+    Memory,
+    Disk(&'static str, u64),
+    Side(&'static str, &'static [u8]),
+    Write(u32),
+}
+
+/// Files in memory. Each call notes its word and the name.
+#[derive(Drop)]
+pub struct NotedFiles {
+    alloc: Global,
+    note: RefCell<Vec<u8>>,
+    calls: Cell<u32>,
+    failing: Failing,
+}
+
+impl NotedFiles {
+    pub fn new(alloc: Global, failing: Failing) -> NotedFiles {
+        NotedFiles {
+            alloc,
+            note: RefCell::new(Vec::new(alloc)),
+            calls: Cell::new(0),
+            failing,
+        }
+    }
+
+    /// The calls, each followed by a semicolon.
+    pub fn into_note(self) -> Vec<u8> {
+        self.note.into_inner()
+    }
+
+    fn noted(&self, word: &str, name: &str) -> Result<(), AllocError> {
+        if let Ok(mut note) = self.note.try_borrow_mut() {
+            note.extend_from_slice(word.as_bytes())?;
+            note.push(b' ')?;
+            note.extend_from_slice(name.as_bytes())?;
+            note.push(b';')?;
+        }
+        Ok(())
+    }
+
+    // Notes a call, and fails if it is the one that is to fail.
+    fn call(&self, word: &str, name: &str) -> Result<(), FileError> {
+        self.calls.set(self.calls.get().saturating_add(1));
+        if self.noted(word, name).is_err() {
+            return Err(DEVICE_ERROR);
+        }
+        match self.failing {
+            Failing::Call(number, error) if number == self.calls.get() => Err(error),
+            _ => Ok(()),
+        }
+    }
+
+    // A disk of this name that holds these bytes.
+    fn disk(&self, name: &str, bytes: &[u8]) -> Result<OnceDisk<MemDisk>, FileError> {
+        let calls = match self.failing {
+            Failing::Disk(bad, calls) if bad == name => calls,
+            _ => u64::MAX,
+        };
+        match MemDisk::from_bytes(self.alloc, bytes) {
+            Ok(disk) => Ok(OnceDisk::new(disk, calls)),
+            Err(_) => Err(DEVICE_ERROR),
+        }
+    }
+
+    // The side of this name.
+    fn side(&self, name: &str) -> &'static [u8] {
+        match (self.failing, name) {
+            (Failing::Side(bad, bytes), _) if bad == name => bytes,
+            (_, "t" | "u") => CARTRIDGE,
+            (_, "t.2") => b"",
+            (_, "u.2") => SPARE,
+            _ => STORE,
+        }
+    }
+
+    // The word for a disk that is returned: whether it holds the side of this name.
+    fn word_of(&self, disk: &OnceDisk<MemDisk>, name: &str) -> &'static str {
+        if disk.inner().bytes() == self.side(name) {
+            "back"
+        } else {
+            "changed"
+        }
+    }
+}
+
+impl TextFiles for NotedFiles {
+    ghost reads = { λ name answer. Unit {0} };
+
+    fn read(&self, name: &str) -> io::Result<Vec<u8>> {
+        if self.call("read", name).is_err() {
+            return Err(io::Error::from(ErrorKind::NotFound));
+        }
+        if let Failing::Memory = self.failing {
+            return Err(io::Error::from(ErrorKind::OutOfMemory));
+        }
+        let mut text = Vec::new(self.alloc);
+        text.extend_from_slice(CONFIG)?;
+        Ok(text)
+    }
+}
+
+impl ReadFiles<OnceDisk<MemDisk>> for NotedFiles {
+    ghost opens_to_read = { λ name answer. Unit {0} };
+
+    ghost closes = { λ name disk. Unit {0} };
+
+    fn open_to_read(&self, name: &str) -> Result<OnceDisk<MemDisk>, FileError> {
+        self.call("look", name)?;
+        self.disk(name, self.side(name))
+    }
+
+    fn close(&self, name: &str, disk: OnceDisk<MemDisk>) {
+        let _ = self.noted("close", name);
+        drop(disk);
+    }
+
+    fn nothing(&self) -> OnceDisk<MemDisk> {
+        OnceDisk::new(MemDisk::new(self.alloc), u64::MAX)
+    }
+}
+
+impl SecondFiles<OnceDisk<MemDisk>> for NotedFiles {
+    ghost opens_second = { λ name answer. Unit {0} };
+
+    ghost closes_second = { λ name disk. Unit {0} };
+
+    fn open_second(&self, name: FileName) -> (UsedName, Result<OnceDisk<MemDisk>, FileError>) {
+        let name = name.use_up();
+        let opened = self.second(name.as_str());
+        (name, opened)
+    }
+
+    fn close_second(&self, name: UsedName, disk: OnceDisk<MemDisk>) {
+        let name = name.as_str();
+        let _ = self.noted(self.word_of(&disk, name), name);
+        drop(disk);
+    }
+}
+
+impl NotedFiles {
+    fn opened(&self, name: &str) -> Result<OnceDisk<MemDisk>, FileError> {
+        self.call("open", name)?;
+        self.disk(name, self.side(name))
+    }
+
+    fn second(&self, name: &str) -> Result<OnceDisk<MemDisk>, FileError> {
+        self.call("second", name)?;
+        self.disk(name, self.side(name))
+    }
+
+    fn made(&self, name: &str) -> Result<OnceDisk<MemDisk>, FileError> {
+        self.call("make", name)?;
+        self.disk(name, b"")
+    }
+}
+
+impl ChangeFiles<OnceDisk<MemDisk>> for NotedFiles {
+    ghost opens = { λ name answer. Unit {0} };
+
+    ghost hands_back = { λ name disk. Unit {0} };
+
+    fn open(&self, name: FileName) -> (UsedName, Result<OnceDisk<MemDisk>, FileError>) {
+        let name = name.use_up();
+        let opened = self.opened(name.as_str());
+        (name, opened)
+    }
+
+    fn hand_back(&self, name: UsedName, disk: OnceDisk<MemDisk>) {
+        let name = name.as_str();
+        let _ = self.noted(self.word_of(&disk, name), name);
+        drop(disk);
+    }
+}
+
+impl TakesBack<Held<OnceDisk<MemDisk>>, NotStarted<OnceDisk<MemDisk>>> for NotedFiles {
+    ghost closes_all = { λ library. Unit {0} };
+
+    ghost gives_up = { λ starting. Unit {0} };
+
+    fn close_all(&self, library: Held<OnceDisk<MemDisk>>) {
+        let _ = self.noted("close", "all");
+        drop(library);
+    }
+
+    fn give_up(&self, starting: NotStarted<OnceDisk<MemDisk>>) {
+        let _ = self.noted("give", "up");
+        drop(starting);
+    }
+}
+
+impl MakeFiles<OnceDisk<MemDisk>> for NotedFiles {
+    ghost makes = { λ name answer. Unit {0} };
+
+    ghost leaves = { λ name disk. Unit {0} };
+
+    ghost takes_away = { λ name disk. Unit {0} };
+
+    fn make(&self, name: FileName) -> (UsedName, Result<OnceDisk<MemDisk>, FileError>) {
+        let name = name.use_up();
+        let made = self.made(name.as_str());
+        (name, made)
+    }
+
+    fn leave(&self, name: UsedName, disk: OnceDisk<MemDisk>) {
+        let _ = self.noted("leave", name.as_str());
+        drop(disk);
+    }
+
+    fn take_away(&self, name: UsedName, disk: OnceDisk<MemDisk>) {
+        let _ = self.noted("take", name.as_str());
+        drop(disk);
+    }
+}

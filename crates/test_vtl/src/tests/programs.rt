@@ -1,0 +1,314 @@
+//! The program over streams of a test's own: its status, its line and its text at each fault.
+use super::ATTENTION;
+use super::streams::{BadCall, BadReader, BadWriter, PartWriter};
+use std::alloc::Global;
+use std::io::ErrorKind;
+use std::process::Abort;
+use std::sync::Wait;
+use std::test::Fail;
+use std::thread::Threads;
+use std::time::Clock;
+use test_assertions::{assert_equal, assert_holds};
+use vtl_program::orders::run_started;
+use vtl_program::programs::{Ended, Verdict, VtlFault, end, fault_line};
+use vtl_program::sides::NewSides;
+use vtl_program::starting::built_in;
+use vtl_program::writing::tell;
+use vtl_script::ScriptFault;
+
+// What a run of the program wrote on both streams, and how it ended.
+#[derive(Drop)]
+struct ProgramRun {
+    text: Vec<u8>,
+    line: Vec<u8>,
+    ended: Ended,
+}
+
+// The calls of the program's reader, of its writer and of its error stream that fail.
+#[derive(Clone, Copy)]
+struct Plan {
+    read: BadCall,
+    write: BadCall,
+    error: BadCall,
+}
+
+const WHOLE: Plan = Plan {
+    read: None,
+    write: None,
+    error: None,
+};
+
+// Starts a library and runs a script. Without a drive memory has run out before the start.
+fn outcome_of<R: Threads + Wait + Clock + Sync>(
+    rt: &R,
+    alloc: Global,
+    script: &[u8],
+    read: BadCall,
+    has_drive: bool,
+    writer: &mut BadWriter,
+) -> Result<Verdict, VtlFault> {
+    let start = if has_drive {
+        built_in(alloc)
+    } else {
+        Err(VtlFault::NoMemory)
+    };
+    let mut reader = BadReader::new(script, read);
+    match run_started(rt, alloc, &NewSides, start, &mut reader, writer) {
+        Ok(()) => Ok(Verdict::Done),
+        Err(fault) => Err(fault),
+    }
+}
+
+// Runs the program.
+fn ran<R: Threads + Wait + Clock + Sync>(
+    rt: &R,
+    alloc: Global,
+    script: &[u8],
+    plan: Plan,
+    has_drive: bool,
+) -> ProgramRun {
+    let mut writer = BadWriter::new(alloc, plan.write);
+    let mut lines = BadWriter::new(alloc, plan.error);
+    let outcome = outcome_of(rt, alloc, script, plan.read, has_drive, &mut writer);
+    let ended = end(outcome, &mut lines);
+    ProgramRun {
+        text: writer.into_text(),
+        line: lines.into_text(),
+        ended,
+    }
+}
+
+const SCRIPT: &[u8] = b"1 1 000000000000\n--\n1 1 000000000000\n";
+
+const BAD_READ: Plan = Plan {
+    read: Some(2),
+    ..WHOLE
+};
+
+const BAD_WRITE: Plan = Plan {
+    write: Some(1),
+    ..WHOLE
+};
+
+const BAD_FLUSH: Plan = Plan {
+    write: Some(2),
+    ..WHOLE
+};
+
+const REFUSED: &[u8] = b"1 1 000000000000\n--\n1 2 000000000000\n";
+
+const GOOD: &str = "CHECK 700006000000000a00000000290000000000\nGOOD\n";
+
+// A script, what fails, whether there is a drive; the status, the text and the line on standard error.
+type End<'a> = (&'a [u8], Plan, bool, u8, &'a str, &'a str);
+
+static ENDS: &'static [End<'static>] = &[
+    (SCRIPT, WHOLE, true, 0, GOOD, ""),
+    (b"", WHOLE, true, 0, "", ""),
+    (
+        REFUSED,
+        WHOLE,
+        true,
+        1,
+        ATTENTION,
+        "vtl: script line 3 refused\n",
+    ),
+    (b"x\n", WHOLE, true, 1, "", "vtl: script line 1 refused\n"),
+    (SCRIPT, BAD_READ, true, 2, ATTENTION, "vtl: device fault\n"),
+    (SCRIPT, BAD_WRITE, true, 2, "", "vtl: device fault\n"),
+    (SCRIPT, BAD_FLUSH, true, 2, ATTENTION, "vtl: device fault\n"),
+    (SCRIPT, WHOLE, false, 3, "", "vtl: out of memory\n"),
+];
+
+fn has_ended(rt: &impl Abort, ran: &ProgramRun, wanted: &End, at: usize) {
+    let (_, _, _, status, text, line) = *wanted;
+    assert_equal!(rt; ran.ended.status, status; at);
+    assert_holds!(rt; ran.ended.is_reported; at);
+    assert_equal!(rt; ran.text.as_slice(), text.as_bytes(); at);
+    assert_equal!(rt; ran.line.as_slice(), line.as_bytes(); at);
+}
+
+#[test]
+fn status_and_line_of_each_end(rt: HostRuntime) {
+    for (at, row) in ENDS.iter().enumerate() {
+        let (script, plan, has_drive, _, _, _) = *row;
+        has_ended(&rt, &ran(&rt, rt.alloc(), script, plan, has_drive), row, at);
+    }
+}
+
+fn is_silent(rt: &impl Abort, ran: &ProgramRun) {
+    assert_equal!(rt; ran.ended.status, 1);
+    assert_holds!(rt; !ran.ended.is_reported);
+    assert_holds!(rt; ran.line.is_empty());
+}
+
+#[test]
+fn a_line_that_can_not_be_written(rt: HostRuntime) {
+    let closed = Plan {
+        error: Some(1),
+        ..WHOLE
+    };
+    is_silent(&rt, &ran(&rt, rt.alloc(), b"x\n", closed, true));
+}
+
+// Faults of the program and of a script, each with its status and its line.
+static FAULTS: &'static [(VtlFault, u8, &'static str)] = &[
+    (VtlFault::Words, 1, "vtl: command line refused"),
+    (VtlFault::Config, 1, "vtl: configuration refused"),
+    (
+        VtlFault::Script { line: 12 },
+        1,
+        "vtl: script line 12 refused",
+    ),
+    (VtlFault::Frame { frame: 12 }, 1, "vtl: frame 12 refused"),
+    (VtlFault::Device, 2, "vtl: device fault"),
+    (VtlFault::NoMemory, 3, "vtl: out of memory"),
+];
+
+static SCRIPT_FAULTS: &'static [(ScriptFault, u8, &'static str)] = &[
+    (
+        ScriptFault::BadLine { line: 1 },
+        1,
+        "vtl: script line 1 refused",
+    ),
+    (ScriptFault::ReadFault, 2, "vtl: device fault"),
+    (ScriptFault::WriteFault, 2, "vtl: device fault"),
+    (ScriptFault::NoMemory, 3, "vtl: out of memory"),
+];
+
+fn assert_line(
+    rt: &impl Abort,
+    alloc: Global,
+    fault: VtlFault,
+    status: u8,
+    text: &str,
+) -> Result<(), Fail> {
+    let (given, line) = fault_line(&fault);
+    assert_equal!(rt; given, status; text);
+    assert_equal!(rt; format!(in alloc; "{line}")?.as_str(), text);
+    Ok(())
+}
+
+#[test]
+fn fault_lines(rt: HostRuntime) -> Result<(), Fail> {
+    for (fault, status, text) in FAULTS {
+        assert_line(&rt, rt.alloc(), *fault, *status, text)?;
+    }
+    for (fault, status, text) in SCRIPT_FAULTS {
+        assert_line(&rt, rt.alloc(), VtlFault::from(*fault), *status, text)?;
+    }
+    Ok(())
+}
+
+// How many bytes a writer takes at once and the results of its first calls; what is then out of `abcdef`, and
+// whether that is all.
+type Parts<'a> = (usize, &'a [Option<ErrorKind>], &'a [u8], bool);
+
+static WRITTEN_IN_PARTS: &'static [Parts<'static>] = &[
+    (1, &[], b"abcdef", true),
+    (4, &[None, Some(ErrorKind::Interrupted)], b"abcdef", true),
+    (
+        4,
+        &[Some(ErrorKind::Interrupted), Some(ErrorKind::Interrupted)],
+        b"abcdef",
+        true,
+    ),
+    (4, &[None, Some(ErrorKind::WouldBlock)], b"abcd", false),
+    (4, &[None, Some(ErrorKind::TimedOut)], b"abcd", false),
+    (4, &[Some(ErrorKind::BrokenPipe)], b"", false),
+    (0, &[], b"", false),
+];
+
+fn is_written(rt: &impl Abort, writer: &mut PartWriter, parts: &Parts, at: usize) {
+    let (_, _, text, is_all) = *parts;
+    let wanted = if is_all {
+        Ok(())
+    } else {
+        Err(VtlFault::Device)
+    };
+    assert_equal!(rt; tell(writer, b"abcdef"), wanted; at);
+    assert_equal!(rt; writer.text(), text; at);
+}
+
+#[test]
+fn a_text_is_written_in_parts(rt: HostRuntime) {
+    for (at, parts) in WRITTEN_IN_PARTS.iter().enumerate() {
+        let mut writer = PartWriter::new(rt.alloc(), parts.0, parts.1);
+        is_written(&rt, &mut writer, parts, at);
+    }
+}
+
+static TAKEN_IN_PARTS: &'static [Parts<'static>] = &[
+    (4, &[], b"vtl: out of memory\n", true),
+    (
+        4,
+        &[None, Some(ErrorKind::Interrupted)],
+        b"vtl: out of memory\n",
+        true,
+    ),
+    (4, &[None, Some(ErrorKind::Other)], b"vtl:", false),
+    (0, &[], b"", false),
+];
+
+// The line of a fault is written to this writer, with this status.
+fn is_taken(
+    rt: &impl Abort,
+    writer: &mut PartWriter,
+    fault: VtlFault,
+    ended: Ended,
+    text: &[u8],
+    at: usize,
+) {
+    assert_equal!(rt; end(Err(fault), writer), ended; at);
+    assert_equal!(rt; writer.text(), text; at);
+}
+
+#[test]
+fn a_line_is_taken_in_parts(rt: HostRuntime) {
+    for (at, &(most, errors, text, is_reported)) in TAKEN_IN_PARTS.iter().enumerate() {
+        let mut writer = PartWriter::new(rt.alloc(), most, errors);
+        let wanted = Ended {
+            status: 3,
+            is_reported,
+        };
+        is_taken(&rt, &mut writer, VtlFault::NoMemory, wanted, text, at);
+    }
+}
+
+#[test]
+fn the_longest_line_is_reported(rt: HostRuntime) {
+    let mut writer = PartWriter::new(rt.alloc(), 64, &[]);
+    let wanted = Ended {
+        status: 1,
+        is_reported: true,
+    };
+    let fault = VtlFault::Script { line: u64::MAX };
+    let line: &[u8] = b"vtl: script line 18446744073709551615 refused\n";
+    is_taken(&rt, &mut writer, fault, wanted, line, 0);
+}
+
+// The first call is the write, the second the flush.
+static FLUSHED: &'static [(BadCall, &'static [u8], Result<(), VtlFault>)] = &[
+    (Some(1), b"", Err(VtlFault::Device)),
+    (Some(2), b"abcdef", Err(VtlFault::Device)),
+    (Some(3), b"abcdef", Ok(())),
+];
+
+fn is_flushed(
+    rt: &impl Abort,
+    writer: &mut BadWriter,
+    text: &[u8],
+    wanted: Result<(), VtlFault>,
+    at: usize,
+) {
+    assert_equal!(rt; tell(writer, b"abcdef"), wanted; at);
+    assert_equal!(rt; writer.text(), text; at);
+}
+
+#[test]
+fn a_text_is_flushed(rt: HostRuntime) {
+    for (at, &(bad, text, wanted)) in FLUSHED.iter().enumerate() {
+        let mut writer = BadWriter::new(rt.alloc(), bad);
+        is_flushed(&rt, &mut writer, text, wanted, at);
+    }
+}

@@ -1,0 +1,148 @@
+//! Requests that are served, each answered as its frame.
+use crate::pipes::{PipeReader, PipeWriter, Plan};
+use crate::requests::{DONE, all_frames, bytes};
+use scsi_sense::Reply;
+use std::alloc::Global;
+use std::io::ErrorKind;
+use std::test::Fail;
+use test_assertions::{assert_equal, assert_holds};
+use vtl_base::{Bytes, NoMemory};
+use vtl_wire::{Answer, Entries, Request, Server, WireFault, serve_requests};
+
+/// A server that takes a given number of requests. A command is answered GOOD with its own data, a move GOOD, an
+/// inventory no entry.
+#[derive(Drop)]
+struct Shop {
+    left: u32,
+}
+
+impl Server for Shop {
+    ghost use Rattle.std.specs.Prelude.{nat_le};
+
+    ghost is_taken = { λ shop _. nat_le 1 shop.left };
+
+    ghost answers = { λ _ _ _ _. Unit {0} };
+
+    ghost lacks = { λ _ _. ⊥ };
+
+    fn takes(&self, _request: &Request) -> bool {
+        self.left >= 1
+    }
+
+    fn serve(&mut self, alloc: Global, request: Request) -> Result<Answer, NoMemory> {
+        self.left -= 1;
+        Ok(match request {
+            Request::Command {
+                host,
+                sent,
+                tag,
+                ..
+            } => Answer::Command {
+                host,
+                reply: Reply::good(sent),
+                tag,
+            },
+            Request::Move { tag, .. } => Answer::Move {
+                reply: Reply::good(Bytes::new(alloc)),
+                tag,
+            },
+            Request::Inventory { tag } => Answer::Inventory {
+                entries: Entries::from_vec(Vec::new(alloc)),
+                tag,
+            },
+        })
+    }
+}
+
+// The answers to all frames, worked by hand.
+static ANSWERS: &'static [&'static str] = &[
+    "01 01 00 00 00000000 00000007 00000000",
+    "01 03 00 00 00000003 fffffffe 00000000 616263",
+    "01 40 00 00 00000000 00000000 00000000",
+    "01 01 00 00 00000001 00010203 00000000 ff",
+    "02 00 00 00 00000000 00000009 00000000",
+    "02 00 00 00 00000000 00000000 00000000",
+    "03 00 00 00 00000000 01000000 00000000",
+];
+
+// The first `count` answers.
+fn first_answers(alloc: Global, count: usize) -> Result<Vec<u8>, Fail> {
+    let mut output = Vec::new(alloc);
+    for (place, answer) in ANSWERS.iter().enumerate() {
+        if place < count {
+            output.extend_from_slice(bytes(alloc, answer)?.as_slice())?;
+        }
+    }
+    Ok(output)
+}
+
+// How the serving of an input ends, and the writer.
+fn serving(
+    alloc: Global,
+    left: u32,
+    input: &[u8],
+    reads: Plan,
+    writes: Plan,
+) -> (Result<(), WireFault>, PipeWriter) {
+    let mut reader = PipeReader::new(input, reads);
+    let mut writer = PipeWriter::new(alloc, writes);
+    let end = serve_requests(alloc, &mut Shop { left }, &mut reader, &mut writer);
+    (end, writer)
+}
+
+#[test]
+fn each_is_answered(rt: HostRuntime) -> Result<(), Fail> {
+    let (input, _) = all_frames(rt.alloc())?;
+    let output = first_answers(rt.alloc(), 7)?;
+    for piece in [1, 7, usize::MAX] {
+        let plan = Plan::pieces(piece);
+        let (end, writer) = serving(rt.alloc(), 7, input.as_slice(), plan, plan);
+        assert_equal!(rt; end, DONE; piece);
+        assert_equal!(rt; writer.written(), output.as_slice(); piece);
+        assert_equal!(rt; writer.flushed(), output.len(); piece);
+    }
+    Ok(())
+}
+
+// After some requests the next is not taken, or is cut off: it is refused by its number, and those before it are
+// answered.
+#[test]
+fn one_is_refused(rt: HostRuntime) -> Result<(), Fail> {
+    let (input, _) = all_frames(rt.alloc())?;
+    for count in 0..7u32 {
+        let plan = Plan::whole();
+        let (end, writer) = serving(rt.alloc(), count, input.as_slice(), plan, plan);
+        let frame = u64::from(count) + 1;
+        assert_equal!(rt; end, Err(WireFault::BadFrame { frame }); count);
+        let output = first_answers(rt.alloc(), count as usize)?;
+        assert_equal!(rt; writer.written(), output.as_slice(); count);
+    }
+    let cut = &input.as_slice()[..input.len().saturating_sub(1)];
+    let (end, writer) = serving(rt.alloc(), 7, cut, Plan::whole(), Plan::whole());
+    assert_equal!(rt; end, Err(WireFault::BadFrame { frame: 7 }));
+    assert_equal!(rt; writer.written(), first_answers(rt.alloc(), 6)?.as_slice());
+    Ok(())
+}
+
+// Each call of the reader or the writer fails in turn. What was written is a beginning of the answers.
+#[test]
+fn streams_that_fail(rt: HostRuntime) -> Result<(), Fail> {
+    let (input, _) = all_frames(rt.alloc())?;
+    let output = first_answers(rt.alloc(), 7)?;
+    for call in 1..40 {
+        let bad = Plan {
+            piece: 9,
+            bad: Some((call, ErrorKind::Other)),
+        };
+        let (end, writer) = serving(rt.alloc(), 7, input.as_slice(), bad, Plan::whole());
+        assert_holds!(rt; end == DONE || end == Err(WireFault::ReadFault); call);
+        assert_holds!(rt; end != DONE || writer.written().len() == output.len(); call);
+        assert_holds!(rt; output.as_slice().starts_with(writer.written()); call);
+
+        let (end, writer) = serving(rt.alloc(), 7, input.as_slice(), Plan::whole(), bad);
+        assert_holds!(rt; end == DONE || end == Err(WireFault::WriteFault); call);
+        assert_equal!(rt; end == DONE, writer.flushed() == output.len(); call);
+        assert_holds!(rt; output.as_slice().starts_with(writer.written()); call);
+    }
+    Ok(())
+}
