@@ -195,7 +195,7 @@ module _ (rules : Rules) where
   abbrev pub NeverRebases : Type 0
   NeverRebases = (base base' : rules.Base) (items : List rules.Item) → rules.rebases base items base' → ⊥
 
-  -- where the base never changes, items that survive begin what is accepted
+  -- where the base never changes, a list begins with the items that survive in it
   pub kept_begins : NeverRebases → (base base' : rules.Base) (items items' : List rules.Item)
       → IsKept base items base' items' → (base' ≡ base) × IsPrefix items items'
   kept_begins never base base' items items' (zero, kept) = kept

@@ -27,15 +27,15 @@ module _ (rules : Rules) where
       (old new : Core rules.Base rules.Item) (steps : List (CoreStep rules.Item))
       → IsCore old → AllStepTo rules old steps new → IsCore new × (NeverRebases rules → new.base ≡ old.base)
 
-  -- What was accepted at an acknowledgement begins what is accepted after further steps, stops among them, of which
-  -- none changes the base; and the base stays (own).
+  -- What is accepted after further steps begins with what was accepted at an acknowledgement. Stops may be among the
+  -- steps; none changes the base, and it stays (own).
   abbrev pub AcknowledgedBegins : Type 0
   AcknowledgedBegins =
       (first acked last : Core rules.Base rules.Item) (before after : List (CoreStep rules.Item))
       → IsCore first → AllStepTo rules first before acked → AllStepTo rules acked (Ack ∷ after) last
       → NoneRebases after → (last.base ≡ acked.base) × IsPrefix acked.accepted last.accepted
 
-  -- where the base never changes, items that survive begin what is accepted (own)
+  -- where the base never changes, a list begins with the items that survive in it (own)
   abbrev pub KeptBegins : Type 0
   KeptBegins =
       NeverRebases rules → (base base' : rules.Base) (items items' : List rules.Item)
@@ -81,7 +81,7 @@ module _ (rules : Rules) (device : Device rules.Image) where
       → device.failures disk' ≡ device.failures disk → IsCore old → old.fault ≡ false → old.recovering ≡ false
       → IsEvent rules device disk disk' old new made → new.accepted ≡ old.accepted ++ made
 
-  -- after an event the core is well-formed, the base is the same, and what was safe begins what is accepted (own)
+  -- after an event the core is well-formed, the base is the same, and what is accepted begins with what was safe (own)
   pub record KeptInEvent (old new : Core rules.Base rules.Item) : Type 0 where
     pub core : IsCore new
     pub base : new.base ≡ old.base

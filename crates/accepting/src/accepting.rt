@@ -2,10 +2,10 @@
 ghost use Rattle.accepting.specs.Core.{Rules};
 ghost use Rattle.accepting.specs.Device.{Device, IsDevice};
 
-/// An accepting type, by its rules and its device: it has no call. A type that states by which steps it goes
-/// on implements it once, and the laws hold for it.
+/// A type that accepts items: its rules and its device. The trait has no call. A type whose contracts name the steps
+/// that it makes implements it once, and the laws then hold for it.
 pub trait Accepting {
-    /// The items, when one applies, and what an image gives.
+    /// Its rules: what an item is, when one applies, and which items an image gives.
     ghost rules: { Rules };
 
     /// The device that the items are stored on.

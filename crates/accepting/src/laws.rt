@@ -8,8 +8,8 @@ pub fn what_was_acknowledged_is_kept<A: Accepting>()
     ensures { AcknowledgedIsKept A.rules }
 {}
 
-/// Where no step changes the base, what was acknowledged begins what is accepted later, over any number of
-/// stops and faults.
+/// Where no step changes the base, the items that were acknowledged are the first of those accepted later, over any
+/// number of stops and faults.
 pub fn what_was_acknowledged_begins<A: Accepting>()
     ensures { AcknowledgedBegins A.rules }
 {}
@@ -19,7 +19,7 @@ pub fn what_is_safe_is_kept<A: Accepting>()
     ensures { SafeIsKept A.rules }
 {}
 
-/// Where the base never changes, items that survive begin what is accepted.
+/// Where the base never changes, the items that survive are the first of those accepted.
 pub fn what_is_kept_begins<A: Accepting>()
     ensures { KeptBegins A.rules }
 {}
@@ -35,13 +35,13 @@ pub fn steps_keep_cores<A: Accepting>()
     ensures { StepsKeepCores A.rules }
 {}
 
-/// Where nothing is done, nothing is accepted. Two runs, one after another, accept the items of both.
+/// A run without a call accepts nothing. Two runs, one after the other, accept the items of both.
 pub fn moves_append<A: Accepting>()
     ensures nothing { NothingMoves A.rules A.device }
     ensures in_a_row { MovesAppend A.rules A.device }
 {}
 
-/// No call changes the base, and what was safe begins what is accepted after it.
+/// No call changes the base, and the items that were safe are the first of those accepted after it.
 pub fn events_keep_their_base<A: Accepting>()
     ensures { EventsKeepBase A.rules A.device }
 {}
@@ -51,7 +51,7 @@ pub fn changes_of_base_keep_what_was_accepted<A: Accepting>()
     ensures { RebasesKeepAccepted A.rules A.device }
 {}
 
-/// It survives a change of base in which the device fails, too.
+/// What was accepted also survives a change of base in which the device fails.
 pub fn failed_changes_of_base_keep_what_was_accepted<A: Accepting>()
     ensures { FailuresKeepAccepted A.rules A.device }
 {}

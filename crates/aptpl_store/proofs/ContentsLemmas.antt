@@ -8,7 +8,7 @@ use Rattle.gate_journal.specs.declared.header.SideKind.TheVariants.{Store}
 use Rattle.gate_journal.specs.Crash.{WithOrWithout}
 use Rattle.gate_journal.specs.Side.{Heading, StandsFor, plain}
 use Rattle.pr_core.specs.declared.states.PrState.{PrState}
-use Rattle.pr_core.specs.Staged.{last_saved}
+use Rattle.pr_core.specs.Keepers.{last_saved}
 use Rattle.pr_core.specs.States.{empty_state, power_loss}
 use Rattle.aptpl_store.specs.Contents.{GivesStates, OpensAsEither, ShowsStates, state_bodies, latest}
 use Rattle.aptpl_store.specs.Spelling.{IsSavable, spell_state}

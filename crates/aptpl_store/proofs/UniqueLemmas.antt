@@ -13,7 +13,7 @@ use Rattle.gate_journal.specs.Inner.Fronts.{same_front}
 use Rattle.gate_journal.specs.Inner.Sides.{one_place, one_side, sound}
 use Rattle.pr_core.specs.declared.states.PrState.{PrState}
 use Rattle.pr_core.specs.Saves.{AreSavedAlike}
-use Rattle.pr_core.specs.Staged.{last_saved}
+use Rattle.pr_core.specs.Keepers.{last_saved}
 use Rattle.pr_core.specs.States.{empty_state, power_loss}
 use Rattle.aptpl_store.specs.declared.error.StoreError.{StoreError}
 use Rattle.aptpl_store.specs.declared.error.StoreError.TheVariants.{NotOurs, Damaged, BadRecord, Device, NoMemory}

@@ -5,7 +5,7 @@ use Rattle.gate_journal.specs.declared.header.SideKind.TheVariants.{Cartridge, S
 use Rattle.gate_journal.specs.Side.{BeginsAs, Heading, IsDamagedOf, IsNotOurs, StandsFor, drive_name, plain, spell}
 use Rattle.pr_core.specs.declared.states.PrState.{PrState}
 use Rattle.pr_core.specs.Saves.{AreSavedAlike}
-use Rattle.pr_core.specs.Staged.{last_saved}
+use Rattle.pr_core.specs.Keepers.{last_saved}
 use Rattle.pr_core.specs.States.{empty_state, power_loss}
 use Rattle.aptpl_store.specs.Spelling.{IsSavable, SpellsState, spell_state}
 

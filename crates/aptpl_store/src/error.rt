@@ -68,7 +68,7 @@ impl From<NoMemory> for StoreError {
 /// A store that could not be made or opened, and its disk.
 #[derive(Drop, Debug)]
 pub struct StoreRefused<D> {
-    /// Why.
+    /// Why it could not be made or opened.
     pub error: StoreError,
     /// The disk that was passed to the call.
     pub disk: D,

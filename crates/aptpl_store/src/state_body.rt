@@ -31,7 +31,7 @@ impl StateBody {
         }
     }
 
-    // Takes the next bytes. False: there are more than a state has.
+    // Takes the next bytes. Returns false where these are more than a state has.
     pub(crate) fn add(&mut self, piece: &[u8]) -> bool
         ensures added { result ≡ true → self.new ≡ self.old ++ piece.now }
         ensures long { result ≡ false → 580 < length self.old + length piece.now }

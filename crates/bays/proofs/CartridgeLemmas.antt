@@ -25,9 +25,10 @@ use Rattle.drive_core.specs.declared.bays.Bay.TheVariants.{Empty, Unloaded, Load
 use Rattle.drive_core.specs.State.{DriveState, IsBayPositioned, machine_of, medium_in}
 use Rattle.drive_core.specs.Relations.{Made}
 use Rattle.drive_core.specs.Execute.{AdvancesIn, HonestIn, is_device_fault}
+use Rattle.drive_core.specs.Run.{Asked, Event, Turned}
 use Rattle.drive_core.specs.Synchronize.{NothingPending}
 use Rattle.bays.specs.Cartridges.{IsKnown, KeepsIn, StopsKeepChanges}
-use Rattle.bays.specs.Doings.{Commanded, Does, Doing, DoesAll, Turned}
+use Rattle.bays.specs.Doings.{Does, DoesAll}
 
 module _ {D : Type 0} (state : D → DiskState) (is_disk : (disk : D) → (state disk).honest → IsDisk (state disk)) where
   -- from the medium of a drive to the medium there later exactly these changes were accepted
@@ -61,30 +62,30 @@ module _ {D : Type 0} (state : D → DiskState) (is_disk : (disk : D) → (state
   moved_as a b made more same moved = subst (λ (l : List Change). Moved a b l) (sym same) moved
 
   module _ {K : Type 0} (kept : K → KeeperState) (keeps : Below K PrState) where
-    pub moved_doing : (old new : DriveState (BufferState D) K) (doing : Doing) (made : Made)
-        → Does (state_of state) (buffer_below state) kept keeps old doing made new
+    pub moved_event : (old new : DriveState (BufferState D) K) (event : Event) (made : Made)
+        → Does (state_of state) (buffer_below state) kept keeps old event made new
         → Moved (medium_in old.bay) (medium_in new.bay) made.changes
-    moved_doing old new (Commanded request reply) made (answers, same) =
+    moved_event old new (Asked request reply) made (answers, same) =
         moved_as (medium_in old.bay) (medium_in new.bay) answers.taken.made.changes made.changes
         (ap (λ (m : Made). m.changes) same)
         (moved_by (medium_in old.bay) (medium_in new.bay) answers.taken.made.changes (is_device_fault answers.answer)
         answers.taken.advances)
-    moved_doing old new (Turned turn) made (takes, same) =
+    moved_event old new (Turned turn) made (takes, same) =
         moved_as (medium_in old.bay) (medium_in new.bay) [] made.changes (ap (λ (m : Made). m.changes) same)
         (moved_by (medium_in old.bay) (medium_in new.bay) [] (turn_met_fault turn) takes.advances)
 
-    moved_all : (old new : DriveState (BufferState D) K) (doings : List Doing) (made : Made)
-        → DoesAll (state_of state) (buffer_below state) kept keeps old doings made new
+    moved_all : (old new : DriveState (BufferState D) K) (events : List Event) (made : Made)
+        → DoesAll (state_of state) (buffer_below state) kept keeps old events made new
         → Moved (medium_in old.bay) (medium_in new.bay) made.changes
     moved_all old new [] made (same, is) =
         moved_as (medium_in old.bay) (medium_in new.bay) [] made.changes (ap (λ (m : Made). m.changes) same)
         (subst (λ (d : DriveState (BufferState D) K). Moved (medium_in old.bay) (medium_in d.bay) []) (sym is)
         (moved_nowhere (medium_in old.bay)))
-    moved_all old new (doing ∷ doings) made (mid, first, rest, one, others, same) =
+    moved_all old new (event ∷ events) made (mid, first, rest, one, others, same) =
         moved_as (medium_in old.bay) (medium_in new.bay) (first.changes ++ rest.changes) made.changes
         (ap (λ (m : Made). m.changes) same)
         (moved_on (medium_in old.bay) (medium_in mid.bay) (medium_in new.bay) first.changes rest.changes
-        (moved_doing old mid doing first one) (moved_all mid new doings rest others))
+        (moved_event old mid event first one) (moved_all mid new events rest others))
 
   -- where nothing is pending, all that was accepted is safe: for an open cartridge, and for one that is not loaded
   safe_open : (c : OpenCartridge D) (pending : List Change) → c.failed ≡ false → pending ≡ []
@@ -196,11 +197,11 @@ module _ {D : Type 0} (state : D → DiskState) (is_disk : (disk : D) → (state
           subst (HonestOn state) (sym known_a.disks_are) known_a.honest
 
       pub stops_keep_changes : StopsKeepChanges state kept keeps
-      stops_keep_changes old acked new medium request reply doings made at known answers sure told nothing on doing =
+      stops_keep_changes old acked new medium request reply events made at known answers sure told nothing on event =
           keep_media (medium_in old.bay) (medium_in acked.bay) (medium_in new.bay) medium answers.taken.made.changes
           made.changes at known
           (moved_by (medium_in old.bay) (medium_in acked.bay) answers.taken.made.changes
           (is_device_fault answers.answer) answers.taken.advances)
-          (moved_all kept keeps acked new doings made doing)
+          (moved_all kept keeps acked new events made event)
           (λ left is. safe_in kept (HonestIn (buffer_below state) (medium_in old.bay)) acked acked.bay left refl is
           (honest_in (medium_in old.bay) medium at known) on nothing)

@@ -14,14 +14,14 @@ use Rattle.aptpl_store.specs.Kept.{store_below, store_kept}
 use Rattle.drive_core.specs.Relations.{made_nothing}
 use Rattle.drive_core.specs.State.{medium_in}
 use Rattle.drive_core.specs.Execute.{is_device_fault}
+use Rattle.drive_core.specs.Run.{Turned}
 use Rattle.changer.specs.Slots.{held_at, is_slot}
 use Rattle.bays.specs.Bays.{IsSafeIn}
-use Rattle.bays.specs.Doings.{Turned}
 use Rattle.bays.specs.Elements.{BayState, HeldState, bay_at, cartridge_at, cartridge_in}
 use Rattle.bays.specs.Finish.{TurnsAt}
 use Rattle.bays.specs.Journeys.{Deed, Finishing, GoesWith, GoesWithAll, InDrive, IsThen, KeepsWhatIsSafe, Moving, StopsKeepWhatIsMoved}
 use Rattle.bays.specs.Moves.{IsSameAt, KeepsCartridges, StaysAt}
-use Rattle.bays.proofs.CartridgeLemmas.{Moved, honest_in, keep_media, moved_as, moved_by, moved_doing, moved_nowhere, moved_on}
+use Rattle.bays.proofs.CartridgeLemmas.{Moved, honest_in, keep_media, moved_as, moved_by, moved_event, moved_nowhere, moved_on}
 use Rattle.bays.proofs.PlaceLemmas.{bay_elsewhere, bay_here, in_bay, same_or_not}
 
 module _ {D : Type 0} (state : D → DiskState) (is_disk : (disk : D) → (state disk).honest → IsDisk (state disk)) where
@@ -96,7 +96,7 @@ module _ {D : Type 0} (state : D → DiskState) (is_disk : (disk : D) → (state
   turned None (Some new) turns = absurd turns
   turned (Some old) None turns = absurd turns
   turned (Some old) (Some new) turns =
-      moved_doing state is_disk store_kept (store_below state) old new (Turned turns.0) made_nothing (turns.1, refl)
+      moved_event state is_disk store_kept (store_below state) old new (Turned turns.0) made_nothing (turns.1, refl)
 
   -- a cartridge while all is written out
   written : (old new : HeldState D) (place : ℕ)
@@ -123,13 +123,13 @@ module _ {D : Type 0} (state : D → DiskState) (is_disk : (disk : D) → (state
   moved_with : (old new : HeldState D) (place after : ℕ) (deed : Deed) (changes : List Change) (medium : BufferState D)
       → cartridge_at old place ≡ Some medium → GoesWith state old place deed changes new after
       → Moved state is_disk (cartridge_at old place) (cartridge_at new after) changes
-  moved_with old new place after (InDrive number doing) changes medium there (made, did, is, inl (here, same)) =
+  moved_with old new place after (InDrive number event) changes medium there (made, did, is, inl (here, same)) =
       between (medium_in did.bay.bay) (cartridge_at old place) (medium_in did.left.bay) (cartridge_at new after) changes
       (ap (λ (n : ℕ). cartridge_at old n) (sym here) ∙ in_bay number did.bay old did.number_is did.is)
       (ap (λ (n : ℕ). cartridge_at new n) (is ∙ sym here) ∙ bay_here number did.left old new did.number_is did.now)
       (moved_as state is_disk (medium_in did.bay.bay) (medium_in did.left.bay) made.changes changes same
-      (moved_doing state is_disk store_kept (store_below state) did.bay did.left doing made did.does))
-  moved_with old new place after (InDrive number doing) changes medium there (made, did, is, inr (apart, none)) =
+      (moved_event state is_disk store_kept (store_below state) did.bay did.left event made did.does))
+  moved_with old new place after (InDrive number event) changes medium there (made, did, is, inr (apart, none)) =
       moved_as state is_disk (cartridge_at old place) (cartridge_at new after) [] changes none
       (unmoved (cartridge_at old place) (cartridge_at new after)
       (ap (λ (n : ℕ). cartridge_at new n) is

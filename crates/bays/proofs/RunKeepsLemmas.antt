@@ -15,6 +15,7 @@ use Rattle.aptpl_store.specs.Kept.{store_kept}
 use Rattle.drive_core.specs.declared.bays.Bay.{Bay}
 use Rattle.drive_core.specs.declared.bays.Bay.TheVariants.{Loaded}
 use Rattle.drive_core.specs.State.{IsBayPositioned, machine_of, medium_in}
+use Rattle.drive_core.specs.Run.{Asked}
 use Rattle.drive_core.specs.Synchronize.{IsSynchronizing}
 use Rattle.vtl_script.specs.declared.faults.ScriptFault.{ScriptFault}
 use Rattle.vtl_script.specs.declared.faults.ScriptFault.TheVariants as faults
@@ -25,7 +26,6 @@ use Rattle.vtl_script.specs.declared.lines.ParsedLine.{ParsedLine}
 use Rattle.bays.specs.Bays.{KeepsCartridge, KeepsCartridgeIn}
 use Rattle.bays.specs.Cartridges.{IsKnown}
 use Rattle.bays.specs.Commands.{Commands}
-use Rattle.bays.specs.Doings.{Commanded}
 use Rattle.bays.specs.Elements.{BayState, HeldState}
 use Rattle.bays.specs.Inner.RunsOn.{orders_on}
 use Rattle.bays.specs.Journeys.{DriveDoes, GoesWith, GoesWithAll, KeepsWhatIsSafe, StopsKeepWhatIsMoved}
@@ -38,7 +38,7 @@ module _ {D : Type 0} (state : D → DiskState) where
   -- a command is one use of its drive
   does : (old mid : HeldState D) (line : Line) (reply : Reply)
       → (one : Commands state line.drive (line_request line) old reply mid)
-      → DriveDoes state line.drive (Commanded (line_request line) reply) one.step.taken.made old mid
+      → DriveDoes state line.drive (Asked (line_request line) reply) one.step.taken.made old mid
   does old mid line reply one =
       record {
         number_is = one.number_is;

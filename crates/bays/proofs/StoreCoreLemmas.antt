@@ -8,7 +8,7 @@ use Rattle.accepting.specs.Core.{Core}
 use Rattle.accepting.specs.Device.{one_disk}
 use Rattle.accepting.specs.Events.{IsEvent, ShowsCore}
 use Rattle.pr_core.specs.declared.states.PrState.{PrState}
-use Rattle.pr_core.specs.Staged.{last_saved}
+use Rattle.pr_core.specs.Keepers.{last_saved}
 use Rattle.aptpl_store.specs.Contents.{GivesStates, ShowsStates}
 use Rattle.aptpl_store.specs.Kept.{core_with, store_rules}
 use Rattle.bays.proofs.CoreLemmas.{Either, MayAccept, Within, fewer_accept, first_many, within_steps}

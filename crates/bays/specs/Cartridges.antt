@@ -17,8 +17,9 @@ use Rattle.drive_core.specs.State.{DriveState, IsBayPositioned, machine_of, medi
 use Rattle.drive_core.specs.Relations.{Made}
 use Rattle.drive_core.specs.Work.{Request}
 use Rattle.drive_core.specs.Execute.{Answers, HonestIn}
+use Rattle.drive_core.specs.Run.{Event}
 use Rattle.drive_core.specs.Synchronize.{Acknowledges, IsSynchronizing, NothingPending}
-use Rattle.bays.specs.Doings.{Doing, DoesAll}
+use Rattle.bays.specs.Doings.{DoesAll}
 
 module _ {D : Type 0} (state : D → DiskState) where
   -- The facts of a medium over two honest disks: what is safe is stored, what is stored was accepted, and each pair of
@@ -55,11 +56,11 @@ module _ {D K : Type 0} (state : D → DiskState) (kept : K → KeeperState) (ke
   abbrev pub StopsKeepChanges : Type 0
   StopsKeepChanges =
       (old acked new : DriveState (BufferState D) K) (medium : BufferState D)
-      (request : Request) (reply : Reply) (doings : List Doing) (made : Made)
+      (request : Request) (reply : Reply) (events : List Event) (made : Made)
       → medium_in old.bay ≡ Some medium → IsKnown state medium
       → Answers (state_of state) (buffer_below state) kept keeps old request reply acked
       → IsSynchronizing (machine_of (state_of state) kept old) request.cdb → Acknowledges reply
       → NothingPending (HonestIn (buffer_below state) (medium_in old.bay)) (machine_of (state_of state) kept acked)
       → IsBayPositioned (state_of state) acked.bay acked.position
-      → DoesAll (state_of state) (buffer_below state) kept keeps acked doings made new
+      → DoesAll (state_of state) (buffer_below state) kept keeps acked events made new
       → KeepsIn state (medium_in acked.bay) (medium_in new.bay) made.changes

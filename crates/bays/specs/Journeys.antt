@@ -12,10 +12,11 @@ use Rattle.drive_core.specs.Relations.{Made}
 use Rattle.drive_core.specs.State.{machine_of}
 use Rattle.drive_core.specs.Synchronize.{Acknowledges, IsSynchronizing}
 use Rattle.drive_core.specs.Work.{Request}
+use Rattle.drive_core.specs.Run.{Event}
 use Rattle.changer.specs.Slots.{is_slot}
 use Rattle.bays.specs.Cartridges.{IsKnown, KeepsIn}
 use Rattle.bays.specs.Commands.{Commands}
-use Rattle.bays.specs.Doings.{Doing, Does}
+use Rattle.bays.specs.Doings.{Does}
 use Rattle.bays.specs.declared.finishing.Unwritten.{Unwritten}
 use Rattle.bays.specs.Elements.{BayState, HeldState, bay_at, cartridge_at}
 use Rattle.bays.specs.Finish.{WritesOut}
@@ -24,7 +25,7 @@ use Rattle.bays.specs.Moves.{BayIs, KeepsCartridges, MovesMedium}
 -- one use of a library: of the drive with a number; a move, with its reply; or the writing out of all that is pending,
 -- with its result (own)
 pub data Deed : Type 0 where
-  InDrive : (number : ℕ) → (doing : Doing) → Deed
+  InDrive : (number : ℕ) → (event : Event) → Deed
   Moving : (from : ℕ) → (to : ℕ) → (reply : Reply) → Deed
   Finishing : (result : Result Unit Unwritten) → Deed
 
@@ -37,19 +38,19 @@ IsThen from to reply place after =
 
 module _ {D : Type 0} (state : D → DiskState) where
   -- the drive of this number is used, and nothing else changes (own)
-  pub record DriveDoes (number : ℕ) (doing : Doing) (made : Made) (old new : HeldState D) : Type 0 where
+  pub record DriveDoes (number : ℕ) (event : Event) (made : Made) (old new : HeldState D) : Type 0 where
     pub number_is : is_slot number ≡ false
     pub bay : BayState D
     pub is : bay_at old.bays number ≡ Some bay
     pub left : BayState D
-    pub does : Does (state_of state) (buffer_below state) store_kept (store_below state) bay doing made left
+    pub does : Does (state_of state) (buffer_below state) store_kept (store_below state) bay event made left
     pub now : BayIs number left old new
 
   -- A deed is done. It accepts exactly these changes of the cartridge at one place, whose place afterwards is the
   -- second (own).
   abbrev pub GoesWith : HeldState D → ℕ → Deed → List Change → HeldState D → ℕ → Type 0
-  GoesWith old place (InDrive number doing) changes new after =
-      (made : Made) × DriveDoes number doing made old new × (after ≡ place)
+  GoesWith old place (InDrive number event) changes new after =
+      (made : Made) × DriveDoes number event made old new × (after ≡ place)
       × (((number ≡ place) × (changes ≡ made.changes)) ⊎ ((number ≢ place) × (changes ≡ [])))
   GoesWith old place (Moving from to reply) changes new after =
       MovesMedium state old from to reply new × KeepsCartridges state old from to reply new

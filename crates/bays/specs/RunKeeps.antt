@@ -10,16 +10,16 @@ use Rattle.tape_buffer.specs.State.{BufferState, disks_in, state_of}
 use Rattle.aptpl_store.specs.Kept.{store_kept}
 use Rattle.drive_core.specs.declared.bays.Bay.TheVariants.{Loaded}
 use Rattle.drive_core.specs.State.{machine_of}
+use Rattle.drive_core.specs.Run.{Asked}
 use Rattle.drive_core.specs.Synchronize.{Acknowledges, IsSynchronizing}
 use Rattle.bays.specs.Cartridges.{IsKnown, KeepsIn}
-use Rattle.bays.specs.Doings.{Commanded}
 use Rattle.bays.specs.Elements.{BayState, HeldState, bay_at, cartridge_at}
 use Rattle.bays.specs.Journeys.{Deed, GoesWithAll, InDrive, Moving}
 use Rattle.bays.specs.Runs.{AnswersOrder, Carry, Command, Order, line_request}
 
 -- an order with its reply, as a deed (own)
 abbrev pub deed_of : Order → Reply → Deed
-deed_of (Command line) reply = InDrive line.drive (Commanded (line_request line) reply)
+deed_of (Command line) reply = InDrive line.drive (Asked (line_request line) reply)
 deed_of (Carry from to) reply = Moving from to reply
 
 -- orders with their replies, as deeds, one after another (own)

@@ -24,7 +24,7 @@ use pr_core::Reservations;
 use scsi_sense::Reply;
 use std::alloc::Global;
 use std::marker::Model;
-use tape_buffer::Buffered;
+use tape_buffer::Cataloged;
 use tape_disk::Disk;
 use volume_core::{Medium, Turn};
 use vtl_base::{Bytes, Nexus, NoMemory};
@@ -42,7 +42,7 @@ pub struct NotOn<D: Disk> {
 /// The type's invariant is what a stop may leave of cartridge and store.
 #[derive(Drop)]
 pub struct Bay<D: Disk> {
-    drive: Drive<Buffered<D>, AptplStore<D>>,
+    pub(crate) drive: Drive<Cataloged<D>, AptplStore<D>>,
 }
 
 impl<D: Disk> Model for Bay<D> {
@@ -69,7 +69,7 @@ impl<D: Disk> Accepting for Bay<D> {
 }
 
 // The invariant of the cartridge in a drive, if there is one.
-fn known<D: Disk>(drive: &Drive<Buffered<D>, AptplStore<D>>)
+pub(crate) fn known<D: Disk>(drive: &Drive<Cataloged<D>, AptplStore<D>>)
     ensures { KeepsCartridgeIn D.state (medium_in drive.now.bay) }
 {
     if let Some(medium) = drive.medium() {
@@ -78,7 +78,7 @@ fn known<D: Disk>(drive: &Drive<Buffered<D>, AptplStore<D>>)
 }
 
 // The medium of a closed cartridge, if there is one.
-fn medium_of<D: Disk>(cartridge: Option<Parked<D>>) -> Option<Buffered<D>>
+fn medium_of<D: Disk>(cartridge: Option<Parked<D>>) -> Option<Cataloged<D>>
     ensures same { result ≡ cartridge }
     ensures parked { IfSome result (λ medium. (state_of D.state medium).awake ≡ false) }
     ensures kept { KeepsCartridgeIn D.state result }
@@ -112,7 +112,7 @@ impl<D: Disk> Bay<D> {
             EveryMomentOff D.state cartridge store not.cartridge not.store) }
     {
         // The law, and the facts of store and reservations, for the proof alone.
-        reservations_outlive_each_stop::<Buffered<D>, D>();
+        reservations_outlive_each_stop::<Cataloged<D>, D>();
         store.known();
         let _ = reservations.state();
         match Drive::power_on(alloc, store, reservations, medium_of(cartridge)) {
@@ -149,7 +149,7 @@ impl<D: Disk> Bay<D> {
             → IsSafeIn D.state (medium_in self.new.bay) }
     {
         // The law, and the facts of what is in the drive, for the proof alone.
-        reservations_outlive_each_stop::<Buffered<D>, D>();
+        reservations_outlive_each_stop::<Cataloged<D>, D>();
         let reply = self.drive.execute(nexus, cdb, sent);
         known(&self.drive);
         let _ = self.drive.medium();
@@ -174,7 +174,7 @@ impl<D: Disk> Bay<D> {
             → Acknowledges result → HonestIn (buffer_below D.state) (medium_in self.old.bay)
             → IsSafeIn D.state (medium_in self.new.bay) }
     {
-        reservations_outlive_each_stop::<Buffered<D>, D>();
+        reservations_outlive_each_stop::<Cataloged<D>, D>();
         let reply = self.drive.execute_lent(nexus, cdb, sent);
         known(&self.drive);
         let _ = self.drive.medium();
@@ -187,7 +187,7 @@ impl<D: Disk> Bay<D> {
         ensures moments { EveryMoment D.state self.old (Turned result) made_nothing (medium_in self.old.bay)
             (medium_in self.new.bay) self.new }
     {
-        reservations_outlive_each_stop::<Buffered<D>, D>();
+        reservations_outlive_each_stop::<Cataloged<D>, D>();
         let turn = self.drive.turn();
         known(&self.drive);
         turn
@@ -202,7 +202,7 @@ impl<D: Disk> Bay<D> {
         ensures moments { EveryMoment D.state self.old Moved made_nothing (Some cartridge)
             (loaded_or_back D.state result self.new) self.new }
     {
-        reservations_outlive_each_stop::<Buffered<D>, D>();
+        reservations_outlive_each_stop::<Cataloged<D>, D>();
         let medium = cartridge.into_medium();
         let loaded = self.drive.load(medium);
         known(&self.drive);
@@ -219,7 +219,7 @@ impl<D: Disk> Bay<D> {
         ensures moments { EveryMoment D.state self.old Moved made_nothing (Some cartridge) (medium_in self.new.bay)
             self.new }
     {
-        reservations_outlive_each_stop::<Buffered<D>, D>();
+        reservations_outlive_each_stop::<Cataloged<D>, D>();
         let medium = cartridge.into_medium();
         self.drive.insert(medium);
         known(&self.drive);
@@ -234,7 +234,7 @@ impl<D: Disk> Bay<D> {
         ensures moments { EveryMoment D.state self.old Moved made_nothing (medium_in self.old.bay)
             (out_or_in D.state result self.new) self.new }
     {
-        reservations_outlive_each_stop::<Buffered<D>, D>();
+        reservations_outlive_each_stop::<Cataloged<D>, D>();
         // Read for the proof: a loaded medium is awake.
         let _ = self.drive.medium();
         let out = self.drive.unload();
@@ -280,13 +280,13 @@ impl<D: Disk> Bay<D> {
         // A loaded medium is awake, and the position is on it. A medium that is not loaded is parked.
         ensures positioned { IsBayPositioned (state_of D.state) self.now.bay self.now.position }
     {
-        reservations_outlive_each_stop::<Buffered<D>, D>();
+        reservations_outlive_each_stop::<Cataloged<D>, D>();
         // Read for the proof: the facts are the type's invariant.
         let _ = self.drive.medium();
     }
 
     /// The drive, for reading.
-    pub fn drive(&self) -> &Drive<Buffered<D>, AptplStore<D>>
+    pub fn drive(&self) -> &Drive<Cataloged<D>, AptplStore<D>>
         ensures { result.now ≡ self.now }
     {
         &self.drive

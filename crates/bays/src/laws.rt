@@ -9,7 +9,7 @@ use crate::bays::Bay;
 use accepting::laws::{
     what_is_kept_begins, what_was_acknowledged_begins, what_was_acknowledged_is_kept,
 };
-use tape_buffer::Buffered;
+use tape_buffer::Cataloged;
 use tape_disk::Disk;
 
 /// For every list of events, of the changes of a cartridge and of the orders of a drive's reservations: what
@@ -20,8 +20,8 @@ pub fn stop_keeps<D: Disk>()
     ensures changes { StopsKeepThrough medium_rules }
     ensures orders { StopsKeepAccepted order_rules }
 {
-    what_was_acknowledged_is_kept::<Buffered<D>>();
-    what_was_acknowledged_begins::<Buffered<D>>();
+    what_was_acknowledged_is_kept::<Cataloged<D>>();
+    what_was_acknowledged_begins::<Cataloged<D>>();
     what_was_acknowledged_is_kept::<Bay<D>>();
     what_is_kept_begins::<Bay<D>>();
 }

@@ -2,6 +2,7 @@
 //! stopped.
 #![tactic(auto)]
 
+mod apart;
 pub mod bays;
 mod finishing;
 pub mod held;

@@ -7,7 +7,7 @@ ghost use Rattle.bays.specs.Bays.{KeepsCartridge};
 use cartridge::Shelved;
 use std::alloc::Global;
 use std::marker::Model;
-use tape_buffer::Buffered;
+use tape_buffer::Cataloged;
 use tape_disk::Disk;
 
 /// A closed cartridge, as it is in a slot and as a drive loads it. A contract sees its medium, which is
@@ -15,7 +15,7 @@ use tape_disk::Disk;
 /// opened it.
 #[derive(Drop)]
 pub struct Parked<D: Disk> {
-    medium: Buffered<D>,
+    medium: Cataloged<D>,
 }
 
 impl<D: Disk> Model for Parked<D> {
@@ -36,11 +36,11 @@ impl<D: Disk> Parked<D> {
     pub fn of(alloc: Global, shelved: Shelved<D>) -> Parked<D>
         ensures { result ≡ closed_buffer shelved }
     {
-        Parked::of_medium(Buffered::parked(alloc, shelved))
+        Parked::of_medium(Cataloged::parked(alloc, shelved))
     }
 
     /// A medium that is parked.
-    pub fn of_medium(medium: Buffered<D>) -> Parked<D>
+    pub fn of_medium(medium: Cataloged<D>) -> Parked<D>
         requires { (state_of D.state medium).awake ≡ false }
         ensures { result ≡ medium }
     {
@@ -49,7 +49,7 @@ impl<D: Disk> Parked<D> {
     }
 
     /// The medium, which is parked.
-    pub fn into_medium(self) -> Buffered<D>
+    pub fn into_medium(self) -> Cataloged<D>
         ensures same { result ≡ self }
         ensures parked { (state_of D.state result).awake ≡ false }
         ensures kept { KeepsCartridge D.state result }
@@ -74,7 +74,7 @@ impl<D: Disk> Parked<D> {
     }
 
     /// The medium, for reading.
-    pub fn medium(&self) -> &Buffered<D>
+    pub fn medium(&self) -> &Cataloged<D>
         ensures { result.now ≡ self.now }
     {
         &self.medium

@@ -11,7 +11,7 @@ use Rattle.volume_core.specs.Volume.{AllApply, IsObject, IsPart, IsVolume, Part,
 use Rattle.record_index.specs.Facts.{used_blanked}
 use Rattle.record_index.specs.Records.{spell_all}
 use Rattle.record_index.specs.Shapes.{blanked, shape_of, shape_of_part}
-use Rattle.tape_disk.specs.Disk.{DiskState, IsDisk, Only}
+use Rattle.tape_disk.specs.Disk.{DiskState, IsDisk}
 use Rattle.tape_disk.specs.TwoDisks.{AreHonest, EachOfTwo, Images, TwoDisks, seen_of_two}
 use Rattle.gate_journal.specs.declared.header.SideKind.{SideKind}
 use Rattle.gate_journal.specs.declared.heads.Copied.{Copied}

@@ -4,6 +4,7 @@ pub mod ChoosingLemmas
 pub mod ContentsLemmas
 pub mod CreatedLemmas
 pub mod DisksLemmas
+pub mod EnterLemmas
 pub mod FetchLemmas
 pub mod GrowingLemmas
 pub mod OpenLemmas
@@ -12,6 +13,7 @@ pub mod OpeningLemmas
 pub mod PieceLemmas
 pub mod PlacingLemmas
 pub mod RecordLemmas
+pub mod RefusalLemmas
 pub mod ShownLemmas
 pub mod StoreLemmas
 pub mod StoringLemmas

@@ -12,7 +12,7 @@ use Rattle.cartridge.specs.declared.error.NotOpened.{NotOpened}
 use Rattle.cartridge.specs.Contents.{IsBadFrameAt, IsDamagedPairAt, IsNoCartridge, with_frames}
 use Rattle.cartridge.specs.Disks.{IsFaultOfTwo, NoneOfTwo, OnlyOfTwo}
 use Rattle.record_index.specs.Records.{spell_all}
-use Rattle.cartridge.specs.State.{ClosedCartridge, OpenCartridge, Reserved}
+use Rattle.cartridge.specs.State.{ClosedCartridge, OpenCartridge, OpeningState, Reserved}
 
 -- A fact for each answer of a call on an open cartridge: done, out of memory, a full side, a fault, a fault in an
 -- earlier call (own).
@@ -45,7 +45,7 @@ pub record TakesReserved (old : Reserved) (changes : List Change) (new : Reserve
   pub entries : (part : ℕ) →
       slice_index_or old.entries part 0 ≤ slice_index_or new.entries part 0 + sum_by (entries_of part) changes
 
--- less is reserved than a frame takes whose body has so many bytes, and which puts so many blocks and runs of marks
+-- less is reserved than a frame takes that has a body of this many bytes and puts this many blocks and runs of marks
 -- into that partition (own)
 abbrev pub Lacks : Reserved → ℕ → ℕ → ℕ → Type 0
 Lacks old part body entries =
@@ -58,14 +58,14 @@ LacksReserved old changes =
     (old.frames ≡ 0) ⊎ ((old.body < length (spell_all changes))
     ⊎ ((part : ℕ) × (slice_index_or old.entries part 0 < sum_by (entries_of part) changes)))
 
--- so much is reserved: for so many frames, for bodies of so many bytes, and for so many blocks and runs of marks in
+-- memory is reserved for this many frames, for bodies of this many bytes, and for this many blocks and runs of marks in
 -- each partition (own)
 pub record HasReserved (stores body entries : ℕ) (reserved : Reserved) : Type 0 where
   pub frames : stores ≤ reserved.frames
   pub longest : body ≤ reserved.body
   pub each : (part : ℕ) → part < length reserved.entries → entries ≤ slice_index_or reserved.entries part 0
 
--- less than that is reserved (own)
+-- less is reserved of one of the three: frames, bytes of bodies, or blocks and runs of marks in a partition (own)
 abbrev pub LacksStores : Reserved → ℕ → ℕ → ℕ → Type 0
 LacksStores old stores body entries =
     (old.frames < stores) ⊎ ((old.body < body)
@@ -81,7 +81,8 @@ module _ {D : Type 0} where
     pub room : new.room + (length (spell_all changes) + 5) ≡ old.room
     pub reserved : TakesReserved old.reserved changes new.reserved
 
-  -- the disk failed while these changes were stored: the cartridge keeps its contents, and what was under way (own)
+  -- the disk failed while these changes were stored: the contents are unchanged, and these changes are the frame that
+  -- was under way (own)
   pub record HasBroken (old : OpenCartridge D) (changes : List Change) (new : OpenCartridge D) : Type 0 where
     pub was_fine : old.failed ≡ false
     pub fitted : length (spell_all changes) + 5 ≤ old.room
@@ -109,6 +110,11 @@ abbrev pub disks_opened : {D : Type 0} → Result (OpenCartridge D) (NotOpened D
 disks_opened (Ok cartridge) = cartridge.disks
 disks_opened (Err refused) = refused.shelved.disks
 
+-- the disks that the beginning of an opening gives, in the same way (own)
+abbrev pub disks_begun : {D : Type 0} → Result (OpeningState D) (NotOpened D) → TwoDisks D
+disks_begun (Ok opening) = opening.cartridge.disks
+disks_begun (Err refused) = refused.shelved.disks
+
 -- why a cartridge is not made: memory ran out, and no disk was touched; or a fault (own)
 abbrev pub IsNotCreated : CartridgeError → Type 0 → (DevFault → Type 0) → Type 0
 IsNotCreated NoMemory memory device = memory
@@ -125,8 +131,8 @@ module _ {D : Type 0} (state : D → DiskState) where
   ReadsSure old new what =
       NoneOfTwo state old new × (AreHonest state old → what × OnlyOfTwo state old new)
 
-  -- Why a cartridge is not opened: what the old bytes are; a fault; or memory ran out, where a side counts. But for a
-  -- fault no call failed, and what stands is sure (own).
+  -- Why a cartridge is not opened: what the old bytes are; a fault; or memory ran out, where a side counts. Except for
+  -- a fault, no call failed, and what stands on the disks is sure (own).
   abbrev pub IsNotOpened : CartridgeError → TwoDisks D → TwoDisks D → Type 0
   IsNotOpened NotOurs old new = ReadsSure old new (IsNoCartridge (seen_of_two state old))
   IsNotOpened (Damaged at) old new = ReadsSure old new (IsDamagedPairAt (seen_of_two state old) at)

@@ -11,7 +11,7 @@ use Rattle.side_pairs.specs.declared.which.Which.{Which}
 use Rattle.side_pairs.specs.Pairs.{IsNoPair, IsPairDamagedAt, PairStandsFor, gate_behind}
 use Rattle.record_index.specs.Records.{IsRecord, spell_all}
 
--- What a cartridge holds: what the side of it that counts does (own).
+-- What a cartridge holds: the contents of its side that counts (own).
 pub record Contents : Type 0 where
   -- the side that counts
   pub which : Which
@@ -88,13 +88,13 @@ pub record IsContents (contents : Contents) : Type 0 where
 abbrev pub bodies_of : List (List Change) → List (List ℕ)
 bodies_of frames = map spell_all frames
 
--- what is found on the two images is just this (own)
+-- the two images give just these contents (own)
 abbrev pub GivesContents : Contents → Images → Type 0
 GivesContents contents images =
     IsContents contents
     × PairStandsFor contents.which contents.head (bodies_of contents.frames) images.0 images.1
 
--- the images give the contents, or these with the frame that was under way (own)
+-- the images give the contents, or the contents with the frame that was under way (own)
 abbrev pub ShowsContents : Contents → List (List Change) → Images → Type 0
 ShowsContents contents torn images = GivesContents contents images ⊎ GivesContents (with_frames contents torn) images
 

@@ -15,12 +15,12 @@ abbrev pub disk_at : {D : Type 0} → Which → TwoDisks D → D
 disk_at First disks = disks.first
 disk_at Second disks = disks.second
 
--- two disks, by that of this side and the other one (own)
+-- the first and the second disk, given the disk of this side and the other one (own)
 abbrev pub disks_by : {D : Type 0} → Which → D → D → TwoDisks D
 disks_by First this spare = record { first = this; second = spare }
 disks_by Second this spare = record { first = spare; second = this }
 
--- two images, by that of this side and the other one (own)
+-- the first and the second image, given the image of this side and the other one (own)
 abbrev pub images_by : Which → List ℕ → List ℕ → Images
 images_by which this spare = (first_image which this spare, second_image which this spare)
 
@@ -51,8 +51,8 @@ module _ {D : Type 0} (state : D → DiskState) where
     pub images : (images : Images) → MayLeave state new images → MayLeave state old images
     pub moments : TwoLeave state old new (MayLeave state old)
 
-  -- Of each of the two that is honest, whatever the other one is: a crash since leaves what it might have left before
-  -- (own).
+  -- Each of the two disks that is honest, whatever the other one is: a crash since leaves what it might have left
+  -- before (own).
   pub record EachStays (old new : TwoDisks D) : Type 0 where
     pub first : (state old.first).honest →
         LeavesOnly (state old.first) (state new.first) (state old.first).may_leave

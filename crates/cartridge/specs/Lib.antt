@@ -9,3 +9,4 @@ pub mod Lying
 pub mod Notes
 pub mod State
 pub mod Reclaiming
+pub mod Shown

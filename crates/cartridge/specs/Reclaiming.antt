@@ -4,7 +4,7 @@ use Rattle.vtl_base.specs.declared.faults.DevFault.{DevFault}
 use Rattle.vtl_base.specs.declared.limits.TheConstants.{MAX_SIDE}
 use Rattle.volume_core.specs.declared.changes.Change.{Change}
 use Rattle.tape_disk.specs.Disk.{DiskState}
-use Rattle.tape_disk.specs.TwoDisks.{AreHonest, EachOfTwo, Images, MayLeave, TwoDisks, seen_of_two}
+use Rattle.tape_disk.specs.TwoDisks.{AreHonest, Images, TwoDisks, seen_of_two}
 use Rattle.gate_journal.specs.Heads.{epoch_of, spell_side_head}
 use Rattle.gate_journal.specs.Side.{Front}
 use Rattle.gate_journal.specs.State.{IsBodyAt}
@@ -40,7 +40,7 @@ abbrev pub KeepsOldSide : Contents → Images → Images → Type 0
 KeepsOldSide contents before images =
     KeepsBesideCopy contents.which contents.head (volume_made contents) before images
 
--- what is noted of it (own)
+-- the notes of a cartridge once it was reclaimed (own)
 abbrev pub notes_copied : Notes → Notes
 notes_copied notes = record notes { frames = copy_frames (noted_contents notes); torn = [] }
 
@@ -93,8 +93,9 @@ module _ {D : Type 0} (state : D → DiskState) where
       (fault : DevFault) × (refused.error ≡ Cartridge (Device fault))
       × IsFaultOfTwo state fault old refused.shelved.disks × (refused.shelved.known ≡ false)
 
-  -- Why a cartridge is not reclaimed: it is not opened, and comes back as it was; or there is no room or no epoch for
-  -- the copy of what it holds, or memory ran out, and it comes back closed, with what it holds; or a disk failed (own).
+  -- Why a cartridge is not reclaimed: it is not opened, and is returned as it was; or there is no room or no epoch for
+  -- the copy of what it holds, or memory ran out, and it is returned closed, with what it holds; or a disk failed
+  -- (own).
   abbrev pub IsNotReclaimed : ClosedCartridge D → NotReclaimed D → Type 0
   IsNotReclaimed old refused =
       ((error : CartridgeError) × (refused.error ≡ Cartridge error)

@@ -6,8 +6,8 @@ use Rattle.tape_disk.specs.TwoDisks.{TwoDisks}
 use Rattle.cartridge.specs.Contents.{Contents}
 use Rattle.cartridge.specs.Codes.{contents_code, frames_code}
 
--- what later stores find in memory: the bytes of the longest body, how many frames, and by partition how many blocks
--- and runs of marks (own)
+-- what is reserved in memory for later stores: the bytes of the longest body, how many frames, and by partition how
+-- many blocks and runs of marks (own)
 pub record Reserved : Type 0 where
   pub body : ℕ
   pub frames : ℕ
@@ -33,6 +33,11 @@ pub record ClosedCartridge (D : Type 0) : Type 0 where
   pub known : Bool
   pub contents : Contents
   pub torn : List (List Change)
+
+-- a cartridge that was just opened, and the closed one that it was, over its disks as they are now (own)
+pub record OpeningState (D : Type 0) : Type 0 where
+  pub cartridge : OpenCartridge D
+  pub was : ClosedCartridge D
 
 module _ {D : Type 0} where
   -- two disks as plain data (own)

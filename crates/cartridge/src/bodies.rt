@@ -1,4 +1,4 @@
-//! Changes are put together to the body of a frame.
+//! The body of a frame, spelled from its changes.
 ghost use Rattle.std.specs.Prelude.{◌≡◌, ◌≤◌, ◌+◌, ◌++◌, length};
 ghost use Rattle.std.specs.List.{All};
 ghost use Rattle.vtl_base.specs.declared.limits.TheConstants.{MAX_BODY};
@@ -8,7 +8,7 @@ use gate_journal::Frame;
 use record_index::spelled_parts;
 use volume_core::Change;
 
-// The bytes that these changes have.
+// How many bytes the spelling of these changes has.
 pub(crate) fn size_of_body(changes: &[Change]) -> u32
     requires { length (spell_all changes.now) ≤ MAX_BODY }
     ensures { result ≡ length (spell_all changes.now) }

@@ -23,8 +23,8 @@ use tape_disk::Disk;
 use volume_core::Kind;
 use vtl_base::{NoMemory, ObjNo, PartNo};
 
-/// An open cartridge on two disks, of which the one is called on which the side lies that counts.
-/// After a device fault it has failed until it was closed and opened again.
+/// An open cartridge on two disks. Only the disk of the side that counts is called. After a device fault the cartridge
+/// has failed until it is closed and opened again.
 #[derive(Drop)]
 pub struct Cartridge<D: Disk> {
     // The side that counts.
@@ -76,9 +76,9 @@ impl<D: Disk> Model for Cartridge<D> {
 }
 
 impl<D: Disk> Cartridge<D> {
-    /// Where the disks are honest, each pair of images that a crash now may leave gives the contents,
-    /// or these with the frame that was under way when a disk failed; where it has not failed, the
-    /// contents. The room is what the spelling of the side that counts leaves.
+    /// What holds of every open cartridge. Where the disks are honest, each pair of images that a crash now may leave
+    /// gives the contents, or the contents with the frame that was under way when a disk failed; where it has not
+    /// failed, the contents alone. The room is what the spelling of the side that counts leaves.
     pub fn known(&self)
         ensures contents { IsContents self.now.contents }
         ensures at_rest { self.now.failed ≡ false → self.now.torn ≡ [] }
@@ -89,7 +89,7 @@ impl<D: Disk> Cartridge<D> {
         ensures room { AreHonest D.state self.now.disks → self.now.room ≡ room_behind
             (gate_behind self.now.contents.head (bodies_of self.now.contents.frames)) }
     {
-        // Looked at for the proof's sake: the facts are the type's.
+        // Read for the proof: the facts are the type's invariant.
         self.journal.known();
         let _ = &self.noted;
     }
@@ -136,7 +136,7 @@ impl<D: Disk> Cartridge<D> {
         self.index.count(part)
     }
 
-    /// The kind of the object of a number, None where there is none.
+    /// The kind of the object with this number; None where there is none.
     pub fn kind_at(&self, part: PartNo, at: ObjNo) -> Option<Kind>
         ensures { result ≡ kind_at (volume_made self.now.contents) part at }
     {
@@ -164,7 +164,7 @@ impl<D: Disk> Cartridge<D> {
         self.index.marks_upto(part, n)
     }
 
-    /// The object number of a partition's filemark of number k, from 0 on.
+    /// The object number of a partition's filemark number k, counted from 0.
     pub fn mark_at(&self, part: PartNo, k: u32) -> ObjNo
         requires { k < mark_count (volume_made self.now.contents) part }
         ensures { IsMarkOf (volume_made self.now.contents) part k result }
@@ -173,14 +173,14 @@ impl<D: Disk> Cartridge<D> {
         self.index.mark_at(part, k)
     }
 
-    /// A copy of its catalog, with nothing reserved: of the volume that it holds what no byte of a block decides.
+    /// A copy of its catalog, with nothing reserved. A catalog has all of the volume but the bytes of its blocks.
     pub fn catalog(&self, alloc: Global) -> Result<Index, NoMemory>
         ensures { IfOk result (λ index. IsIndexOf index (volume_made self.now.contents)) }
     {
         self.index.copy(alloc)
     }
 
-    /// Whether the disk failed: then nothing more is read or written.
+    /// Whether a disk has failed. Then nothing more is read or written.
     pub fn has_failed(&self) -> bool
         ensures { result ≡ self.now.failed }
     {
@@ -202,22 +202,22 @@ impl<D: Disk> Cartridge<D> {
         self.which
     }
 
-    /// The disk on which the side lies that counts, to be looked at.
+    /// The disk of the side that counts, for reading.
     pub fn disk(&self) -> &D
         ensures { result.now ≡ disk_at self.now.contents.which self.now.disks }
     {
         self.journal.disk()
     }
 
-    /// The other disk, to be looked at.
+    /// The other disk, for reading.
     pub fn other_disk(&self) -> &D
         ensures { result.now ≡ disk_at (other self.now.contents.which) self.now.disks }
     {
         &self.spare
     }
 
-    /// Closes it. What its disks then give is the contents, or these with the frame that was under
-    /// way when a disk failed.
+    /// Closes the cartridge. Its disks then give the contents, or the contents with the frame that was under way when a
+    /// disk failed.
     pub fn shelve(self) -> Shelved<D>
         ensures { result ≡ record {
           disks = self.disks;

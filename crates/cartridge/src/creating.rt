@@ -1,4 +1,4 @@
-//! A cartridge is made.
+//! Making a cartridge.
 ghost use Rattle.std.specs.Prelude.{◌≡◌, ◌++◌, [], ◌∷◌, true, IfOk, IfErr, IsTrue};
 ghost use Rattle.tape_disk.specs.Disk.{Keeps};
 ghost use Rattle.tape_disk.specs.TwoDisks.{EachOfTwo};
@@ -22,10 +22,9 @@ use tape_disk::Disk;
 use vtl_base::Barcode;
 
 impl<D: Disk> Cartridge<D> {
-    /// Makes a cartridge with no objects, whatever the disks held, closed. Its side is written on the
-    /// first disk, and is no copy; the second disk is not touched, and does not count. `are_capacities`
-    /// tests the condition. After a device fault anything may stand on the first disk; after
-    /// `NoMemory` it was not touched.
+    /// Makes a closed cartridge with no objects, whatever the disks held. Its side is written on the first disk, and is
+    /// no copy; the second disk is not touched, and does not count. `are_capacities` tests the condition. After a
+    /// device fault anything may stand on the first disk; after `NoMemory` it was not touched.
     pub fn create(
         alloc: Global,
         first: D,
@@ -60,7 +59,7 @@ impl<D: Disk> Cartridge<D> {
         match Journal::create(alloc, first, header) {
             Ok(journal) => {
                 journal.known();
-                // Looked at for the proof's sake: a header in memory can be spelled.
+                // Read for the proof: a header in memory can be spelled.
                 let _ = journal.header();
                 Ok(Shelved::with(Which::First, journal.close(), second, None, noted))
             }

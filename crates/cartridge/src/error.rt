@@ -15,21 +15,21 @@ pub enum CartridgeError {
     /// No side of the two disks counts as a cartridge's.
     #[error("not a cartridge")]
     NotOurs,
-    /// On the side that counts the first frame that is not whole, or that lacks, has its gate at this
+    /// The side that counts is damaged: the first frame that is not whole, or that is missing, has its gate at this
     /// place, counted in bytes.
     #[error("damaged at {at}")]
     Damaged {
         /// The place of the gate.
         at: u64,
     },
-    /// On the side that counts the first frame whose body spells no changes, or one that does not
+    /// The side that counts has a bad frame: the first one whose body spells no changes, or a change that does not
     /// apply to what stands before it, has its gate at this place, counted in bytes.
     #[error("bad record at {at}")]
     BadRecord {
         /// The place of the gate.
         at: u64,
     },
-    /// The frame would pass the longest side.
+    /// The frame would make the side longer than 1,099,511,627,776 bytes.
     #[error("side full")]
     SideFull,
     /// A disk failed in this call.
@@ -78,7 +78,7 @@ impl From<NoMemory> for CartridgeError {
 /// A cartridge that could not be made, and its disks.
 #[derive(Drop, Debug)]
 pub struct NotCreated<D> {
-    /// Why.
+    /// Why it could not be made.
     pub error: CartridgeError,
     /// The first disk that was given.
     pub first: D,
@@ -86,11 +86,11 @@ pub struct NotCreated<D> {
     pub second: D,
 }
 
-/// A cartridge that could not be opened, closed as it was given.
+/// A cartridge that could not be opened, and why.
 #[derive(Drop)]
 pub struct NotOpened<D: Disk> {
-    /// Why.
+    /// Why it could not be opened.
     pub error: CartridgeError,
-    /// The cartridge.
+    /// The cartridge, closed as it was.
     pub shelved: Shelved<D>,
 }

@@ -1,4 +1,4 @@
-//! A block is read.
+//! Reading a block.
 ghost use Rattle.std.specs.Prelude.{◌≡◌, ◌<◌, ◌≤◌, Some, length, true, false, IfSome, OnOk, vec_capacity};
 ghost use Rattle.tape_disk.specs.TwoDisks.{AreHonest};
 ghost use Rattle.vtl_base.specs.declared.limits.TheConstants.{MAX_BLOCK};
@@ -16,10 +16,9 @@ use tape_disk::Disk;
 use vtl_base::{ObjNo, PartNo};
 
 impl<D: Disk> Cartridge<D> {
-    /// Gives the bytes of the block of an object number, in the place of what `into` held, by one
-    /// call of the disk on which the side lies that counts. It takes memory only where the capacity
-    /// of `into` is less than the block has bytes, 1,048,576 at most. After an `Err` it may hold
-    /// anything. After `Device` the cartridge has failed.
+    /// Reads the block with this object number into `into`, in place of what that held, by one call of the disk of the
+    /// side that counts. It takes memory only where the block is longer than the capacity of `into`; a block has at
+    /// most 1,048,576 bytes. After an `Err` `into` may hold anything. After `Device` the cartridge has failed.
     pub fn fetch(
         &mut self,
         part: PartNo,
@@ -52,7 +51,7 @@ impl<D: Disk> Cartridge<D> {
         if self.journal.has_failed() {
             return Err(CartridgeError::Failed);
         }
-        // Asked for the proof's sake: the index keeps the limits of a volume.
+        // Called for the proof: the index keeps the limits of a volume.
         let _ = self.index.parts();
         let (place, length) = match self.index.place(part, at) {
             Some(Placed::Block { place, length }) => (place, length),

@@ -5,8 +5,8 @@ ghost use Rattle.volume_core.specs.Volume.{after};
 ghost use Rattle.tape_disk.specs.TwoDisks.{Images};
 ghost use Rattle.cartridge.specs.Contents.{Contents, GivesContents, IsAnswered, IsBadFrameAt, IsDamagedPairAt, IsNoCartridge, changes_since, start_of, volume_made};
 
-/// A pair of images gives at most one cartridge's contents. Of what gives some a side counts, which
-/// is not damaged and has no bad frame.
+/// A pair of images gives the contents of at most one cartridge. Where it gives contents, one of its sides counts, is
+/// not damaged and has no bad frame.
 pub fn a_pair_gives_one_volume()
     ensures contents { (images : Images) (a b : Contents) →
         GivesContents a images → GivesContents b images → a ≡ b }
@@ -20,7 +20,7 @@ pub fn a_pair_gives_one_volume()
         IsBadFrameAt images a → IsBadFrameAt images b → a ≡ b }
 {}
 
-/// What gives no contents does so for one cause, at one place.
+/// A pair of images that gives no contents has one cause for it, at one place.
 pub fn a_refusal_has_one_cause()
     ensures none_damaged { (images : Images) (at : ℕ) →
         IsNoCartridge images → IsDamagedPairAt images at → ⊥ }

@@ -10,7 +10,7 @@ use gate_journal::{Header, NotedBytes};
 use std::marker::{Model, PhantomData};
 use volume_core::Change;
 
-/// What is noted of a side.
+/// The notes of a side.
 #[derive(Drop)]
 pub(crate) struct Noted {
     marker: PhantomData<()>,
@@ -26,26 +26,26 @@ impl Model for Noted {
 }
 
 impl Noted {
-    /// Of a side of which nothing is known.
+    /// The notes of a side of which nothing is known.
     pub(crate) fn none() -> Noted {
         made(&0)
     }
 
-    /// Of a side with this header and no frames.
+    /// The notes of a side with this header and no frames.
     pub(crate) fn new(header: &Header) -> Noted
         ensures { result.notes ≡ record { heading = heading_of header.now; frames = []; torn = [] } }
     {
         by_header(header)
     }
 
-    /// With one frame more, of these changes.
+    /// The notes with one more frame, of these changes.
     pub(crate) fn with_frame(&self, changes: &[Change]) -> Noted
         ensures { result.notes ≡ with_frame self.now.notes changes.now }
     {
         by_changes(self, changes)
     }
 
-    /// With one frame more, of the changes that this body spells.
+    /// The notes with one more frame, of the changes that this body spells.
     pub(crate) fn with_body(&self, body: &NotedBytes) -> Noted
         ensures { result.notes
             ≡ with_frame self.now.notes (unwrap_or (changes_on body.now.bytes) []) }
@@ -53,14 +53,14 @@ impl Noted {
         by_body(self, body)
     }
 
-    /// Of the copy of the volume, in its frames.
+    /// The notes of the copy of the volume, in its frames.
     pub(crate) fn copied(&self) -> Noted
         ensures { result.notes ≡ notes_copied self.now.notes }
     {
         by_noted(self)
     }
 
-    /// With these changes in a frame that is under way.
+    /// The notes with these changes in a frame that is under way.
     pub(crate) fn with_torn(&self, changes: &[Change]) -> Noted
         ensures { result.notes ≡ with_torn self.now.notes changes.now }
     {
@@ -68,7 +68,7 @@ impl Noted {
     }
 }
 
-// What the caller names, which may speak of a header.
+// The notes that the caller names, by a header.
 fn by_header(_header: &Header) -> Noted
     ghost notes: { Notes }
     ensures { result.notes ≡ notes }
@@ -76,7 +76,7 @@ fn by_header(_header: &Header) -> Noted
     made(&0)
 }
 
-// What the caller names, which may speak of what was noted.
+// The notes that the caller names, by earlier notes.
 fn by_noted(_noted: &Noted) -> Noted
     ghost notes: { Notes }
     ensures { result.notes ≡ notes }
@@ -84,7 +84,7 @@ fn by_noted(_noted: &Noted) -> Noted
     made(&0)
 }
 
-// What the caller names, which may speak of what was noted and of changes.
+// The notes that the caller names, by earlier notes and by changes.
 fn by_changes(_noted: &Noted, _changes: &[Change]) -> Noted
     ghost notes: { Notes }
     ensures { result.notes ≡ notes }
@@ -92,7 +92,7 @@ fn by_changes(_noted: &Noted, _changes: &[Change]) -> Noted
     made(&0)
 }
 
-// What the caller names, which may speak of what was noted and of a body.
+// The notes that the caller names, by earlier notes and by a body.
 fn by_body(_noted: &Noted, _body: &NotedBytes) -> Noted
     ghost notes: { Notes }
     ensures { result.notes ≡ notes }
@@ -100,7 +100,7 @@ fn by_body(_noted: &Noted, _body: &NotedBytes) -> Noted
     made(&0)
 }
 
-// What the caller names.
+// The notes that the caller names.
 fn made(_any: &u64) -> Noted
     ghost notes: { Notes }
     ensures { result.notes ≡ notes }

@@ -1,14 +1,15 @@
-//! A closed cartridge is opened: it is found which side counts, and the bodies of its frames are read once, in pieces.
+//! Opening a closed cartridge: the side that counts is found, and the bodies of its frames are read once, in pieces.
 //! Most bytes of long blocks are not read.
 ghost use Rattle.std.specs.Prelude.{◌≡◌, [], IfOk, IfErr, false};
 ghost use Rattle.tape_disk.specs.TwoDisks.{AreHonest, KeepsDisks, MayLeave, TwoLeave, seen_of_two};
-ghost use Rattle.cartridge.specs.Answers.{IsNotOpened, disks_opened};
+ghost use Rattle.cartridge.specs.Answers.{IsNotOpened, disks_begun, disks_opened};
 ghost use Rattle.cartridge.specs.Contents.{GivesContents};
 ghost use Rattle.cartridge.specs.Disks.{EachStays, NoneOfTwo, OnlyOfTwo};
 ghost use Rattle.cartridge.specs.Inner.Opening.{HasSide, disks_found};
 
 use crate::cartridges::Cartridge;
 use crate::error::{CartridgeError, NotOpened};
+use crate::openings::Opening;
 use crate::recovering::Recovered;
 use crate::shelved::Shelved;
 use crate::sides::{apart, in_order};
@@ -26,10 +27,10 @@ struct Unopened<D> {
 }
 
 impl<D: Disk> Cartridge<D> {
-    /// Opens a closed cartridge, by the side that counts. It begins with a sync of both disks, and
-    /// writes nothing: at every moment of it, and after every error, the disks stand for what they
-    /// stood for, and so does a disk that is honest beside one that is not. After each error but
-    /// `Device` that is sure too. The cartridge is given back closed, as it was.
+    /// Opens a closed cartridge, by the side that counts. It begins with a sync of both disks, and writes nothing. At
+    /// every moment of it, and after every error, the disks stand for what they stood for; so does an honest disk
+    /// beside one that is not. After each error but `Device` that is sure too. With an error the cartridge is returned
+    /// closed, as it was.
     pub fn open(alloc: Global, shelved: Shelved<D>) -> Result<Cartridge<D>, NotOpened<D>>
         ensures disks { KeepsDisks D.state shelved.disks (disks_opened result) }
         ensures ok { IfOk result (λ cartridge. (cartridge.failed ≡ false) × (cartridge.torn ≡ [])
@@ -45,6 +46,31 @@ impl<D: Disk> Cartridge<D> {
             TwoLeave D.state shelved.disks (disks_opened result) (MayLeave D.state shelved.disks) }
         ensures each { EachStays D.state shelved.disks (disks_opened result) }
     {
+        match Opening::of(alloc, shelved) {
+            Ok(opening) => Ok(opening.keep()),
+            Err(refused) => Err(refused),
+        }
+    }
+}
+
+impl<D: Disk> Opening<D> {
+    /// Opens a closed cartridge, as `Cartridge::open` does, so that it may be closed again as it was.
+    pub fn of(alloc: Global, shelved: Shelved<D>) -> Result<Opening<D>, NotOpened<D>>
+        ensures disks { KeepsDisks D.state shelved.disks (disks_begun result) }
+        ensures ok { IfOk result (λ opening. (opening.cartridge.failed ≡ false)
+            × (opening.cartridge.torn ≡ []) × NoneOfTwo D.state shelved.disks opening.cartridge.disks
+            × (opening.was ≡ record shelved { disks = opening.cartridge.disks })) }
+        ensures gives { IfOk result (λ opening. AreHonest D.state shelved.disks →
+            GivesContents opening.cartridge.contents (seen_of_two D.state shelved.disks)
+            × OnlyOfTwo D.state shelved.disks opening.cartridge.disks) }
+        ensures refused { IfErr result (λ refused.
+            IsNotOpened D.state refused.error shelved.disks refused.shelved.disks) }
+        ensures same { IfErr result (λ refused.
+            refused.shelved ≡ record shelved { disks = refused.shelved.disks }) }
+        ensures any_moment { AreHonest D.state shelved.disks →
+            TwoLeave D.state shelved.disks (disks_begun result) (MayLeave D.state shelved.disks) }
+        ensures each { EachStays D.state shelved.disks (disks_begun result) }
+    {
         let Shelved {
             first,
             second,
@@ -54,7 +80,13 @@ impl<D: Disk> Cartridge<D> {
             noted,
         } = shelved;
         match open_disks(alloc, first, second) {
-            Ok(cartridge) => Ok(cartridge),
+            Ok(cartridge) => Ok(Opening {
+                cartridge,
+                known,
+                which,
+                copied,
+                noted,
+            }),
             Err(refused) => {
                 let Unopened {
                     error,
@@ -109,7 +141,7 @@ fn open_disks<D: Disk>(alloc: Global, first: D, second: D) -> Result<Cartridge<D
     }
 }
 
-// Opens that side, which counts.
+// Opens the side that counts.
 fn open_side<D: Disk>(
     alloc: Global,
     which: Which,
@@ -138,7 +170,7 @@ fn open_side<D: Disk>(
     let (counts, spare) = apart(which, first, second);
     match Journal::open_decoded::<Recovered>(alloc, counts, 0) {
         Ok((journal, recovered)) => {
-            // Asked for the proof's sake: over any disk there are as many frames as the copy has.
+            // Called for the proof: over any disk there are as many frames as the copy has.
             journal.known();
             Ok(Cartridge {
                 journal,

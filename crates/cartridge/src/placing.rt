@@ -1,4 +1,4 @@
-//! The objects of a new frame get their places.
+//! The places of a new frame's objects.
 ghost use Rattle.std.specs.Prelude.{◌≡◌, ◌+◌, ◌<◌, ◌≤◌, ◌-◌, ◌^◌, ◌++◌, [], ◌∷◌, ℕ, List, length, slice_index_or};
 ghost use Rattle.std.specs.List.{All};
 ghost use Rattle.volume_core.specs.Volume.{AllApply, after};
@@ -52,7 +52,7 @@ pub(crate) fn place_frame<D: Disk>(
     }
 }
 
-// The place of the block of a record that begins at that place; of a record with no block any.
+// The place of the block of a record that begins at that place; any place where the record has no block.
 pub(crate) fn place_of(item: Record, at: u64) -> u64
     requires sized { HasBlock item }
     requires fits { at + size_of item < 2 ^ 64 }

@@ -1,5 +1,5 @@
-//! A cartridge is reclaimed: its volume is copied to the side that does not count, which counts from
-//! then on. What the changes since took beside that is room again.
+//! Reclaiming a cartridge: its volume is copied to the side that does not count, which counts from then on. The room of
+//! all that the volume no longer has is free again.
 ghost use Rattle.std.specs.Prelude.{◌≡◌, ◌≤◌, ◌<◌, ◌+◌, ◌*◌, ◌⊎◌, ◌^◌, [], length, sum_by, IfOk, IfErr, OnOk, true, false, vec_capacity};
 ghost use Rattle.tape_disk.specs.TwoDisks.{AreHonest, EachOfTwo, KeepsDisks, MayLeave, TwoLeave, seen_of_two};
 ghost use Rattle.gate_journal.specs.Heads.{epoch_of};
@@ -33,11 +33,11 @@ use vtl_base::limits::MAX_SIDE;
 /// Why a cartridge is not reclaimed (own).
 #[derive(Clone, Copy, PartialEq, Eq, Debug, Error)]
 pub enum ReclaimError {
-    /// It cannot be opened; or its copy would pass the longest side; or memory ran out; or a disk
+    /// The cartridge cannot be opened, its copy would be longer than the longest side, memory ran out, or a disk
     /// failed.
     #[error("{0}")]
     Cartridge(CartridgeError),
-    /// Its epoch is the greatest of its width.
+    /// Its epoch is the greatest number of 8 bytes, so there is no next one.
     #[error("epochs spent")]
     EpochsSpent,
 }
@@ -45,18 +45,18 @@ pub enum ReclaimError {
 /// A cartridge that was not reclaimed, and why.
 #[derive(Drop)]
 pub struct NotReclaimed<D: Disk> {
-    /// Why.
+    /// Why it was not reclaimed.
     pub error: ReclaimError,
     /// The cartridge. After a device fault nothing is known of it until it is opened.
     pub shelved: Shelved<D>,
 }
 
 impl<D: Disk> Cartridge<D> {
-    /// Reclaims a closed cartridge: the volume of the side that counts is copied to the other one, which
-    /// counts from then on. It is opened first, and every cause but a device fault is found before
-    /// anything is written; so is a device fault of the opening. At every moment each pair of images is
-    /// an old one, or gives what the cartridge holds, or the copy: the same volume. At Ok the side that
-    /// counted before keeps its length and what it holds.
+    /// Reclaims a closed cartridge: the volume of the side that counts is copied to the other one, which counts from
+    /// then on. The cartridge is opened first, and every cause but a device fault is found before anything is written;
+    /// so is a device fault of the opening. At every moment each pair of images is an old one, or gives what the
+    /// cartridge holds, or the copy: the same volume. At Ok the side that counted before has its length still, and
+    /// holds what it held.
     pub fn reclaim(alloc: Global, shelved: Shelved<D>) -> Result<Shelved<D>, NotReclaimed<D>>
         ensures disks { KeepsDisks D.state shelved.disks (disks_reclaimed result) }
         ensures ok { IfOk result (λ reclaimed. (reclaimed.known ≡ true) × (reclaimed.torn ≡ [])
@@ -103,7 +103,7 @@ struct Plan {
     buffer: Vec<u8>,
 }
 
-// Why there is no plan, or what it is.
+// The plan of a copy, or why there is none.
 fn plan_copy<D: Disk>(alloc: Global, cartridge: &Cartridge<D>) -> Result<Plan, ReclaimError>
     ensures heading { IfOk result (λ plan.
         heading_of plan.header ≡ cartridge.now.contents.head.heading) }
@@ -174,7 +174,7 @@ fn epoch_now<D: Disk>(cartridge: &Cartridge<D>) -> u64
     }
 }
 
-// A header once more.
+// A copy of a header.
 fn copy_of_header(alloc: Global, header: &Header) -> Result<Header, NoMemory>
     ensures { IfOk result (λ copy. heading_of copy ≡ heading_of header.now) }
 {
@@ -196,7 +196,7 @@ fn other_side(which: Which) -> Which
     }
 }
 
-// Looked at for the proof's sake: each body lies in its extent.
+// Read for the proof: each body lies in its extent.
 fn see_bodies<D: Disk>(journal: &Journal<D>)
     ensures { (D.state journal.now.disk).honest →
         HasBodies (D.state journal.now.disk).seen journal.now.front journal.now.bodies
@@ -239,7 +239,7 @@ fn copy_cartridge<D: Disk>(
         buffer,
     } = plan;
     see_bodies(&cartridge.journal);
-    // Asked for the proof's sake: the index keeps the limits of a volume.
+    // Called for the proof: the index keeps the limits of a volume.
     let _ = cartridge.index.parts();
     let Cartridge {
         journal,

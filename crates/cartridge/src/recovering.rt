@@ -1,4 +1,4 @@
-//! What is recovered of a cartridge's side, a frame's body after the other, each in pieces.
+//! What is recovered from a cartridge's side, one frame's body after another, each in pieces.
 
 use crate::noted::Noted;
 use crate::walking::{walk_over, walk_piece};

@@ -1,4 +1,4 @@
-//! Room in memory is made for several later stores.
+//! Reserving memory for several later stores.
 ghost use Rattle.std.specs.Prelude.{◌≡◌, ◌≤◌, ◌<◌, OnOk, OnErr, IfErr, length};
 ghost use Rattle.vtl_base.specs.declared.limits.TheConstants.{MAX_PARTITIONS};
 ghost use Rattle.record_index.specs.Places.{reserved_of};
@@ -12,8 +12,8 @@ use tape_disk::Disk;
 use vtl_base::NoMemory;
 
 impl<D: Disk> Cartridge<D> {
-    /// Makes room in memory for so many later stores, which then take none: each of a body of so many bytes at most,
-    /// and all of them together of so many blocks and runs of marks in each partition, 24 bytes each.
+    /// Reserves the memory of `stores` later stores, which then take none: each with a body of at most `body` bytes,
+    /// and all of them together with at most `entries` blocks and runs of marks in each partition, 24 bytes each.
     pub fn reserve_stores(
         &mut self,
         stores: usize,
@@ -35,8 +35,9 @@ impl<D: Disk> Cartridge<D> {
     }
 }
 
-// Makes room for so many blocks and runs of marks in each partition.
-fn reserve_each(index: &mut Index, entries: usize) -> Result<(), NoMemory>
+/// Reserves memory for `entries` blocks and runs of marks in each partition of an index. After an `Err` some partitions
+/// may have it.
+pub fn reserve_each(index: &mut Index, entries: usize) -> Result<(), NoMemory>
     ensures few { length index.old ≤ MAX_PARTITIONS }
     ensures grown { IsGrown index.old index.new }
     ensures ok { OnOk result (HasEntries index.new entries) }

@@ -51,8 +51,7 @@ impl<D: Disk> Model for Shelved<D> {
 }
 
 impl<D: Disk> Shelved<D> {
-    /// Two disks that are taken for a cartridge, the first one first. Nothing is known of them until
-    /// it was opened.
+    /// A closed cartridge on these two disks, of which nothing is known until it is opened.
     pub fn of(first: D, second: D) -> Shelved<D>
         ensures disks { result.disks ≡ record { first = first; second = second } }
         ensures unknown { result.known ≡ false }
@@ -67,7 +66,7 @@ impl<D: Disk> Shelved<D> {
         }
     }
 
-    // A closed cartridge of which that side counts, whose disk comes before the other one.
+    // A closed cartridge of which this side counts. `counts` is the disk of that side, `spare` the other one.
     pub(crate) fn with(
         which: Which,
         counts: D,
@@ -97,14 +96,14 @@ impl<D: Disk> Shelved<D> {
         }
     }
 
-    /// Each pair of images that a crash may leave gives the contents, or these with the frame that
-    /// was under way when a disk failed. The contents are a cartridge's over any disks.
+    /// What holds of every closed cartridge. Each pair of images that a crash may leave gives the contents, or the
+    /// contents with the frame that was under way when a disk failed. The contents are a cartridge's over any disks.
     pub fn known(&self)
         ensures contents { self.now.known ≡ true → IsContents self.now.contents }
         ensures shows { self.now.known ≡ true → AreHonest D.state self.now.disks →
             EachOfTwo D.state self.now.disks (ShowsContents self.now.contents self.now.torn) }
     {
-        // Looked at for the proof's sake: the facts are the type's.
+        // Read for the proof: the facts are the type's invariant.
         let _ = &self.known;
     }
 
@@ -118,21 +117,21 @@ impl<D: Disk> Shelved<D> {
         }
     }
 
-    /// The first disk, to be looked at.
+    /// The first disk, for reading.
     pub fn disk(&self) -> &D
         ensures { result.now ≡ self.now.disks.first }
     {
         &self.first
     }
 
-    /// The second disk, to be looked at.
+    /// The second disk, for reading.
     pub fn second(&self) -> &D
         ensures { result.now ≡ self.now.disks.second }
     {
         &self.second
     }
 
-    /// Gives the disks back, the first one first.
+    /// Returns the disks, the first one first.
     pub fn into_disks(self) -> (D, D)
         ensures { (record { first = result.0; second = result.1 }) ≡ self.disks }
     {

@@ -4,7 +4,7 @@ ghost use Rattle.cartridge.specs.Disks.{disks_by};
 
 use side_pairs::Which;
 
-// The disks in their order, by that of this side and the other one.
+// The first and the second disk, given the disk of this side and the other one.
 pub(crate) fn in_order<D>(which: Which, this: D, other: D) -> (D, D)
     ensures { (record { first = result.0; second = result.1 }) ≡ disks_by which this other }
 {
@@ -14,7 +14,7 @@ pub(crate) fn in_order<D>(which: Which, this: D, other: D) -> (D, D)
     }
 }
 
-// The disk of this side and the other one, by the disks in their order.
+// The disk of this side and the other one, given the first and the second disk.
 pub(crate) fn apart<D>(which: Which, first: D, second: D) -> (D, D)
     ensures { disks_by which result.0 result.1 ≡ record { first = first; second = second } }
 {

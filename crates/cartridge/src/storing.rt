@@ -1,4 +1,4 @@
-//! Changes are stored, as one frame.
+//! Storing changes as one frame.
 ghost use Rattle.std.specs.Prelude.{◌≡◌, ◌⊎◌, ◌+◌, ◌<◌, ◌≤◌, ◌++◌, [], ◌∷◌, ℕ, length, sum_by, true, false, OnOk, OnErr, IfErr, slice_index_or, map};
 ghost use Rattle.std.specs.List.{All};
 ghost use Rattle.tape_disk.specs.TwoDisks.{AreHonest, EachOfTwo, TwoLeave};
@@ -22,8 +22,8 @@ use volume_core::Change;
 use vtl_base::{NoMemory, PartNo};
 
 impl<D: Disk> Cartridge<D> {
-    /// Makes room in memory for a later store, which then takes none: for a body of so many bytes,
-    /// and for so many blocks and runs of marks in one partition, 24 bytes each.
+    /// Reserves the memory of a later store, which then takes none: of a body of `body` bytes, and of `entries` blocks
+    /// and runs of marks in one partition, 24 bytes each.
     pub fn reserve(
         &mut self,
         part: PartNo,
@@ -46,11 +46,10 @@ impl<D: Disk> Cartridge<D> {
         Ok(())
     }
 
-    /// Stores changes as one frame of the side that counts: at Ok all of them are sure. The other disk
-    /// is not called. There is at least one, each applies
-    /// to what stands before it, and in bytes they are at most 8,388,608. Within what was reserved
-    /// it takes no memory. After `Device` the side has the frame or not, and nothing more is
-    /// written; after every other error nothing changed but what is reserved.
+    /// Stores changes as one frame of the side that counts: at Ok all of them are sure. The other disk is not called.
+    /// There must be at least one change, each must apply to what stands before it, and their spelling must have at
+    /// most 8,388,608 bytes. Within what was reserved it takes no memory. After `Device` the side has the frame or not,
+    /// and nothing more is written; after every other error nothing changed but what is reserved.
     pub fn store(&mut self, changes: &[Change]) -> Result<(), CartridgeError>
         requires some { 1 ≤ length changes.now }
         requires apply { AllApply (volume_made self.old.contents) changes.now }
@@ -107,7 +106,7 @@ impl<D: Disk> Cartridge<D> {
     }
 }
 
-// Makes room for a frame of these changes, whose body has so many bytes.
+// Reserves memory for a frame of these changes, whose body has `size` bytes.
 fn make_room<D: Disk>(
     journal: &mut Journal<D>,
     index: &mut Index,
@@ -133,7 +132,7 @@ fn make_room<D: Disk>(
     Ok(())
 }
 
-// Makes room for so many blocks and runs of marks in a partition, where it is there.
+// Reserves memory for `entries` blocks and runs of marks in a partition, if it is there.
 fn reserve_part(index: &mut Index, part: PartNo, entries: usize) -> Result<(), NoMemory>
     ensures grown { IsGrown index.old index.new }
     ensures ok { OnOk result (part < length index.old → entries ≤ reserved_of index.new part) }
@@ -146,7 +145,7 @@ fn reserve_part(index: &mut Index, part: PartNo, entries: usize) -> Result<(), N
     index.reserve(part, entries)
 }
 
-// Makes room for the blocks and runs of marks of these changes, in each partition.
+// Reserves memory for the blocks and runs of marks of these changes, in each partition.
 fn reserve_entries(index: &mut Index, changes: &[Change]) -> Result<(), NoMemory>
     ensures few { length index.old ≤ MAX_PARTITIONS }
     ensures grown { IsGrown index.old index.new }
@@ -160,7 +159,7 @@ fn reserve_entries(index: &mut Index, changes: &[Change]) -> Result<(), NoMemory
     Ok(())
 }
 
-// How many blocks and runs of marks these changes put into that partition.
+// How many blocks and runs of marks these changes add to that partition.
 fn count_entries(changes: &[Change], part: PartNo) -> usize
     ensures { result ≡ sum_by (entries_of part) changes.now }
 {

@@ -1,4 +1,4 @@
-//! The records of a body are carried out on the index, as their bytes come.
+//! Carrying out the records of a body on the index, as their bytes come.
 ghost use Rattle.std.specs.Prelude.{◌≡◌, ◌+◌, ◌^◌, ◌<◌, ◌≤◌, ◌++◌, ℕ, List, length, IfOk};
 ghost use Rattle.record_index.specs.Records.{size_of};
 ghost use Rattle.record_index.specs.Places.{PlacedPart};
@@ -10,8 +10,8 @@ use record_index::{Fed, Found, Index, Record, RecordReader};
 use volume_core::ApplyError;
 use vtl_base::NoMemory;
 
-// Carries out on the index the records that end in the next bytes of a body, which lies at that place. False is
-// that it spells no changes, or one that does not apply, whatever follows.
+// Carries out on the index the records that end in the next bytes of a body, which lies at that place. Returns false
+// where the body spells no changes, or one that does not apply, whatever follows.
 pub(crate) fn walk_piece(
     index: &mut Index,
     reader: &mut RecordReader,
@@ -39,8 +39,8 @@ pub(crate) fn walk_piece(
     Ok(true)
 }
 
-// Passes over the next bytes of a body, which are a block's, and carries out its record where they end it. False is
-// that the change does not apply.
+// Passes over the next bytes of a body, which are a block's, and carries out its record where they end it. Returns
+// false where the change does not apply.
 pub(crate) fn walk_over(
     index: &mut Index,
     reader: &mut RecordReader,
@@ -62,7 +62,7 @@ pub(crate) fn walk_over(
     }
 }
 
-// Carries out on the index a record that begins at that place. False is that it does not apply.
+// Carries out on the index a record that begins at that place. Returns false where it does not apply.
 fn enter(index: &mut Index, item: Record, at: u64) -> Result<bool, NoMemory>
     requires sized { HasBlock item }
     requires fits { at + size_of item < 2 ^ 64 }

@@ -19,7 +19,7 @@ pub enum SlotError {
 /// A value that was not placed.
 #[derive(Drop, Debug)]
 pub struct NotPlaced<C> {
-    /// Why.
+    /// Why it was not placed.
     pub error: SlotError,
     /// The value that was passed to the call.
     pub value: C,

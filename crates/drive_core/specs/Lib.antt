@@ -28,7 +28,7 @@ pub mod Counted
 pub mod Execute
 pub mod Data
 pub mod Alone
-pub mod Parting
+pub mod Apart
 pub mod Told
 pub mod Media
 pub mod Run

@@ -10,11 +10,11 @@ ghost use Rattle.drive_core.specs.Alone.{request_needs_disk};
 ghost use Rattle.drive_core.specs.Media.{TakesTurn, TakesIn, InsertSteps, LoadSteps, GoesOut, UnloadSteps, SwitchesOn, PowerOnSteps};
 
 mod alone;
+pub mod apart;
 mod lending;
 mod loading;
 mod looking;
 mod modes;
-mod parting;
 mod performing;
 mod reserving;
 mod verdicts;

@@ -14,11 +14,11 @@ pub fn honest_steps<M: Medium>()
     ensures { HonestStepsAreSteps M.below.honest }
 {}
 
-/// Where no fault, want of memory or full side came, an input has one answer, makes one list of
-/// changes and leaves one drive, however its volume is split into what is stored and what is
-/// pending; and so have the inputs of a run, wherever flusher's turns stand in it. Only of an input
-/// that opens a medium it is asked that it be sure how that is opened. That is so in each run of
-/// which none of these came, if it was sure at the start what the side of each medium gives.
+/// An input has one answer, makes one list of changes and leaves one drive, unless a fault comes, memory runs out or a
+/// side is full. How the volume is split into what is stored and what is pending makes no difference. The same holds of
+/// the inputs of a run, wherever flushers' turns stand in it. For an input that opens a medium it has to be sure what
+/// the medium's side gives. That is so in each run without a fault, with enough memory and with no full side, if it was
+/// sure at the start what the side of each medium gives.
 pub fn answers_are_determined()
     ensures step { StepsAreDetermined }
     ensures run { RunsAreDetermined }
@@ -45,8 +45,8 @@ pub fn events_run<M: Medium, K: Keeper>()
     ensures { EventsAreRuns M.state M.below K.kept K.below }
 {}
 
-/// What a reply tells of the changes that its command made: one where a WRITE of some bytes, a WRITE FILEMARKS of some
-/// or an ERASE is acknowledged; none or one where it is a write error; else none.
+/// How many changes a command made, by its reply: one where a WRITE of at least one byte, a WRITE FILEMARKS of at least
+/// one filemark or an ERASE is acknowledged; none or one where the reply is a write error; else none.
 pub fn replies_tell_changes<M: Medium, K: Keeper>()
     ensures { RepliesTellChanges M.state M.below K.kept K.below }
 {}

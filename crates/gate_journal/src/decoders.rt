@@ -9,9 +9,9 @@ use crate::noted::NotedBytes;
 use std::alloc::Global;
 use vtl_base::NoMemory;
 
-/// Decodes the bodies of a side, one after another. A body comes in pieces: `begin_body`, then `feed` or
-/// `pass` until all of it has come, then `end_body`. The decoder keeps what it needs of each piece. After a
-/// bad body nothing follows.
+/// Decodes the bodies of a side, one after another. A body comes in pieces: `begin_body`, then `feed` or `pass` until
+/// all of it has come, then `end_body`. The decoder holds what it needs of each piece. After a bad body nothing
+/// follows.
 pub trait Decodes: Drop {
     ghost KIND: { SideKind };
 

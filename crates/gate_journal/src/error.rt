@@ -13,14 +13,14 @@ pub enum JournalError {
     /// The bytes begin with no header of a side.
     #[error("not a side")]
     NotOurs,
-    /// The first frame that is not whole has its gate at this place, counted in bytes. Or a closed gate
-    /// stands there, before as many frames as the copy of the side has.
+    /// The side is damaged: the first frame that is not whole has its gate at this place, counted in bytes; or a closed
+    /// gate stands there, after fewer frames than the side's copy has.
     #[error("damaged at {at}")]
     Damaged {
         /// The place of the gate.
         at: u64,
     },
-    /// The frame would pass the longest side.
+    /// The frame would make the side longer than 1,099,511,627,776 bytes.
     #[error("side full")]
     SideFull,
     /// The disk failed in this call. Each call says what its disk holds then: after `append` the side with
@@ -54,7 +54,7 @@ impl From<DevFault> for JournalError {
 /// A side that could not be made or opened, and its disk.
 #[derive(Drop, Debug)]
 pub struct Refused<D> {
-    /// Why.
+    /// Why it could not be made or opened.
     pub error: JournalError,
     /// The disk that was passed to the call.
     pub disk: D,
@@ -66,8 +66,8 @@ pub enum OpenError {
     /// The bytes begin with no header of a side of this kind.
     #[error("not a side of the kind")]
     NotOurs,
-    /// The first frame that is not whole has its gate at this place, counted in bytes. Or a closed gate
-    /// stands there, before as many frames as the copy of the side has.
+    /// The side is damaged: the first frame that is not whole has its gate at this place, counted in bytes; or a closed
+    /// gate stands there, after fewer frames than the side's copy has.
     #[error("damaged at {at}")]
     Damaged {
         /// The place of the gate.
@@ -106,7 +106,7 @@ impl From<NoMemory> for OpenError {
 /// A side that could not be opened and decoded, and its disk.
 #[derive(Drop, Debug)]
 pub struct NotDecoded<D> {
-    /// Why.
+    /// Why it could not be opened and decoded.
     pub error: OpenError,
     /// The disk that was passed to the call.
     pub disk: D,

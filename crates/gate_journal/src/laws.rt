@@ -11,7 +11,8 @@ pub fn each_image_is_decided()
     ensures { (image : List ℕ) → IsDecided image }
 {}
 
-/// No image is two of the three. It stands for at most one side, and is damaged at one place at most.
+/// No image is two of these three: a side, no side of this library, a damaged side. It stands for at most one side, and
+/// is damaged at one place at most.
 pub fn no_image_is_decided_twice()
     ensures one_side { (image : List ℕ) (f g : Front) (bs cs : List (List ℕ)) →
         StandsFor f bs image → StandsFor g cs image → (f ≡ g) × (bs ≡ cs) }

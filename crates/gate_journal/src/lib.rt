@@ -20,7 +20,6 @@ mod placing;
 mod reading;
 mod room;
 mod spelling;
-pub mod stops;
 
 pub use decoders::Decodes;
 pub use error::{JournalError, NotDecoded, OpenError, Refused};

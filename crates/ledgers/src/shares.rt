@@ -5,9 +5,9 @@ use crate::parties::Parties;
 use std::marker::Model;
 use std::sync::ledger::{Book, Share};
 
-/// A party's share of its ledger: how many changes were entered for it, below 2^64. Only `Tally::enter`
-/// raises it, and it cannot be copied. A bay's share is kept with the bay, a host's in its `Seat`. A share
-/// that is dropped is missing at the end. Own.
+/// A party's share of its ledger: how many changes were entered for it, below 2^64. Only `Tally::enter` raises it, and
+/// it cannot be copied. A bay's share stands with the bay, a host's in its `Seat`. A share that is dropped is missing
+/// at the end. Own.
 #[derive(Drop)]
 pub struct PartyShare<L: Parties> {
     amount: u64,

@@ -13,10 +13,10 @@ use std::thread::Threads;
 use tape_disk::Disk;
 use vtl_base::DriveNo;
 
-/// Does some work while a flusher of each configured drive, from this number on, takes turns in a thread of
-/// its own. Waits until all have ended. The work ends with `close`. A flusher for which no thread can be made
-/// is called after the work, and so ends at once.
-pub(crate) fn beside_flushers<
+/// Does some work while a flusher of each configured drive, from this number on, takes turns in a thread of its own,
+/// and waits until all have ended. The work has to end with `close`, or the flushers do not. A flusher for which no
+/// thread can be made is called after the work, and so ends at once (own).
+pub fn beside_flushers<
     D: Disk + Drop + Send,
     B: Parties + Send + Sync,
     H: Parties + Send + Sync,

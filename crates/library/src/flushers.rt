@@ -19,20 +19,6 @@ pub trait Gate {
     fn after_turn(&self, turn: Turn);
 }
 
-/// A gate that is always open, and does nothing.
-#[derive(Clone, Copy, Debug, Drop)]
-pub struct OpenGate;
-
-impl Gate for OpenGate {
-    fn before_turn(&self) -> bool {
-        true
-    }
-
-    fn in_turn(&self) {}
-
-    fn after_turn(&self, _turn: Turn) {}
-}
-
 impl<D: Disk + Drop, B: Parties, H: Parties> Library<D, B, H> {
     /// Takes turns at a drive until the library is closed, or the gate says that there is to be none. After a
     /// turn that stored something the next one follows; after any other it waits until a command has accepted

@@ -1,7 +1,7 @@
 //! A library that threads share: each drive behind a lock of its own, the slots behind one, and two ledgers of changes.
 #![tactic(auto)]
 
-mod beside;
+pub mod beside;
 mod crews;
 pub mod finishing;
 pub mod flushers;
@@ -22,6 +22,7 @@ mod stages;
 mod threads;
 
 pub use bays::{Bay, NotOn, Parked, laws, move_lent};
+pub use beside::beside_flushers;
 pub use finishing::{FinishError, Finished};
 pub use flushers::Gate;
 pub use inventories::{Element, Inventory};

@@ -24,7 +24,7 @@ use ledgers::{Parties, PartyShare, Seat, Tally};
 use scsi_sense::Reply;
 use std::marker::Model;
 use std::sync::{Mutex, Wait};
-use tape_buffer::Buffered;
+use tape_buffer::Cataloged;
 use tape_disk::Disk;
 use volume_core::Turn;
 use vtl_base::Bytes;
@@ -99,7 +99,7 @@ impl<D: Disk, B: Parties> Place<D, B> {
             result self.new seat.new }
     {
         // The law, and the facts of the drive before and after, for the proof alone.
-        drive_laws::replies_tell_changes::<Buffered<D>, AptplStore<D>>();
+        drive_laws::replies_tell_changes::<Cataloged<D>, AptplStore<D>>();
         let before = self.count_below_limit(rt);
         known_drive(&self.bay);
         let reply = self.bay.execute(seat.nexus(), cdb, sent);
@@ -122,7 +122,7 @@ impl<D: Disk, B: Parties> Place<D, B> {
             result self.new seat.new)
             × (sent.new ≡ data_left answers.event.step.taken.made.changes sent.old) }
     {
-        drive_laws::replies_tell_changes::<Buffered<D>, AptplStore<D>>();
+        drive_laws::replies_tell_changes::<Cataloged<D>, AptplStore<D>>();
         let before = self.count_below_limit(rt);
         known_drive(&self.bay);
         let reply = self.bay.execute_lent(seat.nexus(), cdb, sent);

@@ -22,19 +22,19 @@ NoSpaceEndsTwice =
     → SpacesTo objects from code count other cause rest
     → (end ≡ other) × (stop ≡ cause) × (left ≡ rest)
 
--- forward it never meets the beginning of the partition (own)
+-- SPACE forward never meets the beginning of the partition (own)
 abbrev pub ForwardMeetsNoStart : Type 0
 ForwardMeetsNoStart =
     (objects : List Object) (from : ℕ) (code : SpaceCode) (size end left : ℕ)
     → SpacesTo objects from code (pos size) end AtStart left → ⊥
 
--- backward it never meets the end of data (own)
+-- SPACE backward never meets the end of data (own)
 abbrev pub BackwardMeetsNoEnd : Type 0
 BackwardMeetsNoEnd =
     (objects : List Object) (from : ℕ) (code : SpaceCode) (size end left : ℕ)
     → SpacesTo objects from code (negsuc size) end AtEnd left → ⊥
 
--- over filemarks it never stops because of one (own)
+-- SPACE over filemarks never stops because of one (own)
 abbrev pub FilemarksStopNone : Type 0
 FilemarksStopNone =
     (objects : List Object) (from : ℕ) (count : ℤ) (end left : ℕ)

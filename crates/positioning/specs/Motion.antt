@@ -101,8 +101,8 @@ ForwardOverBlocks objects from count end stop left =
     (passed : ℕ) × IsGreatest count (AreBlocksFrom objects from) passed
     × EndsForward objects from count passed end stop left
 
--- backward over blocks it passes the greatest number of objects, up to the count, that precede the place, exist and are
--- blocks (SSC-4, SPACE(6))
+-- backward over blocks a motion passes the greatest number of objects, up to the count, that precede the place, exist
+-- and are blocks (SSC-4, SPACE(6))
 abbrev pub BackwardOverBlocks : List Object → ℕ → ℕ → ℕ → Stop → ℕ → Type 0
 BackwardOverBlocks objects from count end stop left =
     (passed : ℕ) × IsGreatest count (AreBlocksBefore objects from) passed

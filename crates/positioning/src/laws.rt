@@ -13,8 +13,8 @@ pub fn each_locate_has_one_end()
     ensures one { NoLocateEndsTwice }
 {}
 
-/// Forward SPACE never stops at the beginning, backward never at the end of data, over filemarks never
-/// because of one. Nothing of the count is left exactly where the motion was completed.
+/// SPACE forward never stops at the beginning of a partition, SPACE backward never at the end of data, and SPACE over
+/// filemarks never because of one. Nothing of the count is left exactly where the motion was completed.
 pub fn each_stop_suits()
     ensures forward { ForwardMeetsNoStart }
     ensures backward { BackwardMeetsNoEnd }

@@ -36,6 +36,11 @@ abbrev pub saved_over : Option PrState → PrState → Option PrState
 saved_over None state = None
 saved_over (Some before) state = Some state
 
+-- the last of these states; the given one where there are none (own)
+abbrev pub last_saved : PrState → List PrState → PrState
+last_saved state [] = state
+last_saved state (next ∷ later) = last_saved next later
+
 -- a state was saved whole, and the keeper has not failed (own)
 pub record Stored (old : KeeperState) (state : PrState) (new : KeeperState) : Type 0 where
   pub saved : new.saved ≡ saved_over old.saved state

@@ -9,5 +9,4 @@ pub mod Orders
 pub mod Saves
 pub mod Reads
 pub mod Keepers
-pub mod Staged
 pub mod Laws

@@ -44,7 +44,7 @@ pub trait Keeper {
     fn has_failed(&self) -> bool
         ensures { result ≡ (kept self.now).failed };
 
-    /// Where nothing is done, nothing is saved and no fault is met.
+    /// A run without a call saves nothing, and meets no fault.
     ghost advances_nowhere: { (keeper : Self) → Advances below keeper [] false keeper };
 
     /// Two runs, one after the other, save the states of the first and then those of the second.

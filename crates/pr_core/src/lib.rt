@@ -11,11 +11,9 @@ mod registering;
 pub mod reservations;
 mod reserving;
 mod rows;
-pub mod staged;
 pub mod states;
 
 pub use attns::Attns;
 pub use keepers::{Keeper, KeeperError, NoKeeper};
 pub use reservations::Reservations;
-pub use staged::{SaveFault, SavePlan, StagedKeeper};
 pub use states::{PrAnswer, PrState, Reservation};

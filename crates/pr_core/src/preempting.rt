@@ -61,7 +61,7 @@ impl PrState {
         }
     }
 
-    // The key is 0.
+    // PREEMPT with the key 0.
     fn preempt_zero(&self, nexus: Nexus, kind: Option<PrType>) -> Outcome
         requires { length self.now.keys ≡ NEXUSES }
         ensures { Brings (preempt_zero self.now.reservation self.now nexus kind)

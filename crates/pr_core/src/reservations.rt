@@ -89,7 +89,8 @@ impl Reservations {
         self.state.reservation.is_some()
     }
 
-    /// Whether these are to be saved in place of the old ones: registrations, reservation or APTPL differ.
+    /// Whether these reservations have to be saved in place of the old ones: registrations, reservation or APTPL
+    /// differ.
     pub fn needs_save(&self, old: &Reservations) -> bool
         ensures { result ≡ needs_save old.now self.now }
     {

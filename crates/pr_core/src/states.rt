@@ -1,7 +1,5 @@
 //! The registrations and the reservation of a drive, as plain data.
-ghost use Rattle.std.specs.Prelude.{◌≡◌, length};
-ghost use Rattle.vtl_base.specs.declared.limits.TheConstants.{NEXUSES};
-ghost use Rattle.pr_core.specs.Keepers.{state_frame_size};
+ghost use Rattle.std.specs.Prelude.{◌≡◌};
 ghost use Rattle.pr_core.specs.Sets.{is_some_in};
 ghost use Rattle.pr_core.specs.Sound.{is_held_rightly};
 ghost use Rattle.pr_core.specs.States.{has_key, is_allowed, is_for_all, is_for_registrants, is_for_registrants_only, is_registered, holds_this, key_of, others, power_loss, empty_state};
@@ -148,20 +146,6 @@ impl PrState {
                 None => false,
             },
         }
-    }
-
-    // The bytes that the state takes in a store, as a frame of its own.
-    pub(crate) fn frame_size(&self) -> u64
-        requires { length self.now.keys ≡ NEXUSES }
-        ensures { result ≡ state_frame_size self.now }
-    {
-        let mut registered = 0;
-        for key in &self.keys {
-            if key.is_some() {
-                registered += 1;
-            }
-        }
-        9 + 9 * registered
     }
 
     // No registration and no reservation.

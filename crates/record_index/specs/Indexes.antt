@@ -131,7 +131,7 @@ set_one P (p ∷ ps) (q ∷ qs) zero part placed lies same here = (same, here, l
 set_one P (p ∷ ps) (q ∷ qs) (suc n) part placed lies same here =
     (lies.0, lies.1, set_one P ps qs n part placed lies.2 same here)
 
--- the partitions at a number in both
+-- the partitions at a number in both (own)
 abbrev BothAt : (List ℕ → ℕ → Type 0) → Option Part → Option PlacedPart → Type 0
 BothAt P None None = Unit {0}
 BothAt P None (Some placed) = ⊥

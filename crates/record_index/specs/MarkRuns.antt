@@ -50,7 +50,7 @@ IsRunUpto objects n (Some run) =
     IsRunAmong objects run × (run.first < n)
     × (placed_marks (take n objects) ≡ run.before + min run.count (n - run.first))
 
--- the run with the filemark of number k, from 0 on; None where there are at most k filemarks (own)
+-- the run that has filemark number k, counted from 0; None where there are at most k filemarks (own)
 abbrev pub IsRunWith : List Placed → ℕ → Option MarkRun → Type 0
 IsRunWith objects k None = placed_marks objects ≤ k
 IsRunWith objects k (Some run) = IsRunAmong objects run × (run.before ≤ k) × (k < run.before + run.count)

@@ -61,7 +61,7 @@ impl Index {
         Ok(Index { partitions })
     }
 
-    // The partition of this number, if there is one.
+    // The partition with this number, if there is one.
     fn partition(&self, part: PartNo) -> Option<&PlacedPartition>
         ensures { option_copied result ≡ slice_get self.now part }
     {
@@ -139,8 +139,8 @@ impl Index {
         }
     }
 
-    /// The run of a partition with the filemark of number k, from 0 on; None where there are at most k. It is
-    /// found by binary search, in at most 24 steps.
+    /// The run of a partition that has filemark number k, counted from 0; None where there are at most k. It is found
+    /// by binary search, in at most 24 steps.
     pub fn run_of(&self, part: PartNo, k: u32, steps: &mut Steps) -> Option<MarkRun>
         ensures found { IsRunWith (placed_objects self.now part) k result }
         ensures steps { AddsDigitsOfRuns (placed_objects self.now part) steps.old steps.new }
@@ -167,7 +167,7 @@ impl Index {
         }
     }
 
-    /// The object number of a partition's filemark of number k, from 0 on.
+    /// The object number of a partition's filemark number k, counted from 0.
     pub fn mark_at(&self, part: PartNo, k: u32) -> ObjNo
         requires { k < mark_count (outline self.now) part }
         ensures { IsMarkOf (outline self.now) part k result }
@@ -234,9 +234,9 @@ impl Index {
         Ok(())
     }
 
-    /// Carries out the change of a record whose block lies at that place, or refuses it for the first cause
-    /// that holds. It takes memory only where nothing is reserved in the record's partition, and none for an
-    /// erase. Where no cause holds and memory runs out, it returns that. Nothing has changed after an `Err`.
+    /// Carries out the change of a record whose block lies at that place, or refuses it for the first cause that holds.
+    /// It takes memory only where nothing is reserved in the record's partition, and none for an erase. It returns
+    /// `NoMemory` only where no cause holds. After an `Err` nothing has changed.
     pub fn apply(&mut self, item: Record, place: u64) -> Result<(), ApplyError>
         requires { place < 2 ^ 64 - 1 }
         ensures answer { AppliesUnless (refusal_of (outline self.old) (outlined item)) self.old

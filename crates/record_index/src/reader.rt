@@ -12,12 +12,12 @@ use std::marker::Model;
 /// record, at most ten bytes, and its numbers, but no block.
 #[derive(Drop)]
 pub struct RecordReader {
-    // The bytes so far of the head of the present record,
+    // The first bytes of the present record's head, as far as they have come.
     head: Head,
-    // its record, and how many bytes of its block are still to come.
+    // The present record, and how many bytes of its block are still to come.
     item: Record,
     left: u32,
-    // Where in the body it begins.
+    // Where in the body the present record begins.
     begin: usize,
     // How many bytes of the body have come.
     at: usize,
@@ -91,8 +91,7 @@ impl RecordReader {
         self.left as usize
     }
 
-    /// PassesOver over bytes that it need not see: whatever they are, it gives what feeding them would
-    /// give.
+    /// Passes over bytes that it need not see. Whatever these are, the result is that of feeding them.
     pub fn pass(&mut self, count: usize) -> Option<Found>
         requires some { 1 ≤ self.old.left }
         requires unseen { count ≤ self.old.left }
@@ -169,7 +168,7 @@ impl RecordReader {
         ensures some { 1 ≤ length piece.now → 1 ≤ taken_of result (length piece.now) }
     {
         if self.head.len() == HEAD_BYTES {
-            // It was bad before.
+            // The record was bad before this piece.
             self.at += piece.len();
             return Fed::Bad { at: self.begin };
         }

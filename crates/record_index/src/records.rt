@@ -36,19 +36,19 @@ pub(crate) const ERASE: u8 = 3;
 /// A record without the bytes of its block: these stay in place, directly after its head of 10 bytes.
 #[derive(Clone, Copy, PartialEq, Eq, Debug)]
 pub enum Record {
-    /// The first `at` objects, then a block of `length` bytes.
+    /// Cuts the partition after its first `at` objects, and appends a block of `length` bytes.
     Put {
         part: PartNo,
         at: ObjNo,
         length: u32,
     },
-    /// The first `at` objects, then this many filemarks.
+    /// Cuts the partition after its first `at` objects, and appends this many filemarks.
     Marks {
         part: PartNo,
         at: ObjNo,
         count: u32,
     },
-    /// The first `at` objects.
+    /// Cuts the partition after its first `at` objects.
     Erase {
         part: PartNo,
         at: ObjNo,
@@ -201,7 +201,7 @@ impl Record {
         }
     }
 
-    // Its block has 1 to 1,048,576 bytes, and its marks are at least one.
+    // Whether its block has 1 to 1,048,576 bytes, and its marks are at least one.
     pub(crate) fn is_well_formed(self) -> bool
         ensures { result ≡ is_well_formed (outlined self) }
     {

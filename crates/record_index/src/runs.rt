@@ -56,7 +56,7 @@ impl Runs {
         Ok(Runs { entries })
     }
 
-    /// How many there are.
+    /// How many runs there are.
     pub fn len(&self) -> usize
         ensures { result ≡ length self.now.runs }
     {

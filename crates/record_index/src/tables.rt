@@ -162,7 +162,7 @@ impl ObjectTable {
         cost_up_to(&self.blocks, blocks_before(&self.blocks, n), n)
     }
 
-    // The last run of filemarks that begins before the object of that number.
+    // The last run of filemarks that begins before the object with that number.
     pub(crate) fn run_upto(&self, n: ObjNo, steps: &mut Steps) -> Option<MarkRun>
         ensures found { IsRunUpto self.now.objects n result }
         ensures steps { AddsDigitsOfRuns self.now.objects steps.old steps.new }
@@ -170,7 +170,7 @@ impl ObjectTable {
         runs_below(&self.runs, Key::First, n as u64, steps).last
     }
 
-    // The run with the filemark of number k, from 0 on.
+    // The run that has filemark number k, counted from 0.
     pub(crate) fn run_of(&self, k: u32, steps: &mut Steps) -> Option<MarkRun>
         ensures found { IsRunWith self.now.objects k result }
         ensures steps { AddsDigitsOfRuns self.now.objects steps.old steps.new }

@@ -23,7 +23,7 @@ pub(crate) fn read_front<D: Disk>(disk: &mut D, bytes: &mut [u8]) -> Result<usiz
     Ok(len)
 }
 
-// How many bytes are looked at on a disk of this length.
+// How many bytes are read of a disk of this length.
 fn front_len(size: u64) -> usize
     ensures all { size < 71 → result ≡ size }
     ensures front { 71 ≤ size → result ≡ 71 }

@@ -15,8 +15,8 @@ pub fn each_pair_is_decided()
     ensures { (first second : List ℕ) → IsDecidedPair first second }
 {}
 
-/// No pair is two of the three. It stands for one head and frames at most, and is damaged at one place at
-/// most.
+/// No pair is two of these three: one that stands for a head and frames, one that is not ours, a damaged one. It stands
+/// for one head and frames at most, and is damaged at one place at most.
 pub fn no_pair_is_decided_twice()
     ensures one_thing { (first second : List ℕ) (w v : Which) (h k : Head) (bs cs : List (List ℕ)) →
         PairStandsFor w h bs first second → PairStandsFor v k cs first second → (w ≡ v) × ((h ≡ k) × (bs ≡ cs)) }

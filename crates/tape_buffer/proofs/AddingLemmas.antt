@@ -1,5 +1,5 @@
 -- A change more is pending.
-use Rattle.std.specs.Prelude.{◌≡◌, ◌+◌, ◌++◌, ◌≤◌, ◌<◌, ℕ, List, [], ◌∷◌, Bool, true, false, Option, None, Some, Ok, IsTrue, length, sum_by, slice_get, not, if◌then◌else◌, refl}
+use Rattle.std.specs.Prelude.{◌≡◌, ◌+◌, ◌++◌, ◌≤◌, ◌<◌, ℕ, List, [], ◌∷◌, Bool, true, false, Option, None, Some, Ok, Err, IsTrue, length, sum_by, slice_get, not, if◌then◌else◌, refl}
 use Rattle.std.proofs.Common.{inl, sym, ◌∙◌, ap, subst, arith, append_assoc}
 use Rattle.std.proofs.lemmas.Bool.{and_parts, leb-true}
 use Rattle.std.proofs.lemmas.List.{append-nil}
@@ -10,8 +10,10 @@ use Rattle.tape_disk.specs.Disk.{DiskState, IsDisk}
 use Rattle.volume_core.specs.declared.changes.Change.{Change}
 use Rattle.volume_core.specs.declared.changes.Change.TheVariants.{Put, Marks, Erase}
 use Rattle.volume_core.specs.declared.changes.Refusal.TheVariants.{PastEnd, NoRoom, TooLong}
+use Rattle.volume_core.specs.declared.media.MediumError.{MediumError}
+use Rattle.volume_core.specs.declared.media.MediumError.TheVariants.{Refused, NoMemory, SideFull, Device, Failed, Unreadable}
 use Rattle.volume_core.specs.Volume.{AllApply, Part, after, changed, is_well_formed, part_of, refusal_in, refusal_of}
-use Rattle.volume_core.specs.Medium.{Accepts, MediumState, Works, block_bytes, frame_size, volume_of}
+use Rattle.volume_core.specs.Medium.{Accepts, MediumState, Settles, Works, block_bytes, frame_size, volume_of}
 use Rattle.volume_core.specs.Stores.{Stores, after_append, stores_on}
 use Rattle.volume_core.specs.Plain.{moves_on_by_changes}
 use Rattle.record_index.specs.Records.{spell_all}
@@ -31,7 +33,7 @@ use Rattle.tape_buffer.proofs.PendingLemmas.{records_of}
 use Rattle.tape_buffer.proofs.TwoLemmas.{are_disks}
 
 -- what may be pending is short
-pub spelled_short : (changes : List Change) → FitsBuffer changes → length (spell_all changes) ≤ 4194944
+pub spelled_short : (changes : List Change) → FitsBuffer changes → length (spell_all changes) ≤ 4196864
 spelled_short changes fits = omega (arith, records_of changes, fits.few, fits.short)
 
 -- as many changes have as many bytes at least
@@ -83,6 +85,20 @@ pending_still c c' pending pending' over same reserved is =
 pub ready_as_it_is : {D : Type 0} (c : OpenCartridge D) (pending : List Change) → c.failed ≡ false
     → Works (volume_of (open_state c pending)) (open_state c pending)
 ready_as_it_is c pending works = record { volume_is = refl; works = works; awake = refl }
+
+-- way was to be made for a change, and the device failed
+pub accepts_broken : {D : Type 0} (c m : OpenCartridge D) (pending between : List Change) (change : Change)
+    (error : MediumError) → refusal_of (volume_of (open_state c pending)) change ≡ None → c.failed ≡ false
+    → sum_by frame_size (pending ++ change ∷ []) ≤ c.room
+    → Settles (open_state c pending) (Err error) (open_state m between)
+    → Accepts (open_state c pending) change (Err error) (open_state m between)
+accepts_broken c m pending between change Device none works room settled =
+    (none, works, settled.1, settled.2, room)
+accepts_broken c m pending between change Failed none works room settled = settled
+accepts_broken c m pending between change (Refused cause) none works room settled = absurd settled
+accepts_broken c m pending between change NoMemory none works room settled = absurd settled
+accepts_broken c m pending between change SideFull none works room settled = absurd settled
+accepts_broken c m pending between change Unreadable none works room settled = absurd settled
 
 -- once all is stored there is way
 pub way_after : {D : Type 0} (c c' : OpenCartridge D) (pending pending' : List Change) (change : Change)

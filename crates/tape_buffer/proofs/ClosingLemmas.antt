@@ -1,5 +1,5 @@
 -- A medium is parked: what its cartridge's side then gives.
-use Rattle.std.specs.Prelude.{◌≡◌, ◌⊎◌, ◌+◌, ◌++◌, List, [], ◌∷◌, Bool, true, false, Some, Ok, length, sum_by, refl}
+use Rattle.std.specs.Prelude.{◌≡◌, ◌⊎◌, ◌+◌, ◌++◌, List, [], Bool, true, false, Some, Ok, length, sum_by, refl}
 use Rattle.std.proofs.Common.{inl, inr, sym, ◌∙◌, ap, subst, arith, length-append}
 use Rattle.std.proofs.lemmas.List.{append-nil}
 use Rattle.std.proofs.lemmas.List.Sums.{sum_by-take-le}
@@ -16,7 +16,7 @@ use Rattle.accepting.specs.Events.{CoreMoves}
 use Rattle.accepting.specs.Kinds.{moves_stopping}
 use Rattle.tape_buffer.specs.Moves.{buffer_below, medium_moves_on}
 use Rattle.tape_buffer.specs.Rules.{medium_rules}
-use Rattle.tape_buffer.specs.State.{closed_buffer, closed_state, found_core, open_buffer, open_core, open_state}
+use Rattle.tape_buffer.specs.State.{IsTornFrom, closed_buffer, closed_state, found_core, open_buffer, open_core, open_state}
 use Rattle.tape_buffer.proofs.CoreLemmas.{open_is_core, stored_front}
 use Rattle.tape_buffer.proofs.TwoLemmas.{are_disks}
 
@@ -25,7 +25,7 @@ module _ {D : Type 0} (state : D → DiskState) (is_disk : (disk : D) → (state
   abbrev shelved_of : OpenCartridge D → ClosedCartridge D
   shelved_of c = record { disks = c.disks; known = true; contents = c.contents; torn = c.torn }
 
-  module _ (c : OpenCartridge D) (pending : List Change) (torn : (c.torn ≡ []) ⊎ (c.torn ≡ pending ∷ [])) where
+  module _ (c : OpenCartridge D) (pending : List Change) (torn : IsTornFrom c.torn pending) where
     -- it is stopped, and what may be stored is kept
     shelved_core : found_core (Some c.contents) (changes_of c.torn)
         ≡ stopped (open_core c pending).stored (open_core c pending)

@@ -1,6 +1,6 @@
 -- What was accepted, stored and safe, before and after each call over an open cartridge.
-use Rattle.std.specs.Prelude.{◌≡◌, ◌⊎◌, ◌+◌, ◌++◌, ◌≤◌, ◌<◌, ℕ, List, [], ◌∷◌, true, false, length, take, refl}
-use Rattle.std.proofs.Common.{inl, inr, sym, ◌∙◌, ap, subst, arith, ⊎_elim, length-append}
+use Rattle.std.specs.Prelude.{◌≡◌, ◌+◌, ◌++◌, ◌≤◌, ◌<◌, ℕ, List, [], ◌∷◌, true, false, length, take, refl}
+use Rattle.std.proofs.Common.{inl, inr, sym, ◌∙◌, ap, subst, arith, ⊎_elim, append_assoc, length-append}
 use Rattle.std.proofs.lemmas.List.{append-nil, take_at, take_all}
 use Rattle.vtl_base.specs.Below.{Advances, advances_nowhere}
 use Rattle.vtl_base.specs.declared.faults.DevFault.{DevFault}
@@ -19,8 +19,13 @@ use Rattle.accepting.specs.Events.{CoreMoves, ShowsCore}
 use Rattle.accepting.specs.Kinds.{GivesSoMany, moves_failing, moves_storing}
 use Rattle.tape_buffer.specs.Rules.{GivesChanges, medium_rules}
 use Rattle.tape_buffer.specs.Moves.{buffer_below, medium_moves_nowhere}
-use Rattle.tape_buffer.specs.State.{BufferState, open_buffer, open_core}
+use Rattle.tape_buffer.specs.State.{BufferState, IsTornFrom, open_buffer, open_core}
 use Rattle.tape_buffer.proofs.TwoLemmas.{are_disks, none_failed, one_failed, stay_honest, were_honest}
+
+-- the frame of all that is pending is a first part of it
+pub torn_all : (torn : List (List Change)) (changes pending : List Change) → torn ≡ changes ∷ [] → changes ≡ pending
+    → IsTornFrom torn pending
+torn_all torn changes pending is same = inr (changes, is, ([], sym same ∙ sym (append-nil changes)))
 
 -- the changes of one frame
 one_frame : (changes : List Change) → changes_of (changes ∷ []) ≡ changes
@@ -61,13 +66,21 @@ module _ {D : Type 0} (c : OpenCartridge D) (pending : List Change) where
       take_all (length stored_changes + length pending) (stored_changes ++ pending)
       (omega (arith, length-append stored_changes pending))
 
-  -- of what is pending none or all was under way
-  torn_length : (c.torn ≡ []) ⊎ (c.torn ≡ pending ∷ []) → length (changes_of c.torn) ≤ length pending
-  torn_length (inl none) = omega (arith, ap (λ (t : List (List Change)). length (changes_of t)) none)
-  torn_length (inr all) =
-      omega (arith, ap (λ (t : List (List Change)). length (changes_of t)) all, ap length (one_frame pending))
+  torn_is : (frame : List Change) → c.torn ≡ frame ∷ [] → changes_of c.torn ≡ frame
+  torn_is frame all = ap changes_of all ∙ one_frame frame
 
-  pub stored_front : (c.torn ≡ []) ⊎ (c.torn ≡ pending ∷ [])
+  -- of what is pending a first part was under way
+  torn_length : IsTornFrom c.torn pending → length (changes_of c.torn) ≤ length pending
+  torn_length (inl none) = omega (arith, ap (λ (t : List (List Change)). length (changes_of t)) none)
+  torn_length (inr some) =
+      omega (
+        arith,
+        ap (λ (l : List Change). length l) (torn_is some.0 some.1),
+        ap (λ (l : List Change). length l) some.2.1,
+        length-append some.0 some.2.0,
+      )
+
+  pub stored_front : IsTornFrom c.torn pending
       → take (length stored_changes + length (changes_of c.torn)) (stored_changes ++ pending)
       ≡ stored_changes ++ changes_of c.torn
   stored_front (inl none) =
@@ -75,14 +88,16 @@ module _ {D : Type 0} (c : OpenCartridge D) (pending : List Change) where
       (omega (arith, ap (λ (t : List (List Change)). length (changes_of t)) none))
       ∙ front ∙ sym (append-nil stored_changes)
       ∙ ap (λ (t : List (List Change)). stored_changes ++ changes_of t) (sym none)
-  stored_front (inr all) =
-      ap (λ (n : ℕ). take (length stored_changes + n) (stored_changes ++ pending))
-      (ap (λ (t : List (List Change)). length (changes_of t)) all ∙ ap length (one_frame pending))
-      ∙ whole
-      ∙ ap (λ (l : List Change). stored_changes ++ l)
-      (sym (one_frame pending) ∙ ap changes_of (sym all))
+  stored_front (inr some) =
+      let many = length stored_changes + length (changes_of c.torn) in
+      let frame = torn_is some.0 some.1 in
+      ap (λ (l : List Change). take many (stored_changes ++ l)) some.2.1
+      ∙ ap (λ (l : List Change). take many l) (sym (append_assoc stored_changes some.0 some.2.0))
+      ∙ take_at (stored_changes ++ some.0) some.2.0 many
+      (omega (arith, length-append stored_changes some.0, ap (λ (l : List Change). length l) frame))
+      ∙ ap (λ (l : List Change). stored_changes ++ l) (sym frame)
 
-  pub open_is_core : (c.torn ≡ []) ⊎ (c.torn ≡ pending ∷ []) → IsCore (open_core c pending)
+  pub open_is_core : IsTornFrom c.torn pending → IsCore (open_core c pending)
   open_is_core torn =
       record {
         safe = omega arith;
@@ -90,7 +105,7 @@ module _ {D : Type 0} (c : OpenCartridge D) (pending : List Change) where
       }
 
   -- what the side shows is what is safe, or what is stored
-  pub open_shows : (c.torn ≡ []) ⊎ (c.torn ≡ pending ∷ []) → base_of c.contents.head ≤ length c.contents.frames
+  pub open_shows : IsTornFrom c.torn pending → base_of c.contents.head ≤ length c.contents.frames
       → (image : Images) → ShowsContents c.contents c.torn image → ShowsCore medium_rules (open_core c pending) image
   open_shows torn copied image =
       ⊎_elim

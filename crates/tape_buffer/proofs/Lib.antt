@@ -5,7 +5,10 @@ pub mod CoreLemmas
 pub mod CutLemmas
 pub mod FetchingLemmas
 pub mod FrameLemmas
+pub mod FreeLemmas
 pub mod HeldLemmas
+pub mod LentLemmas
+pub mod LooseLemmas
 pub mod MediumLemmas
 pub mod OpeningLemmas
 pub mod PendingLemmas

@@ -1,7 +1,7 @@
 -- What changes take of a side, each as a frame of its own, and as one frame.
 use Rattle.std.specs.Prelude.{◌≡◌, ◌⊎◌, ◌+◌, ◌*◌, ◌++◌, ◌≤◌, ◌==◌, ℕ, Bool, true, false, IsTrue, List, [], ◌∷◌, length, sum_by, slice_index_or, if◌then◌else◌, refl}
-use Rattle.std.proofs.Common.{inl, inr, ap, subst, arith, length-append}
-use Rattle.std.proofs.lemmas.Bool.{cases_eq, ne_eqb}
+use Rattle.std.proofs.Common.{inl, inr, ap, subst, sym, ◌∙◌, arith, length-append}
+use Rattle.std.proofs.lemmas.Bool.{cases_eq, eqb-true, ne_eqb}
 use Rattle.std.proofs.lemmas.List.Sums.{sum_by-append}
 use Rattle.volume_core.specs.declared.changes.Change.{Change}
 use Rattle.volume_core.specs.declared.changes.Change.TheVariants.{Put, Marks, Erase}
@@ -38,6 +38,17 @@ pub not_empty : {A : Type 0} (xs : List A) (empty : Bool) → (IsTrue empty → 
 not_empty [] empty is none = let never : IsTrue false = subst IsTrue none (is.1 refl) in absurd (cc)
 not_empty (x ∷ xs) empty is none = omega arith
 
+-- what has no length is empty
+pub listed_none : {A : Type 0} (xs : List A) (empty : Bool) → empty ≡ (length xs == 0) → empty ≡ true → xs ≡ []
+listed_none [] empty is none = refl
+listed_none (x ∷ xs) empty is none = absurd (omega (arith, eqb-true (length (x ∷ xs)) 0 (sym is ∙ none)))
+
+-- and what is not empty has one at least
+pub listed_some : {A : Type 0} (xs : List A) (empty : Bool) → empty ≡ (length xs == 0) → empty ≡ false
+    → 1 ≤ length xs
+listed_some [] empty is some = let never : true ≡ false = sym is ∙ some in absurd (cc)
+listed_some (x ∷ xs) empty is some = omega arith
+
 -- as one frame they take no more
 pub one_frame_fits : (changes : List Change) → 1 ≤ length changes
     → length (spell_all changes) + 5 ≤ sum_by frame_size changes
@@ -73,7 +84,7 @@ no_entry part (Marks p at count) other = ap (λ (b : Bool). if b then 1 else 0) 
 no_entry part (Erase p at) other = refl
 
 -- so many changes put so many at most
-few_entries : (part : ℕ) (changes : List Change) → sum_by (entries_of part) changes ≤ length changes
+pub few_entries : (part : ℕ) (changes : List Change) → sum_by (entries_of part) changes ≤ length changes
 few_entries part [] = omega arith
 few_entries part (change ∷ changes) =
     let next = sum_by-append (entries_of part) (change ∷ []) changes in

@@ -43,14 +43,14 @@ abbrev pub ParksInFrames :
 ParksInFrames false result old pending new = IsOneFrame result old pending new
 ParksInFrames true result old pending new = new ≡ old
 
--- Way is made for a change. Where the buffer takes it beside what is pending, nothing is stored, and that is pending
--- still; else all of it is stored, as one frame, and nothing is pending (own).
+-- Room is made for a change. Where the buffer takes it beside what is pending, nothing is stored, and all that is
+-- pending still; else all that is stored, as one frame, and nothing is pending (own).
 pub record MakesWay (frames : List (List Change)) (pending : List Change) (change : Change)
     (new : List (List Change)) (left : List Change) : Type 0 where
   pub waits : FitsBuffer (pending ++ change ∷ []) → (new ≡ frames) × (left ≡ pending)
   pub goes : (FitsBuffer (pending ++ change ∷ []) → ⊥) → (new ≡ with_pending frames pending) × (left ≡ [])
 
--- A change is pending, or memory ran out for it, once way was made for it; with any other answer no frame is stored
+-- A change is pending, or memory ran out for it, once room was made for it; with any other answer no frame is stored
 -- (own).
 abbrev pub AcceptsInFrames :
     Change → Result Unit MediumError → List (List Change) → List Change → List (List Change) → List Change → Type 0

@@ -1,4 +1,6 @@
 -- What only private contracts use.
 pub mod Adding
 pub mod Fetching
+pub mod Lending
+pub mod Storing
 pub mod Waking

@@ -1,3 +1,4 @@
+pub mod Catalogs
 pub mod Frames
 pub mod Inner
 pub mod Invariants
@@ -7,3 +8,4 @@ pub mod Reclaiming
 pub mod Rules
 pub mod State
 pub mod Tail
+pub mod Taking

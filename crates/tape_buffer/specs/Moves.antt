@@ -31,7 +31,7 @@ module _ {D : Type 0} (state : D → DiskState) where
   failures_on None = 0
   failures_on (Some disks) = failures_of state disks
 
-  -- both disks keep to what a disk promises (own)
+  -- both disks keep the promises of a disk (own)
   abbrev pub HonestOn : Option (TwoDisks D) → Type 0
   HonestOn None = Unit {0}
   HonestOn (Some disks) = AreHonest state disks
@@ -82,7 +82,7 @@ module _ {D : Type 0} (state : D → DiskState) where
   abbrev pub LeavesEachAlone : BufferState D → BufferState D → Type 0
   LeavesEachAlone old new = LeavesEachAloneOn (disks_in old.held) (disks_in new.held)
 
-  -- nothing done writes nothing
+  -- a run without a call writes nothing
   pub leaves_alone_nowhere : (buffer : BufferState D) → LeavesAlone buffer buffer
   leaves_alone_nowhere buffer = by (disks_in buffer.held)
     where
@@ -90,7 +90,7 @@ module _ {D : Type 0} (state : D → DiskState) where
       by None = tt
       by (Some disks) = λ honest. two_rest_still state disks (MayLeave state disks) (λ images left. left)
 
-  -- nothing done writes nothing to either
+  -- a run without a call writes nothing to either disk
   pub leaves_each_alone_nowhere : ((disk : D) → (state disk).honest → IsDisk (state disk))
       → (buffer : BufferState D) → LeavesEachAlone buffer buffer
   leaves_each_alone_nowhere is_disk buffer = by (disks_in buffer.held)
@@ -102,7 +102,7 @@ module _ {D : Type 0} (state : D → DiskState) where
       by None = tt
       by (Some disks) = record { first = stays disks.first; second = stays disks.second }
 
-  -- nothing done is the empty list
+  -- a run without a call accepts nothing
   pub medium_moves_nowhere : ((disk : D) → (state disk).honest → IsDisk (state disk))
       → (buffer : BufferState D) → MediumMoves buffer [] buffer
   medium_moves_nowhere is_disk buffer = by (disks_in buffer.held)
@@ -113,7 +113,7 @@ module _ {D : Type 0} (state : D → DiskState) where
           core_moves_nowhere medium_rules (two_disks state) (two_is_device state) disks (medium_core buffer)
           (λ honest. (is_disk disks.first honest.0, is_disk disks.second honest.1))
 
-  -- two in a row append what they accept
+  -- two runs, one after the other, accept the changes of both
   pub medium_moves_on : (a b c : BufferState D) (first second : List Change)
       → MediumMoves a first b → MediumMoves b second c → MediumMoves a (first ++ second) c
   medium_moves_on a b c first second = by (disks_in a.held) (disks_in b.held) (disks_in c.held)

@@ -7,24 +7,23 @@ use Rattle.tape_disk.specs.TwoDisks.{Images}
 use Rattle.cartridge.specs.Contents.{Contents, GivesContents, Start, changes_since, start_of}
 use Rattle.accepting.specs.Core.{Rules}
 
--- nothing refuses it (own)
+-- there is no cause to refuse a change (own)
 abbrev pub is_unrefused : Option Refusal → Bool
 is_unrefused None = true
 is_unrefused (Some cause) = false
 
--- the change applies to what these make of the volume that all is carried out from (own)
+-- the change applies to the volume that these changes make, carried out from the beginning (own)
 abbrev pub applies_behind : Start → List Change → Change → Bool
 applies_behind start changes change = is_unrefused (refusal_of (after start.volume changes) change)
 
--- what is found on the two images is a cartridge that begins from there, and whose changes since are just these, in
--- order (own)
+-- the two images give a cartridge that begins from there, and whose changes since are just these, in order (own)
 abbrev pub GivesChanges : Start → List Change → Images → Type 0
 GivesChanges start changes images =
     (contents : Contents) × GivesContents contents images × (start_of contents ≡ start)
     × (changes_since contents ≡ changes)
 
--- These, carried out from the first, go into the second, as in a reclaim: the heading stays, the epoch is one more, and
--- the volume is what they make of it (own).
+-- These changes, carried out from the first beginning, go into the second, as in a reclaim: the heading stays, the
+-- epoch is one more, and the volume is what they make of it (own).
 pub record GoesInto (start : Start) (changes : List Change) (next : Start) : Type 0 where
   pub heading : next.heading ≡ start.heading
   pub epoch : next.epoch ≡ start.epoch + 1

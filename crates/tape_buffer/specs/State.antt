@@ -14,7 +14,7 @@ use Rattle.cartridge.specs.Contents.{Contents, Start, bodies_of, changes_of, cha
 use Rattle.cartridge.specs.ContentsOn.{contents_on}
 use Rattle.cartridge.specs.Disks.{OnlyOfTwo, disk_at}
 use Rattle.cartridge.specs.State.{ClosedCartridge, OpenCartridge, Reserved}
-use Rattle.accepting.specs.Core.{Core}
+use Rattle.accepting.specs.Core.{Core, IsPrefix}
 use Rattle.tape_buffer.specs.declared.holding.Holding.{Holding}
 use Rattle.tape_buffer.specs.declared.holding.Holding.TheVariants.{Open, Closed, Between}
 
@@ -57,6 +57,11 @@ pub record IsReservedFor (reserved : Reserved) (changes : List Change) : Type 0 
   pub frames : 1 ≤ length changes → 1 ≤ reserved.frames
   pub body : length (spell_all changes) ≤ reserved.body
   pub entries : (part : ℕ) → sum_by (entries_of part) changes ≤ slice_index_or reserved.entries part 0
+
+-- no frame was under way, or one of a first part of these changes (own)
+abbrev pub IsTornFrom : List (List Change) → List Change → Type 0
+IsTornFrom torn pending =
+    (torn ≡ []) ⊎ ((frame : List Change) × (torn ≡ frame ∷ []) × IsPrefix frame pending)
 
 module _ {D : Type 0} where
   -- an open cartridge, and what is pending over it (own)
@@ -107,10 +112,10 @@ module _ {D : Type 0} where
       }
 
   -- What is pending applies to what is stored, fits the side a frame each, and its storing takes no memory. Where the
-  -- disk failed, the frame that was under way is none, or that of all that is pending (own).
+  -- disk failed, the frame that was under way is none, or that of a first part of what is pending (own).
   pub record IsPendingOver (cartridge : OpenCartridge D) (pending : List Change) : Type 0 where
     pub apply : AllApply (volume_made cartridge.contents) pending
-    pub torn : (cartridge.torn ≡ []) ⊎ (cartridge.torn ≡ pending ∷ [])
+    pub torn : IsTornFrom cartridge.torn pending
     pub fits : sum_by frame_size pending ≤ cartridge.room
     pub reserved : IsReservedFor cartridge.reserved pending
 
@@ -149,7 +154,7 @@ module _ {D : Type 0} where
     abbrev pub state_of : BufferState D → MediumState
     state_of buffer = state_held buffer.held buffer.pending
 
-    -- one that is awake was opened
+    -- a medium that is awake was opened before
     pub awake_is_read : (buffer : BufferState D) → (state_of buffer).awake ≡ true → (state_of buffer).unread ≡ false
     awake_is_read buffer = by buffer.held
       where

@@ -1,4 +1,4 @@
--- What waits, in a catalog: the objects that pending changes put behind those that are stored.
+-- The tail: a catalog of the objects that wait, which pending changes put behind those that are stored.
 use Rattle.std.specs.Prelude.{◌≡◌, ◌⊎◌, ◌≤◌, ◌<◌, ◌-◌, ℕ, List, [], ◌∷◌, ◌++◌, Option, None, Some, length, take, map, replicate, slice_get, slice_index_or}
 use Rattle.vtl_base.specs.declared.limits.TheConstants.{MAX_CAPACITY, MAX_OBJECTS, MAX_PARTITIONS}
 use Rattle.volume_core.specs.declared.changes.Change.{Change}
@@ -6,19 +6,19 @@ use Rattle.volume_core.specs.declared.changes.Change.TheVariants.{Put, Marks, Er
 use Rattle.volume_core.specs.declared.objects.Object.{Object}
 use Rattle.volume_core.specs.Volume.{AllApply, Part, after, capacity_of, count_of, objects_of, part_of}
 use Rattle.record_index.specs.Indexes.{Indexes}
-use Rattle.record_index.specs.Places.{PlacedPart, empty_placed, outline}
+use Rattle.record_index.specs.Places.{PlacedPart, empty_placed, outline, placed_objects, reserved_of}
 
--- of each partition how many of the stored objects stand in front, at most, and the objects behind them: of a block the
+-- for each partition how many of the stored objects stay in front, at most, and the objects behind them: of a block the
 -- number of its change among the pending ones, and its length (own)
 pub record TailState : Type 0 where
   pub kept : List ℕ
   pub parts : List PlacedPart
 
--- how many of the stored objects of a partition stand in front, at most (own)
+-- how many of the stored objects of a partition stay in front, at most (own)
 abbrev pub kept_in : TailState → ℕ → ℕ
 kept_in tail part = slice_index_or tail.kept part MAX_OBJECTS
 
--- the partitions of an index that may be there (own)
+-- the partitions of an index, if there is one (own)
 abbrev pub parts_in : Option (List PlacedPart) → List PlacedPart
 parts_in None = []
 parts_in (Some parts) = parts
@@ -31,7 +31,7 @@ no_tail = record { kept = replicate 4 MAX_OBJECTS; parts = [] }
 abbrev pub AreWide : List PlacedPart → Type 0
 AreWide parts = (part : ℕ) → part < MAX_PARTITIONS → capacity_of (outline parts) part ≡ MAX_CAPACITY
 
--- so it is of an index that may be there (own)
+-- the same of an index, if there is one (own)
 abbrev pub AreWideIn : Option (List PlacedPart) → Type 0
 AreWideIn None = Unit {0}
 AreWideIn (Some parts) = AreWide parts
@@ -41,12 +41,19 @@ abbrev pub opened : List PlacedPart → List PlacedPart
 opened [] = map empty_placed (replicate 4 MAX_CAPACITY)
 opened (part ∷ parts) = part ∷ parts
 
--- the bytes are those of the block of the change of that number (own)
+-- nothing waits, and this many blocks and runs of filemarks may be added in each partition without memory (own)
+pub record IsFree (entries : ℕ) (tail : TailState) : Type 0 where
+  pub wide : AreWide tail.parts
+  pub kept : (part : ℕ) → kept_in tail part ≡ MAX_OBJECTS
+  pub empty : (part : ℕ) → placed_objects tail.parts part ≡ []
+  pub roomy : (part : ℕ) → part < MAX_PARTITIONS → entries ≤ reserved_of tail.parts part
+
+-- the bytes are those of the block of the change with that number (own)
 abbrev pub IsBlockOf : List Change → List ℕ → ℕ → Type 0
 IsBlockOf changes bytes number = (part : ℕ) × (kept : ℕ) × (slice_get changes number ≡ Some (Put part kept bytes))
 
--- Objects that are seen: of those that are stored so many at most, then those that wait. Where objects wait, no fewer
--- are stored (own).
+-- The objects that are seen: at most this many of those that are stored, then those that wait. Where objects wait, no
+-- fewer are stored (own).
 pub record IsSeenAs (seen stored waiting : List Object) (kept : ℕ) : Type 0 where
   pub objects : seen ≡ take kept stored ++ waiting
   pub front : (kept ≤ length stored) ⊎ (waiting ≡ [])
@@ -60,7 +67,8 @@ pub record IsTailOf (changes : List Change) (tail : TailState) : Type 0 where
       → IsSeenAs (objects_of (after volume changes) part) (objects_of volume part) (objects_of waiting part)
       (kept_in tail part)
 
--- the change, as one of what waits behind so many objects: it keeps so many fewer, and none below 0 (own)
+-- the change as one of what waits, behind this many stored objects: it leaves that many objects fewer, and none below 0
+-- (own)
 abbrev pub shifted : ℕ → Change → Change
 shifted kept (Put part at block) = Put part (at - kept) block
 shifted kept (Marks part at count) = Marks part (at - kept) count

@@ -1,5 +1,5 @@
-//! A change is accepted.
-ghost use Rattle.std.specs.Prelude.{◌≡◌, ◌≤◌, ◌+◌, ◌↔◌, ◌++◌, ◌∷◌, [], None, IsTrue, IfErr, OnOk, false, sum_by};
+//! Accepting a change.
+ghost use Rattle.std.specs.Prelude.{◌≡◌, ◌≤◌, ◌+◌, ◌↔◌, ◌++◌, ◌∷◌, [], None, IsTrue, IfErr, OnOk, true, false, sum_by};
 ghost use Rattle.vtl_base.specs.Below.{Advances};
 ghost use Rattle.volume_core.specs.Volume.{after, refusal_of};
 ghost use Rattle.volume_core.specs.Medium.{Accepts, accept_answer, accepted_by, frame_size, met_fault};
@@ -19,11 +19,13 @@ use tape_disk::Disk;
 use volume_core::{Change, MediumError, NotAccepted};
 
 // Accepts a change over an open cartridge, or refuses it. Where no more may be pending, what is pending is stored
-// first. A change that is not accepted is returned.
+// first. A change that is not accepted is returned. `roomy` is false where memory ran out for the caller's catalog;
+// then the change is not accepted.
 pub(crate) fn accept_over<D: Disk>(
     cartridge: &mut Cartridge<D>,
     pending: &mut Pending,
     change: Change,
+    roomy: bool,
 ) -> Result<(), NotAccepted>
     requires { IsPendingOver cartridge.old pending.old }
     ensures held { IsPendingOver cartridge.new pending.new }
@@ -37,6 +39,7 @@ pub(crate) fn accept_over<D: Disk>(
     ensures advances { Advances (buffer_below D.state) (open_buffer cartridge.old pending.old)
         (accepted_by (accept_answer result) change) (met_fault (accept_answer result))
         (open_buffer cartridge.new pending.new) }
+    ensures roomy { OnOk result (roomy ≡ true) }
 {
     if cartridge.has_failed() {
         let error = MediumError::Failed;
@@ -57,6 +60,10 @@ pub(crate) fn accept_over<D: Disk>(
         Ok(()) => {}
         Err(error) => return Err(NotAccepted { error, change }),
     }
+    if !roomy {
+        let error = MediumError::NoMemory;
+        return Err(NotAccepted { error, change });
+    }
     match add_over(cartridge, pending, change) {
         Ok(()) => Ok(()),
         Err(change) => {
@@ -66,7 +73,7 @@ pub(crate) fn accept_over<D: Disk>(
     }
 }
 
-// Whether a frame more of this many bytes has room on the side, beside what is pending.
+// Whether the side has room for one more frame of this many bytes, besides what is pending.
 pub(crate) fn has_room_over<D: Disk>(cartridge: &Cartridge<D>, pending: &Pending, size: u64) -> bool
     requires { IsPendingOver cartridge.now pending.now }
     ensures { IsTrue result ↔ sum_by frame_size pending.now + size ≤ cartridge.now.room }
@@ -74,7 +81,7 @@ pub(crate) fn has_room_over<D: Disk>(cartridge: &Cartridge<D>, pending: &Pending
     size <= cartridge.room() - pending.frame_bytes()
 }
 
-// Makes way for a change more among what is pending: where that would pass a limit, all is stored.
+// Makes room for one more pending change: where it would pass a limit, all that is pending is stored.
 fn make_way<D: Disk>(
     cartridge: &mut Cartridge<D>,
     pending: &mut Pending,
@@ -120,7 +127,7 @@ fn add_over<D: Disk>(
     ensures ok { OnOk result (pending.new ≡ pending.old ++ change ∷ []) }
     ensures err { IfErr result (λ back. (back ≡ change) × (pending.new ≡ pending.old)) }
 {
-    // Asked for the proof's sake: at rest nothing is under way, and the partition is there, within its limits.
+    // Called for the proof: at rest nothing is under way, and the partition is there, within its limits.
     cartridge.known();
     let _ = cartridge.parts();
     let _ = cartridge.count(change.part());

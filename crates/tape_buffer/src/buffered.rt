@@ -17,8 +17,8 @@ use std::marker::Model;
 use tape_disk::Disk;
 
 /// A medium over a cartridge on two disks, open or parked. What it accepts waits in memory until it is stored, all of
-/// it as one frame: at the latest when it is asked to, before the 65th change, and before the blocks that wait would
-/// pass 4,194,304 bytes. After a device fault it takes nothing until it was parked and woken.
+/// it as one frame: at the latest when the caller asks for it, before the 257th change, and before the blocks that wait
+/// would pass 4,194,304 bytes. After a device fault it accepts nothing until it is parked and woken.
 #[derive(Drop)]
 pub struct Buffered<D: Disk> {
     pub(crate) alloc: Global,
@@ -49,8 +49,8 @@ impl<D: Disk> Accepting for Buffered<D> {
 }
 
 impl<D: Disk> Buffered<D> {
-    /// A parked medium over a closed cartridge. Over disks that were only taken for a cartridge it is unread: nothing
-    /// is known of it until it is woken.
+    /// A parked medium over a closed cartridge. Where the cartridge was never opened, nothing is known of the medium
+    /// until it is woken: it is unread.
     pub fn parked(alloc: Global, shelved: Shelved<D>) -> Buffered<D>
         ensures { result ≡ closed_buffer shelved }
     {
@@ -61,7 +61,7 @@ impl<D: Disk> Buffered<D> {
         }
     }
 
-    /// Gives the closed cartridge of a parked medium, which may be parked again as it is.
+    /// Returns the closed cartridge of a parked medium, which may be parked again as it is.
     pub fn into_shelved(self) -> Shelved<D>
         requires { (state_of D.state self).awake ≡ false }
         ensures { self.held ≡ Holdings.Closed result }
@@ -74,10 +74,10 @@ impl<D: Disk> Buffered<D> {
         }
     }
 
-    /// What is safe is stored, and what is stored was accepted; while it is open and has not failed,
-    /// all that is stored is safe, and the rest is pending. Each pair of images that a crash now may leave
-    /// gives what is safe, or what is stored; of a parked medium where its side gives a volume, and where it was opened
-    /// before, or a crash leaves just what a read gives.
+    /// What holds of every buffered medium. What is safe is stored, and what is stored was accepted; while it is open
+    /// and has not failed, all that is stored is safe, and the rest is pending. Each pair of images that a crash now
+    /// may leave gives what is safe, or what is stored; of a parked medium where its side gives a volume, and where it
+    /// was opened before, or a crash leaves just what a read gives.
     pub fn known(&self)
         ensures core { IsCore (medium_core D.state self.now) }
         ensures whole { IsSafeOrPending (medium_core D.state self.now) self.now.pending }
@@ -94,7 +94,18 @@ impl<D: Disk> Buffered<D> {
         }
     }
 
-    /// The disk of the side that counts, to be looked at; of a parked medium the first disk.
+    /// Whether the medium is open.
+    pub fn is_awake(&self) -> bool
+        ensures { result ≡ (state_of D.state self.now).awake }
+    {
+        match &self.held {
+            Holding::Open(_) => true,
+            Holding::Closed(_) => false,
+            Holding::Between => unreachable!(),
+        }
+    }
+
+    /// The disk of the side that counts, for reading; of a parked medium the first disk.
     pub fn disk(&self) -> &D
         ensures { disk_in self.now.held ≡ Some result.now }
     {

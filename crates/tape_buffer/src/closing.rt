@@ -1,10 +1,12 @@
-//! A medium is parked, and opened again.
+//! Parking a medium, and opening it again.
 ghost use Rattle.std.specs.Prelude.{◌≡◌, ◌≢◌, ◌⊎◌, [], IfOk, IfErr, Ok, Err, true, false};
 ghost use Rattle.vtl_base.specs.Below.{Advances};
 ghost use Rattle.tape_disk.specs.TwoDisks.{AreHonest};
 ghost use Rattle.volume_core.specs.declared.media.MediumError.TheVariants as Errors;
 ghost use Rattle.volume_core.specs.Medium.{Parks, Wakes, met_fault};
 ghost use Rattle.volume_core.specs.Stores.{Stores};
+ghost use Rattle.cartridge.specs.Contents.{volume_made};
+ghost use Rattle.tape_buffer.specs.Catalogs.{IsAsWanted};
 ghost use Rattle.tape_buffer.specs.State.{IsPendingOver, IsSettledOn, closed_buffer, closed_state, open_buffer, open_state};
 ghost use Rattle.tape_buffer.specs.Frames.{ParksInFrames};
 ghost use Rattle.tape_buffer.specs.Moves.{LeavesAlone, LeavesEachAlone, buffer_below};
@@ -13,13 +15,15 @@ ghost use Rattle.tape_buffer.specs.Inner.Waking.{wake_error_of};
 use crate::pending::Pending;
 use crate::storing::settle_over;
 use cartridge::laws::a_pair_gives_one_volume;
-use cartridge::{Cartridge, CartridgeError, NotOpened, Shelved};
+use cartridge::{Cartridge, CartridgeError, NotOpened, Opening, Shelved};
+use record_index::Index;
 use std::alloc::Global;
 use tape_disk::Disk;
 use volume_core::MediumError;
+use vtl_base::NoMemory;
 
-// Closes a cartridge, once what is pending over it is stored. One that has failed gives up what is pending. After a
-// device fault it comes back, and has failed.
+// Closes a cartridge, once what is pending over it is stored. Where the cartridge has failed, what is pending is
+// dropped. After a device fault the cartridge is returned open, and has failed.
 pub(crate) fn park_over<D: Disk>(
     cartridge: Cartridge<D>,
     pending: &mut Pending,
@@ -49,7 +53,7 @@ pub(crate) fn park_over<D: Disk>(
     }
 }
 
-// Closes a cartridge over which nothing is pending, or one that has failed: then what is pending is given up.
+// Closes a cartridge over which nothing is pending, or one that has failed; then what is pending is dropped.
 fn shelve_over<D: Disk>(cartridge: Cartridge<D>, pending: &mut Pending) -> Shelved<D>
     requires held { IsPendingOver cartridge pending.old }
     requires at_rest { (pending.old ≡ []) ⊎ (cartridge.failed ≡ true) }
@@ -66,17 +70,19 @@ fn shelve_over<D: Disk>(cartridge: Cartridge<D>, pending: &mut Pending) -> Shelv
     cartridge.shelve()
 }
 
-// Opens a closed cartridge, or gives it back as it was. It writes nothing, and but for a device fault what stands is
-// sure.
+// Opens a closed cartridge, with a catalog of what it holds if that is wanted, or returns it as it was. It writes
+// nothing, and unless a device fails, what stands on the disks is then sure.
 pub(crate) fn wake_closed<D: Disk>(
     alloc: Global,
     shelved: Shelved<D>,
-) -> Result<Cartridge<D>, (MediumError, Shelved<D>)>
-    ensures ok { IfOk result (λ cartridge. IsPendingOver cartridge []
-        × Wakes (AreHonest D.state shelved.disks) (closed_state D.state shelved) (Ok tt) (open_state cartridge [])
-        × Advances (buffer_below D.state) (closed_buffer shelved) [] false (open_buffer cartridge [])
-        × LeavesAlone D.state (closed_buffer shelved) (open_buffer cartridge [])
-        × LeavesEachAlone D.state (closed_buffer shelved) (open_buffer cartridge [])) }
+    wanted: bool,
+) -> Result<(Cartridge<D>, Option<Index>), (MediumError, Shelved<D>)>
+    ensures ok { IfOk result (λ woken. IsPendingOver woken.0 []
+        × Wakes (AreHonest D.state shelved.disks) (closed_state D.state shelved) (Ok tt) (open_state woken.0 [])
+        × Advances (buffer_below D.state) (closed_buffer shelved) [] false (open_buffer woken.0 [])
+        × LeavesAlone D.state (closed_buffer shelved) (open_buffer woken.0 [])
+        × LeavesEachAlone D.state (closed_buffer shelved) (open_buffer woken.0 [])) }
+    ensures catalog { IfOk result (λ woken. IsAsWanted wanted woken.1 (volume_made woken.0.contents)) }
     ensures err { IfErr result (λ back. (back.0 ≢ Errors.Device → IsSettledOn D.state back.1)
         × Wakes (AreHonest D.state shelved.disks) (closed_state D.state shelved) (Err back.0)
         (closed_state D.state back.1)
@@ -85,14 +91,21 @@ pub(crate) fn wake_closed<D: Disk>(
         × LeavesAlone D.state (closed_buffer shelved) (closed_buffer back.1)
         × LeavesEachAlone D.state (closed_buffer shelved) (closed_buffer back.1)) }
 {
-    // Asked for the proof's sake: a pair of images gives one cartridge's contents at most.
+    // Called for the proof: a pair of images gives one cartridge's contents at most.
     a_pair_gives_one_volume();
     shelved.known();
-    match Cartridge::open(alloc, shelved) {
-        Ok(cartridge) => {
-            cartridge.known();
-            Ok(cartridge)
-        }
+    match Opening::of(alloc, shelved) {
+        Ok(opening) => match catalog_for(alloc, opening.cartridge(), wanted) {
+            Ok(catalog) => {
+                let cartridge = opening.keep();
+                cartridge.known();
+                Ok((cartridge, catalog))
+            }
+            Err(_) => {
+                let shelved = opening.give_back();
+                Err((MediumError::NoMemory, shelved))
+            }
+        },
         Err(refused) => {
             let NotOpened { error, shelved } = refused;
             shelved.known();
@@ -101,7 +114,24 @@ pub(crate) fn wake_closed<D: Disk>(
     }
 }
 
-// What a medium answers whose cartridge was not opened.
+// A catalog of what a cartridge holds, if that is wanted.
+fn catalog_for<D: Disk>(
+    alloc: Global,
+    cartridge: &Cartridge<D>,
+    wanted: bool,
+) -> Result<Option<Index>, NoMemory>
+    ensures { IfOk result (λ catalog. IsAsWanted wanted catalog (volume_made cartridge.now.contents)) }
+{
+    if !wanted {
+        return Ok(None);
+    }
+    match cartridge.catalog(alloc) {
+        Ok(index) => Ok(Some(index)),
+        Err(error) => Err(error),
+    }
+}
+
+// The error of a medium whose cartridge could not be opened.
 fn wake_error(error: CartridgeError) -> MediumError
     ensures { result ≡ wake_error_of error }
 {

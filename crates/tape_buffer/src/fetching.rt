@@ -1,4 +1,4 @@
-//! A block is read: from what is pending, or from the disk.
+//! Reading a block, from what is pending or from the disk.
 ghost use Rattle.std.specs.Prelude.{◌≡◌, ◌<◌, ◌≤◌, [], Some, Err, OnOk, IfSome, length, vec_capacity, false};
 ghost use Rattle.tape_disk.specs.TwoDisks.{AreHonest, KeepsDisks, failures_of};
 ghost use Rattle.cartridge.specs.Disks.{UnwrittenTwo};
@@ -22,7 +22,7 @@ use tape_disk::Disk;
 use volume_core::{Change, MediumError};
 use vtl_base::{ObjNo, PartNo};
 
-// Gives the bytes of a block that is seen.
+// Reads a block of the volume that is seen into `into`, in place of what that held.
 pub(crate) fn fetch_over<D: Disk>(
     cartridge: &mut Cartridge<D>,
     pending: &Pending,

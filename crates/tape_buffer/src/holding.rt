@@ -9,11 +9,11 @@ use std::mem;
 pub enum Holding<C, S> {
     Open(C),
     Closed(S),
-    /// Neither, for a moment inside a call: no medium is ever found so.
+    /// Neither, for a moment inside a call. Between two calls no medium is so.
     Between,
 }
 
-/// Puts this where neither is held.
+/// Puts a cartridge into a place that holds neither.
 pub(crate) fn hold<C, S>(place: &mut Holding<C, S>, held: Holding<C, S>)
     requires { place.old ≡ Holdings.Between }
     ensures { place.new ≡ held }

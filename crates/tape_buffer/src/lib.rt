@@ -2,18 +2,28 @@
 #![tactic(auto)]
 
 mod adding;
+pub mod budgets;
 mod buffered;
+mod cataloged;
+mod cataloging;
 mod catalogs;
 mod closing;
 mod fetching;
 pub mod holding;
+mod lending;
+pub mod lent;
+mod loose;
 mod media;
 mod pending;
 mod reclaiming;
 mod seen;
 mod storing;
 mod tail;
+mod waking;
 
+pub use budgets::Budget;
 pub use buffered::Buffered;
+pub use cataloged::Cataloged;
 pub use holding::Holding;
+pub use lent::Lent;
 pub use reclaiming::reclaim;

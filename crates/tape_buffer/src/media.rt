@@ -8,9 +8,9 @@ ghost use Rattle.tape_buffer.specs.State.{IsSettledIn, disks_in, state_of};
 ghost use Rattle.tape_buffer.specs.Frames.{AcceptsInFrames, IsOneFrame, IsOneFrameIn, ParksInFrames, frames_in};
 ghost use Rattle.tape_buffer.specs.Moves.{HonestOn, LeavesAlone, LeavesEachAlone, buffer_below};
 
-use crate::adding::{accept_over, has_room_over};
+use crate::adding::has_room_over;
 use crate::buffered::Buffered;
-use crate::closing::{park_over, wake_closed};
+use crate::closing::park_over;
 use crate::fetching::fetch_over;
 use crate::holding::{Holding, hold};
 use crate::storing::{settle_over, turn_over};
@@ -44,11 +44,7 @@ impl<D: Disk> Medium for Buffered<D> {
         ensures advances { Advances (buffer_below D.state) self.old (accepted_by (accept_answer result) change)
             (met_fault (accept_answer result)) self.new }
     {
-        match &mut self.held {
-            Holding::Open(cartridge) => accept_over(cartridge, &mut self.pending, change),
-            Holding::Closed(_) => unreachable!(),
-            Holding::Between => unreachable!(),
-        }
+        self.accept_if(change, true)
     }
 
     fn fetch(&mut self, part: PartNo, at: ObjNo, into: &mut Vec<u8>) -> Result<(), MediumError> {
@@ -115,9 +111,9 @@ impl<D: Disk> Medium for Buffered<D> {
         }
     }
 
-    /// Opens it. One that is awake stays as it is, and answers whether it has failed. Whatever it answers, nothing is
-    /// written: at every moment a crash leaves what it might have left before, of one disk too that is honest beside
-    /// one that is not. But for a device fault what stands is sure.
+    /// Opens the medium. A medium that is awake stays as it is, and the result says whether it has failed. Nothing is
+    /// written, whatever the result: at every moment a crash leaves what it might have left before, also of one honest
+    /// disk beside one that is not. Unless a device fails, what stands on the disks is then sure.
     fn wake(&mut self) -> Result<(), MediumError>
         ensures answer { Wakes ((buffer_below D.state).honest self.old) (state_of D.state self.old) result
             (state_of D.state self.new) }
@@ -126,25 +122,9 @@ impl<D: Disk> Medium for Buffered<D> {
         ensures each { LeavesEachAlone D.state self.old self.new }
         ensures settled { IfErr result (λ error. error ≢ Errors.Device → IsSettledIn D.state self.new.held) }
     {
-        if let Holding::Open(cartridge) = &self.held {
-            if cartridge.has_failed() {
-                return Err(MediumError::Failed);
-            }
-            return Ok(());
-        }
-        match mem::replace(&mut self.held, Holding::Between) {
-            Holding::Closed(shelved) => match wake_closed(self.alloc, shelved) {
-                Ok(cartridge) => {
-                    hold(&mut self.held, Holding::Open(cartridge));
-                    Ok(())
-                }
-                Err((error, shelved)) => {
-                    hold(&mut self.held, Holding::Closed(shelved));
-                    Err(error)
-                }
-            },
-            Holding::Open(_other) => unreachable!(),
-            Holding::Between => unreachable!(),
+        match self.wake_as(false) {
+            Ok(_) => Ok(()),
+            Err(error) => Err(error),
         }
     }
 
@@ -158,7 +138,7 @@ impl<D: Disk> Medium for Buffered<D> {
         }
     }
 
-    // A full buffer is stored before a change is taken, whatever its size; its disks are always at hand.
+    // A full buffer is stored before a change is accepted, whatever its size; its disks are always at hand.
     fn takes_alone(&self, _bytes: u32) -> bool {
         false
     }

@@ -1,6 +1,6 @@
 //! The changes that were accepted and are not stored yet.
 ghost use Rattle.std.specs.Prelude.{◌≡◌, ◌≤◌, ◌+◌, ◌++◌, ◌↔◌, [], ◌∷◌, IsTrue, IfErr, OnOk, length, sum_by};
-ghost use Rattle.vtl_base.specs.declared.limits.TheConstants.{MAX_BODY};
+ghost use Rattle.vtl_base.specs.declared.limits.TheConstants.{BUFFER_BYTES, MAX_BODY};
 ghost use Rattle.volume_core.specs.Medium.{block_bytes, frame_size};
 ghost use Rattle.record_index.specs.Records.{spell_all};
 ghost use Rattle.tape_buffer.specs.Limits.{FitsBuffer};
@@ -12,13 +12,13 @@ use std::marker::Model;
 use volume_core::Change;
 use vtl_base::limits::{BUFFER_BYTES, BUFFER_RECORDS};
 
-// Changes that are pending, in order: 64 at most, with 4,194,304 bytes of blocks at most. What they put behind the
+// Changes that are pending, in order: 256 at most, with 4,194,304 bytes of blocks at most. What they put behind the
 // objects that are stored stands in a catalog too, the tail.
 #[derive(Drop)]
 pub(crate) struct Pending {
-    changes: Vec<Change>,
-    bytes: u64,
-    tail: Tail,
+    pub(crate) changes: Vec<Change>,
+    pub(crate) bytes: u64,
+    pub(crate) tail: Tail,
 }
 
 impl Model for Pending {
@@ -37,7 +37,7 @@ impl Model for Pending {
 }
 
 // The bytes of a change's block.
-fn block_bytes(change: &Change) -> u64
+pub(crate) fn block_bytes(change: &Change) -> u64
     ensures { result ≡ block_bytes change.now }
 {
     match change {
@@ -57,17 +57,31 @@ impl Pending {
         }
     }
 
+    // These changes, with the catalog of what they put behind the objects that are stored.
+    pub(crate) fn with(changes: Vec<Change>, bytes: u64, tail: Tail) -> Self
+        requires few { FitsBuffer changes.items }
+        requires bytes { bytes ≡ sum_by block_bytes changes.items }
+        requires tail { IsTailOf changes.items tail }
+        ensures { result ≡ changes.items }
+    {
+        Pending {
+            changes,
+            bytes,
+            tail,
+        }
+    }
+
     pub(crate) fn len(&self) -> usize
         ensures { result ≡ length self.now }
     {
         self.changes.len()
     }
 
-    // No more is pending than may be.
+    // No more is pending than the limits allow.
     pub(crate) fn within(&self)
         ensures { FitsBuffer self.now }
     {
-        // Looked at for the proof's sake: the fact is the type's.
+        // Read for the proof: the fact is the type's invariant.
         let _ = &self.bytes;
     }
 
@@ -90,7 +104,7 @@ impl Pending {
         &self.tail
     }
 
-    // Whether a change more would pass a limit.
+    // Whether one more change would pass a limit.
     pub(crate) fn is_full_for(&self, change: &Change) -> bool
         ensures { IsTrue result ↔ (FitsBuffer (self.now ++ change.now ∷ []) → ⊥) }
     {
@@ -105,6 +119,13 @@ impl Pending {
         15 * self.changes.len() as u64 + self.bytes
     }
 
+    // How many more bytes of blocks may be pending.
+    pub(crate) fn bytes_left(&self) -> u64
+        ensures { result + sum_by block_bytes self.now ≡ BUFFER_BYTES }
+    {
+        BUFFER_BYTES as u64 - self.bytes
+    }
+
     // What they take of a body, in bytes.
     pub(crate) fn body_bytes(&self) -> usize
         ensures value { result ≡ length (spell_all self.now) }
@@ -113,7 +134,7 @@ impl Pending {
         10 * self.changes.len() + self.bytes as usize
     }
 
-    // Takes a change that passes no limit and applies behind the others. All the memory that it needs is taken before
+    // Adds a change that passes no limit and applies behind the others. All the memory that it needs is taken before
     // anything is cut; the change is returned where memory runs out.
     pub(crate) fn push(&mut self, change: Change) -> Result<(), Change>
         requires few { FitsBuffer (self.old ++ change ∷ []) }
@@ -136,7 +157,7 @@ impl Pending {
         Ok(())
     }
 
-    // Lets all go.
+    // Drops all changes.
     pub(crate) fn clear(&mut self)
         ensures { self.new ≡ [] }
     {

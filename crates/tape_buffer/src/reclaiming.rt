@@ -1,4 +1,4 @@
-//! A closed cartridge is reclaimed: what it accepted goes into the volume that later changes are carried out from.
+//! Reclaiming a closed cartridge: what it accepted goes into the volume from which later changes are carried out.
 ghost use Rattle.tape_buffer.specs.Reclaiming.{ReclaimsShelved};
 
 use cartridge::laws::{a_pair_gives_one_volume, a_volume_is_made_since};
@@ -12,13 +12,13 @@ use tape_disk::Disk;
 pub fn reclaim<D: Disk>(alloc: Global, shelved: Shelved<D>) -> Result<Shelved<D>, NotReclaimed<D>>
     ensures { ReclaimsShelved D.state shelved result }
 {
-    // Asked for the proof's sake: a pair of images gives one cartridge's contents at most, and the volume of these is
-    // what came since makes of the volume before.
+    // Called for the proof: a pair of images gives one cartridge's contents at most, and the volume of these is what
+    // the changes since then make of the volume before.
     a_pair_gives_one_volume();
     a_volume_is_made_since();
     match Cartridge::reclaim(alloc, shelved) {
         Ok(reclaimed) => {
-            // Asked for the proof's sake: whatever crash comes, the disks give the copy.
+            // Called for the proof: whatever crash comes, the disks give the copy.
             reclaimed.known();
             Ok(reclaimed)
         }

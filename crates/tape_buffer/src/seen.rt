@@ -13,7 +13,7 @@ use volume_core::{Change, Kind, Refusal};
 use vtl_base::limits::MAX_OBJECTS;
 use vtl_base::{ObjNo, PartNo};
 
-// How many of the stored objects of a partition stand in front of those that wait.
+// How many of the stored objects of a partition come before those that wait.
 pub(crate) fn front_of<D: Disk>(cartridge: &Cartridge<D>, tail: &Tail, part: PartNo) -> ObjNo
     ensures front { result ≡ min (kept_in tail.now part) (count_of (volume_made cartridge.now.contents) part) }
     ensures few { count_of (volume_made cartridge.now.contents) part ≤ MAX_OBJECTS }
@@ -21,7 +21,7 @@ pub(crate) fn front_of<D: Disk>(cartridge: &Cartridge<D>, tail: &Tail, part: Par
     tail.kept(part).min(cartridge.count(part))
 }
 
-// The kind of the object of a number, None where there is none.
+// The kind of the object with this number; None where there is none.
 pub(crate) fn kind_seen<D: Disk>(
     cartridge: &Cartridge<D>,
     pending: &Pending,
@@ -66,7 +66,7 @@ pub(crate) fn used_seen<D: Disk>(
 {
     let tail = pending.tail();
     let front = front_of(cartridge, tail, part);
-    // Asked for the proof's sake: all that is stored fits its partition, which is no larger than it may be.
+    // Called for the proof: all that is stored fits its partition, which is no larger than it may be.
     let _ = cartridge.capacity(part);
     let _ = cartridge.used(part, cartridge.count(part));
     let stored = cartridge.used(part, n.min(front));
@@ -90,7 +90,7 @@ pub(crate) fn marks_seen<D: Disk>(
     stored + tail.marks_upto(part, n.saturating_sub(front))
 }
 
-// The object number of a partition's filemark of number k, from 0 on.
+// The object number of a partition's filemark number k, counted from 0.
 pub(crate) fn mark_seen<D: Disk>(
     cartridge: &Cartridge<D>,
     pending: &Pending,
@@ -107,7 +107,7 @@ pub(crate) fn mark_seen<D: Disk>(
     if k < stored {
         return cartridge.mark_at(part, k);
     }
-    // Asked for the proof's sake: a partition has no more objects than it may.
+    // Called for the proof: a partition has no more objects than it may.
     let _ = tail.count(part);
     front + tail.mark_at(part, k - stored)
 }

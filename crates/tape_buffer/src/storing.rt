@@ -1,4 +1,4 @@
-//! What is pending is stored, as one frame.
+//! Storing what is pending, as one frame.
 ghost use Rattle.std.specs.Prelude.{◌≡◌, ◌<◌, ◌++◌, [], ◌∷◌, OnOk, length};
 ghost use Rattle.vtl_base.specs.Below.{Advances};
 ghost use Rattle.volume_core.specs.Volume.{part_of};
@@ -8,12 +8,52 @@ ghost use Rattle.tape_buffer.specs.Limits.{FitsBuffer};
 ghost use Rattle.tape_buffer.specs.State.{IsPendingOver, IsReservedFor, open_buffer, open_state};
 ghost use Rattle.tape_buffer.specs.Moves.{buffer_below};
 ghost use Rattle.tape_buffer.specs.Frames.{IsOneFrame, IsOneFrameIn};
+ghost use Rattle.tape_buffer.specs.Inner.Storing.{IsRoomyFor, left_of};
+ghost use Rattle.tape_buffer.specs.declared.budgets.Budget.{Budget};
 
 use crate::pending::Pending;
 use cartridge::{Cartridge, CartridgeError};
 use tape_disk::Disk;
 use volume_core::{Change, MediumError, Turn};
 use vtl_base::NoMemory;
+
+// Stores these changes, which are all that is pending over an open cartridge. It takes no memory. At Ok none of them is
+// pending any more.
+pub(crate) fn store_all<D: Disk>(
+    cartridge: &mut Cartridge<D>,
+    changes: &[Change],
+) -> Result<(), MediumError>
+    requires held { IsPendingOver cartridge.old changes.now }
+    requires few { FitsBuffer changes.now }
+    ensures held { IsPendingOver cartridge.new (left_of result changes.now) }
+    ensures answer { Settles (open_state cartridge.old changes.now) result
+        (open_state cartridge.new (left_of result changes.now)) }
+    ensures frame { IsOneFrame result cartridge.old.contents.frames changes.now cartridge.new.contents.frames }
+    ensures stores { Stores (open_state cartridge.old changes.now) []
+        (open_state cartridge.new (left_of result changes.now)) }
+    ensures advances { Advances (buffer_below D.state) (open_buffer cartridge.old changes.now) [] (met_fault result)
+        (open_buffer cartridge.new (left_of result changes.now)) }
+    ensures roomy { (left : Budget) → IsRoomyFor cartridge.old changes.now left →
+        IsRoomyFor cartridge.new (left_of result changes.now) left }
+{
+    if cartridge.has_failed() {
+        return Err(MediumError::Failed);
+    }
+    cartridge.known();
+    if changes.is_empty() {
+        return Ok(());
+    }
+    match cartridge.store(changes) {
+        Ok(()) => Ok(()),
+        Err(CartridgeError::Device(_)) => Err(MediumError::Device),
+        Err(CartridgeError::NoMemory) => unreachable!(),
+        Err(CartridgeError::SideFull) => unreachable!(),
+        Err(CartridgeError::Failed) => unreachable!(),
+        Err(CartridgeError::NotOurs) => unreachable!(),
+        Err(CartridgeError::Damaged { .. }) => unreachable!(),
+        Err(CartridgeError::BadRecord { .. }) => unreachable!(),
+    }
+}
 
 // Stores all that is pending over an open cartridge. It takes no memory.
 pub(crate) fn settle_over<D: Disk>(
@@ -28,27 +68,14 @@ pub(crate) fn settle_over<D: Disk>(
     ensures advances { Advances (buffer_below D.state) (open_buffer cartridge.old pending.old) [] (met_fault result)
         (open_buffer cartridge.new pending.new) }
 {
-    if cartridge.has_failed() {
-        return Err(MediumError::Failed);
-    }
-    cartridge.known();
-    if pending.is_empty() {
-        return Ok(());
-    }
-    // Asked for the proof's sake: what is pending is no longer than a body.
-    let _ = pending.body_bytes();
-    match cartridge.store(pending.as_slice()) {
+    // Called for the proof: no more is pending than the limits allow.
+    pending.within();
+    match store_all(cartridge, pending.as_slice()) {
         Ok(()) => {
             pending.clear();
             Ok(())
         }
-        Err(CartridgeError::Device(_)) => Err(MediumError::Device),
-        Err(CartridgeError::NoMemory) => unreachable!(),
-        Err(CartridgeError::SideFull) => unreachable!(),
-        Err(CartridgeError::Failed) => unreachable!(),
-        Err(CartridgeError::NotOurs) => unreachable!(),
-        Err(CartridgeError::Damaged { .. }) => unreachable!(),
-        Err(CartridgeError::BadRecord { .. }) => unreachable!(),
+        Err(error) => Err(error),
     }
 }
 
@@ -75,7 +102,7 @@ pub(crate) fn turn_over<D: Disk>(cartridge: &mut Cartridge<D>, pending: &mut Pen
     }
 }
 
-// Makes the room in memory that storing what is pending and a change more takes.
+// Reserves the memory for storing what is pending and one more change.
 pub(crate) fn reserve_over<D: Disk>(
     cartridge: &mut Cartridge<D>,
     pending: &Pending,

@@ -1,12 +1,13 @@
-//! What waits, in a catalog: the objects that pending changes put behind those that are stored.
-ghost use Rattle.std.specs.Prelude.{◌≡◌, ◌≤◌, ◌<◌, ◌+◌, ◌^◌, ◌-◌, ◌≢◌, ℕ, [], None, OnErr, OnOk, min, slice_get, true};
+//! The tail: a catalog of the objects that wait, which pending changes put behind those that are stored.
+ghost use Rattle.std.specs.Prelude.{◌≡◌, ◌≤◌, ◌<◌, ◌+◌, ◌^◌, ◌-◌, ◌≢◌, ℕ, [], None, IfOk, OnErr, OnOk, min, slice_get, true};
 ghost use Rattle.vtl_base.specs.declared.limits.TheConstants.{MAX_CAPACITY, MAX_OBJECTS, MAX_PARTITIONS};
 ghost use Rattle.volume_core.specs.Volume.{IsMarkOf, capacity_of, count_of, is_well_formed, kept_of, kind_at, mark_count, marks_upto, part_of, refusal_of, used_up_to};
 ghost use Rattle.record_index.specs.Places.{outline, placed_after, placed_objects, reserved_of, with_objects};
 ghost use Rattle.record_index.specs.Records.{record_of};
 ghost use Rattle.record_index.specs.Shapes.{shape_of_change};
-ghost use Rattle.tape_buffer.specs.Tail.{AreWide, shifted, kept_in, no_tail, opened};
+ghost use Rattle.tape_buffer.specs.Tail.{AreWide, IsFree, shifted, kept_in, no_tail, opened};
 
+use cartridge::reserving::reserve_each;
 use record_index::{Index, Placed, Record};
 use std::alloc::Global;
 use std::marker::Model;
@@ -17,8 +18,8 @@ use vtl_base::{NoMemory, ObjNo, PartNo};
 // How many partitions a volume has at most.
 const PARTS: usize = 4;
 
-// How many of the stored objects of each partition stand in front, at most, and an index of the objects behind them.
-// The place of a block is the number of its change among the pending ones. The index is made for the first change.
+// How many of the stored objects of each partition stay in front, at most, and an index of the objects behind them. The
+// place of a block is the number of its change among the pending ones. The index is made for the first change.
 #[derive(Drop)]
 pub(crate) struct Tail {
     alloc: Global,
@@ -38,7 +39,7 @@ impl Model for Tail {
 }
 
 impl Tail {
-    // Nothing waits. It takes no memory.
+    // A tail of no objects. It takes no memory.
     pub(crate) fn new(alloc: Global) -> Self
         ensures { result ≡ no_tail }
     {
@@ -49,7 +50,20 @@ impl Tail {
         }
     }
 
-    // How many of the stored objects of a partition stand in front, at most.
+    // A tail of no objects, with memory for `entries` blocks and runs of filemarks in each partition.
+    pub(crate) fn roomy(alloc: Global, entries: usize) -> Result<Self, NoMemory>
+        ensures { IfOk result (λ tail. IsFree entries tail) }
+    {
+        let mut index = Index::new(alloc, &[MAX_CAPACITY; PARTS])?;
+        reserve_each(&mut index, entries)?;
+        Ok(Tail {
+            alloc,
+            kept: [MAX_OBJECTS; PARTS],
+            index: Some(index),
+        })
+    }
+
+    // How many of the stored objects of a partition stay in front, at most.
     pub(crate) fn kept(&self, part: PartNo) -> ObjNo
         ensures { result ≡ kept_in self.now part }
     {
@@ -72,7 +86,7 @@ impl Tail {
         }
     }
 
-    // The object of a number among those that wait: of a block the number of its change, and its length.
+    // The object with this number among those that wait: of a block the number of its change, and its length.
     pub(crate) fn place(&self, part: PartNo, at: ObjNo) -> Option<Placed>
         ensures { result ≡ slice_get (placed_objects self.now.parts part) at }
     {
@@ -82,7 +96,7 @@ impl Tail {
         }
     }
 
-    // The kind of the object of a number among those that wait.
+    // The kind of the object with this number among those that wait.
     pub(crate) fn kind_at(&self, part: PartNo, at: ObjNo) -> Option<Kind>
         ensures { result ≡ kind_at (outline self.now.parts) part at }
     {
@@ -99,7 +113,7 @@ impl Tail {
     {
         match &self.index {
             Some(index) => {
-                // Asked for the proof's sake: a partition is no larger.
+                // Called for the proof: a partition is no larger.
                 let _ = index.capacity(part);
                 index.used(part, n)
             }
@@ -118,7 +132,7 @@ impl Tail {
         }
     }
 
-    // The number, among the objects that wait, of the filemark of number k, from 0 on.
+    // The number, among the objects that wait, of the filemark number k, counted from 0.
     pub(crate) fn mark_at(&self, part: PartNo, k: u32) -> ObjNo
         requires { k < mark_count (outline self.now.parts) part }
         ensures { IsMarkOf (outline self.now.parts) part k result }
@@ -141,7 +155,7 @@ impl Tail {
         Ok(())
     }
 
-    // Makes room in memory for a block or a run of filemarks more in a partition.
+    // Reserves memory for one more block or run of filemarks in a partition.
     pub(crate) fn reserve(&mut self, part: PartNo) -> Result<(), NoMemory>
         requires wide { AreWide self.old.parts }
         requires part { part < MAX_PARTITIONS }
@@ -157,8 +171,8 @@ impl Tail {
         }
     }
 
-    // Carries a change out that applies behind what waits. The number is the change's among the pending ones. It takes
-    // no memory.
+    // Carries out a change that applies behind what waits. `number` is that of the change among the pending ones. It
+    // takes no memory.
     pub(crate) fn put(&mut self, change: &Change, number: usize)
         requires wide { AreWide self.old.parts }
         requires part { part_of change.now < MAX_PARTITIONS }
@@ -173,6 +187,7 @@ impl Tail {
         ensures parts { self.new.parts ≡ placed_after self.old.parts
             (record_of (shifted (kept_in self.old (part_of change.now)) change.now)) number
             (reserved_of self.new.parts (part_of change.now)) }
+        ensures left { (part : ℕ) → reserved_of self.old.parts part ≤ reserved_of self.new.parts part + 1 }
     {
         let part = change.part() as usize;
         let kept = self.kept[part];
@@ -187,7 +202,7 @@ impl Tail {
         }
     }
 
-    // Lets all go. It takes no memory.
+    // Drops all objects. It takes no memory.
     pub(crate) fn clear(&mut self)
         ensures kept { (part : ℕ) → kept_in self.new part ≡ MAX_OBJECTS }
         ensures parts { (part : ℕ) → placed_objects self.new.parts part ≡ [] }
@@ -200,7 +215,7 @@ impl Tail {
     }
 }
 
-// The record of a change, as one of what waits behind so many objects.
+// The record of a change, with its objects counted from the first that waits: `kept` stored objects come before that.
 fn record_behind(change: &Change, kept: ObjNo) -> Record
     requires { is_well_formed change.now ≡ true }
     ensures { result ≡ record_of (shifted kept change.now) }

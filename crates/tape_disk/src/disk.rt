@@ -11,14 +11,14 @@ use vtl_base::DevFault;
 pub trait Disk {
     ghost state: { Self → DiskState };
 
-    // What a disk says of its own calls besides, honest or not. Disks for tests use it.
+    // What a disk says of its own calls beyond that, honest or not. Disks for tests use it.
     ghost effect: { DiskCall → Result Unit DevFault → Self → Self → Type 0 } = { λ call result old new. Unit {0} };
 
     /// The length in bytes. It does not call the device.
     fn len(&self) -> u64
         ensures length { (state self.now).honest → result ≡ length (state self.now).seen };
 
-    /// Fills the buffer with the bytes from a place on. The range lies inside the disk.
+    /// Fills the buffer with the bytes from a place on. The range must lie inside the disk.
     fn read_at(&mut self, at: u64, buffer: &mut [u8]) -> Result<(), DevFault>
         requires { (state self.old).honest → at + length buffer.old ≤ length (state self.old).seen }
         ensures passes { Passes (state self.old) (state self.new) result }

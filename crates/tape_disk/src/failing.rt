@@ -8,7 +8,7 @@ use crate::disk::Disk;
 use crate::failures::Failures;
 use vtl_base::DevFault;
 
-/// It counts the failures of its own calls, with those of the disk below.
+/// A disk over another one. It counts the failures of its own calls, with those of the disk below.
 #[derive(Drop)]
 pub(crate) struct Failing<D> {
     pub(crate) disk: D,
@@ -28,7 +28,7 @@ impl<D: Disk> Failing<D> {
         }
     }
 
-    // The disk below is asked for no bytes, so its clock moves on.
+    // Reading no bytes of the disk below moves its clock on.
     fn refuse(&mut self) -> DevFault
         ensures below { (answer : Result Unit DevFault) ×
             CalledOnce D.state D.effect (ReadAt 0 0) answer self.old.disk self.new.disk }

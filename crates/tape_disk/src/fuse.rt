@@ -16,7 +16,7 @@ pub struct FuseDisk<D> {
 impl<D: Disk> FuseDisk<D> {
     ghost use Rattle.tape_disk.specs.FuseDisk.{fuse_disk_below, fuse_calls_left, fuse_state};
 
-    /// A disk of which this many calls pass. `len` is none of them.
+    /// A disk of which the first `calls` calls pass. `len` is not counted.
     pub fn new(disk: D, calls: u64) -> FuseDisk<D>
         ensures disk { fuse_disk_below result ≡ disk }
         ensures failures { (fuse_state D.state result).failures ≡ 0 }

@@ -16,7 +16,7 @@ pub struct OnceDisk<D> {
 impl<D: Disk> OnceDisk<D> {
     ghost use Rattle.tape_disk.specs.OnceDisk.{once_disk_below, once_calls_left, once_state};
 
-    /// A disk of which the call after this many fails. `len` is none of them.
+    /// A disk of which one call fails, after `calls` calls that pass. `len` is not counted.
     pub fn new(disk: D, calls: u64) -> OnceDisk<D>
         ensures disk { once_disk_below result ≡ disk }
         ensures failures { (once_state D.state result).failures ≡ 0 }

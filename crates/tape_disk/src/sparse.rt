@@ -79,7 +79,7 @@ fn fill(written: &BTreeMap<u64, u8>, at: u64, buffer: &mut [u8])
     }
 }
 
-// Sets the byte at a place. A new one goes where none was.
+// Sets the byte at a place. `is_new` says that none was written there.
 fn set(
     written: &mut BTreeMap<u64, u8>,
     is_new: bool,
@@ -99,7 +99,8 @@ fn set(
     Ok(())
 }
 
-// Sets the bytes from a place on. New ones go where none was. Where memory runs out, some of them are set.
+// Sets the bytes from a place on. `are_new` says that none was written there. Where memory runs out, some of them are
+// set.
 fn put(
     written: &mut BTreeMap<u64, u8>,
     are_new: bool,

@@ -19,7 +19,7 @@ use Rattle.volume_copy.specs.Copies.{Makes, copy_objects, copy_of, copy_parts, m
 abbrev pub capacities_of : List Part → List ℕ
 capacities_of volume = map (λ (part : Part). part.capacity) volume
 
--- partitions: some, one with these objects, and some after it
+-- partitions: some, one with these objects, and some after it (own)
 abbrev grown : List Part → ℕ → List Object → List Part → List Part
 grown before capacity objects behind =
     before ++ (let part : Part = record { capacity = capacity; objects = objects } in part) ∷ behind
@@ -56,7 +56,7 @@ module _ (before behind : List Part) (capacity : ℕ) (objects others : List Obj
   whole : List Part
   whole = grown before capacity objects behind
 
-  -- it is well formed, and leads to objects that fit
+  -- it is well formed, and leads to objects that fit (own)
   record Goes : Type 0 where
     target : part_of change ≡ length before
     kept : kept_of change ≡ length objects

@@ -33,7 +33,7 @@ block_first part at place size objects =
     let same : at + 0 ≡ at = omega arith in
     λ i. block_entry part (same i) place size ∷ object_entries part (same i + 1) 0 objects
 
--- no filemark comes first
+-- no filemark comes first (own)
 abbrev NoneFirst : List Placed → Type 0
 NoneFirst [] = Unit {0}
 NoneFirst (Mark ∷ objects) = ⊥

@@ -70,7 +70,7 @@ module _ {A : Type 0} (size : A → ℕ) where
       ap (λ (l : List (List A)). frame ∷ l) (packed_once packed.0 frames packed.2)
       ∙ sym (first_is frame packed.0 items packed.1)
 
-  -- the rest of a frame that has these bytes, and the items after it
+  -- the rest of a frame that has these bytes, and the items after it (own)
   record Splits (bytes : ℕ) (items : List A) : Type 0 where
     frame : List A
     rest : List A

@@ -17,11 +17,11 @@ use Rattle.volume_copy.specs.declared.totals.TheConstants.{FRAME_BODY}
 use Rattle.volume_copy.specs.Copies.{AreApart, IsApartFrom, NoRunIsCut, copy_objects, copy_of, copy_parts, marks_change}
 use Rattle.volume_copy.specs.Frames.{change_size}
 
--- the change is in that partition
+-- the change is in that partition (own)
 abbrev IsIn : ℕ → Change → Type 0
 IsIn number change = part_of change ≡ number
 
--- the change is in a later partition
+-- the change is in a later partition (own)
 abbrev IsBehind : ℕ → Change → Type 0
 IsBehind number change = number < part_of change
 

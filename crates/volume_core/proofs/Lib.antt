@@ -1,3 +1,2 @@
 pub mod VolumeLemmas
-pub mod StagedLemmas
 pub mod MarkLemmas

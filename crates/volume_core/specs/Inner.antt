@@ -1,4 +1,2 @@
 -- What only private contracts use.
 pub mod ObjectList
-pub mod Staged
-pub mod Fuses

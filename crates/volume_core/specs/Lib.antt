@@ -2,5 +2,4 @@ pub mod Volume
 pub mod Medium
 pub mod Stores
 pub mod Plain
-pub mod Staged
 pub mod Inner

@@ -58,7 +58,7 @@ abbrev pub Fits : Option ℕ → List Change → Type 0
 Fits None changes = Unit {0}
 Fits (Some room) changes = sum_by frame_size changes ≤ room
 
--- beside these changes a frame of a block of so many bytes, or of a change with none, fits the room (own)
+-- beside these changes a frame of a block of this many bytes, 0 for a change with none, fits the room (own)
 abbrev pub HasRoomFor : Option ℕ → List Change → ℕ → Type 0
 HasRoomFor None changes bytes = Unit {0}
 HasRoomFor (Some room) changes bytes = sum_by frame_size changes + (15 + bytes) ≤ room
@@ -89,9 +89,9 @@ pub record Breaks (old new : MediumState) : Type 0 where
 abbrev pub after_failed_read : MediumState → MediumState
 after_failed_read state = record state { failed = true; torn = [] }
 
--- A medium is asked for a change, and answers so. What was pending may have been stored on the way, but not where the
--- side is full: that is answered before all that comes of storing or of memory. A failed medium takes none, and only a
--- device fault makes it fail (own).
+-- The result of asking a medium to accept a change. What was pending may have been stored on the way, but not where the
+-- side is full: that is reported before all that comes of storing or of memory. A failed medium accepts none, and only
+-- a device fault makes it fail (own).
 abbrev pub Accepts : MediumState → Change → Result Unit MediumError → MediumState → Type 0
 Accepts old change (Ok done) new =
     (refusal_of (volume_of old) change ≡ None) × (old.failed ≡ false)
@@ -110,12 +110,12 @@ Accepts old change (Err Device) new =
 Accepts old change (Err Failed) new = (old.failed ≡ true) × (new ≡ old)
 Accepts old change (Err Unreadable) new = ⊥
 
--- what a medium answers to a change, less the change that is returned (own)
+-- the result of `accept`, without the change that is returned (own)
 abbrev pub accept_answer : Result Unit NotAccepted → Result Unit MediumError
 accept_answer (Ok done) = Ok done
 accept_answer (Err refused) = Err refused.error
 
--- the changes that an answer accepts (own)
+-- the changes that a result says are accepted (own)
 abbrev pub accepted_by : Result Unit MediumError → Change → List Change
 accepted_by (Ok done) change = change ∷ []
 accepted_by (Err error) change = []
@@ -125,14 +125,14 @@ abbrev pub met_fault : Result Unit MediumError → Bool
 met_fault (Err Device) = true
 met_fault _ = false
 
--- A medium is asked to store what is pending, and answers so (own).
+-- The result of asking a medium to store what is pending (own).
 abbrev pub Settles : MediumState → Result Unit MediumError → MediumState → Type 0
 Settles old (Ok done) new = (old.failed ≡ false) × (new.pending ≡ []) × Works (volume_of old) new
 Settles old (Err Device) new = (old.failed ≡ false) × (1 ≤ length old.pending) × Breaks old new
 Settles old (Err Failed) new = (old.failed ≡ true) × (new ≡ old)
 Settles old (Err _) new = ⊥
 
--- A medium is asked for the bytes of a block, and answers so (own).
+-- The result of asking a medium for the bytes of a block (own).
 abbrev pub Fetches : MediumState → Result Unit MediumError → MediumState → Type 0
 Fetches old (Ok done) new = (old.failed ≡ false) × (new ≡ old)
 Fetches old (Err NoMemory) new = (old.failed ≡ false) × (new ≡ old)
@@ -140,8 +140,8 @@ Fetches old (Err Device) new = (old.failed ≡ false) × (new ≡ after_failed_r
 Fetches old (Err Failed) new = (old.failed ≡ true) × (new ≡ old)
 Fetches old (Err _) new = ⊥
 
--- A flusher's turn is answered so: nothing is pending or the medium has failed; all that was pending was stored; or
--- the device failed while it was (own).
+-- The result of a flusher's turn: nothing is pending or the medium has failed; all that was pending was stored; or the
+-- device failed while it was (own).
 abbrev pub Turns : MediumState → Turn → MediumState → Type 0
 Turns old turns.Idle new = ((old.pending ≡ []) ⊎ (old.failed ≡ true)) × (new ≡ old)
 Turns old (turns.Stored n) new =
@@ -172,8 +172,7 @@ abbrev pub IsParkedFrom : Type 0 → Bool → MediumState → MediumState → Ty
 IsParkedFrom honest false old new = IsParked honest (Some (volume_of old)) [] old.room old.pending false new
 IsParkedFrom honest true old new = IsParked honest old.stored old.torn old.room [] false new
 
--- A medium is parked, once what is pending is stored, and answers so. One that has failed gives up what is pending
--- (own).
+-- The result of parking a medium, once what is pending is stored. A medium that has failed drops what is pending (own).
 abbrev pub Parks : Type 0 → MediumState → Result Unit MediumError → MediumState → Type 0
 Parks honest old (Ok done) new = IsParkedFrom honest old.failed old new
 Parks honest old (Err Device) new = (old.failed ≡ false) × (1 ≤ length old.pending) × Breaks old new
@@ -202,9 +201,9 @@ pub record Opens (old new : MediumState) : Type 0 where
 abbrev pub StaysParked : Type 0 → MediumState → MediumState → Type 0
 StaysParked honest old new = IsParked honest old.stored old.torn old.room [] old.unread new
 
--- A parked medium that is not opened, since the device failed: what its side gives stays, if it was opened before. Of
--- one that was not that is open: a sync failed, and promises nothing of what a read gives. No frame is under way that
--- was not (own).
+-- A parked medium that is not opened, since the device failed. What its side gives stays, if the medium was opened
+-- before. If it was not, nothing is known of that: a sync failed, and promises nothing of what a read gives. No frame
+-- is under way that was not (own).
 pub record IsUnopened (honest : Type 0) (old new : MediumState) : Type 0 where
   pub stays : StaysParked (honest × (old.unread ≡ false)) old new
   pub torn : honest → new.torn ≡ old.torn
@@ -221,6 +220,6 @@ WakesFrom honest false old (Err Device) new = IsUnopened honest old new
 WakesFrom honest false old (Err Unreadable) new = StaysParked honest old new × (honest → old.stored ≡ None)
 WakesFrom honest false old (Err _) new = ⊥
 
--- A medium is opened, and answers so (own).
+-- The result of opening a medium (own).
 abbrev pub Wakes : Type 0 → MediumState → Result Unit MediumError → MediumState → Type 0
 Wakes honest old result new = WakesFrom honest old.awake old result new

@@ -1,4 +1,4 @@
--- A medium that keeps all in memory, to a contract.
+-- A medium that holds all in memory, to a contract.
 use Rattle.std.specs.Prelude.{◌≡◌, ◌++◌, None, Some, List, [], ◌∷◌, Bool, false, refl}
 use Rattle.std.proofs.Common.{subst}
 use Rattle.vtl_base.specs.Below.{Below}
@@ -38,11 +38,11 @@ plain_below =
       moves = λ old changes new. MovesByChanges old.volume changes new.volume;
     }
 
--- nothing done is the empty list
+-- a run without a call accepts nothing
 pub moves_nowhere_by_changes : (volume : List Part) → MovesByChanges volume [] volume
 moves_nowhere_by_changes volume = (tt, refl)
 
--- two in a row append their lists
+-- two runs, one after the other, accept the changes of both
 pub moves_on_by_changes : (a b c : List Part) (first second : List Change)
     → MovesByChanges a first b → MovesByChanges b second c → MovesByChanges a (first ++ second) c
 moves_on_by_changes a b c [] second one two =

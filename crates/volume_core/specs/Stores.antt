@@ -35,12 +35,12 @@ stored_none : (stored : Option (List Part)) → stored ≡ stored_after stored [
 stored_none None = refl
 stored_none (Some volume) = refl
 
--- nothing stored leaves all room
+-- a run that stores nothing leaves all room
 room_nowhere : (room : Option ℕ) → LeavesRoom room [] room
 room_nowhere None = refl
 room_nowhere (Some room) = omega arith
 
--- two in a row leave what both leave
+-- two runs, one after the other, leave what both leave
 room_on : (a b c : Option ℕ) (first second : List Change)
     → LeavesRoom a first b → LeavesRoom b second c → LeavesRoom a (first ++ second) c
 room_on None None c first second one two = two
@@ -55,7 +55,7 @@ take_plus : (m n : ℕ) (l : List Change) → take (m + n) l ≡ take m l ++ tak
 take_plus m n l =
     sym (take-append-drop m (take (m + n) l)) ∙ (λ i. take-take m (m + n) l (omega arith) i ++ drop-take m n l i)
 
--- nothing accepted and nothing stored
+-- a run without a call accepts nothing and stores nothing
 pub stores_nowhere : (state : MediumState) → Stores state [] state
 stores_nowhere state =
     record {
@@ -66,7 +66,7 @@ stores_nowhere state =
       room = room_nowhere state.room;
     }
 
--- two in a row append what they accept
+-- two runs, one after the other, accept the changes of both
 pub stores_on : (a b c : MediumState) (first second : List Change)
     → Stores a first b → Stores b second c → Stores a (first ++ second) c
 stores_on a b c first second one two =

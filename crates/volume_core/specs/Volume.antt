@@ -101,7 +101,7 @@ abbrev pub kind_in : Option Object → Option Kind
 kind_in None = None
 kind_in (Some object) = Some (kind_of object)
 
--- the kind of the object of a number, None where there is none (SSC-4, logical objects)
+-- the kind of the object with this number; None where there is none (SSC-4, logical objects)
 abbrev pub kind_at : List Part → ℕ → ℕ → Option Kind
 kind_at volume number at = kind_in (slice_get (objects_of volume number) at)
 
@@ -122,8 +122,8 @@ mark_count volume number = marks_in (objects_of volume number)
 abbrev pub marks_upto : List Part → ℕ → ℕ → ℕ
 marks_upto volume number n = marks_in (take n (objects_of volume number))
 
--- an object's number is that of a partition's filemark of number k, from 0 on: a filemark stands there, and so many
--- stand before it (own)
+-- the number is that of a partition's filemark number k, counted from 0: a filemark stands there, and k filemarks stand
+-- before it (own)
 pub record IsMarkOf (volume : List Part) (number k at : ℕ) : Type 0 where
   pub mark : kind_at volume number at ≡ Some Kinds.Mark
   pub before : marks_upto volume number at ≡ k
@@ -134,7 +134,7 @@ block_in None = None
 block_in (Some Mark) = None
 block_in (Some (Block bytes)) = Some bytes
 
--- the bytes of the block of an object number, None where there is no block (SSC-4, logical objects)
+-- the bytes of the block with this object number; None where there is no block (SSC-4, logical objects)
 abbrev pub block_at : List Part → ℕ → ℕ → Option (List ℕ)
 block_at volume number at = block_in (slice_get (objects_of volume number) at)
 
@@ -228,11 +228,11 @@ AppliesUnless refusal old changed (Ok done) new = (refusal ≡ None) × (new ≡
 AppliesUnless refusal old changed (Err (Refused cause)) new = (refusal ≡ Some cause) × (new ≡ old)
 AppliesUnless refusal old changed (Err NoMemory) new = (refusal ≡ None) × (new ≡ old)
 
--- what a volume answers to a change, less the change that is returned (own)
+-- the result of `apply`, without the change that is returned (own)
 abbrev pub apply_answer : Result Unit NotApplied → Result Unit ApplyError
 apply_answer (Ok done) = Ok done
 apply_answer (Err refused) = Err refused.error
 
--- a volume is asked for a change, and returns this (own)
+-- the result of asking a volume to carry out a change (own)
 abbrev pub Applies : List Part → Change → Result Unit ApplyError → List Part → Type 0
 Applies old change result new = AppliesUnless (refusal_of old change) old (changed old change) result new

@@ -8,37 +8,36 @@ use thiserror::Error;
 use vtl_base::limits::{MAX_BLOCK, OBJECT_COST};
 use vtl_base::{Bytes, NoMemory, ObjNo, PartNo};
 
-/// What a command does to a partition. What stood behind its first `at` objects is gone in the same
+/// What a command does to a partition. It cuts the partition after its first `at` objects and may append others, in one
 /// change.
 #[derive(Drop)]
 pub enum Change {
-    /// Its first `at` objects, then this block (SSC-4, WRITE).
+    /// Cuts after the first `at` objects, and appends this block (SSC-4, WRITE).
     Put {
         part: PartNo,
         at: ObjNo,
         block: Bytes,
     },
-    /// Its first `at` objects, then this many filemarks (SSC-4, WRITE FILEMARKS).
+    /// Cuts after the first `at` objects, and appends this many filemarks (SSC-4, WRITE FILEMARKS).
     Marks {
         part: PartNo,
         at: ObjNo,
         count: u32,
     },
-    /// Its first `at` objects (SSC-4, ERASE).
+    /// Cuts after the first `at` objects (SSC-4, ERASE).
     Erase {
         part: PartNo,
         at: ObjNo,
     },
 }
 
-/// Why a change is refused. The first of these that holds is answered, and nothing has changed
-/// (own).
+/// Why a change is refused. The first of these that holds is reported, and nothing has changed (own).
 #[derive(Clone, Copy, PartialEq, Eq, Debug, Error)]
 pub enum Refusal {
     /// The volume has no such partition.
     #[error("no such partition")]
     NoPartition,
-    /// The partition has fewer objects than are to stay.
+    /// The partition has fewer objects than the change leaves.
     #[error("past the end of data")]
     PastEnd,
     /// The objects would exceed the partition's capacity, or 16,000,000.
@@ -50,7 +49,7 @@ pub enum Refusal {
 }
 
 impl Change {
-    /// A copy of it, with a copy of its block. It takes memory only for a block of more than 24 bytes.
+    /// A copy of the change, with a copy of its block. It takes memory only for a block of more than 24 bytes.
     pub fn copy(&self, alloc: Global) -> Result<Change, NoMemory>
         ensures copy { IfOk result (λ copy. copy ≡ self.now) }
         ensures memory { OnErr result (HasLongBlock self.now) }
@@ -124,7 +123,7 @@ impl Change {
         }
     }
 
-    /// Its block has 1 to 1,048,576 bytes, and its marks are at least one (own).
+    /// Whether its block has 1 to 1,048,576 bytes, and its marks are at least one (own).
     pub fn is_well_formed(&self) -> bool
         ensures { result ≡ is_well_formed self.now }
     {

@@ -2,18 +2,15 @@
 #![tactic(auto)]
 
 pub mod changes;
-mod fuses;
 pub mod media;
 mod object_list;
 pub mod objects;
 mod partitions;
 pub mod plain;
-pub mod staged;
 pub mod volumes;
 
 pub use changes::{Change, Refusal};
 pub use media::{Catalog, Medium, MediumError, NotAccepted, Turn};
 pub use objects::{Kind, Object};
 pub use plain::PlainMedium;
-pub use staged::{FaultPlan, StagedMedium};
 pub use volumes::{ApplyError, NotApplied, Volume, are_capacities, is_in_early_zone};

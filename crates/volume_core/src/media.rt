@@ -1,4 +1,4 @@
-//! What stands below a drive: a volume that tells of itself, and takes changes.
+//! What stands below a drive: a volume with its catalog, which accepts changes.
 ghost use Rattle.std.specs.Prelude.{◌≡◌, ℕ, Bool, ◌<◌, ◌≤◌, ◌↔◌, ◌++◌, [], List, IsTrue, true, false, Some, Err, OnOk, OnErr, IfErr, IfSome, length, vec_capacity};
 ghost use Rattle.vtl_base.specs.declared.limits.TheConstants.{MAX_BLOCK, MAX_CAPACITY, MAX_OBJECTS, MAX_PARTITIONS};
 ghost use Rattle.vtl_base.specs.Below.{Below, Advances};
@@ -18,11 +18,11 @@ use vtl_base::{Bytes, ObjNo, PartNo};
 /// Why a medium does not do what it is asked.
 #[derive(Clone, Copy, PartialEq, Eq, Debug, Error)]
 pub enum MediumError {
-    /// The change is refused for its own sake. Nothing has changed.
+    /// The change itself is refused, for this cause. Nothing has changed.
     #[error("refused")]
     Refused(Refusal),
-    /// Memory ran out; the side has room for the change that was asked for, if one was. The volume
-    /// is as it was; what was pending may have been stored.
+    /// Memory ran out. The side has room for the change that was asked for, if one was. The volume is as it was; what
+    /// was pending may have been stored.
     #[error("out of memory")]
     NoMemory,
     /// The side has no room for what is pending and this change. Nothing has changed.
@@ -53,13 +53,13 @@ pub struct NotAccepted {
 pub enum Turn {
     /// Nothing was pending, or the medium has failed.
     Idle,
-    /// So many changes, all that were pending, were stored.
+    /// All changes that were pending were stored: this many.
     Stored(usize),
     /// The device failed in this turn. The volume is as it was, and the medium has failed.
     Device,
 }
 
-// What a medium answered; a change that was not accepted is dropped.
+// The result of `accept`, without the change that was not accepted.
 fn without_change(accepted: Result<(), NotAccepted>) -> Result<(), MediumError>
     ensures { result ≡ accept_answer accepted }
 {
@@ -69,9 +69,10 @@ fn without_change(accepted: Result<(), NotAccepted>) -> Result<(), MediumError>
     }
 }
 
-/// A volume that tells of itself. Each call needs the medium awake.
+/// The catalog of a volume: its partitions and its objects, without the bytes of blocks. Each call needs the medium
+/// awake.
 pub trait Catalog {
-    /// What it holds.
+    /// What the medium holds.
     ghost state: { Self → MediumState };
 
     /// How many partitions there are, 1 to 4.
@@ -93,7 +94,7 @@ pub trait Catalog {
         ensures count { result ≡ count_of (volume_of (state self.now)) part }
         ensures bound { result ≤ MAX_OBJECTS };
 
-    /// The kind of the object of a number, None where there is none.
+    /// The kind of the object with this number; None where there is none.
     fn kind_at(&self, part: PartNo, at: ObjNo) -> Option<Kind>
         requires { (state self.now).awake ≡ true }
         ensures { result ≡ kind_at (volume_of (state self.now)) part at };
@@ -112,27 +113,27 @@ pub trait Catalog {
         ensures marks { result ≡ marks_upto (volume_of (state self.now)) part n }
         ensures bound { result ≤ MAX_OBJECTS };
 
-    /// The object number of a partition's filemark of number k, from 0 on.
+    /// The object number of a partition's filemark number k, counted from 0.
     fn mark_at(&self, part: PartNo, k: u32) -> ObjNo
         requires awake { (state self.now).awake ≡ true }
         requires mark { k < mark_count (volume_of (state self.now)) part }
         ensures { IsMarkOf (volume_of (state self.now)) part k result };
 }
 
-/// A volume that takes changes, and stores them at the latest when it is asked to. It is awake, or
-/// parked: closed, so that it may be moved. Each call but `wake` needs it awake.
+/// A volume that accepts changes, and stores them at the latest when it is asked to. It is awake, or parked: closed, so
+/// that it may be moved. Each call but `wake` needs it awake.
 pub trait Medium: Catalog {
-    /// What a contract sees below it: the failures of its device, whether that keeps to what a disk
-    /// promises (always so in memory), whether it is at hand, so that calls that may need the device
-    /// may be made, and which changes it accepted from one value to another.
+    /// What a contract sees below it: the failures of its device, whether that keeps the promises of a disk (always so
+    /// in memory), whether it is at hand, so that calls that may need the device may be made, and which changes it
+    /// accepted from one value to another.
     ghost below: { Below Self Change };
 
-    /// Whether it takes a change whose block has so many bytes, 0 for a change with no block, without its
-    /// device, which then need not be at hand.
+    /// Whether the medium accepts a change without its device, which then need not be at hand. The change's block has
+    /// this many bytes, 0 for a change with no block.
     ghost alone: { Self → ℕ → Bool };
 
-    /// Carries a change out. What stood behind the objects that it keeps is gone. A change that is not
-    /// accepted is returned.
+    /// Carries a change out. The objects behind those that the change leaves are gone. A change that is not accepted is
+    /// returned.
     fn accept(&mut self, change: Change) -> Result<(), NotAccepted>
         requires awake { (Self.state self.old).awake ≡ true }
         requires hand { alone self.old (block_bytes change) ≡ false → below.at_hand self.old }
@@ -142,7 +143,8 @@ pub trait Medium: Catalog {
         ensures stores { Stores (Self.state self.old) (accepted_by (accept_answer result) change)
             (Self.state self.new) }
         ensures advances { Advances below self.old (accepted_by (accept_answer result) change)
-            (met_fault (accept_answer result)) self.new };
+            (met_fault (accept_answer result)) self.new }
+        ensures device { alone self.old (block_bytes change) ≡ true → met_fault (accept_answer result) ≡ false };
 
     /// Puts a block behind the first `at` objects of a partition. What stood there is gone.
     fn put(&mut self, part: PartNo, at: ObjNo, block: Bytes) -> Result<(), MediumError>
@@ -154,6 +156,7 @@ pub trait Medium: Catalog {
             (Self.state self.new) }
         ensures advances { Advances below
             self.old (accepted_by result (Put part at block)) (met_fault result) self.new }
+        ensures device { alone self.old (length block) ≡ true → met_fault result ≡ false }
     {
         without_change(self.accept(Change::Put { part, at, block }))
     }
@@ -168,6 +171,7 @@ pub trait Medium: Catalog {
             (Self.state self.new) }
         ensures advances { Advances below
             self.old (accepted_by result (Marks part at count)) (met_fault result) self.new }
+        ensures device { alone self.old 0 ≡ true → met_fault result ≡ false }
     {
         without_change(self.accept(Change::Marks { part, at, count }))
     }
@@ -182,13 +186,13 @@ pub trait Medium: Catalog {
             (Self.state self.new) }
         ensures advances { Advances below
             self.old (accepted_by result (Erase part at)) (met_fault result) self.new }
+        ensures device { alone self.old 0 ≡ true → met_fault result ≡ false }
     {
         without_change(self.accept(Change::Erase { part, at }))
     }
 
-    /// Gives the bytes of the block of an object number, in the place of what `into` held. Memory runs
-    /// out only where the capacity of `into` is less than the block has bytes. After an `Err` it may
-    /// hold anything.
+    /// Reads the block with this object number into `into`, in place of what that held. Memory runs out only where the
+    /// capacity of `into` is less than the block has bytes. After an `Err` `into` may hold anything.
     fn fetch(&mut self, part: PartNo, at: ObjNo, into: &mut Vec<u8>) -> Result<(), MediumError>
         requires awake { (Self.state self.old).awake ≡ true }
         requires hand { below.at_hand self.old }
@@ -219,8 +223,8 @@ pub trait Medium: Catalog {
         ensures stores { Stores (Self.state self.old) [] (Self.state self.new) }
         ensures advances { Advances below self.old [] (turn_met_fault result) self.new };
 
-    /// Closes it, once what is pending is stored. One that has failed gives up what is pending.
-    /// After a device fault it is awake still, and has failed.
+    /// Closes the medium, once what is pending is stored. A medium that has failed drops what is pending. After a
+    /// device fault it is still awake, and has failed.
     fn park(&mut self) -> Result<(), MediumError>
         requires awake { (Self.state self.old).awake ≡ true }
         requires hand { below.at_hand self.old }
@@ -229,7 +233,7 @@ pub trait Medium: Catalog {
         ensures stores { OnErr result (Stores (Self.state self.old) [] (Self.state self.new)) }
         ensures advances { Advances below self.old [] (met_fault result) self.new };
 
-    /// Opens it. One that is awake stays as it is, and answers whether it has failed.
+    /// Opens the medium. A medium that is awake stays as it is, and the result says whether it has failed.
     fn wake(&mut self) -> Result<(), MediumError>
         requires { below.at_hand self.old }
         ensures answer { Wakes (below.honest self.old) (Self.state self.old) result
@@ -244,8 +248,8 @@ pub trait Medium: Catalog {
         ensures { IsTrue result
             ↔ HasRoomFor (Self.state self.now).room (Self.state self.now).pending bytes };
 
-    /// Whether it takes a change whose block has this many bytes, 0 for a change with no block, without its
-    /// device.
+    /// Whether it accepts a change without its device. The change's block has this many bytes, 0 for a change with no
+    /// block.
     fn takes_alone(&self, bytes: u32) -> bool
         requires { (Self.state self.now).awake ≡ true }
         ensures { result ≡ alone self.now bytes };
@@ -255,24 +259,23 @@ pub trait Medium: Catalog {
         requires { (Self.state self.now).awake ≡ true }
         ensures { result ≡ length (Self.state self.now).pending };
 
-    /// Whether the device has failed since the medium was opened. Then no change is taken and no
-    /// block given.
+    /// Whether the device has failed since the medium was opened. Then no change is accepted and no block is read.
     fn has_failed(&self) -> bool
         requires { (Self.state self.now).awake ≡ true }
         ensures { result ≡ (Self.state self.now).failed };
 
-    /// Nothing done accepts nothing, and meets no fault.
+    /// A run without a call accepts nothing, and meets no fault.
     ghost advances_nowhere: { (medium : Self) → Advances below medium [] false medium };
 
-    /// One that is awake was opened.
+    /// A medium that is awake was opened before.
     ghost awake_is_read: { (medium : Self) →
         (Self.state medium).awake ≡ true → (Self.state medium).unread ≡ false };
 
-    /// Nothing done stores nothing.
+    /// A run without a call stores nothing.
     ghost stores_nowhere: { (medium : Self) →
         Stores (Self.state medium) [] (Self.state medium) };
 
-    /// Two in a row append what they accept.
+    /// Two runs, one after the other, accept the changes of the first and then those of the second.
     ghost moves_on: { (a b c : Self) (first second : List Change)
         → below.moves a first b → below.moves b second c → below.moves a (first ++ second) c };
 }

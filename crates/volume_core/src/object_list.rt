@@ -96,7 +96,7 @@ impl ObjectList {
         marks
     }
 
-    // The number of the mark of number k, from 0 on.
+    // The object number of the mark number k, counted from 0.
     #[tactic(auto, using(crate::proofs::MarkLemmas::mark_more, crate::proofs::MarkLemmas::block_more))]
     pub(crate) fn mark_at(&self, k: usize) -> usize
         requires { k < marks_in self.now }
@@ -116,7 +116,7 @@ impl ObjectList {
         unreachable!()
     }
 
-    // Keeps the first `at` objects, and puts this block behind them. It is returned where memory runs out.
+    // Cuts after the first `at` objects and appends this block, which is returned where memory runs out.
     pub(crate) fn put(&mut self, at: usize, block: Bytes) -> Result<(), Bytes>
         requires at { at ≤ length self.old }
         requires fits { used_of (take at self.old) + cost_of (Objects.Block block) < 2 ^ 64 }
@@ -138,7 +138,7 @@ impl ObjectList {
         Ok(())
     }
 
-    // Keeps the first `at` objects, and puts this many marks behind them.
+    // Cuts after the first `at` objects and appends this many marks.
     pub(crate) fn marks(&mut self, at: usize, added: u32) -> Result<(), AllocError>
         requires at { at ≤ length self.old }
         requires fits { used_of (take at self.old) + added * OBJECT_COST < 2 ^ 64 }
@@ -159,7 +159,7 @@ impl ObjectList {
         Ok(())
     }
 
-    // Keeps the first `at` objects.
+    // Cuts after the first `at` objects.
     pub(crate) fn erase(&mut self, at: usize)
         ensures { self.new ≡ take at self.old }
     {
@@ -177,7 +177,7 @@ fn make_room<T>(row: &mut Vec<T>, count: usize) -> Result<(), AllocError>
     row.reserve(count.saturating_sub(row.len()))
 }
 
-// Keeps the first n items, and room for `count` in all. What is far more than that is let go.
+// Cuts after the first n items, and leaves room for `count` in all. Room for far more than that is freed.
 fn cut<T: Drop>(row: &mut Vec<T>, n: usize, count: usize)
     requires { count ≤ vec_capacity row.old }
     ensures items { row.new.items ≡ take n row.old.items }

@@ -1,4 +1,4 @@
-//! Partitions that are kept in memory.
+//! Partitions in memory.
 ghost use Rattle.std.specs.Prelude.{◌≡◌, ◌≤◌, ◌<◌, IsTrue, IfErr, Some, Err, slice_get, take, length};
 ghost use Rattle.std.specs.Option.{option_copied};
 ghost use Rattle.vtl_base.specs.declared.limits.TheConstants.{MAX_CAPACITY, MAX_OBJECTS};
@@ -84,7 +84,7 @@ impl Partition {
         self.stock.marks_upto(n) as u32
     }
 
-    // The number of the mark of number k, from 0 on.
+    // The object number of the mark number k, counted from 0.
     pub(crate) fn mark_at(&self, k: usize) -> u32
         requires { k < marks_in self.now.objects }
         ensures mark { kind_in (slice_get self.now.objects result) ≡ Some Kinds.Mark }

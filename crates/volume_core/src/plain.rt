@@ -1,4 +1,4 @@
-//! A medium that keeps all in memory.
+//! A medium that holds all in memory.
 ghost use Rattle.std.specs.Prelude.{◌≡◌, IsTrue, IfOk, true, false};
 ghost use Rattle.volume_core.specs.Volume.{are_capacities, empty_volume};
 ghost use Rattle.volume_core.specs.Plain.{plain_state, plain_below};

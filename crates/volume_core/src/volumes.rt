@@ -1,4 +1,4 @@
-//! Volumes that are kept in memory.
+//! Volumes in memory.
 ghost use Rattle.std.specs.Prelude.{◌≡◌, ◌≤◌, ◌<◌, IsTrue, IfOk, IfErr, IfSome, Err, length, slice_get};
 ghost use Rattle.std.specs.List.{list_all};
 ghost use Rattle.std.specs.Option.{option_copied};
@@ -19,7 +19,7 @@ use vtl_base::{NoMemory, ObjNo, PartNo};
 /// Why a volume stays as it is.
 #[derive(Clone, Copy, PartialEq, Eq, Debug, Error)]
 pub enum ApplyError {
-    /// The change is refused for its own sake.
+    /// The change itself is refused, for this cause.
     #[error("refused")]
     Refused(Refusal),
     /// The change would not be refused, but memory ran out.
@@ -77,8 +77,8 @@ pub fn is_in_early_zone(capacity: u64, used: u64) -> bool
     used > capacity - capacity / 16
 }
 
-/// The contents of a cartridge, kept in memory: 1 to 4 partitions of objects. To a contract it is
-/// the list of its partitions.
+/// The contents of a cartridge, in memory: 1 to 4 partitions of objects. To a contract it is the list of its
+/// partitions.
 #[derive(Drop)]
 pub struct Volume {
     partitions: Vec<Partition>,
@@ -109,7 +109,7 @@ impl Volume {
         Ok(Volume { partitions })
     }
 
-    // The partition of this number, if there is one.
+    // The partition with this number, if there is one.
     fn partition(&self, part: PartNo) -> Option<&Partition>
         ensures partition { option_copied result ≡ slice_get self.now part }
         ensures limits { IfSome result (λ partition. IsPart partition.now) }
@@ -148,7 +148,7 @@ impl Volume {
         }
     }
 
-    /// The kind of the object of a number, None where there is none.
+    /// The kind of the object with this number; None where there is none.
     pub fn kind_at(&self, part: PartNo, at: ObjNo) -> Option<Kind>
         ensures { result ≡ kind_at self.now part at }
     {
@@ -167,8 +167,8 @@ impl Volume {
         }
     }
 
-    /// How many marks are among the first n objects of a partition; among all of them where there
-    /// are fewer. It counts them.
+    /// How many marks are among the first n objects of a partition; among all of them where there are fewer. It goes
+    /// over these objects.
     pub fn marks_upto(&self, part: PartNo, n: ObjNo) -> u32
         ensures marks { result ≡ marks_upto self.now part n }
         ensures bound { result ≤ MAX_OBJECTS }
@@ -179,7 +179,7 @@ impl Volume {
         }
     }
 
-    /// The object number of a partition's mark of number k, from 0 on. It counts up to it.
+    /// The object number of a partition's mark number k, counted from 0. It goes over the objects up to that one.
     pub fn mark_at(&self, part: PartNo, k: u32) -> ObjNo
         requires { k < mark_count self.now part }
         ensures { IsMarkOf self.now part k result }
@@ -190,7 +190,7 @@ impl Volume {
         }
     }
 
-    /// The bytes of the block of an object number, None where there is no block.
+    /// The bytes of the block with this object number; None where there is no block.
     pub fn block_at(&self, part: PartNo, at: ObjNo) -> Option<&[u8]>
         ensures block { option_copied result ≡ block_at self.now part at }
         ensures bound { IfSome result (λ block. length block.now ≤ MAX_BLOCK) }
@@ -208,9 +208,9 @@ impl Volume {
         }
     }
 
-    /// Carries a change out, or refuses it for the first cause that holds. That memory runs out is
-    /// returned where none holds, and not for an erase, which takes none. Nothing has changed after an
-    /// `Err`, which returns the change.
+    /// Carries a change out, or refuses it for the first cause that holds. It returns `NoMemory` only where no cause
+    /// holds, and never for an erase, which takes no memory. After an `Err`, which returns the change, nothing has
+    /// changed.
     pub fn apply(&mut self, change: Change) -> Result<(), NotApplied>
         ensures answer { Applies self.old change (apply_answer result) self.new }
         ensures returned { IfErr result (λ refused. refused.change ≡ change) }

@@ -16,7 +16,7 @@ pub record LimitsInNumbers : Type 0 where
   pub objects : MAX_OBJECTS ≡ 16_000_000
   pub side_bytes : MAX_SIDE ≡ 1_099_511_627_776
   pub body_bytes : MAX_BODY ≡ 8_388_608
-  pub buffer_records : BUFFER_RECORDS ≡ 64
+  pub buffer_records : BUFFER_RECORDS ≡ 256
   pub buffer_bytes : BUFFER_BYTES ≡ 4_194_304
   pub drives : DRIVES ≡ 16
   pub slots : SLOTS ≡ 256

@@ -63,7 +63,7 @@ impl Bytes {
         self.buffer.as_slice()
     }
 
-    /// How many there are.
+    /// How many bytes there are.
     pub fn len(&self) -> usize
         ensures len { result ≡ length self.now }
         ensures bound { result < 2 ^ 63 }
@@ -71,7 +71,7 @@ impl Bytes {
         self.buffer.as_slice().len()
     }
 
-    /// Whether there is none.
+    /// Whether there are no bytes.
     pub fn is_empty(&self) -> bool
         ensures { result ≡ (length self.now == 0) }
     {

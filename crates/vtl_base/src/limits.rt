@@ -26,15 +26,15 @@ pub const MAX_SIDE: u64 = 1_099_511_627_776;
 pub const MAX_BODY: u32 = 8_388_608;
 
 /// The records that a buffer holds at most.
-pub const BUFFER_RECORDS: usize = 64;
+pub const BUFFER_RECORDS: usize = 256;
 
 /// The bytes of blocks that a buffer holds at most.
 pub const BUFFER_BYTES: usize = 4_194_304;
 
-/// The drives of a library.
+/// How many drives a library may have.
 pub const DRIVES: u8 = 16;
 
-/// The slots of a library.
+/// How many slots a library has.
 pub const SLOTS: u16 = 256;
 
 /// The element address of the first slot. Drives have the addresses from 1 on.
@@ -43,7 +43,7 @@ pub const FIRST_SLOT: u16 = 1_001;
 /// The nexuses of a drive, that is its hosts.
 pub const NEXUSES: u8 = 64;
 
-/// The bytes of a barcode at most. It has at least one.
+/// The bytes that a barcode has at most. It has at least one.
 pub const MAX_BARCODE: usize = 16;
 
 /// The bytes of the longest script.

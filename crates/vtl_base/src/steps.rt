@@ -19,14 +19,14 @@ impl Model for Steps {
 }
 
 impl Steps {
-    /// None yet.
+    /// No step yet.
     pub fn new() -> Self
         ensures { result ≡ 0 }
     {
         Steps { count: 0 }
     }
 
-    /// One more.
+    /// Counts one more step.
     pub fn tick(&mut self)
         ensures count { self.new ≡ ticked self.old }
         ensures grows { self.old ≤ self.new }
@@ -34,7 +34,7 @@ impl Steps {
         self.count = self.count.saturating_add(1);
     }
 
-    /// How many there were.
+    /// How many steps there were.
     pub fn count(&self) -> u64
         ensures { result ≡ self.now }
     {

@@ -6,7 +6,7 @@ use Rattle.vtl_script.specs.declared.items.Item.{Item}
 use Rattle.vtl_script.specs.declared.items.Item.TheVariants.{Phase, Move}
 use Rattle.vtl_script.specs.Runs.{AnswersSome}
 
--- where standing still answers a phase of no command, it answers the first commands of any item: none
+-- where a call that leaves all as it is answers a phase of no command, it answers the first commands of any item: none
 pub none_of_item : {P : Type 0} (answers : P → List Item → List Reply → P → Type 0) (old : P) (item : Item)
     → answers old (Phase [] ∷ []) [] old → AnswersSome answers old item old
 none_of_item answers old (Phase lines) empty = record
@@ -14,7 +14,7 @@ none_of_item answers old (Phase lines) empty = record
 none_of_item answers old (Move from to) empty = record
     { part = Phase []; begins = inr refl; replies = []; answered = empty }
 
--- and so a call that leaves all as it was where it fails
+-- the same of a call that leaves all as it was where it fails
 pub none_answered : {P T E : Type 0} (answers : P → List Item → List Reply → P → Type 0) (old new : P) (item : Item)
     (result : Result T E) → answers old (Phase [] ∷ []) [] old → OnErr result (new ≡ old)
     → OnErr result (AnswersSome answers old item new)

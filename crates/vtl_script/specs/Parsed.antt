@@ -12,7 +12,7 @@ abbrev pub without_return : List ℕ → List ℕ
 without_return line =
     if nat_lt 0 (length line) && slice_index line (length line - 1) == 13 then take (length line - 1) line else line
 
--- a line, parsed, that has so many bytes before its line feed, and these that count (own)
+-- a line, parsed, given how many bytes it has before its line feed, and those that count (own)
 abbrev pub parsed_line : (ℕ → Bool) → ℕ → List ℕ → ParsedLine
 parsed_line is_configured count line =
     if nat_lt LINE_BYTES count then Refused else parse_fields is_configured (line_fields line)
@@ -24,8 +24,8 @@ parsed_parts is_configured (line ∷ []) = parsed_line is_configured (length lin
 parsed_parts is_configured (line ∷ next ∷ lines) =
     parsed_line is_configured (length line) (without_return line) ∷ parsed_parts is_configured (next ∷ lines)
 
--- the lines of a text, parsed: a line feed ends a line, and behind the last there is one more, which says nothing
--- where it is empty (own)
+-- the lines of a text, parsed: a line feed ends a line, and after the last there is one more, which says nothing where
+-- it is empty (own)
 abbrev pub parsed_lines : (ℕ → Bool) → List ℕ → List ParsedLine
 parsed_lines is_configured text = parsed_parts is_configured (slice_split (λ byte. byte == 10) text)
 

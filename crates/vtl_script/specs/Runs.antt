@@ -76,7 +76,7 @@ ScriptEnds answers size parsed_list items text mid before new now (Err NoMemory)
     (behind : List Item) × (items_to_run parsed_list ≡ items ++ behind)
     × (Stops text mid before new now ⊎ RunsPart answers behind text mid before new now)
 
--- what a call took of a reader, behind so many bytes of a script, is within the limit of its bytes (own)
+-- what a call took of a reader, after this many bytes of a script, is within the limit of its bytes (own)
 abbrev pub TakesWithin : Option (List ℕ) → ℕ → Option (List ℕ) → Type 0
 TakesWithin left bytes left' = (read : List ℕ) × Consumes left left' read × (bytes + length read ≤ SCRIPT_BYTES)
 

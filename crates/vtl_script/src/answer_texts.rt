@@ -33,7 +33,7 @@ impl Model for AnswerText {
     ghost invariant = { λ text. (text.filled ≤ vec_len text.buffer) × (vec_len text.buffer ≡ WRITE_CHUNK) };
 }
 
-// Puts these bytes behind those that fill a buffer.
+// Puts these bytes after those that fill a buffer.
 fn put_bytes(buffer: &mut Vec<u8>, filled: usize, bytes: &[u8])
     requires { filled + length bytes.now ≤ vec_len buffer.old }
     ensures added { take (filled + length bytes.now) buffer.new.items ≡ take filled buffer.old.items ++ bytes.now }
@@ -43,7 +43,7 @@ fn put_bytes(buffer: &mut Vec<u8>, filled: usize, bytes: &[u8])
     buffer[filled..end].copy_from_slice(bytes);
 }
 
-// Puts the digits of these bytes behind the bytes that fill a buffer.
+// Puts the digits of these bytes after the bytes that fill a buffer.
 fn put_digits(buffer: &mut Vec<u8>, filled: usize, bytes: &[u8])
     requires { filled + 2 * length bytes.now ≤ vec_len buffer.old }
     ensures added { take (filled + 2 * length bytes.now) buffer.new.items
@@ -55,7 +55,7 @@ fn put_digits(buffer: &mut Vec<u8>, filled: usize, bytes: &[u8])
 }
 
 impl AnswerText {
-    /// None. All memory that it takes is asked for here.
+    /// No text yet. All memory that it ever uses is taken here.
     pub fn new(alloc: Global) -> Result<Self, AllocError>
         ensures { IfOk result (λ text. text ≡ []) }
     {
@@ -76,7 +76,7 @@ impl AnswerText {
         Ok(())
     }
 
-    // Writes all of it where there is no room for so many bytes more.
+    // Writes all of it where there is no room for `count` more bytes.
     fn make_room<W: Write>(&mut self, writer: &mut W, count: usize) -> Result<(), ScriptFault>
         requires { count ≤ WRITE_CHUNK }
         ensures ok { OnOk result (Adds (W.contents writer.old) self.old [] (W.contents writer.new) self.new) }

@@ -6,7 +6,7 @@ use vtl_base::NoMemory;
 /// Why a script is not run to its end.
 #[derive(Clone, Copy, PartialEq, Eq, Debug, Error)]
 pub enum ScriptFault {
-    /// A line is of no form that a line may have. Lines are counted from 1 on.
+    /// A line has none of the forms of a line. Lines are counted from 1 on.
     #[error("line {line} refused")]
     BadLine { line: u64 },
     /// A read failed, or the script is past its limits of bytes or reads.
@@ -15,7 +15,7 @@ pub enum ScriptFault {
     /// A write failed.
     #[error("write fault")]
     WriteFault,
-    /// A growth was refused.
+    /// Memory ran out.
     #[error("out of memory")]
     NoMemory,
 }

@@ -7,7 +7,7 @@ ghost use Rattle.vtl_script.specs.Items.{by_host, has_host};
 use crate::lines::Line;
 use std::alloc::AllocError;
 
-// Whether no host stands behind a higher one.
+// Whether no host stands after a higher one.
 fn are_sorted_by_host(lines: &[Line]) -> bool
     ensures { IsTrue result ↔ IsNonDecreasingBy (λ line. line.host) lines.now }
 {
@@ -19,8 +19,8 @@ fn are_sorted_by_host(lines: &[Line]) -> bool
     true
 }
 
-/// Puts the commands of a phase in the order of their turns: by rising host, each host's in their
-/// order. Where they stand so already, memory does not run out.
+/// Puts the commands of a phase in the order of their turns: by rising host, each host's in their order. Where they are
+/// in that order already, memory does not run out.
 pub fn sort_by_host(lines: &mut Vec<Line>) -> Result<(), AllocError>
     requires { list_all has_host lines.old.items ≡ true }
     ensures order { OnOk result (lines.new.items ≡ by_host lines.old.items) }

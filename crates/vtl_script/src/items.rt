@@ -51,7 +51,7 @@ impl Commands {
     }
 }
 
-/// What of a script is run at once.
+/// A part of a script that is run at once.
 #[derive(Drop)]
 pub enum Item {
     /// The commands of a phase, in the order of their turns.

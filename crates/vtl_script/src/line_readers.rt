@@ -24,9 +24,9 @@ pub struct LineReader {
 /// Where the first line ends.
 #[derive(Drop)]
 pub enum Found {
-    /// At the line feed behind so many bytes.
+    /// At the line feed after this many bytes.
     Line(usize),
-    /// With the text, which has ended.
+    /// At the end of the text.
     Last,
     /// Not within the limit of a line.
     TooLong,
@@ -58,7 +58,7 @@ impl LineReader {
     ghost use Rattle.vtl_script.specs.Inner.Reading.{unbegun, work_left, may_read, shows_end, Comes, Ends};
     ghost use Rattle.vtl_script.specs.Runs.{TakesWithin};
 
-    /// Nothing yet.
+    /// A reader that has read nothing.
     pub fn new(alloc: Global) -> Self
         ensures { result ≡ unbegun }
     {
@@ -70,7 +70,7 @@ impl LineReader {
         }
     }
 
-    // One read more. At `false` the text has ended, and at `true` bytes came or the read was
+    // Makes one more read. Returns false where the text has ended, and true where bytes came or the read was
     // interrupted.
     fn fill<R: Read>(&mut self, reader: &mut R) -> Result<bool, ScriptFault>
         requires { length self.old.unread ≤ LINE_BYTES }
@@ -157,14 +157,14 @@ impl LineReader {
         self.lines
     }
 
-    /// How many reads were asked for.
+    /// How many reads were made.
     pub fn reads(&self) -> u64
         ensures { result ≡ self.now.reads }
     {
         self.reads
     }
 
-    /// Takes up the first line, of so many bytes before its line feed.
+    /// Takes up the first line, which has `count` bytes before its line feed.
     pub fn take_up(&mut self, count: usize)
         requires { count < length self.old.unread }
         ensures line { self.new ≡ record self.old {

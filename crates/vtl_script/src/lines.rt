@@ -30,11 +30,11 @@ pub enum ParsedLine {
     Command(Line),
     /// The cartridge at an element address is moved to another. The phase ends before it.
     Move { from: u32, to: u32 },
-    /// It is of no form that a line may have.
+    /// It has none of the forms of a line.
     Refused,
 }
 
-// What stands before the first space, and what behind it.
+// What stands before the first space, and what stands after it.
 fn cut(text: &[u8]) -> (&[u8], &[u8])
     requires { 0 < length text.now }
     ensures fields { line_fields text.now ≡
@@ -47,7 +47,7 @@ fn cut(text: &[u8]) -> (&[u8], &[u8])
     }
 }
 
-// The first field, and what is behind it.
+// The first field, and what stands after it.
 fn next_field(text: &[u8]) -> Option<(&[u8], &[u8])>
     ensures fields { MatchOption result (line_fields text.now ≡ [])
         (λ found. line_fields text.now ≡ found.0.now ∷ line_fields found.1.now) }
@@ -98,7 +98,7 @@ fn drive<P: Runner>(runner: &P, field: &[u8]) -> Option<DriveNo>
     }
 }
 
-// The bytes that few hex digits spell, at most 24, for which no memory is asked.
+// The bytes that hex digits spell, at most 24. It takes no memory.
 fn short_bytes(alloc: Global, field: &[u8]) -> Result<Option<Bytes>, NoMemory>
     requires { length field.now ≤ 2 * INLINE_BYTES }
     ensures bytes { IfOk result (λ bytes. bytes ≡ bytes_of field.now) }
@@ -218,7 +218,7 @@ fn parse_move(rest: &[u8]) -> ParsedLine
     }
 }
 
-/// What a line of these bytes says, its line feed and the carriage return before it left out.
+/// What a line says. It is given without its line feed and without a carriage return before that.
 pub fn parse<P: Runner>(alloc: Global, runner: &P, line: &[u8]) -> Result<ParsedLine, NoMemory>
     ensures { IfOk result (λ parsed.
         parsed ≡ parse_fields (P.is_configured runner.now) (line_fields line.now)) }

@@ -41,7 +41,7 @@ fn without_return(line: &[u8]) -> &[u8]
     }
 }
 
-// What a line says that has so many bytes before its line feed, and these that count.
+// What a line says that has `count` bytes before its line feed, given those that count.
 fn parsed_line<P: Runner>(
     alloc: Global,
     runner: &P,
@@ -124,7 +124,7 @@ fn move_in(parsed: &ParsedLine) -> Option<Item>
     }
 }
 
-// Adds the command of a line, and answers whether the phase ends with it.
+// Adds the command of a line. Returns whether the phase ends with it.
 fn gather(lines: &mut Vec<Line>, parsed: ParsedLine) -> Result<bool, ScriptFault>
     ensures ends { IfOk result (λ is_end. is_end ≡ is_phase_end parsed) }
     ensures lines { OnOk result

@@ -39,7 +39,7 @@ impl Model for ReadBuffer {
     ghost invariant = { λ b. (b.start ≤ b.filled) × (b.filled ≤ vec_len b.buffer) × (vec_len b.buffer ≤ MOST_BYTES) };
 }
 
-// One read into this slice: how many bytes came, or None where the read was interrupted.
+// Makes one read into this slice. Returns how many bytes came, or None where the read was interrupted.
 fn read_once<R: Read>(reader: &mut R, slice: &mut [u8]) -> Result<Option<usize>, ScriptFault>
     requires { 0 < length slice.old }
     ensures taken { Consumes (R.remaining reader.old) (R.remaining reader.new)
@@ -55,7 +55,7 @@ fn read_once<R: Read>(reader: &mut R, slice: &mut [u8]) -> Result<Option<usize>,
     }
 }
 
-// One read into a slice, behind the bytes that fill it.
+// Makes one read into a slice, after the bytes that fill it.
 fn read_behind<R: Read>(
     reader: &mut R,
     buffer: &mut [u8],
@@ -82,7 +82,7 @@ fn count(outcome: &Result<Option<usize>, ScriptFault>) -> usize
     }
 }
 
-// Moves so many bytes from this place on to the front, where as many stand before them.
+// Moves `count` bytes from this place on to the front, where as many bytes stand before them.
 fn move_down(bytes: &mut [u8], start: usize, count: usize)
     requires before { count ≤ start }
     requires within { start + count ≤ length bytes.old }
@@ -94,7 +94,7 @@ fn move_down(bytes: &mut [u8], start: usize, count: usize)
 }
 
 // Moves the bytes from `start` up to `filled` to the front, where as many stand before them or there is no room behind
-// them; there those before them are moved too. The answer is where they begin.
+// them; there those before them are moved too. Returns where they begin then.
 fn close_up(buffer: &mut Vec<u8>, start: usize, filled: usize) -> usize
     requires start { start ≤ filled }
     requires filled { filled ≤ vec_len buffer.old }
@@ -114,7 +114,7 @@ fn close_up(buffer: &mut Vec<u8>, start: usize, filled: usize) -> usize
     start
 }
 
-// Makes a buffer longer that is full.
+// Makes a full buffer longer.
 fn make_room(buffer: &mut Vec<u8>, filled: usize) -> Result<(), AllocError>
     requires filled { filled ≤ vec_len buffer.old }
     requires most { vec_len buffer.old ≤ MOST_BYTES }
@@ -151,7 +151,7 @@ impl ReadBuffer {
         &self.buffer[self.start..self.filled]
     }
 
-    /// Takes so many bytes up.
+    /// Takes up the first `count` bytes.
     pub fn pass(&mut self, count: usize)
         requires { count ≤ length self.old }
         ensures { self.new ≡ drop count self.old }
@@ -159,16 +159,16 @@ impl ReadBuffer {
         self.start += count;
     }
 
-    /// Takes all up.
+    /// Takes up all bytes.
     pub fn clear(&mut self)
         ensures { self.new ≡ [] }
     {
         self.start = self.filled;
     }
 
-    /// One read, for as many bytes as there is room for: how many came, or None where it was interrupted. The bytes
-    /// move only where others stood before them, and as the buffer grows. So one who reads just where no line is whole
-    /// moves each byte once at most, and those of a line that outgrows the first buffer once more.
+    /// Makes one read, for as many bytes as there is room for. Returns how many came, or None where it was interrupted.
+    /// The bytes move only where others stood before them, and as the buffer grows. So a caller that reads only where
+    /// no line is whole moves each byte once at most, and those of a line that outgrows the first buffer once more.
     pub fn read<R: Read>(&mut self, reader: &mut R) -> Result<Option<usize>, ScriptFault>
         requires { length self.old ≤ LINE_BYTES }
         ensures brings { Brings (R.remaining reader.old) self.old

@@ -11,16 +11,15 @@ use scsi_sense::Reply;
 use std::alloc::Global;
 use vtl_base::{DriveNo, NoMemory};
 
-/// What runs the items of a script, one after another.
+/// A type that runs the items of a script, one after another.
 pub trait Runner {
-    /// Whether there is a drive of this number.
+    /// Whether there is a drive with this number.
     ghost is_configured: { Self → ℕ → Bool };
 
-    /// From the first value on these items, one after another, may be answered so, which leaves the
-    /// last.
+    /// From the first value these items, one after another, may be answered so, which leaves the last value.
     ghost answers: { Self → List Item → List Reply → Self → Type 0 };
 
-    /// It may run items. What it holds may ask that, as a closure does which it calls.
+    /// The runner may run items. What it holds may require that, as a closure that it calls does.
     ghost is_ready: { Self → Type 0 };
 
     /// Whether this drive is configured.
@@ -37,13 +36,13 @@ pub trait Runner {
         ensures same { is_configured self.new ≡ is_configured self.old }
         ensures ready { is_ready self.new };
 
-    /// No item is answered by standing still.
+    /// A run of no items gives no replies, and leaves the runner as it is.
     ghost answers_none: { (runner : Self) → answers runner [] [] runner };
 
-    /// Nor is a phase of no command.
+    /// So does a phase with no commands.
     ghost answers_empty: { (runner : Self) → answers runner (Phase [] ∷ []) [] runner };
 
-    /// What was answered goes on by what is answered from there.
+    /// Two runs, one after the other, answer the items of the first and then those of the second.
     ghost answers_on: { (old mid new : Self) (first rest : List Item) (replies others : List Reply)
         → answers old first replies mid → answers mid rest others new
         → answers old (first ++ rest) (replies ++ others) new };

@@ -62,8 +62,8 @@ fn run_items<P: Runner, W: Write>(
     }
 }
 
-// Reads a phase and the move that ends it, runs them and writes their replies. At `true` the text
-// goes on. Where the bytes that came show the end of the phase, the reader is not called.
+// Reads a phase and the move that ends it, runs them and writes their replies. Returns true where the text goes on.
+// Where the bytes that came show the end of the phase, the reader is not called.
 fn run_next<P: Runner, R: Read, W: Write>(
     alloc: Global,
     runner: &mut P,

@@ -22,7 +22,7 @@ abbrev pub HasRoomWithin : List PlacedPart → List Change → Type 0
 HasRoomWithin index changes =
     (part : ℕ) → part < length index → sum_by (entries_of part) changes ≤ reserved_of index part
 
--- in each partition that is there so much is reserved (own)
+-- in each partition that is there this much is reserved (own)
 abbrev pub HasEntries : List PlacedPart → ℕ → Type 0
 HasEntries index entries = (part : ℕ) → part < length index → entries ≤ reserved_of index part
 

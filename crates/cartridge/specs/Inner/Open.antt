@@ -1,4 +1,4 @@
--- What an open cartridge keeps.
+-- What holds of an open cartridge.
 use Rattle.std.specs.Prelude.{◌≡◌, ◌⊎◌, ℕ, List, [], length, Bool, false}
 use Rattle.volume_core.specs.declared.changes.Change.{Change}
 use Rattle.tape_disk.specs.Disk.{DiskState, Each}
@@ -25,7 +25,8 @@ pub record IsOpen (heading : Heading) (extents : List (ℕ × ℕ)) (failed : Bo
 abbrev pub SideGives : Front → Contents → List ℕ → Type 0
 SideGives front contents image = IsContents contents × StandsFor front (bodies_of contents.frames) image
 
--- for these, or for these with the frame that was under way (own)
+-- the image of the side that counts stands for these contents behind that front, or for these with the frame that was
+-- under way (own)
 abbrev pub SideShows : Front → Contents → List (List Change) → List ℕ → Type 0
 SideShows front contents torn image =
     SideGives front contents image ⊎ SideGives front (with_frames contents torn) image

@@ -57,7 +57,7 @@ Walks true start place bytes index reader = IsBodyWalked start place bytes index
 Walks false start place bytes index reader =
     (more : List ℕ) → BehindEach place (bytes ++ more) start (λ volume P. IsBadBody volume (bytes ++ more))
 
--- some bytes of the body at that place came, and so many more end before the last place there is (own)
+-- some bytes of the body at that place came, and this many more end before the last place there is (own)
 abbrev pub MayWalk : ℕ → ℕ → List PlacedPart → ReaderState → Type 0
 MayWalk place count index reader =
     (start : List PlacedPart) × (so_far : List ℕ) × IsBodyWalked start place so_far index reader

@@ -30,7 +30,7 @@ NotRead Failed not_ours damaged memory old new = ⊥
 abbrev pub front_read : ReadFront → Front
 front_read read = front_of read.header read.copied read.pair
 
--- the first bytes of the disk, as many as the byte of their count says a front has; or there is no space for a front
+-- the first bytes of the disk, as many as the byte of their count says a front has; or they are too few for a front
 -- (own)
 abbrev pub FindsBytes : Result FrontBytes JournalError → DiskState → DiskState → Type 0
 FindsBytes (Ok found) old new =

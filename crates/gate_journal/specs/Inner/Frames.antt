@@ -12,7 +12,7 @@ use Rattle.gate_journal.specs.Inner.Deciding.{Decidable, below, both, same}
 pub length-frame : (body : List ℕ) → length (frame body) ≡ 5 + length body
 length-frame body = omega (arith, length-append (to_be_bytes w32 (length body)) body)
 
--- no frame with a further byte follows, and some byte follows unless no frame came before
+-- no frame with a further byte follows, and some byte follows unless no frame came before (own)
 abbrev pub NoMoreFrames : List (List ℕ) → List ℕ → Type 0
 NoMoreFrames bodies rest = (BeginsWithFrame rest → ⊥) × ((bodies ≡ []) ⊎ ((x : ℕ) × (xs : List ℕ) × (rest ≡ x ∷ xs)))
 
@@ -81,7 +81,7 @@ one_end (x ∷ bs) (y ∷ cs) r s okb okc e endb endc =
     (ends_tail x bs r endb) (ends_tail y cs s endc) in
     (λ i. split.0 i ∷ others.0 i, others.1)
 
--- the only body and the only rest that the bytes can begin with
+-- the only body and the only rest that the bytes can begin with (own)
 abbrev pub told_length : List ℕ → ℕ
 told_length bytes = big_from 0 4 (drop 1 bytes)
 

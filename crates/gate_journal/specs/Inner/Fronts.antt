@@ -14,7 +14,7 @@ use Rattle.gate_journal.specs.Inner.HeadsRead.{any_head_is, decided_copied, kind
 use Rattle.gate_journal.specs.Inner.Headings.{decided_heading, few_capacities}
 use Rattle.gate_journal.specs.Inner.Reading.{BeginsWithFront, copied_size, size_behind}
 
--- the front of that kind, of a copy or not, with which the bytes can begin
+-- the front of that kind, of a copy or not, with which the bytes can begin (own)
 abbrev pub front_as : SideKind → Bool → List ℕ → Front
 front_as kind copy bytes = record { head = head_as kind copy (drop 10 bytes); pair = get_or bytes 9 0 }
 

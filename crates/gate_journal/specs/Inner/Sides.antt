@@ -48,7 +48,7 @@ decided image = elim (begin_decided image) [
       (f, rest, ok, is ∙ ap (λ (l : List ℕ). l ++ rest) (append-nil (spell_front f)))))
 ]
 
--- the reading of an image: a front, bodies, and the rest
+-- the reading of an image: a front, bodies, and the rest (own)
 pub record Reads (image : List ℕ) (f : Front) (bodies : List (List ℕ)) (rest : List ℕ) : Type 0 where
   pub begins : IsFront f
   pub holds : All IsBody bodies

@@ -68,7 +68,7 @@ begins bytes = by (told bytes) refl
               w.3 ∙ (λ i. spell_change (change i) ++ rest i),
             )
 
--- records, and then bytes that begin with none
+-- records, and then bytes that begin with none (own)
 abbrev pub Split : List ℕ → Type 0
 Split bytes =
     (changes : List Change) × (rest : List ℕ) × All IsRecord changes × (bytes ≡ spell_all changes ++ rest)

@@ -24,7 +24,7 @@ same_side a b p q xs ys e = ap (λ (l : List ℕ). get_or l 0 0) e
 pub same_rest : (a b p q : ℕ) (xs ys : List ℕ) → begun a p ++ xs ≡ begun b q ++ ys → xs ≡ ys
 same_rest a b p q xs ys e = ap (λ (l : List ℕ). drop 10 l) e
 
--- the cases of one image: without the ten bytes of a side; closed; open with a head; open without one
+-- the cases of one image: without the ten bytes of a side; closed; open with a head; open without one (own)
 abbrev pub View : List ℕ → Type 0
 View image = (HasStart image → ⊥)
     ⊎ ((pair : ℕ) × (IsClosedSide pair image ⊎ (IsOpenWith pair image ⊎ IsHeadless pair image)))
@@ -187,7 +187,7 @@ module _ (first second : List ℕ) where
         let less = lesser (epoch_of g) p OPEN h r first a y in
         absurd (omega (arith, less, e, ap epoch_of one.1.0))
 
--- some side counts
+-- some side counts (own)
 abbrev pub SomeCounts : List ℕ → List ℕ → Type 0
 SomeCounts first second = (w : Which) × (h : Head) × (r : List ℕ) × SideCounts w h r first second
 
@@ -371,7 +371,7 @@ decided first second = elim (counts_decided first second) [
   | inr never ↦ inr (inl never)
 ]
 
--- the reading of a pair: its frames, and a rest with which no further frame begins
+-- the reading of a pair: its frames, and a rest with which no further frame begins (own)
 pub record Reads (w : Which) (h : Head) (bodies : List (List ℕ)) (rest first second : List ℕ) : Type 0 where
   pub each : All IsBody bodies
   pub counts : SideCounts w h (flat_map frame bodies ++ rest) first second

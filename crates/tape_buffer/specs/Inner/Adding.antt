@@ -1,4 +1,4 @@
--- How way is made for a change more.
+-- How room is made for one more change.
 use Rattle.std.specs.Prelude.{◌≡◌, List, Result, Ok, Err}
 use Rattle.volume_core.specs.declared.media.MediumError.{MediumError}
 use Rattle.volume_core.specs.declared.changes.Change.{Change}
@@ -10,7 +10,7 @@ abbrev pub IsReady : MediumState → Result Unit MediumError → MediumState →
 IsReady old (Ok done) new = Works (volume_of old) new
 IsReady old (Err error) new = Settles old (Err error) new
 
--- the frames of a side on which way is made, or on which the device failed
+-- the frames of a side on which room is made for a change, or on which the device failed (own)
 abbrev pub IsWay :
     Change → Result Unit MediumError → List (List Change) → List Change → List (List Change) → List Change → Type 0
 IsWay change (Ok done) frames pending new left = MakesWay frames pending change new left

@@ -17,8 +17,8 @@ IsCopied (Put part at block) capacity (Ok done) bytes = bytes ≡ block
 IsCopied (Put part at block) capacity (Err NoMemory) bytes = capacity < length block
 IsCopied _ capacity _ bytes = ⊥
 
--- a block was read from a disk, memory ran out, for this cause, or the disk failed; so many calls had failed before,
--- and so many now (own)
+-- A block was read from a disk, memory ran out, for this cause, or the disk failed. The two numbers are how many calls
+-- had failed before, and have failed now (own).
 abbrev pub IsFetched : Result Unit MediumError → Type 0 → Bool → ℕ → ℕ → Type 0
 IsFetched (Ok done) memory failed before now = (failed ≡ false) × (now ≡ before)
 IsFetched (Err NoMemory) memory failed before now = (failed ≡ false) × (now ≡ before) × memory

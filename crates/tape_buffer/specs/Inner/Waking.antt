@@ -1,4 +1,4 @@
--- What a medium answers whose cartridge was not opened.
+-- The error of a medium whose cartridge could not be opened.
 use Rattle.volume_core.specs.declared.media.MediumError.{MediumError}
 use Rattle.volume_core.specs.declared.media.MediumError.TheVariants as Media
 use Rattle.cartridge.specs.declared.error.CartridgeError.{CartridgeError}

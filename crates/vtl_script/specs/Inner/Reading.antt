@@ -21,11 +21,11 @@ unbegun = record { unread = []; bytes = 0; reads = 0; lines = 0 }
 abbrev pub work_left : Reading → ℕ
 work_left reading = (SCRIPT_BYTES + length reading.unread) - reading.bytes
 
--- whether a script of so many bytes is within its limit (own)
+-- whether a script of this many bytes is within its limit (own)
 abbrev pub is_within_bytes : ℕ → Bool
 is_within_bytes bytes = nat_le bytes SCRIPT_BYTES
 
--- whether a script that took so many reads may take one more (own)
+-- whether a script that took this many reads may take one more (own)
 abbrev pub may_read : ℕ → Bool
 may_read reads = nat_lt reads SCRIPT_READS
 
@@ -39,7 +39,7 @@ bytes_read (Err fault) = 0
 abbrev pub part : ℕ → ℕ → List ℕ → List ℕ
 part start filled bytes = drop start (take filled bytes)
 
--- so many bytes came from a reader that knew the bytes `left`, and stand behind the others (own)
+-- this many bytes came from a reader that knew the bytes `left`, and stand after the others (own)
 pub record Brings (left : Option (List ℕ)) (old : List ℕ) (left' : Option (List ℕ)) (new : List ℕ) (count : ℕ)
     : Type 0 where
   pub read : List ℕ
@@ -47,7 +47,7 @@ pub record Brings (left : Option (List ℕ)) (old : List ℕ) (left' : Option (L
   pub unread : new ≡ old ++ read
   pub count_is : length read ≡ count
 
--- some bytes came from a reader that knew the bytes `left`, and stand behind the others (own)
+-- some bytes came from a reader that knew the bytes `left`, and stand after the others (own)
 pub record Comes (left : Option (List ℕ)) (old : Reading) (left' : Option (List ℕ)) (new : Reading) : Type 0 where
   pub read : List ℕ
   pub taken : Consumes left left' read

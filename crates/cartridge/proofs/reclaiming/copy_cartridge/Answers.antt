@@ -4,8 +4,7 @@ use Rattle.vtl_base.specs.declared.faults.DevFault.{DevFault}
 use Rattle.gate_journal.specs.declared.heads.Copied.{Copied}
 use Rattle.record_index.specs.Records.{spell_all}
 use Rattle.std.proofs.lemmas.List.{length-map}
-use Rattle.tape_disk.specs.Disk.{DiskState, IsDisk}
-use Rattle.tape_disk.specs.TwoDisks.{AreHonest, EachOfTwo, Images, MayLeave, TwoDisks, TwoLeave, seen_of_two, two_weakened}
+use Rattle.tape_disk.specs.TwoDisks.{AreHonest, EachOfTwo, MayLeave, TwoDisks, TwoLeave, seen_of_two, two_weakened}
 use Rattle.volume_core.specs.Volume.{IsVolume}
 use Rattle.record_index.specs.Indexes.{indexes_shape}
 use Rattle.volume_reclaim.specs.Reclaiming.{GivesCopy, MayReclaim}

@@ -1,4 +1,4 @@
-use Rattle.std.proofs.Common.{◌≡◌, ℕ, List, inl, inr, ap, sym, subst, arith}
+use Rattle.std.proofs.Common.{◌≡◌, List, inl, inr, ap, sym, subst, arith}
 use Rattle.std.proofs.lemmas.Bool.{cases_eq}
 use Rattle.record_index.specs.Places.{PlacedPart, reserved_of}
 use Rattle.cartridge.specs.Inner.Growing.{IsGrown}

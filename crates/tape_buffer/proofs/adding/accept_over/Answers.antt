@@ -6,7 +6,7 @@ use Rattle.cartridge.specs.State.{OpenCartridge}
 use Rattle.tape_buffer.specs.Frames.{MakesWay}
 use Rattle.tape_buffer.specs.State.{open_buffer, open_state}
 use Rattle.tape_buffer.proofs.CoreLemmas.{rests}
-use Rattle.tape_buffer.proofs.AddingLemmas.{accepts_more, advances_more, fits_more}
+use Rattle.tape_buffer.proofs.AddingLemmas.{accepts_broken, accepts_more, advances_more, fits_more}
 use Rattle.tape_buffer.proofs.FrameLemmas.{frames_refused}
 use Rattle.tape_buffer.proofs.adding.accept_over.Given.{Over}
 use Rattle.tape_buffer.proofs.adding.accept_over.Goals as goal
@@ -65,3 +65,11 @@ returns-in-Err-clause-frames g c =
     (open_state c.make_way.new.cartridge c.make_way.new.pending) c.args.change c.in-Err.error
     c.args.cartridge.now.contents.frames c.make_way.new.cartridge.contents.frames c.args.pending.now
     c.make_way.new.pending c.in-Err.ensures.answer c.in-Err.ensures.frames
+
+pub returns-in-Err-clause-answer : goal.returns-in-Err-clause-answer
+returns-in-Err-clause-answer g c =
+    accepts_broken c.args.cartridge.now c.make_way.new.cartridge c.args.pending.now c.make_way.new.pending
+    c.args.change c.in-Err.error (sym c.refusal_seen.ensures ∙ c.in-None.is)
+    (sym c.has_failed.ensures ∙ c.if-has_failed.false)
+    (fits_more c.args.cartridge.now.room c.frame_size.result c.has_room_over.result c.args.pending.now c.args.change
+    c.has_room_over.ensures.0 c.frame_size.ensures c.if-not-has_room_over.false) c.in-Err.ensures.answer

@@ -1,6 +1,5 @@
-use Rattle.std.proofs.Common.{◌≡◌, ◌⊎◌, inl, inr, List, ℕ, refl, sym, subst, ap, ◌∙◌}
+use Rattle.std.proofs.Common.{inl, inr, refl, sym, subst, ap, ◌∙◌}
 use Rattle.tape_disk.specs.TwoDisks.{AreHonest, Images, MayLeave, TwoDisks, TwoLeave, two_in_sequence, seen_of_two, two_weakened}
-use Rattle.cartridge.specs.Contents.{GivesContents}
 use Rattle.cartridge.specs.Reclaiming.{GivesVolume, IsNotReclaimed, IsUntouched, LeavesVolume, disks_reclaimed}
 use Rattle.cartridge.specs.State.{ClosedCartridge}
 use Rattle.cartridge.proofs.UntouchedLemmas.{broken_untouched, copied_since, not_opened, stays_sure, sure_untouched}

@@ -1,0 +1,31 @@
+//! The drive of a bay, taken out and put in again.
+ghost use Rattle.std.specs.Prelude.{◌≡◌};
+ghost use Rattle.tape_buffer.specs.Moves.{buffer_below};
+ghost use Rattle.tape_buffer.specs.State.{state_of};
+ghost use Rattle.bays.specs.Bays.{KeepsBoth};
+ghost use Rattle.bays.specs.Reservations.{IsHolding};
+
+use crate::bays::{Bay, known};
+use aptpl_store::AptplStore;
+use drive_core::Drive;
+use tape_buffer::Cataloged;
+use tape_disk::Disk;
+
+impl<D: Disk> Bay<D> {
+    /// The drive, with what the type keeps of its cartridge and its store.
+    pub fn into_drive(self) -> Drive<Cataloged<D>, AptplStore<D>>
+        ensures same { result ≡ self }
+        ensures kept { KeepsBoth D.state self }
+    {
+        self.drive
+    }
+
+    /// A bay of a drive over a cartridge and a store, where its reservations are as they were saved.
+    pub fn of_drive(drive: Drive<Cataloged<D>, AptplStore<D>>) -> Bay<D>
+        requires { IsHolding (state_of D.state) (buffer_below D.state) D.state drive }
+        ensures { result ≡ drive }
+    {
+        known(&drive);
+        Bay { drive }
+    }
+}

@@ -1,0 +1,101 @@
+//! The catalog of a volume as it is seen: its kinds and lengths, and no place of a block.
+ghost use Rattle.std.specs.Prelude.{◌≡◌, ◌≤◌, ◌+◌, List, None, ℕ, IfSome, OnErr, OnOk, length};
+ghost use Rattle.volume_core.specs.declared.changes.Change.{Change};
+ghost use Rattle.volume_core.specs.Volume.{Part, changed, part_of, refusal_of};
+ghost use Rattle.record_index.specs.Places.{reserved_of};
+ghost use Rattle.record_index.specs.Records.{record_of};
+ghost use Rattle.record_index.specs.Shapes.{IsIndexOf};
+ghost use Rattle.cartridge.specs.Shown.{HasEntriesIn, IsEntryFor, IsGrownIn, LacksEntriesIn, MayEnter};
+
+use crate::reserving::reserve_each;
+use record_index::laws::{a_volume_is_seen_by_its_shape, an_index_follows_a_volume};
+use record_index::{Index, Record};
+use volume_core::{ApplyError, Change, Refusal};
+use vtl_base::NoMemory;
+use vtl_base::limits::MAX_OBJECTS;
+
+/// Why a volume that an index shows refuses a change: the first cause that holds, None where there is none.
+pub fn refusal_shown(index: &Index, change: &Change) -> Option<Refusal>
+    ensures { (volume : List Part) → IsIndexOf index.now volume → result ≡ refusal_of volume change.now }
+{
+    a_volume_is_seen_by_its_shape();
+    let part = change.part();
+    if part >= index.parts() {
+        return Some(Refusal::NoPartition);
+    }
+    let kept = change.kept();
+    if kept > index.count(part) {
+        return Some(Refusal::PastEnd);
+    }
+    let left = index.capacity(part) - index.used(part, kept);
+    if change.added() > MAX_OBJECTS - kept || change.cost() > left {
+        return Some(Refusal::NoRoom);
+    }
+    if !change.is_well_formed() {
+        return Some(Refusal::TooLong);
+    }
+    None
+}
+
+/// The entry of a change, with memory for it in the index. None where the volume that the index shows refuses the
+/// change, or where memory runs out.
+pub fn entry_for(index: &mut Index, change: &Change) -> Option<Record>
+    requires { (volume : List Part) × IsIndexOf index.old volume }
+    ensures shows { (volume : List Part) → IsIndexOf index.old volume → IsIndexOf index.new volume }
+    ensures entry { IfSome result (λ item. IsEntryFor index.old change.now item index.new) }
+{
+    match refusal_shown(index, change) {
+        Some(_) => return None,
+        None => {}
+    }
+    // Called for the proof: the index keeps the limits of a volume.
+    let _ = index.parts();
+    let Ok(()) = index.reserve(change.part(), 1) else {
+        return None;
+    };
+    Some(Record::of(change))
+}
+
+/// Enters a change into an index that has room for it, by its entry.
+pub fn enter_item(index: &mut Index, item: Record)
+    requires { (volume : List Part) × (change : Change) × (item ≡ record_of change)
+        × MayEnter index.old volume change }
+    ensures shows { (volume : List Part) (change : Change) → item ≡ record_of change
+        → IsIndexOf index.old volume → IsIndexOf index.new (changed volume change) }
+    ensures parts { length index.new ≡ length index.old }
+    ensures reserved { (part : ℕ) → reserved_of index.old part ≤ reserved_of index.new part + 1 }
+{
+    a_volume_is_seen_by_its_shape();
+    an_index_follows_a_volume();
+    match index.apply(item, 0) {
+        Ok(()) => {}
+        Err(ApplyError::Refused(_)) => unreachable!(),
+        Err(ApplyError::NoMemory) => unreachable!(),
+    }
+}
+
+/// Enters a change into an index that has room for it.
+pub fn enter_shown(index: &mut Index, change: &Change)
+    requires { (volume : List Part) × MayEnter index.old volume change.now }
+    ensures shows { (volume : List Part) → IsIndexOf index.old volume
+        → IsIndexOf index.new (changed volume change.now) }
+    ensures parts { length index.new ≡ length index.old }
+    ensures reserved { (part : ℕ) → reserved_of index.old part ≤ reserved_of index.new part + 1 }
+{
+    // Called for the proof: the index keeps the limits of a volume.
+    let _ = index.parts();
+    enter_item(index, Record::of(change));
+}
+
+/// Reserves memory for `entries` blocks and runs of marks in each partition of a catalog, if there is one. After an
+/// `Err` some partitions may have it.
+pub fn reserve_shown(catalog: &mut Option<Index>, entries: usize) -> Result<(), NoMemory>
+    ensures grown { IsGrownIn catalog.old catalog.new }
+    ensures ok { OnOk result (HasEntriesIn catalog.new entries) }
+    ensures err { OnErr result (LacksEntriesIn catalog.old entries) }
+{
+    match catalog {
+        Some(index) => reserve_each(index, entries),
+        None => Ok(()),
+    }
+}

@@ -1,0 +1,119 @@
+//! A drive is taken apart, and put together.
+ghost use Rattle.std.specs.Prelude.{◌≡◌, true};
+ghost use Rattle.drive_core.specs.State.{IsBayPositioned};
+ghost use Rattle.drive_core.specs.Apart.{drive_with, rest_of_drive};
+
+use super::Drive;
+use crate::bays::Bay;
+use positioning::Pos;
+use pr_core::{Keeper, Reservations};
+use scsi_attention::Attentions;
+use std::alloc::Global;
+use std::marker::Model;
+use volume_core::Medium;
+
+/// All of a drive but what is in it.
+#[derive(Drop)]
+pub struct Rest<K: Keeper> {
+    alloc: Global,
+    position: Pos,
+    buffered: bool,
+    deferred: bool,
+    attentions: Attentions,
+    reservations: Reservations,
+    keeper: K,
+    accepted: u64,
+}
+
+impl<K: Keeper> Model for Rest<K> {
+    ghost use Rattle.drive_core.specs.Apart.{RestState};
+
+    ghost Value = { RestState K };
+
+    ghost view = { λ r. record {
+      position = r.position;
+      buffered = r.buffered;
+      deferred = r.deferred;
+      attentions = r.attentions;
+      reservations = r.reservations;
+      keeper = r.keeper;
+      accepted = r.accepted;
+    } };
+}
+
+impl<K: Keeper> Rest<K> {
+    /// A deferred error is to be reported, as after a flusher's turn in which the device failed.
+    pub fn defer(&mut self)
+        ensures { self.new ≡ record self.old { deferred = true } }
+    {
+        self.deferred = true;
+    }
+
+    /// What keeps the reservations, to be looked at.
+    pub fn keeper(&self) -> &K
+        ensures { result.now ≡ self.now.keeper }
+    {
+        &self.keeper
+    }
+}
+
+impl<M: Medium, K: Keeper> Drive<M, K> {
+    /// Takes a drive apart: what is in it, and all else.
+    pub fn take_apart(self) -> (Bay<M>, Rest<K>)
+        ensures bay { result.0 ≡ self.bay }
+        ensures rest { result.1 ≡ rest_of_drive self }
+        ensures positioned { IsBayPositioned M.state self.bay self.position }
+    {
+        let Drive {
+            alloc,
+            bay,
+            position,
+            buffered,
+            deferred,
+            attentions,
+            reservations,
+            keeper,
+            accepted,
+        } = self;
+        let rest = Rest {
+            alloc,
+            position,
+            buffered,
+            deferred,
+            attentions,
+            reservations,
+            keeper,
+            accepted,
+        };
+        (bay, rest)
+    }
+
+    /// Puts a drive together of this, and of all else. The position is on what is loaded, and what is not loaded is
+    /// parked.
+    pub fn assemble(bay: Bay<M>, rest: Rest<K>) -> Self
+        requires { IsBayPositioned M.state bay rest.position }
+        ensures { result ≡ drive_with bay rest }
+    {
+        let Rest {
+            alloc,
+            position,
+            buffered,
+            deferred,
+            attentions,
+            reservations,
+            keeper,
+            accepted,
+        } = rest;
+        Drive {
+            alloc,
+            bay,
+            position,
+            buffered,
+            deferred,
+            attentions,
+            reservations,
+            keeper,
+            accepted,
+        }
+    }
+}

@@ -1,0 +1,11 @@
+use Rattle.tape_buffer.specs.State.{open_buffer}
+use Rattle.tape_buffer.proofs.CoreLemmas.{rests}
+use Rattle.tape_buffer.proofs.lending.turn_lent.Goals as goal
+
+pub returns-then-has_failed-clause-advances : goal.returns-then-has_failed-clause-advances
+returns-then-has_failed-clause-advances g c =
+    rests g.D.Disk.state g.met.D.Disk.is_disk (open_buffer c.args.cartridge.now c.args.loose.now)
+
+pub returns-then-is_empty-clause-advances : goal.returns-then-is_empty-clause-advances
+returns-then-is_empty-clause-advances g c =
+    rests g.D.Disk.state g.met.D.Disk.is_disk (open_buffer c.args.cartridge.now c.args.loose.now)

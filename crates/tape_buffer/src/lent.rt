@@ -1,0 +1,183 @@
+//! A medium that is lent, to accept changes without taking memory and without its device.
+ghost use Rattle.std.specs.Prelude.{◌≡◌, ◌⊎◌, ◌++◌, List, [], ◌∷◌, None, Some, true, false};
+ghost use Rattle.vtl_base.specs.Below.{Advances};
+ghost use Rattle.volume_core.specs.Volume.{Part, refusal_of};
+ghost use Rattle.volume_core.specs.Medium.{Turns, turn_met_fault, volume_of};
+ghost use Rattle.volume_core.specs.Stores.{Stores};
+ghost use Rattle.accepting.specs.Core.{IsCore};
+ghost use Rattle.tape_buffer.specs.Frames.{IsOneFrameIn, frames_in};
+ghost use Rattle.tape_buffer.specs.Limits.{FitsBuffer};
+ghost use Rattle.tape_buffer.specs.Moves.{IsSafeOrPending, ShowsOn, buffer_below, medium_core};
+ghost use Rattle.tape_buffer.specs.State.{IsSettledIn, disk_in, disks_in, state_of};
+ghost use Rattle.tape_buffer.specs.Taking.{KeepsBudget, budget_after};
+
+use crate::budgets::Budget;
+use crate::buffered::Buffered;
+use crate::holding::Holding;
+use crate::lending::{take_over, turn_lent};
+use crate::loose::Loose;
+use cartridge::Cartridge;
+use std::alloc::Global;
+use std::marker::Model;
+use tape_disk::Disk;
+use volume_core::{Change, Medium, Turn};
+
+/// A medium that is lent: it accepts changes without taking memory and without its device, as many as its budget has,
+/// and stores all that is pending in a turn, as one frame. It shows nothing of its volume and reads no block until it
+/// is returned.
+#[derive(Drop)]
+pub struct Lent<D: Disk> {
+    pub(crate) lending: Lending<D>,
+    pub(crate) left: Budget,
+}
+
+// An open cartridge that accepts changes; or a medium that accepts none.
+#[derive(Drop)]
+pub(crate) enum Lending<D: Disk> {
+    Taking(Taking<D>),
+    Resting(Buffered<D>),
+}
+
+// An open cartridge, and what is pending over it.
+#[derive(Drop)]
+pub(crate) struct Taking<D: Disk> {
+    pub(crate) alloc: Global,
+    pub(crate) cartridge: Cartridge<D>,
+    pub(crate) loose: Loose,
+}
+
+impl<D: Disk> Model for Lent<D> {
+    ghost use Rattle.tape_buffer.specs.Inner.Lending.{IsLent, buffer_lent};
+    ghost use Rattle.tape_buffer.specs.Taking.{LentState};
+
+    ghost Value = { LentState D };
+
+    ghost view = { λ l. record { buffer = buffer_lent l.lending; left = l.left } };
+
+    ghost invariant = { λ l. IsLent l.lending l.left };
+}
+
+impl<D: Disk> Lent<D> {
+    /// What it may still accept.
+    pub fn left(&self) -> Budget
+        ensures { result ≡ self.now.left }
+    {
+        self.left
+    }
+
+    /// Accepts a change that its volume does not refuse, within its budget. It takes no memory, and calls no disk.
+    /// Where the device has failed, it accepts the change all the same, and never stores it.
+    pub fn take(&mut self, change: Change)
+        requires applies { refusal_of (volume_of (state_of D.state self.old.buffer)) change ≡ None }
+        requires within { KeepsBudget self.old.left (change ∷ []) }
+        ensures taken { self.new ≡ record {
+          buffer = record self.old.buffer { pending = self.old.buffer.pending ++ change ∷ [] };
+          left = budget_after self.old.left (change ∷ []);
+        } }
+        ensures state { state_of D.state self.new.buffer ≡ record (state_of D.state self.old.buffer) {
+          pending = (state_of D.state self.old.buffer).pending ++ change ∷ [];
+        } }
+        ensures stores { Stores (state_of D.state self.old.buffer) (change ∷ [])
+            (state_of D.state self.new.buffer) }
+        ensures advances { (state_of D.state self.old.buffer).failed ≡ false →
+            Advances (buffer_below D.state) self.old.buffer (change ∷ []) false self.new.buffer }
+    {
+        let left = self.left;
+        match &mut self.lending {
+            Lending::Taking(taking) => {
+                self.left = take_over(&taking.cartridge, &mut taking.loose, left, change);
+            }
+            Lending::Resting(_) => unreachable!(),
+        }
+    }
+
+    /// Stores all that is pending, as one frame, in a flusher's turn. It takes no memory.
+    pub fn flush_turn(&mut self) -> Turn
+        requires { (state_of D.state self.old.buffer).awake ≡ true }
+        ensures left { self.new.left ≡ self.old.left }
+        ensures answer { Turns (state_of D.state self.old.buffer) result (state_of D.state self.new.buffer) }
+        ensures frame { IsOneFrameIn result (frames_in self.old.buffer) self.old.buffer.pending
+            (frames_in self.new.buffer) }
+        ensures stores { Stores (state_of D.state self.old.buffer) [] (state_of D.state self.new.buffer) }
+        ensures advances { Advances (buffer_below D.state) self.old.buffer [] (turn_met_fault result)
+            self.new.buffer }
+    {
+        match &mut self.lending {
+            Lending::Taking(taking) => turn_lent(&mut taking.cartridge, &mut taking.loose),
+            Lending::Resting(buffered) => buffered.flush_turn(),
+        }
+    }
+
+    /// Returns the medium. What was accepted and is not stored is then pending. It takes no memory.
+    pub fn into_buffered(self) -> Buffered<D>
+        ensures { result ≡ self.buffer }
+    {
+        let Lent { lending, .. } = self;
+        match lending {
+            Lending::Taking(taking) => {
+                let Taking {
+                    alloc,
+                    cartridge,
+                    loose,
+                } = taking;
+                let pending = loose.into_pending(&cartridge);
+                Buffered {
+                    alloc,
+                    held: Holding::Open(cartridge),
+                    pending,
+                }
+            }
+            Lending::Resting(buffered) => buffered,
+        }
+    }
+
+    /// Whether the medium is open.
+    pub fn is_awake(&self) -> bool
+        ensures { result ≡ (state_of D.state self.now.buffer).awake }
+    {
+        match &self.lending {
+            Lending::Taking(_) => true,
+            Lending::Resting(buffered) => buffered.is_awake(),
+        }
+    }
+
+    /// Whether the device has failed since it was opened. Then nothing more is stored.
+    pub fn has_failed(&self) -> bool
+        requires { (state_of D.state self.now.buffer).awake ≡ true }
+        ensures { result ≡ (state_of D.state self.now.buffer).failed }
+    {
+        match &self.lending {
+            Lending::Taking(taking) => taking.cartridge.has_failed(),
+            Lending::Resting(buffered) => buffered.has_failed(),
+        }
+    }
+
+    /// What `Buffered::known` says, of the medium that is lent.
+    pub fn known(&self)
+        ensures core { IsCore (medium_core D.state self.now.buffer) }
+        ensures whole { IsSafeOrPending (medium_core D.state self.now.buffer) self.now.buffer.pending }
+        ensures fits { FitsBuffer self.now.buffer.pending }
+        ensures shows { ((state_of D.state self.now.buffer).unread ≡ false)
+            ⊎ IsSettledIn D.state self.now.buffer.held →
+            (volume : List Part) → (state_of D.state self.now.buffer).stored ≡ Some volume →
+            ShowsOn D.state (disks_in self.now.buffer.held) (medium_core D.state self.now.buffer) }
+    {
+        match &self.lending {
+            Lending::Taking(taking) => {
+                taking.loose.within();
+                taking.cartridge.known();
+            }
+            Lending::Resting(buffered) => buffered.known(),
+        }
+    }
+
+    /// The disk of the side that counts, for reading; of a parked medium the first disk.
+    pub fn disk(&self) -> &D
+        ensures { disk_in self.now.buffer.held ≡ Some result.now }
+    {
+        match &self.lending {
+            Lending::Taking(taking) => taking.cartridge.disk(),
+            Lending::Resting(buffered) => buffered.disk(),
+        }
+    }
+}

@@ -1,9 +1,0 @@
-use Rattle.std.proofs.Common.{◌≡◌, false, rules}
-use Rattle.volume_core.proofs.StagedLemmas.{parks_stored}
-use Rattle.volume_core.proofs.staged.medium.StagedMediumMedium.park.Goals as goal
-
--- one that works has stored all
-pub returns-clause-answer : goal.returns-clause-answer
-returns-clause-answer c =
-    let works : c.args.self.now.failed ≡ false = search rules in
-    rw (c.close-2.ensures, c.in_ok-store.ensures) (parks_stored c.args.self.now c.requires.awake works)
