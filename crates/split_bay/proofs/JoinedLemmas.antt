@@ -1,13 +1,15 @@
 -- Both ends of a ring.
-use Rattle.std.proofs.Common.{◌≡◌, ◌≤◌, ◌+◌, ◌++◌, ◌%◌, ◌^◌, ℕ, List, [], ◌∷◌, length, sum_by, refl, sym, ap, subst, arith}
+use Rattle.std.proofs.Common.{◌≡◌, ◌≤◌, ◌+◌, ◌++◌, ◌%◌, ◌^◌, ℕ, List, [], ◌∷◌, length, sum_by, refl, sym, ◌∙◌, ap, subst, arith, length-append}
+use Rattle.std.proofs.lemmas.List.{append-nil}
 use Rattle.std.proofs.lemmas.List.Sums.{sum_by-append, sum_by-cons}
 use Rattle.volume_core.specs.Medium.{block_bytes, frame_size}
 use Rattle.split_bay.specs.declared.items.Item.{Item}
 use Rattle.split_bay.specs.declared.items.Item.TheVariants.{Begins, Sent}
 use Rattle.split_bay.specs.declared.noted.NotedBeginning.{NotedBeginning}
+use Rattle.split_bay.specs.Beginnings.{Beginning}
 use Rattle.split_bay.specs.Rings.{IsCounted}
-use Rattle.split_bay.specs.Spans.{KeepsLimits, NoChangeFirst, Span, begins, span_of, span_with, spans_in}
-use Rattle.split_bay.proofs.SpanLemmas.{span_next}
+use Rattle.split_bay.specs.Spans.{KeepsLimits, NoChangeFirst, Span, begins, new_span, no_span, span_after, span_of, span_with, spans_in}
+use Rattle.split_bay.proofs.SpanLemmas.{span_append, span_next}
 
 one_at_most : (item : Item) → begins item ≤ 1
 one_at_most (Sent change) = omega arith
@@ -41,6 +43,51 @@ nothing_waits (Sent change ∷ items) none first = absurd first
 nothing_waits (Begins noted ∷ items) none first =
     absurd (omega (arith, none, sum_by-cons begins (Begins noted) items))
 
+-- and so in what is left of it
+pub spans_behind : (waiting first rest : List Item) → waiting ≡ first ++ rest → spans_in waiting ≡ 0
+    → spans_in rest ≡ 0
+spans_behind waiting first rest is none =
+    omega (arith, none, ap spans_in is, sum_by-append begins first rest)
+
+-- where no span begins, all items are changes of the span
+since_grows : (span : Span) (items : List Item) → spans_in items ≡ 0
+    → length (span_after span items).since ≡ length span.since + length items
+since_grows span [] none = omega arith
+since_grows span (Sent change ∷ items) none =
+    omega (
+      arith,
+      since_grows (span_with span (Sent change)) items (omega (arith, none, sum_by-cons begins (Sent change) items)),
+      length-append span.since (change ∷ []),
+    )
+since_grows span (Begins noted ∷ items) none =
+    absurd (omega (arith, none, sum_by-cons begins (Begins noted) items))
+
+empty_of : (items : List Item) → length items ≤ 0 → items ≡ []
+empty_of [] none = refl
+empty_of (item ∷ items) none = absurd (omega (arith, none))
+
+-- where nothing may be sent, nothing waits
+pub level_none : (sent received waiting : List Item) → received ++ waiting ≡ sent → spans_in waiting ≡ 0
+    → KeepsLimits (span_of sent) → (span_of sent).begin.left ≡ 0 → received ≡ sent
+level_none sent received waiting fifo none within left =
+    let nothing : waiting ≡ [] =
+    empty_of waiting
+    (omega (
+      arith,
+      within.few,
+      left,
+      ap (λ (l : List Item). length (span_of l).since) fifo,
+      ap (λ (s : Span). length s.since) (span_append no_span received waiting),
+      since_grows (span_of received) waiting none,
+    )) in
+    sym (append-nil received) ∙ ap (λ (l : List Item). received ++ l) (sym nothing) ∙ fifo
+
+-- a span begins
+pub begun_so : (items now : List Item) (noted : NotedBeginning) (begin : Beginning)
+    → now ≡ items ++ Begins noted ∷ [] → noted.begin ≡ begin → span_of now ≡ new_span begin
+begun_so items now noted begin is begins_so =
+    ap span_of is ∙ span_next items (Begins noted) ∙ ap new_span begins_so
+
 -- a span that begins is within its limits
 pub begun_within : (items : List Item) (noted : NotedBeginning) → noted.begin.left ≤ 256
     → KeepsLimits (span_of (items ++ Begins noted ∷ []))
@@ -55,16 +102,23 @@ begun_within items noted few =
     })
 
 -- the counts, once a span begins
-pub counted_begun : (items now : List Item) (noted : NotedBeginning) (spans left room : ℕ)
+pub counted_begun : (items now : List Item) (noted : NotedBeginning) (spans left bytes room : ℕ)
     → now ≡ items ++ Begins noted ∷ [] → spans ≡ spans_in items % 2 ^ 64 → left ≤ 256 → noted.begin.left ≡ left
-    → noted.begin.room ≡ room → IsCounted now ((spans + 1) % 18446744073709551616) left 4194304 room
-counted_begun items now noted spans left room is counted few left_is room_is =
-    subst (λ (l : List Item). IsCounted l ((spans + 1) % 18446744073709551616) left 4194304 room) (sym is)
+    → noted.begin.bytes ≡ bytes → noted.begin.room ≡ room
+    → IsCounted now ((spans + 1) % 18446744073709551616) left bytes room
+counted_begun items now noted spans left bytes room is counted few left_is bytes_are room_is =
+    subst (λ (l : List Item). IsCounted l ((spans + 1) % 18446744073709551616) left bytes room) (sym is)
     (record {
       within = begun_within items noted (omega (arith, few, left_is));
       spans_are = omega (arith, counted, sum_by-append begins items (Begins noted ∷ []));
       left_is = omega (arith, left_is, ap (λ (s : Span). length s.since) next, ap (λ (s : Span). s.begin.left) next);
-      bytes_are = omega (arith, ap (λ (s : Span). sum_by block_bytes s.since) next);
+      bytes_are =
+          omega (
+            arith,
+            bytes_are,
+            ap (λ (s : Span). sum_by block_bytes s.since) next,
+            ap (λ (s : Span). s.begin.bytes) next,
+          );
       room_is =
           omega (
             arith,

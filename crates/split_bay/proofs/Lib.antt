@@ -1,10 +1,8 @@
-pub mod BothLemmas
-pub mod EnterLemmas
+pub mod HalvingLemmas
 pub mod JoinedLemmas
-pub mod LoadingLemmas
+pub mod LookLemmas
 pub mod NearLemmas
-pub mod RefusalLemmas
 pub mod RingLemmas
 pub mod SpanLemmas
-pub mod StoreLemmas
-pub mod TurnLemmas
+pub mod TakenLemmas
+pub mod UntoldLemmas

@@ -1,25 +1,21 @@
--- The catalog of the hosts' half.
-use Rattle.std.proofs.Common.{◌≡◌, ◌≤◌, ◌<◌, ◌+◌, ℕ, List, [], ◌∷◌, length, map, true, Option, None, Some, Result, Ok, Err, refl, sym, ◌∙◌, ap, subst, arith, length-append}
-use Rattle.std.specs.Prelude.{is_some}
+-- The catalog of the hosts' half, and what it accepts.
+use Rattle.std.proofs.Common.{◌≡◌, ◌≤◌, ◌<◌, ◌+◌, ◌++◌, ℕ, List, [], ◌∷◌, length, sum_by, true, false, Bool, Option, None, Some, Ok, refl, sym, ◌∙◌, ap, subst, arith, length-append, append_assoc, ◌⊎◌, inl, inr}
 use Rattle.std.proofs.lemmas.List.{length-map}
-use Rattle.tape_disk.specs.Disk.{DiskState}
+use Rattle.std.proofs.lemmas.Bool.{cases_lt}
+use Rattle.std.proofs.lemmas.Option.{slice_get_past}
+use Rattle.std.proofs.lemmas.List.Sums.{sum_by-append}
 use Rattle.volume_core.specs.declared.changes.Change.{Change}
-use Rattle.volume_core.specs.declared.media.MediumError.{MediumError}
-use Rattle.volume_core.specs.declared.media.MediumError.TheVariants.{Refused, NoMemory, SideFull, Device, Failed, Unreadable}
-use Rattle.volume_core.specs.Stores.{after_append}
-use Rattle.volume_core.specs.Volume.{Part, changed}
-use Rattle.record_index.specs.Places.{PlacedPart, blank, filled, filled_part, outline, reserved_of}
-use Rattle.cartridge.specs.Contents.{volume_made}
-use Rattle.cartridge.specs.Inner.Growing.{IsGrown}
-use Rattle.cartridge.specs.State.{OpenCartridge}
-use Rattle.cartridge.proofs.GrowingLemmas.{grown_length, grown_reserved}
+use Rattle.volume_core.specs.Medium.{Accepts, Fits, LeavesRoom, block_bytes, frame_size, volume_or_empty}
+use Rattle.volume_core.specs.Stores.{Stores, after_append, stored_after}
+use Rattle.volume_core.specs.Volume.{Part, after, changed, part_of, refusal_in, refusal_of}
+use Rattle.volume_core.specs.declared.changes.Refusal.TheVariants.{NoPartition}
+use Rattle.cartridge.specs.Shown.{MayEnter}
+use Rattle.record_index.specs.Places.{PlacedPart, blank, filled_part, reserved_of}
 use Rattle.record_index.specs.Shapes.{IsIndexOf, shape_of_part}
 use Rattle.split_bay.specs.declared.items.Item.TheVariants.{Sent}
-use Rattle.split_bay.specs.Backs.{BackState}
-use Rattle.split_bay.specs.Both.{IsSameBut, SettlesBoth, records_left, new_span, volume_held}
-use Rattle.split_bay.specs.Nears.{HasEntriesIn, IsGrownIn, LacksEntriesIn, ShowsSpan, ShowsSpanIn}
-use Rattle.split_bay.specs.Rings.{SendingState}
-use Rattle.split_bay.specs.Spans.{Span, span_of, span_with, volume_seen}
+use Rattle.split_bay.specs.Nears.{IsRoomSeen, KnowsSpan, ShowsSpan}
+use Rattle.split_bay.specs.Spans.{Span, medium_begun, medium_seen, span_with, volume_seen}
+use Rattle.split_bay.proofs.SpanLemmas.{Takes, frame_of}
 
 -- an index has as many partitions as the volume that it shows
 pub as_many_parts : (parts : List PlacedPart) (volume : List Part) → IsIndexOf parts volume
@@ -32,6 +28,15 @@ as_many_parts parts volume is =
       length-map volume shape_of_part,
     )
 
+-- what is seen once a change more was sent
+pub seen_more : (span : Span) (change : Change)
+    → volume_seen (span_with span (Sent change)) ≡ changed (volume_seen span) change
+seen_more span change =
+    let start = volume_or_empty (medium_begun span).stored in
+    let before = (medium_begun span).pending in
+    ap (after start) (sym (append_assoc before span.since (change ∷ [])))
+    ∙ after_append start (before ++ span.since) (change ∷ [])
+
 -- one change more is shown
 pub shows_more : (parts parts' : List PlacedPart) (span : Span) (change : Change) → ShowsSpan parts span
     → IsIndexOf parts' (changed (volume_seen span) change) → length parts' ≡ length parts
@@ -39,7 +44,7 @@ pub shows_more : (parts parts' : List PlacedPart) (span : Span) (change : Change
     → ShowsSpan parts' (span_with span (Sent change))
 shows_more parts parts' span change shows is same reserved =
     record {
-      shows = subst (IsIndexOf parts') (sym (after_append span.begin.volume span.since (change ∷ []))) is;
+      shows = subst (IsIndexOf parts') (sym (seen_more span change)) is;
       roomy = λ part inside.
           omega (
             arith,
@@ -49,79 +54,105 @@ shows_more parts parts' span change shows is same reserved =
           );
     }
 
--- once all is settled the catalog shows the same
-pub shows_settled : (catalog : Option (List PlacedPart)) (span : Span) (room : ℕ) → ShowsSpanIn catalog span
-    → ShowsSpanIn catalog (new_span (volume_seen span) room (records_left span))
-shows_settled None span room none = omega (arith, none)
-shows_settled (Some parts) span room shows =
-    record { shows = shows.shows; roomy = λ part inside. omega (arith, shows.roomy part inside) }
-
-pub shows_after : {D : Type 0} (state : D → DiskState) (catalog : Option (List PlacedPart)) (old new : SendingState)
-    (back back' : BackState D) (result : Result Unit MediumError) → ShowsSpanIn catalog (span_of old.sent)
-    → SettlesBoth state old back result new back' → ShowsSpanIn catalog (span_of new.sent)
-shows_after state catalog old new back back' (Ok done) shows settles =
-    subst (ShowsSpanIn catalog) (sym settles.span) (shows_settled catalog (span_of old.sent) _ shows)
-shows_after state catalog old new back back' (Err Device) shows settles =
-    subst (λ (s : SendingState). ShowsSpanIn catalog (span_of s.sent)) (sym settles.same) shows
-shows_after state catalog old new back back' (Err Failed) shows settles =
-    subst (λ (s : SendingState). ShowsSpanIn catalog (span_of s.sent)) (sym settles.1) shows
-shows_after state catalog old new back back' (Err (Refused cause)) shows settles = absurd settles
-shows_after state catalog old new back back' (Err NoMemory) shows settles = absurd settles
-shows_after state catalog old new back back' (Err SideFull) shows settles = absurd settles
-shows_after state catalog old new back back' (Err Unreadable) shows settles = absurd settles
-
-pub grown_outline : (old new : List PlacedPart) → IsGrown old new → outline new ≡ outline old
-grown_outline [] [] grown = refl
-grown_outline (p ∷ ps) (q ∷ qs) grown =
-    λ i. record {
-      capacity = grown.0.0 i;
-      objects = map (filled blank) (grown.0.1 i);
-    } ∷ grown_outline ps qs grown.1 i
-grown_outline [] (q ∷ qs) grown = absurd grown
-grown_outline (p ∷ ps) [] grown = absurd grown
-
--- a catalog that has grown shows the same
-pub shows_grown : (old new : Option (List PlacedPart)) (span : Span) → IsGrownIn old new → ShowsSpanIn old span
-    → ShowsSpanIn new span
-shows_grown None None span grown none = none
-shows_grown (Some old) (Some new) span grown shows =
+-- one more is known to wait
+pub knows_more : (failed : Bool) (waiting : ℕ) (span : Span) (change : Change) → KnowsSpan failed waiting span
+    → KnowsSpan failed (waiting + 1) (span_with span (Sent change))
+knows_more failed waiting span change knows =
     record {
-      shows = grown_outline old new grown ∙ shows.shows;
-      roomy = λ part inside.
+      failed_is = knows.failed_is;
+      none = knows.none;
+      waiting_is = omega (arith, knows.waiting_is, length-append span.since (change ∷ []));
+      few = knows.few;
+      room = knows.room;
+    }
+
+-- where something may be sent, nothing has failed
+pub works_on : (span : Span) (bytes : ℕ) (failed : Bool) → failed ≡ (medium_begun span).failed
+    → ((medium_begun span).failed ≡ true → span.begin.left ≡ 0) → Takes span bytes → (medium_begun span).failed ≡ false
+works_on span bytes failed is none takes = by (medium_begun span).failed none
+  where
+    by : (b : Bool) → (b ≡ true → span.begin.left ≡ 0) → b ≡ false
+    by true none = absurd (omega (arith, takes.few, none refl))
+    by false none = refl
+
+-- it fits the room that was seen
+fits_seen : (seen : Option ℕ) (room : ℕ) (before since : List Change) (change : Change)
+    → IsRoomSeen seen room before → sum_by frame_size since + frame_size change ≤ room
+    → Fits seen ((before ++ since) ++ change ∷ [])
+fits_seen None room before since change is fits = absurd is
+fits_seen (Some seen) room before since change is fits =
+    omega (
+      arith,
+      is,
+      fits,
+      sum_by-append frame_size (before ++ since) (change ∷ []),
+      sum_by-append frame_size before since,
+    )
+
+module _ (failed : Bool) (waiting : ℕ) (span : Span) (change : Change) (knows : KnowsSpan failed waiting span)
+    (awake : (medium_begun span).awake ≡ true) (takes : Takes span (block_bytes change)) where
+  -- it is accepted
+  pub accepts : refusal_of (volume_seen span) change ≡ None
+      → Accepts (medium_seen span) change (Ok tt) (medium_seen (span_with span (Sent change)))
+  accepts none =
+      let works = works_on span (block_bytes change) failed knows.failed_is knows.none takes in (
+        none,
+        works,
+        record { volume_is = seen_more span change; works = works; awake = awake },
+        fits_seen (medium_begun span).room span.begin.room (medium_begun span).pending span.since change
+            (knows.room awake) (omega (arith, takes.fits, frame_of change)),
+      )
+
+none_stored : (stored : Option (List Part)) → stored ≡ stored_after stored []
+none_stored None = refl
+none_stored (Some volume) = refl
+
+all_room : (room : Option ℕ) → LeavesRoom room [] room
+all_room None = refl
+all_room (Some room) = omega arith
+
+-- and stored is nothing
+pub stores_more : (span : Span) (change : Change)
+    → Stores (medium_seen span) (change ∷ []) (medium_seen (span_with span (Sent change)))
+stores_more span change =
+    record {
+      count = 0;
+      fits = omega arith;
+      stored = none_stored (medium_begun span).stored;
+      pending = sym (append_assoc (medium_begun span).pending span.since (change ∷ []));
+      room = all_room (medium_begun span).room;
+    }
+
+-- a change that is not refused has its partition
+pub inside : (volume : List Part) (change : Change) → refusal_of volume change ≡ None
+    → part_of change < length volume
+inside volume change none = by (cases_lt (part_of change) (length volume))
+  where
+    by : (part_of change < length volume) ⊎ (length volume ≤ part_of change) → part_of change < length volume
+    by (inl here) = here
+    by (inr past) =
+        let refused : Some NoPartition ≡ None =
+        sym (ap (λ (found : Option Part). refusal_in found change) (slice_get_past volume (part_of change) past))
+        ∙ none in
+        absurd (cc)
+
+-- so the catalog has room for it
+pub may_enter : (parts : List PlacedPart) (span : Span) (change : Change) → ShowsSpan parts span
+    → refusal_of (volume_seen span) change ≡ None → Takes span (block_bytes change)
+    → MayEnter parts (volume_seen span) change
+may_enter parts span change shows none takes =
+    record {
+      shows = shows.shows;
+      none = none;
+      roomy =
           omega (
             arith,
-            shows.roomy part (omega (arith, inside, grown_length old new grown)),
-            grown_reserved old new part grown,
+            takes.few,
+            shows.roomy (part_of change)
+                (omega (
+                  arith,
+                  inside (volume_seen span) change none,
+                  as_many_parts parts (volume_seen span) shows.shows,
+                )),
           );
     }
-shows_grown None (Some new) span grown shows = absurd grown
-shows_grown (Some old) None span grown shows = absurd grown
-
--- a span that begins anew over the same volume is shown, where there is room for its records
-pub shows_anew : (catalog : Option (List PlacedPart)) (span : Span) (volume : List Part) (room : ℕ)
-    → is_some catalog ≡ true → ShowsSpanIn catalog span → HasEntriesIn catalog 256 → volume_seen span ≡ volume
-    → ShowsSpanIn catalog (new_span volume room 256)
-shows_anew None span volume room loaded shows entries same = absurd (cc)
-shows_anew (Some parts) span volume room loaded shows entries same =
-    record { shows = subst (IsIndexOf parts) same shows.shows; roomy = λ part inside. entries part inside }
-
--- it is there still
-pub there_still : (old new : Option (List PlacedPart)) → IsGrownIn old new → is_some old ≡ true → is_some new ≡ true
-there_still None None grown some = some
-there_still (Some old) (Some new) grown some = refl
-there_still None (Some new) grown some = absurd grown
-there_still (Some old) None grown some = absurd grown
-
--- memory that is reserved changes no volume
-pub same_volume : {D : Type 0} (old new : Option (OpenCartridge D)) → IsSameBut old new
-    → volume_held new ≡ volume_held old
-same_volume None None same = refl
-same_volume (Some old) (Some new) same = ap (λ (c : OpenCartridge _). volume_made c.contents) same
-same_volume None (Some new) same = absurd same
-same_volume (Some old) None same = absurd same
-
--- memory runs out for the catalog only where fewer records are left
-pub lacks_shown : (catalog : Option (List PlacedPart)) (span : Span) → ShowsSpanIn catalog span
-    → LacksEntriesIn catalog 256 → records_left span < 256
-lacks_shown None span shows lacks = absurd lacks
-lacks_shown (Some parts) span shows lacks = omega (arith, lacks.2, shows.roomy lacks.0 lacks.1)

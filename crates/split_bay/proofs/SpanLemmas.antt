@@ -5,12 +5,13 @@ use Rattle.std.proofs.lemmas.List.{append-nil}
 use Rattle.std.proofs.lemmas.List.Sums.{sum_by-append}
 use Rattle.volume_core.specs.declared.changes.Change.{Change}
 use Rattle.volume_core.specs.declared.changes.Change.TheVariants.{Put, Marks, Erase}
-use Rattle.volume_core.specs.Medium.{block_bytes, frame_size}
+use Rattle.volume_core.specs.Medium.{block_bytes, frame_size, volume_of, volume_or_empty}
+use Rattle.volume_core.specs.Stores.{after_append}
 use Rattle.volume_core.specs.Volume.{AllApply, Part, after, changed, refusal_of}
 use Rattle.split_bay.specs.declared.items.Item.{Item}
 use Rattle.split_bay.specs.declared.items.Item.TheVariants.{Sent}
 use Rattle.split_bay.specs.Rings.{IsCounted}
-use Rattle.split_bay.specs.Spans.{KeepsLimits, Span, begins, no_span, span_after, span_of, span_with, spans_in, takes_more, volume_seen}
+use Rattle.split_bay.specs.Spans.{KeepsLimits, Span, begins, medium_begun, no_span, span_after, span_of, span_with, spans_in, takes_more, volume_seen}
 
 pub span_append : (span : Span) (xs ys : List Item)
     → span_after span (xs ++ ys) ≡ span_after (span_after span xs) ys
@@ -55,7 +56,7 @@ frame_of (Erase part at) = refl
 -- what it means that one change more is taken
 pub record Takes (span : Span) (bytes : ℕ) : Type 0 where
   pub few : length span.since + 1 ≤ span.begin.left
-  pub short : sum_by block_bytes span.since + bytes ≤ 4194304
+  pub short : sum_by block_bytes span.since + bytes ≤ span.begin.bytes
   pub fits : sum_by frame_size span.since + (15 + bytes) ≤ span.begin.room
 
 pub taken : (span : Span) (bytes : ℕ) → takes_more span bytes ≡ true → Takes span bytes
@@ -64,7 +65,7 @@ taken span bytes is =
     let more = and_parts _ _ parts.1 in
     record {
       few = omega (arith, ltb-true (length span.since) span.begin.left parts.0);
-      short = leb-true (sum_by block_bytes span.since + bytes) 4194304 more.0;
+      short = leb-true (sum_by block_bytes span.since + bytes) span.begin.bytes more.0;
       fits = leb-true (sum_by frame_size span.since + (15 + bytes)) span.begin.room more.1;
     }
 
@@ -74,7 +75,9 @@ pub within_more : (span : Span) (change : Change) → KeepsLimits span → refus
 within_more span change is none takes =
     record {
       limit = is.limit;
-      apply = apply_more span.begin.volume span.since change is.apply none;
+      apply = apply_more (volume_of (medium_begun span)) span.since change is.apply
+          (subst (λ (v : List Part). refusal_of v change ≡ None)
+          (after_append (volume_or_empty (medium_begun span).stored) (medium_begun span).pending span.since) none);
       few = omega (arith, takes.few, length-append span.since (change ∷ []));
       short = omega (arith, takes.short, sum_by-append block_bytes span.since (change ∷ []));
       fits = omega (arith, takes.fits, frame_of change, sum_by-append frame_size span.since (change ∷ []));
@@ -112,6 +115,7 @@ counted_more items change spans left bytes room size counted none takes is =
             is,
             frame_of change,
             ap (λ (s : Span). sum_by block_bytes s.since) next,
+            ap (λ (s : Span). s.begin.bytes) next,
             sum_by-append block_bytes span.since (change ∷ []),
           );
       room_is =
@@ -126,18 +130,3 @@ counted_more items change spans left bytes room size counted none takes is =
             sum_by-append frame_size span.since (change ∷ []),
           );
     }
-
--- while changes are received in a span, no more of them are taken than the ring has places
-pub place_for_one : (before items now : List Item) (taken : List Change) (change : Change)
-    → items ≡ before ++ map Sent taken → now ≡ items ++ Sent change ∷ [] → KeepsLimits (span_of now)
-    → length taken + 1 ≤ 256
-place_for_one before items now taken change so_far one within =
-    omega (
-      arith,
-      within.few,
-      within.limit,
-      ap (λ (s : Span). length s.since) (ap span_of one ∙ span_next items (Sent change)),
-      length-append (span_of items).since (change ∷ []),
-      ap (λ (s : Span). length s.since) (ap span_of so_far ∙ span_more before taken),
-      length-append (span_of before).since taken,
-    )

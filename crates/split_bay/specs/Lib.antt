@@ -1,7 +1,9 @@
 pub mod Beginnings
 pub mod Spans
 pub mod Rings
-pub mod Backs
-pub mod Both
-pub mod Loading
 pub mod Nears
+pub mod Looks
+pub mod Backs
+pub mod Taken
+pub mod Untold
+pub mod Halving

@@ -4,7 +4,6 @@ use Rattle.std.specs.declared.alloc.Global.{Global}
 use Rattle.rtrb.specs.declared.producer.Producer.{Producer}
 use Rattle.rtrb.specs.declared.consumer.Consumer.{Consumer}
 use Rattle.rtrb.specs.Ends.{SameRing}
-use Rattle.vtl_base.specs.declared.limits.TheConstants.{BUFFER_BYTES}
 use Rattle.volume_core.specs.Medium.{block_bytes, frame_size}
 use Rattle.split_bay.specs.declared.items.Item.{Item}
 use Rattle.split_bay.specs.declared.protocol.InSpans.{InSpans}
@@ -52,5 +51,5 @@ pub record IsCounted (items : List Item) (spans left bytes room : ℕ) : Type 0 
   pub within : KeepsLimits (span_of items)
   pub spans_are : spans ≡ spans_in items % 2 ^ 64
   pub left_is : left + length (span_of items).since ≡ (span_of items).begin.left
-  pub bytes_are : bytes + sum_by block_bytes (span_of items).since ≡ BUFFER_BYTES
+  pub bytes_are : bytes + sum_by block_bytes (span_of items).since ≡ (span_of items).begin.bytes
   pub room_is : room + sum_by frame_size (span_of items).since ≡ (span_of items).begin.room

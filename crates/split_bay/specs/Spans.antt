@@ -1,22 +1,25 @@
 -- What goes through a drive's ring, and what the hosts' half may send.
-use Rattle.std.specs.Prelude.{◌≤◌, ◌+◌, ◌++◌, ℕ, List, [], ◌∷◌, length, sum_by, Bool, nat_lt, nat_le, ◌&&◌}
-use Rattle.vtl_base.specs.declared.limits.TheConstants.{BUFFER_BYTES}
+use Rattle.std.specs.Prelude.{◌≤◌, ◌+◌, ◌++◌, ℕ, List, [], ◌∷◌, length, sum_by, Bool, false, not, nat_lt, nat_le, ◌&&◌, Option, None, Some}
 use Rattle.volume_core.specs.declared.changes.Change.{Change}
-use Rattle.volume_core.specs.Volume.{AllApply, Part, after}
-use Rattle.volume_core.specs.Medium.{block_bytes, frame_size}
+use Rattle.volume_core.specs.Volume.{AllApply, Part}
+use Rattle.volume_core.specs.Medium.{MediumState, block_bytes, frame_size, volume_of}
 use Rattle.split_bay.specs.declared.items.TheConstants.{RING_RECORDS}
 use Rattle.split_bay.specs.declared.items.Item.{Item}
 use Rattle.split_bay.specs.declared.items.Item.TheVariants.{Begins, Sent}
-use Rattle.split_bay.specs.Beginnings.{Beginning}
+use Rattle.split_bay.specs.Beginnings.{Beginning, nothing_begins}
 
 -- a span: how it began, and the changes that were sent since (own)
 pub record Span : Type 0 where
   pub begin : Beginning
   pub since : List Change
 
--- before the first span nothing may be sent (own)
+-- before the first span nothing is in the drive, and nothing may be sent (own)
 abbrev pub no_span : Span
-no_span = record { begin = record { volume = []; room = 0; left = 0 }; since = [] }
+no_span = record { begin = nothing_begins; since = [] }
+
+-- a span that begins so (own)
+abbrev pub new_span : Beginning → Span
+new_span begin = record { begin = begin; since = [] }
 
 -- a span with one item more: a change, or the beginning of the next span (own)
 abbrev pub span_with : Span → Item → Span
@@ -32,24 +35,48 @@ span_after span (item ∷ items) = span_after (span_with span item) items
 abbrev pub span_of : List Item → Span
 span_of items = span_after no_span items
 
--- the volume that hosts see: what was stored when the span began, with the changes since carried out (own)
-abbrev pub volume_seen : Span → List Part
-volume_seen span = after span.begin.volume span.since
+-- a medium that is not there is like one that is parked and gives no volume (own)
+abbrev pub medium_or_none : Option MediumState → MediumState
+medium_or_none None = record {
+  awake = false;
+  stored = None;
+  pending = [];
+  torn = [];
+  failed = false;
+  room = None;
+  unread = false;
+}
+medium_or_none (Some medium) = medium
 
--- A span keeps its limits: 256 records until memory is taken for more, 4,194,304 bytes of blocks, and the room of the
--- side as it was seen, each record a frame of its own; and each change applies behind those before it (own).
+-- the medium as it was when the span began (own)
+abbrev pub medium_begun : Span → MediumState
+medium_begun span = medium_or_none span.begin.seen
+
+-- the medium that hosts see: what was sent since is pending, behind what was; one that is awake was opened (own)
+abbrev pub medium_seen : Span → MediumState
+medium_seen span = record (medium_begun span) {
+  pending = (medium_begun span).pending ++ span.since;
+  unread = not (medium_begun span).awake && (medium_begun span).unread;
+}
+
+-- the volume that hosts see (own)
+abbrev pub volume_seen : Span → List Part
+volume_seen span = volume_of (medium_seen span)
+
+-- A span keeps its limits: so many records, bytes of blocks, and room of the side, each record a frame of its own; and
+-- each change applies behind those before it (own).
 pub record KeepsLimits (span : Span) : Type 0 where
   pub limit : span.begin.left ≤ RING_RECORDS
-  pub apply : AllApply span.begin.volume span.since
+  pub apply : AllApply (volume_of (medium_begun span)) span.since
   pub few : length span.since ≤ span.begin.left
-  pub short : sum_by block_bytes span.since ≤ BUFFER_BYTES
+  pub short : sum_by block_bytes span.since ≤ span.begin.bytes
   pub fits : sum_by frame_size span.since ≤ span.begin.room
 
 -- one change more is sent within its limits, whose block has so many bytes, 0 for a change with no block (own)
 abbrev pub takes_more : Span → ℕ → Bool
 takes_more span bytes =
     nat_lt (length span.since) span.begin.left
-    && (nat_le (sum_by block_bytes span.since + bytes) BUFFER_BYTES
+    && (nat_le (sum_by block_bytes span.since + bytes) span.begin.bytes
     && nat_le (sum_by frame_size span.since + (15 + bytes)) span.begin.room)
 
 -- with an item the span keeps its limits (own)

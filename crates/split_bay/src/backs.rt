@@ -1,39 +1,28 @@
 //! The disk's half of a bay.
-ghost use Rattle.std.specs.Prelude.{◌≡◌, ◌≤◌, ◌+◌, ◌↔◌, IsTrue, [], None, Some, IfOk, IfErr, IfSome, true, false, length, sum_by, vec_capacity};
-ghost use Rattle.vtl_base.specs.declared.limits.TheConstants.{MAX_BODY};
-ghost use Rattle.volume_core.specs.Medium.{frame_size};
-ghost use Rattle.volume_core.specs.Volume.{AllApply};
-ghost use Rattle.record_index.specs.Records.{spell_all};
-ghost use Rattle.cartridge.specs.Contents.{volume_made};
-ghost use Rattle.cartridge.specs.Disks.{disk_at};
-ghost use Rattle.split_bay.specs.declared.items.TheConstants.{RING_RECORDS};
-ghost use Rattle.split_bay.specs.Backs.{IsReserved, KeepsSpanIn, ShowsBack, ShowsFound, StoresFound, StoresKnown, TurnsBack, works_in};
+ghost use Rattle.std.specs.Prelude.{◌≡◌, IfSome, None, Some, option_map};
+ghost use Rattle.bays.specs.Bays.{KeepsCartridgeIn};
+ghost use Rattle.tape_buffer.specs.State.{disk_in};
+ghost use Rattle.split_bay.specs.Backs.{FollowsIn, TurnsBack, is_stuck_in, works_in};
 ghost use Rattle.split_bay.specs.Spans.{KeepsLimits, span_of};
 
 use crate::ends::{Receiving, Rings};
-use crate::items::RING_RECORDS;
-use cartridge::{Cartridge, CartridgeError};
-use std::alloc::Global;
+use crate::taking::take_known;
 use std::marker::Model;
+use tape_buffer::Lent;
 use tape_disk::Disk;
-use volume_core::{Change, Turn};
-use vtl_base::DriveNo;
+use volume_core::Turn;
 
-/// The disk's half of a bay: the cartridge that is loaded, if one is, and the end of the ring from which changes come
-/// that the hosts' half accepted. After a device fault it is stuck: it takes and stores nothing more, until the
-/// cartridge was unloaded.
+/// The disk's half of a bay: the medium that is in the drive, if one is, with what is pending of it; and the end of the
+/// ring from which changes come that the hosts' half accepted. After a device fault it is stuck, and stores nothing
+/// more.
 #[derive(Drop)]
 pub struct Back<D: Disk, R: Rings> {
     pub(crate) receiving: Receiving<R>,
-    pub(crate) cartridge: Option<Cartridge<D>>,
-    // Changes that were received and are not stored yet, inside a call alone.
-    pub(crate) taken: Vec<Change>,
+    pub(crate) medium: Option<Lent<D>>,
 }
 
 impl<D: Disk, R: Rings> Model for Back<D, R> {
-    ghost use Rattle.std.specs.Prelude.{◌≡◌, ◌≤◌, [], vec_capacity};
-    ghost use Rattle.split_bay.specs.declared.items.TheConstants.{RING_RECORDS};
-    ghost use Rattle.split_bay.specs.Backs.{BackState, KeepsSpanIn};
+    ghost use Rattle.split_bay.specs.Backs.{BackState, FollowsIn};
     ghost use Rattle.split_bay.specs.Spans.{span_of};
 
     ghost Value = { BackState D };
@@ -42,139 +31,73 @@ impl<D: Disk, R: Rings> Model for Back<D, R> {
       number = b.receiving.number;
       received = b.receiving.received;
       waiting = b.receiving.waiting;
-      cartridge = b.cartridge;
+      medium = b.medium;
     } };
 
-    ghost invariant = { λ b. (b.taken.items ≡ []) × (RING_RECORDS ≤ vec_capacity b.taken)
-        × KeepsSpanIn b.cartridge (span_of b.receiving.received) };
+    ghost invariant = { λ b. FollowsIn D.state b.medium (span_of b.receiving.received) };
 }
 
 impl<D: Disk, R: Rings> Back<D, R> {
-    /// The disk's half of a bay, with no cartridge. Where memory runs out the end of the ring is returned.
-    pub fn new(alloc: Global, receiving: Receiving<R>) -> Result<Self, Receiving<R>>
-        ensures ok { IfOk result (λ back. back ≡ record {
-          number = receiving.number;
-          received = receiving.received;
-          waiting = receiving.waiting;
-          cartridge = None;
-        }) }
-        ensures err { IfErr result (λ back. back ≡ receiving) }
-    {
-        match Vec::with_capacity(alloc, RING_RECORDS) {
-            Ok(taken) => Ok(Back {
-                receiving,
-                cartridge: None,
-                taken,
-            }),
-            Err(_) => Err(receiving),
-        }
-    }
-
-    /// The number of its drive.
-    pub fn number(&self) -> DriveNo
-        ensures { result ≡ self.now.number }
-    {
-        self.receiving.number()
-    }
-
-    /// Whether no cartridge is loaded.
-    pub fn is_empty(&self) -> bool
-        ensures { IsTrue result ↔ (self.now.cartridge ≡ None) }
-    {
-        self.cartridge.is_none()
-    }
-
-    /// Whether a cartridge is loaded, and its device has not failed.
-    pub fn works(&self) -> bool
-        ensures { result ≡ works_in self.now.cartridge }
-    {
-        match &self.cartridge {
-            Some(cartridge) => !cartridge.has_failed(),
-            None => false,
-        }
-    }
-
-    /// A flusher's turn: the changes that it finds in the ring are stored, as one frame. It answers `Idle` where it
-    /// finds none, or is stuck. After `Device` it is stuck. It takes no memory.
+    /// A flusher's turn: the changes that it finds in the ring are stored, with what was pending, as one frame. It
+    /// answers `Idle` where nothing is pending then, where no medium is loaded, or where it is stuck. After `Device` it
+    /// is stuck. It takes no memory.
     pub fn turn(&mut self) -> Turn
-        ensures { TurnsBack D.state (works_in self.old.cartridge) self.old result self.new }
+        ensures { TurnsBack D.state (works_in D.state self.old.medium) self.old result self.new }
     {
         if !self.works() {
             return Turn::Idle;
         }
         self.receiving.look();
-        self.store_known()
-    }
-
-    /// Stores the changes that are known to wait, as one frame.
-    pub(crate) fn store_known(&mut self) -> Turn
-        requires { works_in self.old.cartridge ≡ true }
-        ensures { StoresKnown D.state self.old result self.new }
-    {
-        self.receiving.take_changes(&mut self.taken);
-        let Some(cartridge) = &mut self.cartridge else {
+        let Some(medium) = &mut self.medium else {
             unreachable!()
         };
-        if self.taken.is_empty() {
-            return Turn::Idle;
-        }
-        store_taken(cartridge, &mut self.taken)
+        take_known(&mut self.receiving, medium);
+        medium.flush_turn()
     }
 
-    /// What the type keeps: over honest disks each pair of images that a crash now may leave gives what the cartridge
-    /// holds, or that with the frame that was under way when the device failed.
+    /// Whether a medium is loaded, and its device has not failed.
+    pub fn works(&self) -> bool
+        ensures { result ≡ works_in D.state self.now.medium }
+    {
+        match &self.medium {
+            Some(medium) => medium.is_awake() && !medium.has_failed(),
+            None => false,
+        }
+    }
+
+    /// Whether a medium is loaded whose device has failed. Then nothing more is stored.
+    pub fn is_stuck(&self) -> bool
+        ensures { result ≡ is_stuck_in D.state self.now.medium }
+    {
+        match &self.medium {
+            Some(medium) => medium.is_awake() && medium.has_failed(),
+            None => false,
+        }
+    }
+
+    /// What the type keeps: over honest disks each pair of images that a crash now may leave gives what is safe, or
+    /// what is stored; and the medium is what hosts see, as far as it was received and stored.
     pub fn known(&self)
-        ensures shows { ShowsBack D.state self.now.cartridge }
-        ensures span { KeepsSpanIn self.now.cartridge (span_of self.now.received) }
+        ensures kept { KeepsCartridgeIn D.state (option_map (λ m. m.buffer) self.now.medium) }
+        ensures follows { FollowsIn D.state self.now.medium (span_of self.now.received) }
         ensures within { KeepsLimits (span_of self.now.received) }
     {
         self.receiving.known();
-        if let Some(cartridge) = &self.cartridge {
-            cartridge.known();
+        if let Some(medium) = &self.medium {
+            medium.known();
         }
     }
 
-    /// The disk of the side that counts, where a cartridge is loaded, to be looked at.
+    /// The disk of the side that counts, of the medium that is in the drive, to be looked at; of a parked one the first
+    /// disk.
     pub fn disk(&self) -> Option<&D>
-        ensures disk { IfSome result (λ disk. IfSome self.now.cartridge (λ cartridge.
-            disk.now ≡ disk_at cartridge.contents.which cartridge.disks)) }
-        ensures none { result ≡ None → self.now.cartridge ≡ None }
+        ensures disk { IfSome result (λ disk. IfSome self.now.medium (λ medium.
+            disk_in medium.buffer.held ≡ Some disk.now)) }
+        ensures none { result ≡ None → self.now.medium ≡ None }
     {
-        match &self.cartridge {
-            Some(cartridge) => Some(cartridge.disk()),
+        match &self.medium {
+            Some(medium) => Some(medium.disk()),
             None => None,
         }
-    }
-}
-
-// Stores these changes, as one frame, and lets them go.
-fn store_taken<D: Disk>(cartridge: &mut Cartridge<D>, taken: &mut Vec<Change>) -> Turn
-    requires some { 1 ≤ length taken.old.items }
-    requires works { cartridge.old.failed ≡ false }
-    requires apply { AllApply (volume_made cartridge.old.contents) taken.old.items }
-    requires fits { sum_by frame_size taken.old.items ≤ cartridge.old.room }
-    requires short { length (spell_all taken.old.items) ≤ MAX_BODY }
-    requires reserved { IsReserved cartridge.old.reserved taken.old.items }
-    ensures stores { StoresFound D.state (Some cartridge.old) result taken.old.items (Some cartridge.new) }
-    ensures shows { ShowsFound D.state (Some cartridge.old) taken.old.items (Some cartridge.new) }
-    ensures empty { taken.new.items ≡ [] }
-    ensures places { vec_capacity taken.new ≡ vec_capacity taken.old }
-{
-    let count = taken.len();
-    match cartridge.store(taken.as_slice()) {
-        Ok(()) => {
-            taken.clear();
-            Turn::Stored(count)
-        }
-        Err(CartridgeError::Device(_)) => {
-            taken.clear();
-            Turn::Device
-        }
-        Err(CartridgeError::NoMemory) => unreachable!(),
-        Err(CartridgeError::SideFull) => unreachable!(),
-        Err(CartridgeError::Failed) => unreachable!(),
-        Err(CartridgeError::NotOurs) => unreachable!(),
-        Err(CartridgeError::Damaged { .. }) => unreachable!(),
-        Err(CartridgeError::BadRecord { .. }) => unreachable!(),
     }
 }

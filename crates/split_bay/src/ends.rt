@@ -1,8 +1,8 @@
 //! The two ends of the ring through which changes go from the hosts' half of a bay to the disk's.
-ghost use Rattle.std.specs.Prelude.{◌≡◌, ◌+◌, ◌<◌, ◌≤◌, ◌++◌, ◌↔◌, [], ◌∷◌, IsTrue, None, true, length, map, vec_capacity};
+ghost use Rattle.std.specs.Prelude.{◌≡◌, ◌+◌, ◌<◌, ◌≤◌, ◌++◌, ◌↔◌, [], ◌∷◌, IsTrue, None, true, sum_by};
 ghost use mathlib.Core.List.{IsPrefix};
 ghost use Rattle.rtrb.specs.Ring.{known_free, known_items, producer_capacity, received, sent};
-ghost use Rattle.volume_core.specs.Medium.{block_bytes};
+ghost use Rattle.volume_core.specs.Medium.{block_bytes, frame_size};
 ghost use Rattle.volume_core.specs.Volume.{refusal_of};
 ghost use Rattle.split_bay.specs.declared.items.TheConstants.{RING_RECORDS};
 ghost use Rattle.split_bay.specs.declared.items.Item.TheVariants as Items;
@@ -17,7 +17,6 @@ use std::alloc::Global;
 use std::marker::{Brand, Model, PhantomData};
 use volume_core::Change;
 use vtl_base::DriveNo;
-use vtl_base::limits::BUFFER_BYTES;
 
 /// Which ring each drive has, by its number. One name gives all of them, so all bays have one type.
 pub trait Rings {
@@ -106,7 +105,7 @@ impl<R: Rings> Sending<R> {
             producer,
             spans: 0,
             left: 0,
-            bytes: BUFFER_BYTES as u64,
+            bytes: 0,
             room: 0,
             of: PhantomData,
         }
@@ -119,12 +118,20 @@ impl<R: Rings> Sending<R> {
         self.number
     }
 
-    /// How many records may be sent until memory is taken for more, 256 at most.
-    pub(crate) fn left(&self) -> usize
-        ensures left { result + length (span_of self.now.sent).since ≡ (span_of self.now.sent).begin.left }
-        ensures most { result ≤ RING_RECORDS }
+    /// What was sent keeps the limits of its span.
+    pub(crate) fn known(&self)
+        ensures { KeepsLimits (span_of self.now.sent) }
     {
-        self.left
+        // Looked at for the proof's sake: the fact is the type's.
+        let _ = &self.producer;
+    }
+
+    /// Whether a frame more, with a block of so many bytes, has room in this span.
+    pub(crate) fn has_room(&self, bytes: u32) -> bool
+        ensures { IsTrue result
+            ↔ sum_by frame_size (span_of self.now.sent).since + (15 + bytes) ≤ (span_of self.now.sent).begin.room }
+    {
+        15 + bytes as u64 <= self.room
     }
 
     /// Whether a change is sent within the limits of its span whose block has so many bytes, 0 for a change with no
@@ -213,24 +220,6 @@ impl<R: Rings> Receiving<R> {
         match self.consumer.pop_known() {
             Item::Sent(change) => change,
             Item::Begins(_) => unreachable!(),
-        }
-    }
-
-    /// Receives all changes that are known to wait, up to where the next span begins. It takes no memory.
-    pub(crate) fn take_changes(&mut self, into: &mut Vec<Change>)
-        requires empty { into.old.items ≡ [] }
-        requires places { RING_RECORDS ≤ vec_capacity into.old }
-        ensures number { self.new.number ≡ self.old.number }
-        ensures received { self.new.received ≡ self.old.received ++ map Items.Sent into.new.items }
-        ensures waiting { self.old.waiting ≡ map Items.Sent into.new.items ++ self.new.waiting }
-        ensures all { NoChangeFirst self.new.waiting }
-        ensures within { KeepsLimits (span_of self.new.received) }
-        ensures places { vec_capacity into.new ≡ vec_capacity into.old }
-    {
-        self.known();
-        'changes: while self.has_change() {
-            let change = self.receive();
-            into.push_reserved(change);
         }
     }
 }

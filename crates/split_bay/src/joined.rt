@@ -8,7 +8,6 @@ ghost use Rattle.split_bay.specs.Spans.{spans_in};
 use crate::ends::{Receiving, Rings, Sending};
 use crate::items::Item;
 use crate::noted::NotedBeginning;
-use vtl_base::limits::BUFFER_BYTES;
 
 // Whether the two are the ends of one drive's ring, in each of which as many spans began.
 pub(crate) fn are_ends<R: Rings>(sending: &Sending<R>, receiving: &Receiving<R>) -> bool
@@ -29,31 +28,20 @@ pub(crate) fn look_both<R: Rings>(sending: &mut Sending<R>, receiving: &mut Rece
     receiving.consumer.slots_beside(&mut sending.producer);
 }
 
-// Receives all that waits, and lets it go.
-pub(crate) fn give_up<R: Rings>(sending: &mut Sending<R>, receiving: &mut Receiving<R>)
-    requires { AreEnds sending.old receiving.old.number receiving.old.received }
-    ensures sending { sending.new ≡ sending.old }
-    ensures number { receiving.new.number ≡ receiving.old.number }
-    ensures level { receiving.new.received ≡ sending.new.sent }
-{
-    look_both(sending, receiving);
-    'changes: while receiving.has_change() {
-        let _ = receiving.receive();
-    }
-}
-
 // A span begins, where all that was sent is received.
 pub(crate) fn begin_span<R: Rings>(
     sending: &mut Sending<R>,
     receiving: &mut Receiving<R>,
     noted: NotedBeginning,
     left: usize,
+    bytes: u64,
     room: u64,
 )
     requires number { sending.old.number ≡ receiving.old.number }
     requires level { receiving.old.received ≡ sending.old.sent }
     requires limit { left ≤ RING_RECORDS }
     requires left { noted.begin.left ≡ left }
+    requires bytes { noted.begin.bytes ≡ bytes }
     requires room { noted.begin.room ≡ room }
     ensures sending { sending.new ≡ record sending.old {
       sent = sending.old.sent ++ Items.Begins noted ∷ [];
@@ -69,6 +57,6 @@ pub(crate) fn begin_span<R: Rings>(
     sending.spans = sending.spans.wrapping_add(1);
     receiving.spans = receiving.spans.wrapping_add(1);
     sending.left = left;
-    sending.bytes = BUFFER_BYTES as u64;
+    sending.bytes = bytes;
     sending.room = room;
 }

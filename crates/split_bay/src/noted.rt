@@ -1,10 +1,10 @@
 //! What proofs alone note of a span, which takes no bytes: the stored volume is in no memory of the hosts' half.
-ghost use Rattle.std.specs.Prelude.{◌≡◌, []};
-ghost use Rattle.cartridge.specs.Contents.{volume_made};
+ghost use Rattle.std.specs.Prelude.{◌≡◌, option_map};
+ghost use Rattle.tape_buffer.specs.State.{state_of};
 ghost use Rattle.split_bay.specs.Beginnings.{Beginning, beginning_code};
 
-use cartridge::Cartridge;
 use std::marker::{Model, PhantomData};
+use tape_buffer::Lent;
 use tape_disk::Disk;
 
 /// How a span began.
@@ -22,27 +22,31 @@ impl Model for NotedBeginning {
 }
 
 impl NotedBeginning {
-    /// Over this cartridge, so many records may be sent.
-    pub(crate) fn of<D: Disk>(cartridge: &Cartridge<D>, left: &usize) -> NotedBeginning
+    /// Over what is in the drive, so many records, bytes of blocks and bytes of room may be sent.
+    pub(crate) fn of<D: Disk>(
+        medium: &Option<Lent<D>>,
+        left: &usize,
+        bytes: &u64,
+        room: &u64,
+    ) -> NotedBeginning
         ensures { result.begin ≡ record {
-          volume = volume_made cartridge.now.contents;
-          room = cartridge.now.room;
+          seen = option_map (λ m. state_of D.state m.buffer) medium.now;
           left = left.now;
+          bytes = bytes.now;
+          room = room.now;
         } }
     {
-        by_cartridge(cartridge, left)
-    }
-
-    /// Nothing may be sent.
-    pub(crate) fn none() -> NotedBeginning
-        ensures { result.begin ≡ record { volume = []; room = 0; left = 0 } }
-    {
-        made(&0)
+        by_medium(medium, left, bytes, room)
     }
 }
 
-// What the caller names, which may speak of a cartridge and of a number.
-fn by_cartridge<D: Disk>(_cartridge: &Cartridge<D>, _left: &usize) -> NotedBeginning
+// What the caller names, which may speak of a medium and of numbers.
+fn by_medium<D: Disk>(
+    _medium: &Option<Lent<D>>,
+    _left: &usize,
+    _bytes: &u64,
+    _room: &u64,
+) -> NotedBeginning
     ghost begin: { Beginning }
     ensures { result.begin ≡ begin }
 {

@@ -64,6 +64,7 @@ invariant_of-sending g c =
         ap (λ (r : ReceivingState). length r.received) c.receiving.view_is,
         ap count c.requires.level,
       ),
-      counted_begun (sent i.producer) (sent last.new.self) c.args.noted i.spans c.args.left c.args.room all
-          c.sending.invariant.3.spans_are c.requires.limit c.requires.left c.requires.room,
+      counted_begun (sent i.producer) (sent last.new.self) c.args.noted i.spans c.args.left c.args.bytes c.args.room all
+          c.sending.invariant.3.spans_are c.requires.limit c.requires.left c.requires.bytes
+          c.requires.room,
     )

@@ -1,0 +1,66 @@
+-- How the two halves of a medium are put together, and part again.
+use Rattle.std.specs.Prelude.{◌≡◌, ◌⊎◌, ◌++◌, ◌+◌, ℕ, List, [], ◌∷◌, length, map, true, false, Some}
+use Rattle.vtl_base.specs.Below.{Advances}
+use Rattle.vtl_base.specs.declared.limits.TheConstants.{BUFFER_RECORDS}
+use Rattle.tape_disk.specs.Disk.{DiskState}
+use Rattle.volume_core.specs.declared.changes.Change.{Change}
+use Rattle.volume_core.specs.Medium.{MediumState}
+use Rattle.tape_buffer.specs.Moves.{buffer_below}
+use Rattle.tape_buffer.specs.State.{BufferState, state_of}
+use Rattle.tape_buffer.specs.Taking.{LendsFrom, LentState}
+use Rattle.split_bay.specs.declared.items.Item.{Item}
+use Rattle.split_bay.specs.declared.items.Item.TheVariants.{Begins, Sent}
+use Rattle.split_bay.specs.declared.noted.NotedBeginning.{NotedBeginning}
+use Rattle.split_bay.specs.Backs.{BackState, with_changes}
+use Rattle.split_bay.specs.Looks.{Looked}
+use Rattle.split_bay.specs.Nears.{IsThere, state_near}
+use Rattle.split_bay.specs.Rings.{SendingState}
+use Rattle.split_bay.specs.Spans.{span_of}
+use Rattle.split_bay.specs.Untold.{AcceptsUntold}
+
+-- the ends of a ring, where one began a span more: all that was sent is received (own)
+pub record BeginsNext (old new : SendingState) : Type 0 where
+  pub number : new.number ≡ old.number
+  pub noted : NotedBeginning
+  pub sent : new.sent ≡ old.sent ++ Begins noted ∷ []
+
+-- As many records may be sent as the buffer may still take, or none, where memory runs out; none where the medium has
+-- failed, or is not awake (own).
+pub record IsAllowed (medium : MediumState) (left : ℕ) : Type 0 where
+  pub most : (left + length medium.pending ≡ BUFFER_RECORDS) ⊎ (left ≡ 0)
+  pub works : medium.failed ≡ true → left ≡ 0
+  pub rests : medium.awake ≡ false → left ≡ 0
+
+module _ {D : Type 0} (state : D → DiskState) where
+  -- What was received begins what was sent, and what was not is pending now. The medium is what hosts see of it, as far
+  -- as it is stored. Exactly these changes are accepted, by a medium that works and by one whose fault hosts were not
+  -- told of (own).
+  pub record JoinsMedium (near : SendingState) (received : List Item) (old : LentState D) (new : BufferState D)
+      : Type 0 where
+    pub waiting : List Change
+    pub prefix : near.sent ≡ received ++ map Sent waiting
+    pub pending : new ≡ with_changes old.buffer waiting
+    pub looked : Looked (state_near near) (state_of state new)
+    pub advances :
+        (state_of state old.buffer).failed ≡ false → Advances (buffer_below state) old.buffer waiting false new
+    pub accepts : AcceptsUntold state old.buffer waiting new
+
+  -- A medium is lent, as it was but for the memory that is reserved. Nothing was called (own).
+  pub record IsLent (old : BufferState D) (new : LentState D) : Type 0 where
+    pub lends : LendsFrom old new
+    pub state_is : state_of state new.buffer ≡ state_of state old
+    pub advances : Advances (buffer_below state) old [] false new.buffer
+
+  -- A span begins with this medium, which is as it was, but for the memory that is reserved: its hosts' half sees it as
+  -- just what it is (own).
+  pub record PartsMedium (ends : SendingState) (old : BufferState D) (near : SendingState) (back : BackState D)
+      : Type 0 where
+    pub begins : BeginsNext ends near
+    pub there : IsThere near
+    pub number : back.number ≡ near.number
+    pub level : back.received ≡ near.sent
+    pub new : LentState D
+    pub medium : back.medium ≡ Some new
+    pub lent : IsLent old new
+    pub seen : state_near near ≡ state_of state old
+    pub allowed : IsAllowed (state_near near) (span_of near.sent).begin.left

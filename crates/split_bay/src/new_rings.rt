@@ -1,0 +1,55 @@
+//! A ring that was just made, for a drive that is about to be parted.
+ghost use Rattle.std.specs.Prelude.{◌≡◌, [], Some};
+
+use crate::ends::{Receiving, Rings, Sending};
+use crate::halving::Ends;
+use crate::items::{Item, RING_RECORDS};
+use crate::protocol::InSpans;
+use rtrb::{Consumer, Producer, RingBuffer};
+use std::alloc::Global;
+use std::marker::Model;
+use vtl_base::{DriveNo, NoMemory};
+
+/// A ring of 256 places into which nothing was sent yet. A contract sees the end that sends.
+#[derive(Drop)]
+pub struct NewRing {
+    producer: Producer<Item, Global, InSpans>,
+    consumer: Consumer<Item, Global, InSpans>,
+}
+
+impl Model for NewRing {
+    ghost use Rattle.std.specs.Prelude.{◌≡◌, []};
+    ghost use Rattle.rtrb.specs.Ring.{IsPair, producer_capacity, received, sent};
+    ghost use Rattle.split_bay.specs.declared.items.TheConstants.{RING_RECORDS};
+    ghost use Rattle.split_bay.specs.Rings.{Sender};
+
+    ghost Value = { Sender };
+
+    ghost view = { λ r. r.producer };
+
+    ghost invariant = { λ r. IsPair r.producer r.consumer × (producer_capacity r.producer ≡ RING_RECORDS)
+        × (sent r.producer ≡ []) × (received r.consumer ≡ []) };
+}
+
+impl NewRing {
+    /// A ring with memory for all its places.
+    pub fn new(alloc: Global) -> Result<NewRing, NoMemory> {
+        let (producer, consumer) = RingBuffer::with_protocol::<Global, InSpans>(
+            alloc,
+            RING_RECORDS,
+        )?;
+        Ok(NewRing { producer, consumer })
+    }
+
+    /// Both of its ends, as those of this drive, whose ring it is.
+    pub fn into_ends<R: Rings>(self, number: DriveNo) -> Ends<R>
+        requires { R.ring number ≡ Some self }
+        ensures { result ≡ record { number = number; sent = [] } }
+    {
+        let NewRing { producer, consumer } = self;
+        Ends::new(
+            Sending::new(number, producer),
+            Receiving::new(number, consumer),
+        )
+    }
+}
