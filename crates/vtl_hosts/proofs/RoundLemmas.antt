@@ -1,5 +1,5 @@
 -- A round, from what each of its threads has done.
-use Rattle.std.proofs.Common.{zero, suc, ◌≡◌, ◌<◌, ◌+◌, ◌&&◌, not, ℕ, Bool, true, false, List, [], ◌∷◌, ◌++◌, Option, Result, length, get_or, take, drop, refl, sym, ap, ◌∙◌, subst, arith, append_assoc}
+use Rattle.std.proofs.Common.{zero, suc, ◌≡◌, ◌<◌, ◌+◌, ◌&&◌, ◌⊎◌, inl, inr, not, ℕ, Bool, true, false, List, [], ◌∷◌, ◌++◌, Option, Result, Ok, Err, length, get_or, take, drop, refl, sym, ap, ◌∙◌, subst, arith, append_assoc}
 use Rattle.std.proofs.lemmas.List.{append-nil, append_cancel_left, get_or-map, length-map}
 use Rattle.std.proofs.Math.Seq.{take-append_seam}
 use Rattle.std.specs.List.{All}
@@ -8,18 +8,19 @@ use Rattle.rtrb.specs.declared.end.End.{End}
 use Rattle.rtrb.specs.Ring.{known_items, received, sent}
 use Rattle.vtl_wire.specs.declared.answers.Answer.{Answer}
 use Rattle.vtl_wire.specs.declared.faults.WireFault.{WireFault}
+use Rattle.vtl_wire.specs.declared.faults.WireFault.TheVariants.{BadFrame, ReadFault, WriteFault, NoMemory}
 use Rattle.vtl_wire.specs.declared.requests.Request.{Request}
-use Rattle.vtl_wire.specs.Writes.{AppendsFront}
 use Rattle.vtl_hosts.specs.declared.hosts.HostEnd.{HostEnd}
 use Rattle.vtl_hosts.specs.declared.reading.Break.{Break}
-use Rattle.vtl_hosts.specs.Rounds.{AnswersAll, AnswersBegun, AnswersHosts, AnswersUpTo, Given, of_host, of_place, spell_given}
+use Rattle.vtl_hosts.specs.declared.reading.Break.TheVariants.{Ended, Stopped, Again, Next}
+use Rattle.vtl_hosts.specs.Rounds.{AnswersAll, AnswersBegun, AnswersHosts, AnswersUpTo, Given, WritesCut, WritesWhole, of_host, of_place}
+use Rattle.vtl_hosts.specs.Turns.{ReadsNoCommand}
 use Rattle.vtl_hosts.specs.Inner.Hosts.{AreHostsDone, IsHostDone}
 use Rattle.vtl_hosts.specs.Inner.Idle.{AreIdle, RunsRound, servers_of}
 use Rattle.vtl_hosts.specs.Inner.Looks.{ArePairs, LooksAll, LooksAt}
 use Rattle.vtl_hosts.specs.Inner.Reading.{ReadingEnds, ReadsRound}
 use Rattle.vtl_hosts.specs.Inner.Rings.{Answers, Deals, Requests, Takes}
-use Rattle.vtl_hosts.specs.Inner.Writing.{WritesAll, WritesBytes}
-use Rattle.vtl_hosts.proofs.WriteLemmas.{front_whole}
+use Rattle.vtl_hosts.specs.Inner.Writing.{WritesAll, WritesGiven}
 
 -- what is at a place of a row
 record HasAt {T : Type 0} (xs : List T) (k : ℕ) : Type 0 where
@@ -210,11 +211,11 @@ module _ {S : Type 0} (serves : S → Request → Answer → S → Type 0) where
         };
   }
 
--- a beginning of the bytes, whether a write failed or not
-part_of : (before now : Option (List ℕ)) (failed : Bool) (bytes : List ℕ) → WritesBytes before false now failed bytes
-    → AppendsFront before now bytes
-part_of before now false bytes wrote = front_whole before now bytes wrote
-part_of before now true bytes wrote = wrote
+-- all answers were written, or a write failed
+part_of : (before now : Option (List ℕ)) (failed : Bool) (given : List Given)
+    → WritesGiven before false now failed given → WritesWhole before now given ⊎ WritesCut before now given
+part_of before now false given wrote = inl wrote
+part_of before now true given wrote = inr wrote
 
 both_so : (failed empty : Bool) → true ≡ (not failed && empty) → (failed ≡ false) × (empty ≡ true)
 both_so false empty is = (refl, sym is)
@@ -222,6 +223,23 @@ both_so true empty is = absurd (cc)
 
 module _ {S G : Type 0} (serves : S → Request → Answer → S → Type 0) (takes : G → Request → Bool)
     (answers_so : G → Request → Answer → G → Type 0) where
+  -- what was read behind the commands
+  no_command : (desk : G) (count count' : ℕ) (left left' : Option (List ℕ)) (read : Result Break WireFault)
+      → ReadingEnds (takes desk) count left count' left' read → ReadsNoCommand serves takes answers_so desk left left'
+  no_command desk count count' left left' (Ok Ended) ends = inr (inl ends)
+  no_command desk count count' left left' (Ok Stopped) ends = inl ends
+  no_command desk count count' left left' (Ok Again) ends = inl ends.0
+  no_command desk count count' left left' (Ok (Next request)) ends =
+      inr (inr (inr (inr (inr (record {
+        request = request;
+        read = ends.0;
+        alone = record { taken = ends.1; host = ends.2 };
+      })))))
+  no_command desk count count' left left' (Err (BadFrame number)) ends = inr (inr (inl ends.1))
+  no_command desk count count' left left' (Err ReadFault) ends = inr (inr (inr (inl ends)))
+  no_command desk count count' left left' (Err WriteFault) ends = absurd ends
+  no_command desk count count' left left' (Err NoMemory) ends = inr (inr (inr (inr (inl ends))))
+
   pub round_runs : (hosts hosts' hosts'' : List (HostEnd S)) (requests requests' requests'' : List Requests)
       (answers answers' answers'' : List Answers) (desk : G) (count count' : ℕ)
       (left left' before now : Option (List ℕ)) (read : Result Break WireFault) (failed empty whole : Bool)
@@ -246,7 +264,7 @@ module _ {S G : Type 0} (serves : S → Request → Answer → S → Type 0) (ta
               all_answered serves hosts hosts' hosts'' requests requests' requests'' answers answers' answers''
               reads.read.commands wrote.given empty idle done reads.read.dealt wrote.taken looks so.1;
           written =
-              subst (λ (f : Bool). WritesBytes before false now f (spell_given wrote.given)) so.0 wrote.written;
+              subst (λ (f : Bool). WritesGiven before false now f wrote.given) so.0 wrote.written;
         },
         subst (λ (n : ℕ). ReadingEnds (takes desk) n reads.behind count' left' read) reads.read.counted reads.ended,
       )
@@ -262,8 +280,9 @@ module _ {S G : Type 0} (serves : S → Request → Answer → S → Type 0) (ta
           hosts =
               some_answered serves hosts hosts' hosts'' requests requests' requests'' answers answers' answers''
               reads.read.commands wrote.given empty idle done reads.read.dealt wrote.taken looks;
-          written = part_of before now failed (spell_given wrote.given) wrote.written;
+          written = part_of before now failed wrote.given wrote.written;
         },
+        no_command desk reads.counted count' reads.behind left' read reads.ended,
       )
 
   pub round_idle : (hosts hosts' hosts'' : List (HostEnd S)) (requests requests' requests'' : List Requests)

@@ -14,11 +14,10 @@ use Rattle.vtl_wire.specs.Requests.{IsRequest, spell_request, spell_requests}
 use Rattle.vtl_hosts.specs.declared.reading.Break.{Break}
 use Rattle.vtl_hosts.specs.declared.reading.Break.TheVariants.{Ended, Stopped, Again, Next}
 use Rattle.vtl_hosts.specs.Rounds.{AnswersHosts, AnswersUpTo, Given, of_host, of_place, spell_given}
-use Rattle.vtl_hosts.specs.Turns.{AnswersTurns, HostsState, ServesHosts, ServesPart, ServesWhole, Turn, count_on, request_in, requests_of, spell_alone, spell_turns}
+use Rattle.vtl_hosts.specs.Turns.{AnswersTurns, FitsTurn, HostsState, ServesHosts, ServesPart, ServesWhole, Turn, count_on, request_in, requests_of, spell_alone, spell_turns}
 use Rattle.vtl_hosts.specs.Inner.Idle.{RunsRound}
 use Rattle.vtl_hosts.specs.Inner.Serving.{AnswersAlone, EndsServing, ServesTurns}
 use Rattle.vtl_hosts.proofs.ReadLemmas.{count_append, spelled_append}
-use Rattle.vtl_hosts.proofs.WriteLemmas.{front_whole}
 
 pub is_so : (b : Bool) → not b ≡ false → b ≡ true
 is_so true is = refl
@@ -59,7 +58,7 @@ module _ {S : Type 0} (serves : S → Request → Answer → S → Type 0) where
   }
 
 module _ {S G : Type 0} (serves : S → Request → Answer → S → Type 0) (takes : G → Request → Bool)
-    (answers : G → Request → Answer → G → Type 0) where
+    (answers : G → Request → Answer → G → Type 0) (lacks : G → Request → Type 0) where
   part_of_whole : (old new : HostsState S G) (left before left' now : Option (List ℕ))
       → ServesWhole serves takes answers old left before new left' now
       → ServesPart serves takes answers old left before new left' now
@@ -70,7 +69,7 @@ module _ {S G : Type 0} (serves : S → Request → Answer → S → Type 0) (ta
     spelled = whole.spelled;
     taken = whole.taken;
     hosts = some_of_all serves old.hosts new.hosts whole.commands whole.given whole.hosts;
-    written = front_whole before now (spell_given whole.given) whole.written;
+    written = inl whole.written;
   }
 
   turns_on_from : (old mid new : HostsState S G) (xs ys : List Turn) → AnswersTurns serves takes answers old xs mid
@@ -80,21 +79,22 @@ module _ {S G : Type 0} (serves : S → Request → Answer → S → Type 0) (ta
   turns_on_from old mid new (x ∷ xs) ys one two = (one.0, one.1, turns_on_from one.0 mid new xs ys one.2 two)
 
   pub turns_none : (count : ℕ) (old : HostsState S G) (left before : Option (List ℕ))
-      → ServesTurns serves takes answers count old left before count old left before
+      → ServesTurns serves takes answers lacks count old left before count old left before
   turns_none count old left before = record {
     turns = [];
     answered = refl;
     read = Consumes-nil left;
     spelled = All-nil IsRequest;
     written = Appends-nil before;
+    fit = All-nil FitsTurn;
     counted = refl;
   }
 
   pub turns_on : (count mid_count count' : ℕ) (old mid new : HostsState S G)
       (left behind left' before between now : Option (List ℕ))
-      → ServesTurns serves takes answers count old left before mid_count mid behind between
-      → ServesTurns serves takes answers mid_count mid behind between count' new left' now
-      → ServesTurns serves takes answers count old left before count' new left' now
+      → ServesTurns serves takes answers lacks count old left before mid_count mid behind between
+      → ServesTurns serves takes answers lacks mid_count mid behind between count' new left' now
+      → ServesTurns serves takes answers lacks count old left before count' new left' now
   turns_on count mid_count count' old mid new left behind left' before between now one two = record {
     turns = one.turns ++ two.turns;
     answered = turns_on_from old mid new one.turns two.turns one.answered two.answered;
@@ -110,6 +110,7 @@ module _ {S G : Type 0} (serves : S → Request → Answer → S → Type 0) (ta
     written =
         subst (Appends before now) (sym (turns_append one.turns two.turns))
         (Appends-trans before between now (spell_turns one.turns) (spell_turns two.turns) one.written two.written);
+    fit = All-append FitsTurn one.turns two.turns one.fit two.fit;
     counted =
         two.counted ∙ ap (λ (n : ℕ). count_on n (requests_of two.turns)) one.counted
         ∙ sym (count_append count (requests_of one.turns) (requests_of two.turns))
@@ -121,28 +122,32 @@ module _ {S G : Type 0} (serves : S → Request → Answer → S → Type 0) (ta
     pub turn_failed : (count' : ℕ) (left' now : Option (List ℕ)) (read : Result Break WireFault)
         → RunsRound serves takes answers count old left before count' (record { hosts = hosts; desk = old.desk }) left'
         now read false
-        → EndsServing serves takes answers count old left before (record { hosts = hosts; desk = old.desk }) left' now
+        → EndsServing serves takes answers lacks count old left before (record { hosts = hosts; desk = old.desk })
+        left' now
         (Err WriteFault)
     turn_failed count' left' now read runs =
-        inr (record { behind = runs.0; desk = refl; part = runs.1; result_is = refl })
+        inr (record { behind = runs.0; desk = refl; part = runs.1; ended = runs.2; result_is = refl })
 
     pub turn_stopped : (count' : ℕ) (left' now : Option (List ℕ))
         → RunsRound serves takes answers count old left before count' (record { hosts = hosts; desk = old.desk }) left'
         now (Ok Stopped) true
-        → EndsServing serves takes answers count old left before (record { hosts = hosts; desk = old.desk }) left' now
+        → EndsServing serves takes answers lacks count old left before (record { hosts = hosts; desk = old.desk })
+        left' now
         (Err WriteFault)
     turn_stopped count' left' now runs =
         inr (record {
           behind = runs.0;
           desk = refl;
           part = part_of_whole old (record { hosts = hosts; desk = old.desk }) left before runs.0 now runs.1;
+          ended = inl runs.2;
           result_is = refl;
         })
 
     pub turn_ended : (count' : ℕ) (left' now : Option (List ℕ))
         → RunsRound serves takes answers count old left before count' (record { hosts = hosts; desk = old.desk }) left'
         now (Ok Ended) true
-        → EndsServing serves takes answers count old left before (record { hosts = hosts; desk = old.desk }) left' now
+        → EndsServing serves takes answers lacks count old left before (record { hosts = hosts; desk = old.desk })
+        left' now
         (Ok tt)
     turn_ended count' left' now runs =
         inl (record {
@@ -158,7 +163,11 @@ module _ {S G : Type 0} (serves : S → Request → Answer → S → Type 0) (ta
     pub turn_again : (count' : ℕ) (left' now : Option (List ℕ))
         → RunsRound serves takes answers count old left before count' (record { hosts = hosts; desk = old.desk }) left'
         now (Ok Again) true
-        → ServesTurns serves takes answers count old left before count' (record { hosts = hosts; desk = old.desk })
+        → ServesTurns serves takes answers lacks count old left before count' (record {
+          hosts = hosts;
+          desk =
+              old.desk;
+        })
         left' now
     turn_again count' left' now runs =
         let none : runs.1.commands ++ [] ≡ runs.1.commands = append-nil runs.1.commands in
@@ -175,7 +184,10 @@ module _ {S G : Type 0} (serves : S → Request → Answer → S → Type 0) (ta
               runs.1.read);
           spelled = subst (All IsRequest) (sym none) runs.1.spelled;
           written =
-              subst (Appends before now) (sym (append-nil (spell_given runs.1.given))) runs.1.written;
+              subst (Appends before now) (sym (append-nil (spell_given runs.1.given))) runs.1.written.1;
+          fit = All-push FitsTurn []
+              (record { commands = runs.1.commands; given = runs.1.given; alone = None }) (All-nil FitsTurn)
+              (record { given = runs.1.written.0; alone = tt });
           counted = runs.2.1 ∙ ap (count_on count) (sym none);
         }
 
@@ -183,7 +195,8 @@ module _ {S G : Type 0} (serves : S → Request → Answer → S → Type 0) (ta
     pub turn_missed : (count' : ℕ) (left' now : Option (List ℕ)) (fault : WireFault)
         → RunsRound serves takes answers count old left before count' (record { hosts = hosts; desk = old.desk }) left'
         now (Err fault) true
-        → EndsServing serves takes answers count old left before (record { hosts = hosts; desk = old.desk }) left' now
+        → EndsServing serves takes answers lacks count old left before (record { hosts = hosts; desk = old.desk })
+        left' now
         (Err fault)
     turn_missed count' left' now (BadFrame number) runs =
         inl (record {
@@ -219,8 +232,9 @@ module _ {S G : Type 0} (serves : S → Request → Answer → S → Type 0) (ta
         (record { hosts = hosts; desk = old.desk }) left' between (Ok (Next request)) true) where
       -- a move or an inventory was not answered, or its answer not written
       pub turn_cut : (fault : WireFault)
-          → AnswersAlone answers old.desk request between desk now (Err fault)
-          → EndsServing serves takes answers count old left before (record { hosts = hosts; desk = desk }) left' now
+          → AnswersAlone answers lacks old.desk request between desk now (Err fault)
+          → EndsServing serves takes answers lacks count old left before (record { hosts = hosts; desk = desk })
+          left' now
           (Err fault)
       turn_cut (BadFrame number) alone = absurd alone
       turn_cut ReadFault alone = absurd alone
@@ -254,17 +268,23 @@ module _ {S G : Type 0} (serves : S → Request → Answer → S → Type 0) (ta
             whole = runs.1;
             ended = (
               inr (record {
-                request = request;
-                read = runs.2.0;
-                alone = record { taken = runs.2.1; host = runs.2.2 };
+                reads = record {
+                  request = request;
+                  read = runs.2.0;
+                  alone = record { taken = runs.2.1; host = runs.2.2 };
+                };
+                lack = alone.0;
               }),
-              ap (λ (g : G). record { hosts = hosts; desk = g }) alone.0,
-              alone.1,
+              ap (λ (g : G). record { hosts = hosts; desk = g }) alone.1,
+              alone.2,
             );
           })
 
-      pub turn_done : AnswersAlone answers old.desk request between desk now (Ok tt)
-          → ServesTurns serves takes answers count old left before count' (record { hosts = hosts; desk = desk }) left'
+      pub turn_done : AnswersAlone answers lacks old.desk request between desk now (Ok tt)
+          → ServesTurns serves takes answers lacks count old left before count' (record {
+            hosts = hosts;
+            desk = desk;
+          }) left'
           now
       turn_done alone = record {
         turns =
@@ -290,8 +310,14 @@ module _ {S G : Type 0} (serves : S → Request → Answer → S → Type 0) (ta
             runs.2.0.1);
         spelled = All-push IsRequest runs.1.commands request runs.1.spelled runs.2.0.0;
         written =
-            Appends-trans before between now (spell_given runs.1.given) (spell_answer alone.0 ++ []) runs.1.written
-            (subst (Appends between now) (sym (append-nil (spell_answer alone.0))) alone.2);
+            Appends-trans before between now (spell_given runs.1.given) (spell_answer alone.0 ++ []) runs.1.written.1
+            (subst (Appends between now) (sym (append-nil (spell_answer alone.0))) alone.2.1);
+        fit = All-push FitsTurn []
+            (record {
+              commands = runs.1.commands;
+              given = runs.1.given;
+              alone = Some (record { request = request; answer = alone.0 });
+            }) (All-nil FitsTurn) (record { given = runs.1.written.0; alone = alone.2.0 });
         counted = runs.2.3 ∙ sym (count_append count runs.1.commands (request ∷ []));
       }
 
@@ -299,9 +325,9 @@ module _ {S G : Type 0} (serves : S → Request → Answer → S → Type 0) (ta
   pub serves_all : (mid_count : ℕ) (old mid new : HostsState S G)
       (left behind left' before between now : Option (List ℕ))
       (result : Result (Unit {0}) WireFault)
-      → ServesTurns serves takes answers 0 old left before mid_count mid behind between
-      → EndsServing serves takes answers mid_count mid behind between new left' now result
-      → ServesHosts serves takes answers old left before new left' now result
+      → ServesTurns serves takes answers lacks 0 old left before mid_count mid behind between
+      → EndsServing serves takes answers lacks mid_count mid behind between new left' now result
+      → ServesHosts serves takes answers lacks old left before new left' now result
   serves_all mid_count old mid new left behind left' before between now result turns ends = record {
     turns = turns.turns;
     mid = mid;
@@ -311,7 +337,9 @@ module _ {S G : Type 0} (serves : S → Request → Answer → S → Type 0) (ta
     read = turns.read;
     spelled = turns.spelled;
     written = turns.written;
+    fit = turns.fit;
     ended =
-        subst (λ (n : ℕ). EndsServing serves takes answers n mid behind between new left' now result) turns.counted
+        subst (λ (n : ℕ). EndsServing serves takes answers lacks n mid behind between new left' now result)
+        turns.counted
         ends;
   }

@@ -1,10 +1,12 @@
 -- What hosts at once are answered over one pipe (own).
-use Rattle.std.specs.Prelude.{◌≡◌, ℕ, ◌==◌, ◌<◌, ◌+◌, List, [], ◌∷◌, ◌++◌, filter, flat_map, length, slice_index_or, if◌then◌else◌}
+use Rattle.std.specs.Prelude.{◌≡◌, ℕ, ◌==◌, ◌<◌, ◌+◌, List, [], ◌∷◌, ◌++◌, filter, flat_map, length, slice_index_or, Option, if◌then◌else◌}
 use Rattle.std.specs.List.{All}
+use Rattle.std.specs.Io.KnownBytes.{Appends}
 use Rattle.vtl_wire.specs.declared.answers.Answer.{Answer}
 use Rattle.vtl_wire.specs.declared.requests.Request.{Request}
 use Rattle.vtl_wire.specs.declared.requests.Request.TheVariants.{Command, Move, Inventory}
-use Rattle.vtl_wire.specs.Answers.{spell_answer}
+use Rattle.vtl_wire.specs.Answers.{FitsAnswer, spell_answer}
+use Rattle.vtl_wire.specs.Serving.{WritesFront}
 
 -- the host of a command; 0 of a move and of an inventory (own)
 abbrev pub host_in : Request → ℕ
@@ -39,6 +41,24 @@ of_place place (one ∷ others) =
 -- answers in bytes, one after the other (own)
 abbrev pub spell_given : List Given → List ℕ
 spell_given given = flat_map (λ one. spell_answer one.answer) given
+
+-- each is an answer that a frame holds (own)
+abbrev pub FitGiven : List Given → Type 0
+FitGiven given = All (λ one. FitsAnswer one.answer) given
+
+-- answers were written, each whole, and a frame holds each (own)
+abbrev pub WritesWhole : Option (List ℕ) → Option (List ℕ) → List Given → Type 0
+WritesWhole before now given = FitGiven given × Appends before now (spell_given given)
+
+-- a write failed: the first answers were written whole, a beginning of the next, and nothing of the others (own)
+pub record WritesCut (before now : Option (List ℕ)) (given : List Given) : Type 0 where
+  pub whole : List Given
+  pub cut : Given
+  pub others : List Given
+  pub given_are : given ≡ whole ++ (cut ∷ others)
+  pub between : Option (List ℕ)
+  pub written : WritesWhole before between whole
+  pub part : WritesFront between now cut.answer
 
 -- The commands of a host were answered up to some place, each once and in their order, and a beginning of these answers
 -- was given on (own).

@@ -1,5 +1,5 @@
 -- Hosts that are served over one pipe, with moves and inventories between their commands (own).
-use Rattle.std.specs.Prelude.{◌≡◌, ◌⊎◌, ℕ, ◌+◌, ◌<◌, Bool, true, List, [], ◌∷◌, ◌++◌, Option, None, Some, Result, Ok, Err}
+use Rattle.std.specs.Prelude.{◌≡◌, ◌⊎◌, ℕ, ◌+◌, ◌<◌, Bool, true, List, [], ◌∷◌, ◌++◌, Option, None, Some, IfSome, Result, Ok, Err}
 use Rattle.std.specs.List.{All}
 use Rattle.std.specs.Io.KnownBytes.{Appends, Consumes}
 use Rattle.vtl_base.specs.Steps.{ticked}
@@ -8,14 +8,13 @@ use Rattle.vtl_wire.specs.declared.answers.Answer.{Answer}
 use Rattle.vtl_wire.specs.declared.faults.WireFault.{WireFault}
 use Rattle.vtl_wire.specs.declared.faults.WireFault.TheVariants.{BadFrame, ReadFault, WriteFault, NoMemory}
 use Rattle.vtl_wire.specs.declared.requests.Request.{Request}
-use Rattle.vtl_wire.specs.Answers.{spell_answer}
+use Rattle.vtl_wire.specs.Answers.{FitsAnswer, spell_answer}
 use Rattle.vtl_wire.specs.Reads.{LacksData, ReadsRequest, TakesSome}
 use Rattle.vtl_wire.specs.Requests.{IsRequest, spell_requests}
-use Rattle.vtl_wire.specs.Serving.{RefusesNext}
-use Rattle.vtl_wire.specs.Writes.{AppendsFront}
-use Rattle.vtl_hosts.specs.Rounds.{AnswersHosts, AnswersUpTo, Given, host_in, spell_given}
+use Rattle.vtl_wire.specs.Serving.{RefusesNext, WritesFront}
+use Rattle.vtl_hosts.specs.Rounds.{AnswersHosts, AnswersUpTo, FitGiven, Given, WritesCut, WritesWhole, host_in, spell_given}
 
--- how many frames there are behind so many and these; the number is held at its greatest value (own)
+-- how many frames there are after `count` and these; the number stops at its greatest value (own)
 abbrev pub count_on : ℕ → List Request → ℕ
 count_on count [] = count
 count_on count (request ∷ requests) = count_on (ticked count) requests
@@ -69,6 +68,11 @@ abbrev pub spell_turns : List Turn → List ℕ
 spell_turns [] = []
 spell_turns (turn ∷ turns) = spell_given turn.given ++ (spell_alone turn.alone ++ spell_turns turns)
 
+-- a frame holds each answer of a turn (own)
+pub record FitsTurn (turn : Turn) : Type 0 where
+  pub given : FitGiven turn.given
+  pub alone : IfSome turn.alone (λ one. FitsAnswer one.answer)
+
 module _ {S G : Type 0} (serves : S → Request → Answer → S → Type 0) (takes : G → Request → Bool)
     (answers : G → Request → Answer → G → Type 0) where
   -- a move or an inventory that is taken is answered, where there is one (own)
@@ -105,13 +109,15 @@ module _ {S G : Type 0} (serves : S → Request → Answer → S → Type 0) (ta
   abbrev pub ServesWhole : HostsState S G → Option (List ℕ) → Option (List ℕ) → HostsState S G → Option (List ℕ)
       → Option (List ℕ) → Type 0
   ServesWhole old left before new left' now =
-      ServesLast (λ given. Appends before now (spell_given given)) (AnswersHosts serves) old left new left'
+      ServesLast (WritesWhole before now) (AnswersHosts serves) old left new left'
 
-  -- a beginning of the answers was written (own)
+  -- of each host some were answered, from the first on; and all of the answers that were given on were written, or a
+  -- write failed (own)
   abbrev pub ServesPart : HostsState S G → Option (List ℕ) → Option (List ℕ) → HostsState S G → Option (List ℕ)
       → Option (List ℕ) → Type 0
   ServesPart old left before new left' now =
-      ServesLast (λ given. AppendsFront before now (spell_given given)) (AnswersUpTo serves) old left new left'
+      ServesLast (λ given. WritesWhole before now given ⊎ WritesCut before now given) (AnswersUpTo serves) old left new
+      left'
 
   -- a move or an inventory was read, and is taken (own)
   pub record ReadsAlone (desk : G) (left left' : Option (List ℕ)) : Type 0 where
@@ -125,7 +131,32 @@ module _ {S G : Type 0} (serves : S → Request → Answer → S → Type 0) (ta
     pub reads : ReadsAlone old left left'
     pub answer : Answer
     pub answered : answers old reads.request answer new
-    pub part : AppendsFront before now (spell_answer answer)
+    pub part : WritesFront before now answer
+
+  -- nothing more was read; or the input had ended; or the next frame is refused, or was not read whole; or a move or an
+  -- inventory was read, which is not served (own)
+  abbrev pub ReadsNoCommand : G → Option (List ℕ) → Option (List ℕ) → Type 0
+  ReadsNoCommand desk left left' =
+      (left' ≡ left)
+      ⊎ (ReadsRequest left left' None
+      ⊎ (RefusesNext (takes desk) left left'
+      ⊎ (TakesSome left left' ⊎ (LacksData left left' ⊎ ReadsAlone desk left left'))))
+
+  -- A write failed: after the commands that were answered in part no other was read (own).
+  pub record EndsPart (old : HostsState S G) (left before : Option (List ℕ)) (new : HostsState S G)
+      (left' now : Option (List ℕ)) (result : Result (Unit {0}) WireFault) : Type 0 where
+    pub behind : Option (List ℕ)
+    pub desk : new.desk ≡ old.desk
+    pub part : ServesPart old left before new behind now
+    pub ended : ReadsNoCommand old.desk behind left'
+    pub result_is : result ≡ Err WriteFault
+
+module _ {S G : Type 0} (serves : S → Request → Answer → S → Type 0) (takes : G → Request → Bool)
+    (answers : G → Request → Answer → G → Type 0) (lacks : G → Request → Type 0) where
+  -- a move or an inventory was read, and is taken, and memory ran out as it was served (own)
+  pub record LacksAlone (desk : G) (left left' : Option (List ℕ)) : Type 0 where
+    pub reads : ReadsAlone serves takes answers desk left left'
+    pub lack : lacks desk reads.request
 
   -- what comes behind the commands that were answered, so that no more is served (own)
   abbrev pub EndsBehind : ℕ → HostsState S G → Option (List ℕ) → Option (List ℕ) → HostsState S G → Option (List ℕ)
@@ -141,12 +172,12 @@ module _ {S G : Type 0} (serves : S → Request → Answer → S → Type 0) (ta
       TakesSome left left' × (new ≡ old) × (now ≡ before)
   -- a move or an inventory was served, and its answer not written whole, or not known to be
   EndsBehind count old left before new left' now (Err WriteFault) =
-      (new.hosts ≡ old.hosts) × ServesAlonePart old.desk left before new.desk left' now
-  -- there was no memory for the data of a command, or for the answer to a move or an inventory
+      (new.hosts ≡ old.hosts) × ServesAlonePart serves takes answers old.desk left before new.desk left' now
+  -- there was no memory for the data of a command, or as a move or an inventory was served
   EndsBehind count old left before new left' now (Err NoMemory) =
-      (LacksData left left' ⊎ ReadsAlone old.desk left left') × (new ≡ old) × (now ≡ before)
+      (LacksData left left' ⊎ LacksAlone old.desk left left') × (new ≡ old) × (now ≡ before)
 
-  -- how the serving ends behind so many frames and the last turn: the commands behind it were all answered, and what
+  -- how the serving ends after this many frames and the last turn: the commands after it were all answered, and what
   -- follows ends it; or a write failed (own)
   pub record EndsWhole (count : ℕ) (old : HostsState S G) (left before : Option (List ℕ)) (new : HostsState S G)
       (left' now : Option (List ℕ)) (result : Result (Unit {0}) WireFault) : Type 0 where
@@ -154,16 +185,8 @@ module _ {S G : Type 0} (serves : S → Request → Answer → S → Type 0) (ta
     pub behind : Option (List ℕ)
     pub between : Option (List ℕ)
     pub desk : mid.desk ≡ old.desk
-    pub whole : ServesWhole old left before mid behind between
+    pub whole : ServesWhole serves takes answers old left before mid behind between
     pub ended : EndsBehind (count_on count whole.commands) mid behind between new left' now result
-
-  -- a write failed: what was read behind the commands is not said (own)
-  pub record EndsPart (old : HostsState S G) (left before : Option (List ℕ)) (new : HostsState S G)
-      (left' now : Option (List ℕ)) (result : Result (Unit {0}) WireFault) : Type 0 where
-    pub behind : Option (List ℕ)
-    pub desk : new.desk ≡ old.desk
-    pub part : ServesPart old left before new behind now
-    pub result_is : result ≡ Err WriteFault
 
   -- An input was read, and its requests were served: turns, and what is behind them (own).
   pub record ServesHosts (old : HostsState S G) (left before : Option (List ℕ)) (new : HostsState S G)
@@ -172,10 +195,11 @@ module _ {S G : Type 0} (serves : S → Request → Answer → S → Type 0) (ta
     pub mid : HostsState S G
     pub behind : Option (List ℕ)
     pub between : Option (List ℕ)
-    pub answered : AnswersTurns old turns mid
+    pub answered : AnswersTurns serves takes answers old turns mid
     pub read : Consumes left behind (spell_requests (requests_of turns))
     pub spelled : All IsRequest (requests_of turns)
     pub written : Appends before between (spell_turns turns)
+    pub fit : All FitsTurn turns
     pub ended :
         EndsWhole (count_on 0 (requests_of turns)) mid behind between new left' now result
-        ⊎ EndsPart mid behind between new left' now result
+        ⊎ EndsPart serves takes answers mid behind between new left' now result

@@ -1,5 +1,6 @@
 //! Bells, by which threads that wait for each other are woken. No contract speaks of them.
 use std::alloc::{AllocError, Global};
+use std::collections::VecDeque;
 use std::sync::atomic::{AtomicBool, Ordering};
 use std::sync::{Condvar, Mutex, Wait};
 use std::time::{Clock, Duration};
@@ -12,7 +13,8 @@ struct Rung {
     waiting: bool,
 }
 
-/// A bell. Who looks at its count first, and then at what it waits for, misses nothing. One thread waits for it.
+/// A bell. A thread that reads its count first, and then checks what it waits for, misses nothing. Only one thread
+/// waits for a bell.
 #[derive(Drop)]
 pub(crate) struct Bell {
     rung: Mutex<Rung>,
@@ -31,7 +33,7 @@ impl Bell {
         }
     }
 
-    // Rings once, and says whether more comes.
+    // Rings once. `closed` says whether nothing more comes, where that changes.
     fn strike<R: Wait>(&self, rt: &R, closed: Option<bool>) {
         let mut rung = self.rung.lock(rt);
         rung.count = rung.count.wrapping_add(1);
@@ -43,27 +45,27 @@ impl Bell {
         }
     }
 
-    /// Wakes who waits.
+    /// Rings, which wakes the thread that waits.
     pub(crate) fn ring<R: Wait>(&self, rt: &R) {
         self.strike(rt, None);
     }
 
-    /// Nothing more comes.
+    /// Says that nothing more comes, and wakes the thread that waits.
     pub(crate) fn close<R: Wait>(&self, rt: &R) {
         self.strike(rt, Some(true));
     }
 
-    /// Something may come again.
+    /// Says that something may come again, and wakes the thread that waits.
     pub(crate) fn reopen<R: Wait>(&self, rt: &R) {
         self.strike(rt, Some(false));
     }
 
-    /// How often it rang.
+    /// How often the bell rang.
     pub(crate) fn count<R: Wait>(&self, rt: &R) -> u64 {
         self.rung.lock(rt).count
     }
 
-    /// Waits until it rang once more.
+    /// Waits until the bell rang once more.
     pub(crate) fn wait<R: Wait>(&self, rt: &R, count: u64) {
         let mut held = self.rung.lock(rt);
         held.waiting = true;
@@ -71,7 +73,7 @@ impl Bell {
         rung.waiting = false;
     }
 
-    /// Waits until it rang once more or nothing more comes, and says whether nothing does.
+    /// Waits until the bell rang once more or nothing more comes. Returns whether nothing more comes.
     pub(crate) fn wait_for_more<R: Wait>(&self, rt: &R, count: u64) -> bool {
         let mut held = self.rung.lock(rt);
         held.waiting = true;
@@ -90,14 +92,15 @@ pub(crate) struct HostBells {
     pub(crate) room: Bell,
 }
 
-// How long the threads of a round may take to begin, in seconds.
+// How long a round waits for one more of its threads to begin, in seconds.
 const BEGINNING: u64 = 1;
 
-/// The bells of all threads: of each host, by its place, of who reads and of who writes; how many threads have begun;
-/// and whether a write failed.
+/// The bells of all threads: of each host, by its place, of who reads and of who writes; the places of the hosts that
+/// have an answer, in the order in which these were made; how many threads have begun; and whether a write failed.
 #[derive(Drop)]
 pub(crate) struct Bells {
     hosts: Vec<HostBells>,
+    made: Mutex<VecDeque<usize>>,
     begun: Mutex<usize>,
     one_begun: Condvar,
     pub(crate) reader: Bell,
@@ -106,7 +109,7 @@ pub(crate) struct Bells {
 }
 
 impl Bells {
-    /// Bells for so many hosts.
+    /// Bells for `count` hosts.
     pub(crate) fn new(alloc: Global, count: usize) -> Result<Bells, AllocError> {
         let mut hosts = Vec::with_capacity(alloc, count)?;
         for _ in 0..count {
@@ -117,6 +120,7 @@ impl Bells {
         }
         Ok(Bells {
             hosts,
+            made: Mutex::new(VecDeque::with_capacity(alloc, count)?),
             begun: Mutex::new(0),
             one_begun: Condvar::new(),
             reader: Bell::new(),
@@ -130,11 +134,22 @@ impl Bells {
         self.hosts.get(place)
     }
 
-    /// A command came for the host at this place.
+    /// Rings since a command came for the host at this place.
     pub(crate) fn ring_command<R: Wait>(&self, rt: &R, place: usize) {
         if let Some(bells) = self.hosts.get(place) {
             bells.commands.ring(rt);
         }
+    }
+
+    /// The host at this place has an answer. There is room to note one of each host, which is all that its ring holds.
+    pub(crate) fn ring_answer<R: Wait>(&self, rt: &R, place: usize) {
+        let _ = self.made.lock(rt).push_back(place);
+        self.writer.ring(rt);
+    }
+
+    /// The place of the host whose answer was made first, of those that were not asked for yet.
+    pub(crate) fn next_answer<R: Wait>(&self, rt: &R) -> Option<usize> {
+        self.made.lock(rt).pop_front()
     }
 
     /// There is room for an answer of the host at this place.
@@ -144,7 +159,7 @@ impl Bells {
         }
     }
 
-    /// A round begins: something may come, and no thread has begun.
+    /// Begins a round: something may come, and no thread has begun.
     pub(crate) fn reopen<R: Wait>(&self, rt: &R) {
         *self.begun.lock(rt) = 0;
         self.writer.reopen(rt);
@@ -153,33 +168,42 @@ impl Bells {
         }
     }
 
-    /// A thread has begun: that of a host, or the one that writes.
+    /// Notes that a thread has begun: that of a host, or the one that writes.
     pub(crate) fn begin<R: Wait>(&self, rt: &R) {
         let mut begun = self.begun.lock(rt);
         *begun = begun.saturating_add(1);
         self.one_begun.notify_all();
     }
 
-    /// Waits until all these threads have begun, a second at most, and says whether they have. Where no thread can be
-    /// made for one it begins only once the others have ended.
+    /// Waits until all these threads have begun, or none has for a second, and says whether all have. Where no thread
+    /// can be made for one it begins only once the others have ended.
     pub(crate) fn have_begun<R: Wait + Clock>(&self, rt: &R) -> bool {
         let all = self.hosts.len().saturating_add(1);
-        let held = self.begun.lock(rt);
         let wait = Duration::from_secs(BEGINNING);
-        let (begun, _) = self
-            .one_begun
-            .wait_timeout_while(rt, held, wait, |begun| *begun < all);
-        *begun >= all
+        for _ in 0..all {
+            let held = self.begun.lock(rt);
+            let before = *held;
+            if before >= all {
+                return true;
+            }
+            let (begun, _) = self
+                .one_begun
+                .wait_timeout_while(rt, held, wait, |begun| *begun == before);
+            if *begun == before {
+                return false;
+            }
+        }
+        *self.begun.lock(rt) >= all
     }
 
-    /// Nothing more comes for any host.
+    /// Says that nothing more comes for any host.
     pub(crate) fn close_hosts<R: Wait>(&self, rt: &R) {
         for bells in &self.hosts {
             bells.commands.close(rt);
         }
     }
 
-    /// A write failed: nothing more is to be read.
+    /// Notes that a write failed: nothing more is to be read.
     pub(crate) fn stop<R: Wait>(&self, rt: &R) {
         self.stopped.store(true, Ordering::SeqCst);
         self.reader.ring(rt);

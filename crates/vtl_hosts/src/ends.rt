@@ -13,7 +13,7 @@ use std::alloc::{AllocError, Global};
 use vtl_base::limits::NEXUSES;
 use vtl_wire::{Answer, Request};
 
-/// Of each host what its thread has, the other ends of its two rings, and the bells of all threads.
+/// What the thread of each host has, the other ends of each host's two rings, and the bells of all threads.
 #[derive(Drop)]
 pub(crate) struct Ends<S: Host> {
     pub(crate) hosts: Vec<HostEnd<S>>,

@@ -8,8 +8,8 @@ use rtrb::{Consumer, Producer};
 use std::sync::Wait;
 use vtl_wire::{Answer, Request};
 
-/// What a host's thread has: what serves the host, its requests, its answers, and whether a request came that is not
-/// taken, which then was dropped.
+/// What a host's thread has: what serves the host, its requests, its answers, and whether a request was dropped since
+/// the host does not take it.
 #[derive(Drop)]
 pub(crate) struct HostEnd<S: Host> {
     pub(crate) server: S,
@@ -22,17 +22,18 @@ pub(crate) struct HostEnd<S: Host> {
 pub(crate) enum Turn {
     // One request was answered.
     Served,
-    // There was none.
+    // There was no request.
     Empty,
-    // One is not taken.
+    // A request came that the host does not take.
     Stray,
 }
 
-// Answers the next request, where there is one.
+// Answers the next request of the host at this place, where there is one.
 fn answer_next<S: Host, R: Wait>(
     rt: &R,
     bells: &Bells,
     own: &HostBells,
+    place: usize,
     host: &mut HostEnd<S>,
 ) -> Turn
     ensures { IsHostTurn S.answers host.old result host.new }
@@ -47,7 +48,7 @@ fn answer_next<S: Host, R: Wait>(
     }
     let answer = host.server.answer(request);
     push_waiting(rt, &own.room, &mut host.answers, answer);
-    bells.writer.ring(rt);
+    bells.ring_answer(rt, place);
     Turn::Served
 }
 
@@ -67,7 +68,7 @@ pub(crate) fn answer_all<S: Host, R: Wait>(
     let mut is_last = false;
     for _ in rt.forever() {
         let count = own.commands.count(rt);
-        match answer_next(rt, bells, own, host) {
+        match answer_next(rt, bells, own, place, host) {
             Turn::Served => {}
             Turn::Stray => return,
             Turn::Empty => {

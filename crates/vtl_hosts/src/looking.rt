@@ -30,8 +30,8 @@ fn both(one: bool, other: bool) -> bool
     one && other
 }
 
-/// Whether nothing is left in the rings of any host, and no request was dropped. It is so where every thread did its
-/// work to the end, and is looked at so that no contract has to speak of that.
+/// Whether nothing is left in the rings of any host, and no request was dropped. That is so where every thread did its
+/// work to the end. It is checked here, so that no contract has to say it of the threads.
 pub(crate) fn are_empty<S: Host>(
     hosts: &mut [HostEnd<S>],
     requests: &mut [Producer<Request>],

@@ -6,7 +6,7 @@ use crate::bells::Bell;
 use rtrb::{Producer, PushError};
 use std::sync::Wait;
 
-/// Pushes an item, once there is room. The bell is rung where there is more room.
+/// Pushes an item, once there is room. `bell` rings where there is more room.
 pub(crate) fn push_waiting<T, R: Wait>(rt: &R, bell: &Bell, ring: &mut Producer<T>, item: T)
     ensures same { SameProducer ring.old ring.new }
     ensures sent { sent ring.new ≡ sent ring.old ++ item ∷ [] }

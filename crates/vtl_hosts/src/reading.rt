@@ -21,7 +21,7 @@ pub(crate) enum Break {
     Ended,
     /// A write failed.
     Stopped,
-    /// Not all threads have begun: a command was read, and the next comes once it is answered.
+    /// Not all threads have begun: one command was read, and the next is read once that is answered.
     Again,
     /// A move or an inventory came.
     Next(Request),

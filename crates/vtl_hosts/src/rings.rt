@@ -1,6 +1,6 @@
 //! The rings between the threads.
 ghost use Rattle.std.specs.Prelude.{◌≡◌, [], length, IfOk};
-ghost use Rattle.rtrb.specs.Ring.{IsPair, received, sent};
+ghost use Rattle.rtrb.specs.Ring.{IsPair, producer_capacity, received, sent};
 ghost use Rattle.vtl_base.specs.declared.limits.TheConstants.{NEXUSES};
 
 use rtrb::{Consumer, Producer, RingBuffer};
@@ -18,6 +18,7 @@ pub(crate) struct Rings {
     pub(crate) answers: Consumer<Answer>,
     ghost requests_pair: { IsPair requests to_host },
     ghost answers_pair: { IsPair from_host answers },
+    ghost rooms: { (producer_capacity requests ≡ 1) × (producer_capacity from_host ≡ 1) },
     ghost no_request: { (sent requests ≡ []) × (received to_host ≡ []) },
     ghost no_answer: { (sent from_host ≡ []) × (received answers ≡ []) },
 }

@@ -64,8 +64,9 @@ fn read_and_close<G: Desk, I: Read, R: Wait + Clock>(
     read
 }
 
-// Answers and writes at once, and says whether a write failed.
-fn answer_and_write<S: Host + Send, W: Write, R: Threads + Wait + Sync>(
+// Answers and writes at once, and says whether a write failed. Where no thread can be made for the writer, it writes
+// once all is answered: for the hosts nothing has to be written first.
+fn answer_and_write<S: Host + Send, W: Write + Send, R: Threads + Wait + Sync>(
     rt: &R,
     bells: &Bells,
     writer: &mut W,
@@ -75,14 +76,14 @@ fn answer_and_write<S: Host + Send, W: Write, R: Threads + Wait + Sync>(
     ensures hosts { AreHostsDone S.answers hosts.old hosts.new }
     ensures written { WritesAll answers.old (W.contents writer.old) false answers.new (W.contents writer.new) result }
 {
-    let mut answer = ||
-        ensures { AreHostsDone S.answers hosts.entry.now hosts.exit.now }
-    { answer_hosts(rt, bells, hosts) };
     let mut write = || -> bool
         ensures { WritesAll answers.entry.now (W.contents writer.entry.now) false answers.exit.now
             (W.contents writer.exit.now) result }
     { write_round(rt, bells, writer, answers) };
-    let (_, failed) = thread::join_mut(rt, &mut answer, &mut write);
+    let mut answer = ||
+        ensures { AreHostsDone S.answers hosts.entry.now hosts.exit.now }
+    { answer_hosts(rt, bells, hosts) };
+    let (failed, _) = thread::join_mut(rt, &mut write, &mut answer);
     failed
 }
 

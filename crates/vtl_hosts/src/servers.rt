@@ -8,12 +8,12 @@ use std::alloc::Global;
 use vtl_base::NoMemory;
 use vtl_wire::{Answer, Request};
 
-/// What serves the commands of one host, one after another.
+/// A server of one host's commands, one after another.
 pub trait Host {
-    /// Whether it takes a request.
+    /// Whether the host takes a request.
     ghost is_taken: { Self → Request → Bool };
 
-    /// A request may be answered so from the first value on, which leaves the last.
+    /// From the first value a request may be answered so, which leaves the last value.
     ghost answers: { Self → Request → Answer → Self → Type 0 };
 
     /// Whether it takes this request.
@@ -26,22 +26,25 @@ pub trait Host {
         ensures { answers self.old request result self.new };
 }
 
-/// What says which requests are taken, and serves those that are of no host: moves and inventories.
+/// A server that says which requests are taken, and serves those that are of no host: moves and inventories.
 pub trait Desk {
     /// Whether a request is taken.
     ghost is_taken: { Self → Request → Bool };
 
-    /// A request of no host may be answered so from the first value on, which leaves the last.
+    /// From the first value a request of no host may be answered so, which leaves the last value.
     ghost answers: { Self → Request → Answer → Self → Type 0 };
+
+    /// Why memory may run out as a request of no host is served. Where it never does, this is an empty type.
+    ghost lacks: { Self → Request → Type 0 };
 
     /// Whether this request is taken. A command to a drive that is not configured is not.
     fn takes(&self, request: &Request) -> bool
         ensures { result ≡ is_taken self.now request.now };
 
-    /// Serves a request of no host, while nothing else is served. Where memory runs out nothing is done.
+    /// Serves a request of no host, while nothing else is served. After an `Err` nothing was done.
     fn serve(&mut self, alloc: Global, request: Request) -> Result<Answer, NoMemory>
         requires taken { is_taken self.old request ≡ true }
         requires host { host_in request ≡ 0 }
         ensures ok { IfOk result (λ answer. answers self.old request answer self.new) }
-        ensures err { OnErr result (self.new ≡ self.old) };
+        ensures err { OnErr result (lacks self.old request × (self.new ≡ self.old)) };
 }

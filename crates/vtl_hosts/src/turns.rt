@@ -19,10 +19,10 @@ use std::time::Clock;
 use vtl_base::limits::NEXUSES;
 use vtl_wire::{Request, RequestReader, WireFault, write_if_fits};
 
-/// What serves the hosts once no more is served, and how that came.
+/// The servers of the hosts once no more is served, and how the serving ended.
 #[derive(Drop)]
 pub struct Served<S> {
-    /// What serves the hosts, each in its place.
+    /// The servers of the hosts, each in its place.
     pub servers: Vec<S>,
     /// Whether the input was served to its end.
     pub outcome: Result<(), WireFault>,
@@ -37,14 +37,14 @@ fn serve_alone<G: Desk, W: Write>(
 ) -> Result<(), WireFault>
     requires taken { G.is_taken desk.old request ≡ true }
     requires host { host_in request ≡ 0 }
-    ensures { AnswersAlone G.answers desk.old request (W.contents writer.old) desk.new (W.contents writer.new)
+    ensures { AnswersAlone G.answers G.lacks desk.old request (W.contents writer.old) desk.new (W.contents writer.new)
         result }
 {
     let answer = desk.serve(alloc, request)?;
     write_if_fits(writer, &answer)
 }
 
-// Serves a round, and the move or the inventory behind it, if one came. At `false` the input has ended.
+// Serves a round, and the move or the inventory behind it, if one came. Returns false where the input has ended.
 fn serve_turn<S: Host + Send, G: Desk, R: Threads + Wait + Clock + Sync, I: Read, W: Write + Send>(
     rt: &R,
     alloc: Global,
@@ -56,7 +56,7 @@ fn serve_turn<S: Host + Send, G: Desk, R: Threads + Wait + Clock + Sync, I: Read
 ) -> Result<bool, WireFault>
     requires idle { AreIdle ends.old.hosts.items ends.old.requests.items ends.old.answers.items }
     requires all { length ends.old.hosts.items ≡ NEXUSES }
-    ensures serves { ServesNext S.answers G.is_taken G.answers frames.old
+    ensures serves { ServesNext S.answers G.is_taken G.answers G.lacks frames.old
         (record { hosts = servers_of ends.old.hosts.items; desk = desk.old }) (I.remaining reader.old)
         (W.contents writer.old) frames.new (record { hosts = servers_of ends.new.hosts.items; desk = desk.new })
         (I.remaining reader.new) (W.contents writer.new) result }
@@ -90,7 +90,7 @@ fn serve_turns<S: Host + Send, G: Desk, R: Threads + Wait + Clock + Sync, I: Rea
 ) -> Result<(), WireFault>
     requires idle { AreIdle ends.old.hosts.items ends.old.requests.items ends.old.answers.items }
     requires all { length ends.old.hosts.items ≡ NEXUSES }
-    ensures serves { ServesHosts S.answers G.is_taken G.answers
+    ensures serves { ServesHosts S.answers G.is_taken G.answers G.lacks
         (record { hosts = servers_of ends.old.hosts.items; desk = desk.old }) (I.remaining reader.old)
         (W.contents writer.old) (record { hosts = servers_of ends.new.hosts.items; desk = desk.new })
         (I.remaining reader.new) (W.contents writer.new) result }
@@ -125,7 +125,7 @@ pub fn serve_hosts<
     writer: &mut W,
 ) -> Result<Served<S>, Vec<S>>
     requires { length servers.items ≡ NEXUSES }
-    ensures serves { IfOk result (λ served. ServesHosts S.answers G.is_taken G.answers
+    ensures serves { IfOk result (λ served. ServesHosts S.answers G.is_taken G.answers G.lacks
         (record { hosts = servers.items; desk = desk.old }) (I.remaining reader.old) (W.contents writer.old)
         (record { hosts = served.servers.items; desk = desk.new }) (I.remaining reader.new) (W.contents writer.new)
         served.outcome) }

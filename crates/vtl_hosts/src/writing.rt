@@ -41,8 +41,8 @@ fn write_next<W: Write, R: Wait>(
     true
 }
 
-// Writes an answer of each host that has one, and says whether there was one.
-fn write_some<W: Write, R: Wait>(
+// Writes the answer that was made first, and says whether there was one.
+fn write_first<W: Write, R: Wait>(
     rt: &R,
     bells: &Bells,
     writer: &mut W,
@@ -51,17 +51,17 @@ fn write_some<W: Write, R: Wait>(
 ) -> bool
     ensures { WritesAll rings.old (W.contents writer.old) failed.old rings.new (W.contents writer.new) failed.new }
 {
-    let mut some = false;
-    for place in 0..rings.len() {
-        if write_next(rt, bells, place, &mut rings[place], writer, failed) {
-            some = true;
-        }
+    let Some(place) = bells.next_answer(rt) else {
+        return false;
+    };
+    if place < rings.len() {
+        write_next(rt, bells, place, &mut rings[place], writer, failed);
     }
-    some
+    true
 }
 
-/// Takes the hosts' answers and writes them, until nothing more comes. Once a write failed the others are dropped. It
-/// says whether one failed.
+/// Takes the hosts' answers and writes them, in the order in which they were made, until nothing more comes. Once a
+/// write failed the others are dropped. It says whether one failed.
 pub(crate) fn write_round<W: Write, R: Wait>(
     rt: &R,
     bells: &Bells,
@@ -75,7 +75,7 @@ pub(crate) fn write_round<W: Write, R: Wait>(
     let mut is_last = false;
     for _ in rt.forever() {
         let count = bells.writer.count(rt);
-        if !write_some(rt, bells, writer, &mut failed, rings) {
+        if !write_first(rt, bells, writer, &mut failed, rings) {
             if is_last {
                 return failed;
             }

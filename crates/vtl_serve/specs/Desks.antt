@@ -24,7 +24,13 @@ is_served drives (Command host drive cdb sent tag) = has_drive drives drive
 is_served drives (Move from to tag) = true
 is_served drives (Inventory tag) = true
 
--- where each cartridge is after a move that was answered so: only GOOD moves one (SMC-3, MOVE MEDIUM)
+-- memory may run out as an inventory is served, whose entries take some; a move takes none (own)
+abbrev pub TakesMemory : Request → Type 0
+TakesMemory (Command host drive cdb sent tag) = ⊥
+TakesMemory (Move from to tag) = ⊥
+TakesMemory (Inventory tag) = Unit {0}
+
+-- where each cartridge is after a move with this status: only GOOD moves one (SMC-3, MOVE MEDIUM)
 abbrev pub labels_after : Status → ℕ → ℕ → List Label → List Label
 labels_after Good from to labels = carried from to labels
 labels_after Check from to labels = labels

@@ -17,7 +17,7 @@ abbrev pub carried_one : ℕ → ℕ → Label → Label
 carried_one from to label =
     record { address = if nat_eq label.address from then to else label.address; barcode = label.barcode }
 
--- so are all that were there (own)
+-- the cartridges that were at one element address are at another (own)
 abbrev pub carried : ℕ → ℕ → List Label → List Label
 carried from to labels = map (carried_one from to) labels
 
@@ -25,11 +25,11 @@ carried from to labels = map (carried_one from to) labels
 abbrev pub entry_at : List Label → ℕ → Entry
 entry_at labels address = record { address = address; barcode = barcode_at labels address }
 
--- what it says of a drive: nothing, where there is none of this number (own)
+-- what an inventory says of a drive: nothing, where none with this number is configured (own)
 abbrev pub drive_entry : List Bool → List Label → ℕ → List Entry
 drive_entry drives labels number = if has_drive drives number then entry_at labels number ∷ [] else []
 
--- what it says: of each drive that there is, and of each slot, by rising element address (own)
+-- what an inventory says: of each configured drive, and of each slot, by rising element address (own)
 abbrev pub inventory_of : List Bool → List Label → List Entry
 inventory_of drives labels =
     flat_map (drive_entry drives labels) (range_with_len 1 DRIVES)

@@ -10,7 +10,7 @@ use Rattle.vtl_wire.specs.declared.faults.WireFault.{WireFault}
 use Rattle.vtl_wire.specs.declared.faults.WireFault.TheVariants.{NoMemory}
 use Rattle.vtl_hosts.specs.Turns.{ServesHosts}
 use Rattle.vtl_serve.specs.declared.labels.Label.{Label}
-use Rattle.vtl_serve.specs.Desks.{AnswersDesk, DeskState, is_served}
+use Rattle.vtl_serve.specs.Desks.{AnswersDesk, DeskState, TakesMemory, is_served}
 use Rattle.vtl_serve.specs.OneHost.{AnswersHost, OneHostState}
 
 -- the hosts of these seats, at a library with these drives (own)
@@ -29,6 +29,7 @@ module _ {D : Type 0} (state : D → DiskState) where
   ServesOpened drives labels seats left before seats' left' now outcome =
       ((hosts : List OneHostState) × (desk : DeskState)
       × ServesHosts (AnswersHost state) (λ desk request. is_served desk.drives request) (AnswersDesk state)
+      (λ desk request. TakesMemory request)
       (record { hosts = hosts_of drives seats; desk = record { drives = drives; labels = labels } }) left before
       (record { hosts = hosts; desk = desk }) left' now outcome
       × (seats' ≡ seats_of hosts))

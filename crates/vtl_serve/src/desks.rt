@@ -2,7 +2,7 @@
 ghost use Rattle.std.specs.Prelude.{◌≡◌, ◌<◌, ◌+◌, ◌++◌, ◌∷◌, [], true, IfOk, OnOk, flat_map, map};
 ghost use Rattle.std.specs.List.{range_with_len};
 ghost use Rattle.vtl_base.specs.declared.limits.TheConstants.{DRIVES, FIRST_SLOT, SLOTS};
-ghost use Rattle.vtl_serve.specs.Desks.{AnswersDesk, is_served, labels_after};
+ghost use Rattle.vtl_serve.specs.Desks.{AnswersDesk, TakesMemory, is_served, labels_after};
 ghost use Rattle.vtl_serve.specs.Labels.{drive_entry, inventory_of, entry_at};
 
 use crate::labels::Labels;
@@ -45,7 +45,7 @@ fn add_entry(labels: &Labels, address: u32, entries: &mut Vec<Entry>) -> Result<
     }
 }
 
-// Adds what is at the drive behind so many numbers, where there is one.
+// Adds what is at the drive with this place, counted from 0, if it is configured.
 fn add_drive<D: Disk + Drop, B: Parties, H: Parties>(
     library: &Library<D, B, H>,
     labels: &Labels,
@@ -63,7 +63,7 @@ fn add_drive<D: Disk + Drop, B: Parties, H: Parties>(
     add_entry(labels, u32::from(drive.number()), entries)
 }
 
-// Adds what is at each drive that there is.
+// Adds what is at each configured drive.
 fn add_drives<D: Disk + Drop, B: Parties, H: Parties>(
     library: &Library<D, B, H>,
     labels: &Labels,
@@ -89,7 +89,7 @@ fn add_slots(labels: &Labels, entries: &mut Vec<Entry>) -> Result<(), NoMemory>
     Ok(())
 }
 
-// What is at each drive that there is, and at each slot.
+// What is at each configured drive, and at each slot.
 fn inventory_of<D: Disk + Drop, B: Parties, H: Parties>(
     alloc: Global,
     library: &Library<D, B, H>,
@@ -125,6 +125,8 @@ impl<'a, D: Disk + Drop, B: Parties, H: Parties, R: Wait> Desk for LibraryDesk<'
 
     ghost answers = { AnswersDesk D.state };
 
+    ghost lacks = { λ desk request. TakesMemory request };
+
     fn takes(&self, request: &Request) -> bool {
         match request {
             Request::Command { drive, .. } => self.library.configured(*drive),
@@ -154,7 +156,7 @@ impl<'a, D: Disk + Drop, B: Parties, H: Parties, R: Wait> Desk for LibraryDesk<'
     }
 }
 
-// Notes where the cartridge is after a move that ended so.
+// Notes where the cartridge is after a move with this status.
 fn note_move(labels: &mut Labels, status: Status, from: u32, to: u32)
     ensures { labels.new ≡ labels_after status from to labels.old }
 {

@@ -27,7 +27,7 @@ impl Model for Labels {
     ghost view = { λ l. l.labels.items };
 }
 
-// The same barcode.
+// A copy of a barcode.
 fn same_barcode(barcode: &Barcode) -> Barcode
     ensures { result ≡ barcode.now }
 {
@@ -37,14 +37,14 @@ fn same_barcode(barcode: &Barcode) -> Barcode
     }
 }
 
-// Where a cartridge is, once those at one address are at another.
+// The address of a cartridge after those at `from` were moved to `to`.
 fn address_after(address: u32, from: u32, to: u32) -> u32
     ensures { result ≡ (if nat_eq address from then to else address) }
 {
     if address == from { to } else { address }
 }
 
-// The barcode of the first of these at an address.
+// The barcode of the first of these labels at an address.
 fn barcode_among(labels: &[Label], address: u32) -> Option<Barcode>
     ensures { result ≡ barcode_at labels.now address }
 {
@@ -56,7 +56,7 @@ fn barcode_among(labels: &[Label], address: u32) -> Option<Barcode>
     None
 }
 
-// Those of these at one address are at another.
+// Changes the address of each label at `from` to `to`.
 fn carry_among(labels: &mut [Label], from: u32, to: u32)
     ensures { labels.new ≡ carried from to labels.old }
 {
@@ -73,14 +73,14 @@ impl Labels {
         Labels { labels }
     }
 
-    /// The barcode of the cartridge that is at an element address, where one is.
+    /// The barcode of the cartridge that is at an element address, if one is.
     pub fn barcode_at(&self, address: u32) -> Option<Barcode>
         ensures { result ≡ barcode_at self.now address }
     {
         barcode_among(self.labels.as_slice(), address)
     }
 
-    /// A cartridge was moved from one element address to another.
+    /// Notes that the cartridge at `from` was moved to `to`.
     pub fn carry(&mut self, from: u32, to: u32)
         ensures { self.new ≡ carried from to self.old }
     {

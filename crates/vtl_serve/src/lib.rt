@@ -1,7 +1,6 @@
 //! Drives and hosts that are served: requests come as frames, and answers go as frames.
 #![tactic(auto)]
 
-mod beside;
 pub mod desks;
 pub mod labels;
 pub mod libraries;

@@ -6,18 +6,17 @@ ghost use Rattle.ledgers.specs.Ledgers.{IsBlankOf};
 ghost use Rattle.library.specs.Counts.{AcceptedNone, places_filled};
 ghost use Rattle.library.specs.Ran.{EndsShared};
 ghost use Rattle.vtl_hosts.specs.Turns.{ServesHosts};
-ghost use Rattle.vtl_serve.specs.Desks.{AnswersDesk, is_served};
+ghost use Rattle.vtl_serve.specs.Desks.{AnswersDesk, TakesMemory, is_served};
 ghost use Rattle.vtl_serve.specs.OneHost.{AnswersHost};
 ghost use Rattle.vtl_serve.specs.Libraries.{ServesOpened, ServesShared, hosts_of, seats_of};
 
-use crate::beside::beside_flushers;
 use crate::desks::LibraryDesk;
 use crate::labels::Labels;
 use crate::one_host::OneHost;
 use bays::{Bay, Parked};
 use changer::Slots;
 use ledgers::{Parties, Seat};
-use library::{Finished, Gate, Library, NotOpened};
+use library::{Finished, Gate, Library, NotOpened, beside_flushers};
 use std::alloc::Global;
 use std::io::{Read, Write};
 use std::marker::{Send, Sync};
@@ -101,6 +100,7 @@ fn serve_and_close<
     requires { length hosts.old.items ≡ NEXUSES }
     ensures serves { IfOk result (λ served. ServesHosts (AnswersHost D.state)
         (λ desk request. is_served desk.drives request) (AnswersDesk D.state)
+        (λ desk request. TakesMemory request)
         (record { hosts = hosts.old.items; desk = desk.old }) (I.remaining reader.old) (W.contents writer.old)
         (record { hosts = served.servers.items; desk = desk.new }) (I.remaining reader.new) (W.contents writer.new)
         served.outcome) }
@@ -137,6 +137,7 @@ fn serve_beside<
     requires { length hosts.old.items ≡ NEXUSES }
     ensures serves { IfOk result (λ served. ServesHosts (AnswersHost D.state)
         (λ desk request. is_served desk.drives request) (AnswersDesk D.state)
+        (λ desk request. TakesMemory request)
         (record { hosts = hosts.old.items; desk = desk.old }) (I.remaining reader.old) (W.contents writer.old)
         (record { hosts = served.servers.items; desk = desk.new }) (I.remaining reader.new) (W.contents writer.new)
         served.outcome) }
@@ -148,6 +149,7 @@ fn serve_beside<
         requires { length hosts.now.items ≡ NEXUSES }
         ensures serves { IfOk result (λ served. ServesHosts (AnswersHost D.state)
             (λ desk request. is_served desk.drives request) (AnswersDesk D.state)
+            (λ desk request. TakesMemory request)
             (record { hosts = hosts.entry.now.items; desk = desk.entry.now }) (I.remaining reader.entry.now)
             (W.contents writer.entry.now) (record { hosts = served.servers.items; desk = desk.exit.now })
             (I.remaining reader.exit.now) (W.contents writer.exit.now) served.outcome) }
@@ -215,7 +217,8 @@ fn serve_opened<
 /// Serves hosts that have the numbers from 1 to 64, over one pipe, at a library of these drives, each in the place of
 /// its number, and these slots, whose cartridges are where the labels say. Each host's commands are carried out in a
 /// thread of its own, and each drive has a flusher beside them. At the end all threads are joined, and every buffer is
-/// written out. Where memory runs out before the library is opened all comes back, and nothing is read or written.
+/// written out. Where memory runs out before the library is opened, everything is returned, and nothing is read or
+/// written.
 pub fn serve_library<
     D: Disk + Drop + Send,
     B: Parties + Send + Sync,

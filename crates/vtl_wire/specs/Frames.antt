@@ -11,7 +11,7 @@ code_of_kind Command = 0x01
 code_of_kind Move = 0x02
 code_of_kind Inventory = 0x03
 
--- the kind of a byte, where it is one's (own)
+-- the kind with this byte, if there is one (own)
 abbrev pub kind_with : ℕ → Option FrameKind
 kind_with code =
     if code == 1 then Some Command
@@ -29,7 +29,7 @@ pub record Frame : Type 0 where
   pub front : List ℕ
   pub payload : List ℕ
 
--- the header of a frame, which counts the bytes behind it (own)
+-- the header of a frame, which counts the bytes after it (own)
 abbrev pub header_of : Frame → Header
 header_of frame = record {
   kind = frame.kind;

@@ -14,7 +14,7 @@ abbrev pub ReadsRequest : Option (List ℕ) → Option (List ℕ) → Option Req
 ReadsRequest left left' (Some request) = IsRequest request × Consumes left left' (spell_request request)
 ReadsRequest left left' None = Consumes left left' [] × IsAtEnd left'
 
--- how many requests were read after one more, if there was one; the number is held at its greatest value (own)
+-- how many requests were read after one more, if there was one; the number stops at its greatest value (own)
 abbrev pub count_after : {T : Type 0} → ℕ → Option T → ℕ
 count_after before (Some frame) = ticked before
 count_after before None = before
@@ -49,7 +49,7 @@ pub record LacksData (left left' : Option (List ℕ)) : Type 0 where
       (sent : List ℕ) → length sent ≡ count
       → (request : Request) × IsRequest request × (read ++ sent ≡ spell_request request)
 
--- why no request is read behind so many frames: the next is refused; a read failed before its last byte; or memory ran
+-- why no request is read after this many frames: the next is refused; a read failed before its last byte; or memory ran
 -- out (own)
 abbrev pub MissesRequest : Option (List ℕ) → Option (List ℕ) → ℕ → WireFault → Type 0
 MissesRequest left left' before (BadFrame number) = (number ≡ ticked before) × RefusesRequest left left'

@@ -59,7 +59,7 @@ spell_requests requests = flat_map spell_request requests
 abbrev pub SpellsRequests : List ℕ → List Request → Type 0
 SpellsRequests bytes requests = All IsRequest requests × (bytes ≡ spell_requests requests)
 
--- some request's spelling begins the bytes (own)
+-- the bytes begin with the spelling of some request (own)
 abbrev pub BeginsWithRequest : List ℕ → Type 0
 BeginsWithRequest bytes =
     (request : Request) × (rest : List ℕ) × IsRequest request × (bytes ≡ spell_request request ++ rest)

@@ -64,7 +64,7 @@ IsOutOfMemory takes lacks count left left' =
     ⊎ (((request : Request) × ReadsRequest left left' (Some request) × (takes request ≡ true) × lacks request)
     ⊎ ((2 ^ 64 ≤ count + 1) × (left' ≡ left)))
 
--- how the serving of an input ends behind so many requests that were served, which left `mid` (own)
+-- how the serving of an input ends after this many requests that were served, which left `mid` (own)
 abbrev pub ServingEnds : {S : Type 0} → (S → Request → Bool) → (S → Request → Answer → S → Type 0)
     → (S → Request → Type 0) → ℕ → S → Option (List ℕ) → Option (List ℕ) → S → Option (List ℕ) → Option (List ℕ)
     → Result (Unit {0}) WireFault → Type 0

@@ -45,14 +45,14 @@ impl Entries {
     }
 }
 
-/// What a front end is answered, with the tag of its request.
+/// An answer to a front end, with the tag of its request.
 #[derive(Drop)]
 pub enum Answer {
-    /// To a command: its host, and the reply.
+    /// The answer to a command: its host, and the reply.
     Command { host: Nexus, reply: Reply, tag: u32 },
-    /// To a move.
+    /// The answer to a move.
     Move { reply: Reply, tag: u32 },
-    /// To an inventory.
+    /// The answer to an inventory.
     Inventory { entries: Entries, tag: u32 },
 }
 

@@ -6,7 +6,7 @@ use vtl_base::NoMemory;
 /// Why no frame is read or written.
 #[derive(Clone, Copy, PartialEq, Eq, Debug, Error)]
 pub enum WireFault {
-    /// The bytes begin no frame that may stand there, or end inside one. Frames are counted from 1 on.
+    /// The bytes begin with no frame that may stand there, or end inside one. Frames are counted from 1 on.
     #[error("frame {frame} refused")]
     BadFrame { frame: u64 },
     /// A read failed.
@@ -15,7 +15,7 @@ pub enum WireFault {
     /// A write failed.
     #[error("write fault")]
     WriteFault,
-    /// A growth was refused.
+    /// Memory ran out.
     #[error("out of memory")]
     NoMemory,
 }

@@ -36,7 +36,7 @@ impl FrameKind {
         self as u8
     }
 
-    /// The kind of a byte, where it is one's.
+    /// The kind with this byte, if there is one.
     pub fn with(code: u8) -> Option<Self>
         ensures { result ≡ kind_with code }
     {

@@ -17,9 +17,9 @@ pub struct Header {
     pub host: u8,
     /// The drive of a request, 0 where there is none, or the status of an answer.
     pub detail: u8,
-    /// How many bytes stand first: a command block, two element addresses, or sense data.
+    /// How many bytes stand before the data: of a command block, of two element addresses, or of sense data.
     pub front: u8,
-    /// How many bytes of data stand behind them.
+    /// How many bytes of data stand after them.
     pub payload: u32,
     /// The tag of the request.
     pub tag: u32,

@@ -1,4 +1,4 @@
-//! The two parts of a frame behind its header.
+//! The two parts of a frame after its header.
 ghost use Rattle.std.specs.Prelude.{◌≤◌, IfOk, IfErr};
 ghost use Rattle.vtl_base.specs.declared.bytes.TheConstants.{INLINE_BYTES};
 ghost use Rattle.vtl_wire.specs.Inner.Reading.{ReadsParts, MissesParts};
@@ -10,7 +10,7 @@ use std::alloc::Global;
 use std::io::Read;
 use vtl_base::Bytes;
 
-/// What stands behind a header: a command block, two element addresses or sense data; and data.
+/// What stands after a header: a command block, two element addresses or sense data; and data.
 #[derive(Drop)]
 pub(crate) struct Parts {
     pub(crate) front: Bytes,

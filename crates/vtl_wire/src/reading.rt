@@ -1,4 +1,4 @@
-//! Bytes that are read: so many as are wanted, however they come.
+//! Reading a given number of bytes, however they come.
 ghost use Rattle.std.specs.Prelude.{◌≡◌, ℕ, ◌<◌, ◌≤◌, ◌+◌, length, take, drop, Some, Ok, IfOk, IfErr, OnErr};
 ghost use Rattle.std.specs.Io.KnownBytes.{Consumes, IsAtEnd};
 ghost use Rattle.vtl_base.specs.declared.bytes.TheConstants.{INLINE_BYTES};
@@ -24,7 +24,7 @@ pub(crate) enum Found<T> {
     Refused,
 }
 
-// One read into this slice: how many bytes came, or None where the read was interrupted.
+// Makes one read into this slice. Returns how many bytes came, or None where the read was interrupted.
 fn read_once<R: Read>(reader: &mut R, slice: &mut [u8]) -> Result<Option<usize>, WireFault>
     requires { 0 < length slice.old }
     ensures taken { Consumes (R.remaining reader.old) (R.remaining reader.new)
@@ -40,7 +40,7 @@ fn read_once<R: Read>(reader: &mut R, slice: &mut [u8]) -> Result<Option<usize>,
     }
 }
 
-// One read into a slice, behind the bytes that fill it.
+// Makes one read into a slice, after the bytes that fill it.
 fn read_behind<R: Read>(
     reader: &mut R,
     slice: &mut [u8],
@@ -57,8 +57,8 @@ fn read_behind<R: Read>(
     read_once(reader, &mut slice[filled..])
 }
 
-// Fills a slice: how many bytes came, fewer than it has only where the input has ended. A read that fails is not made
-// again, and no more are asked for than it has.
+// Fills a slice. Returns how many bytes came: fewer than the slice has only where the input has ended. After a read
+// that failed no other is made, and no more bytes are asked for than the slice has.
 pub(crate) fn fill<R: Read>(reader: &mut R, slice: &mut [u8]) -> Result<usize, WireFault>
     ensures taken { IfOk result (λ count.
         Consumes (R.remaining reader.old) (R.remaining reader.new) (take count slice.new)) }
@@ -84,7 +84,7 @@ pub(crate) fn fill<R: Read>(reader: &mut R, slice: &mut [u8]) -> Result<usize, W
     Err(WireFault::ReadFault)
 }
 
-// Fills a slice, and tells whether the input did not end before.
+// Fills a slice. Returns false where the input ended before.
 pub(crate) fn fill_whole<R: Read>(reader: &mut R, slice: &mut [u8]) -> Result<bool, WireFault>
     ensures whole { IfOk result (ReadsWhole (R.remaining reader.old) (R.remaining reader.new) slice.new) }
     ensures part { OnErr result (TakesFewer (R.remaining reader.old) (R.remaining reader.new) (length slice.new)) }
@@ -94,7 +94,7 @@ pub(crate) fn fill_whole<R: Read>(reader: &mut R, slice: &mut [u8]) -> Result<bo
     Ok(count == slice.len())
 }
 
-// So few bytes that no memory is asked for.
+// Reads at most 24 bytes, which take no memory.
 fn read_few<R: Read>(
     alloc: Global,
     reader: &mut R,
@@ -116,7 +116,7 @@ fn read_few<R: Read>(
     }
 }
 
-// Many bytes: room for all is asked for before the first is read.
+// Reads more than 24 bytes. The memory for all of them is taken before the first is read.
 fn read_many<R: Read>(
     alloc: Global,
     reader: &mut R,
@@ -134,8 +134,7 @@ fn read_many<R: Read>(
     Ok(Some(Bytes::from_vec(room)))
 }
 
-// So many bytes, or None where the input ends within them. Where they are more than 24 memory is asked for, for all of
-// them and no more.
+// Reads `count` bytes; None where the input ends before. More than 24 take memory, for all of them and no more.
 pub(crate) fn read_bytes<R: Read>(
     alloc: Global,
     reader: &mut R,

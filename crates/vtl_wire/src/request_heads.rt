@@ -13,7 +13,7 @@ use crate::requests::Request;
 use byteorder::{BigEndian, ByteOrder};
 use vtl_base::{DriveNo, Nexus};
 
-// A request without what stands behind its header.
+// A request without what stands after its header.
 #[derive(Clone, Copy)]
 pub(crate) enum RequestHead {
     Command {
@@ -42,7 +42,7 @@ fn command_head(header: Header) -> Option<RequestHead>
     Some(RequestHead::Command { host, drive, tag })
 }
 
-// Whether there is no host, no drive and no data, and so many bytes stand first.
+// Whether there is no host, no drive and no data, and `front` bytes stand before the data.
 fn is_plain(header: Header, front: usize) -> bool
     ensures { result ≡ is_plain header front }
 {
@@ -72,7 +72,7 @@ fn two_numbers(bytes: &[u8]) -> (u32, u32)
     (first, second)
 }
 
-// The request of this header, with what stands behind it.
+// The request of this header, with what stands after it.
 pub(crate) fn request_in(header: Header, head: RequestHead, parts: Parts) -> Request
     requires head { request_head header ≡ Some head }
     requires front { length parts.front ≡ header.front }

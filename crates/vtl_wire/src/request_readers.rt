@@ -14,8 +14,8 @@ use std::alloc::Global;
 use std::io::Read;
 use std::marker::Model;
 
-/// A reader of requests, which counts them. The number is held at its greatest value. To a contract it is the number
-/// of requests that were read.
+/// A reader of requests, which counts them. The count stops at its greatest value. To a contract it is the number of
+/// requests that were read.
 #[derive(Drop)]
 pub struct RequestReader {
     frames: u64,
@@ -49,7 +49,7 @@ fn find_request<R: Read>(alloc: Global, reader: &mut R) -> Result<Found<Request>
 }
 
 impl RequestReader {
-    /// Nothing was read yet.
+    /// A reader that has read nothing.
     pub fn new() -> Self
         ensures { result ≡ 0 }
     {
@@ -63,10 +63,9 @@ impl RequestReader {
         self.frames
     }
 
-    /// The next request, or None where the input has ended. No byte behind it is read, however the input is cut.
-    /// Memory is asked for only where its header and its command block were read and may stand there, and only for
-    /// its data. After an `Err` the input is inside a frame, or behind a header that is refused, so that no other can
-    /// be read.
+    /// The next request, or None where the input has ended. No byte after it is read, however the input is cut. Memory
+    /// is taken only where its header and its command block were read and may stand there, and only for its data. After
+    /// an `Err` the input is inside a frame, or after a header that is refused, so that no other request can be read.
     pub fn next<R: Read>(
         &mut self,
         alloc: Global,

@@ -8,22 +8,22 @@ use crate::requests::Request;
 use std::alloc::Global;
 use vtl_base::NoMemory;
 
-/// What serves requests, one after another.
+/// A server of requests, one after another.
 pub trait Server {
-    /// Whether it takes a request.
+    /// Whether the server takes a request.
     ghost is_taken: { Self → Request → Bool };
 
-    /// A request may be answered so from the first value on, which leaves the last.
+    /// From the first value a request may be answered so, which leaves the last value.
     ghost answers: { Self → Request → Answer → Self → Type 0 };
 
-    /// Why memory may run out as a request is served. Where it never does this is empty.
+    /// Why memory may run out as a request is served. Where it never does, this is an empty type.
     ghost lacks: { Self → Request → Type 0 };
 
     /// Whether it takes this request. It does not take a command to a drive that is not configured.
     fn takes(&self, request: &Request) -> bool
         ensures { result ≡ is_taken self.now request.now };
 
-    /// Serves a request that it takes. Where memory runs out nothing is done.
+    /// Serves a request that the server takes. After an `Err` nothing was done.
     fn serve(&mut self, alloc: Global, request: Request) -> Result<Answer, NoMemory>
         requires { is_taken self.old request ≡ true }
         ensures ok { IfOk result (λ answer. answers self.old request answer self.new) }

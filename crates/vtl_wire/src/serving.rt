@@ -15,8 +15,8 @@ use crate::servers::Server;
 use std::alloc::Global;
 use std::io::{Read, Write};
 
-/// Writes the frame of an answer, as `write_answer` does, where a frame holds it. Else it is a write fault, and nothing
-/// is written.
+/// Writes the frame of an answer, as `write_answer` does, where a frame holds it. Otherwise it returns `WriteFault`,
+/// and nothing is written.
 pub fn write_if_fits<W: Write>(writer: &mut W, answer: &Answer) -> Result<(), WireFault>
     ensures ok { OnOk result (Appends (W.contents writer.old) (W.contents writer.new) (spell_answer answer.now)) }
     ensures err { OnErr result
@@ -46,7 +46,7 @@ fn answer_request<S: Server, W: Write>(
     write_if_fits(writer, &answer)
 }
 
-// Serves the next request. At `false` the input has ended.
+// Serves the next request. Returns false where the input has ended.
 fn serve_next<S: Server, R: Read, W: Write>(
     alloc: Global,
     server: &mut S,

@@ -9,7 +9,7 @@ use Rattle.vtl_hosts.specs.declared.hosts.Turn.TheVariants.{Served, Empty, Stray
 use Rattle.vtl_hosts.specs.Rounds.{AnswersAll}
 
 module _ {S : Type 0} (answers : S → Request → Answer → S → Type 0) where
-  -- requests were taken from one ring and answered, and the answers put into the other
+  -- requests were taken from one ring and answered, and the answers put into the other (own)
   pub record IsHostServed (old new : HostEnd S) : Type 0 where
     pub requests : List Request
     pub given : List Answer
@@ -19,7 +19,7 @@ module _ {S : Type 0} (answers : S → Request → Answer → S → Type 0) wher
     pub sent : sent new.answers ≡ sent old.answers ++ given
     pub answered : AnswersAll answers old.server requests given new.server
 
-  -- the same, but for some requests that were taken last, of which it is noted that they were dropped
+  -- the same, but for some requests that were taken last, of which it is noted that they were dropped (own)
   pub record IsHostDone (old new : HostEnd S) : Type 0 where
     pub requests : List Request
     pub stray : List Request
@@ -31,13 +31,13 @@ module _ {S : Type 0} (answers : S → Request → Answer → S → Type 0) wher
     pub answered : AnswersAll answers old.server requests given new.server
     pub strays : new.strayed ≡ false → stray ≡ []
 
-  -- one request was answered, or there was none; or one was dropped
+  -- one request was answered, or there was none; or one was dropped (own)
   abbrev pub IsHostTurn : HostEnd S → Turn → HostEnd S → Type 0
   IsHostTurn old Served new = IsHostServed old new
   IsHostTurn old Empty new = IsHostServed old new
   IsHostTurn old Stray new = IsHostDone old new
 
-  -- each host's thread has ended so
+  -- the thread of each host has ended, with all of its requests answered or dropped (own)
   pub record AreHostsDone (old new : List (HostEnd S)) : Type 0 where
     pub long : length new ≡ length old
     pub each :

@@ -6,17 +6,17 @@ use Rattle.vtl_wire.specs.declared.faults.WireFault.{WireFault}
 use Rattle.vtl_wire.specs.declared.requests.Request.{Request}
 use Rattle.vtl_hosts.specs.declared.hosts.HostEnd.{HostEnd}
 use Rattle.vtl_hosts.specs.declared.reading.Break.{Break}
-use Rattle.vtl_hosts.specs.Turns.{HostsState, ServesPart, ServesWhole, count_on}
+use Rattle.vtl_hosts.specs.Turns.{HostsState, ReadsNoCommand, ServesPart, ServesWhole, count_on}
 use Rattle.vtl_hosts.specs.Inner.Looks.{ArePairs}
 use Rattle.vtl_hosts.specs.Inner.Reading.{ReadingEnds}
 use Rattle.vtl_hosts.specs.Inner.Rings.{Answers, Requests}
 
 module _ {S : Type 0} where
-  -- what serves the hosts
+  -- what serves the hosts (own)
   abbrev pub servers_of : List (HostEnd S) → List S
   servers_of hosts = map (λ host. host.server) hosts
 
-  -- each host has its rings, and nothing is in them
+  -- each host has its rings, and nothing is in them (own)
   pub record AreIdle (hosts : List (HostEnd S)) (requests : List Requests) (answers : List Answers) : Type 0 where
     pub pairs : ArePairs hosts requests answers
     pub no_request :
@@ -28,8 +28,8 @@ module _ {S : Type 0} where
 
 module _ {S G : Type 0} (serves : S → Request → Answer → S → Type 0) (takes : G → Request → Bool)
     (answers : G → Request → Answer → G → Type 0) where
-  -- A round behind so many frames: commands were read, and then why no more were. At `true` all were answered, and all
-  -- answers written; else a write failed.
+  -- A round after this many frames: commands were read, and then why no more were. At `true` all were answered, and all
+  -- answers written; else a write failed (own).
   abbrev pub RunsRound : ℕ → HostsState S G → Option (List ℕ) → Option (List ℕ) → ℕ → HostsState S G
       → Option (List ℕ) → Option (List ℕ) → Result Break WireFault → Bool → Type 0
   RunsRound count old left before count' new left' now read true =
@@ -37,3 +37,4 @@ module _ {S G : Type 0} (serves : S → Request → Answer → S → Type 0) (ta
       × ReadingEnds (takes old.desk) (count_on count whole.commands) behind count' left' read
   RunsRound count old left before count' new left' now read false =
       (behind : Option (List ℕ)) × ServesPart serves takes answers old left before new behind now
+      × ReadsNoCommand serves takes answers old.desk behind left'

@@ -5,12 +5,12 @@ use Rattle.vtl_hosts.specs.declared.hosts.HostEnd.{HostEnd}
 use Rattle.vtl_hosts.specs.Inner.Rings.{Answers, Requests}
 
 module _ {S : Type 0} where
-  -- the ends are those of the rings of one host
+  -- the ends are those of the rings of one host (own)
   pub record ArePairsAt (host : HostEnd S) (requests : Requests) (answers : Answers) : Type 0 where
     pub requests_pair : IsPair requests host.requests
     pub answers_pair : IsPair host.answers answers
 
-  -- so are those of each host
+  -- the ends are those of the rings of each host (own)
   pub record ArePairs (hosts : List (HostEnd S)) (requests : List Requests) (answers : List Answers) : Type 0 where
     pub as_many_requests : length requests ≡ length hosts
     pub as_many_answers : length answers ≡ length hosts
@@ -18,8 +18,8 @@ module _ {S : Type 0} where
         (k : ℕ) (h : HostEnd S) (r : Requests) (a : Answers) → k < length hosts
         → ArePairsAt (slice_index_or hosts k h) (slice_index_or requests k r) (slice_index_or answers k a)
 
-  -- A host's rings were looked at, and are the same: what was taken from each, and what is left in it, is what was put
-  -- into it. At `true` nothing is left, and no request was dropped.
+  -- A host's rings were checked, and are the same: what was taken from each, and what is left in it, is what was put
+  -- into it. At `true` nothing is left, and no request was dropped (own).
   pub record LooksAt (host : HostEnd S) (requests : Requests) (answers : Answers)
       (host' : HostEnd S) (requests' : Requests) (answers' : Answers) (empty : Bool) : Type 0 where
     pub server : host'.server ≡ host.server
@@ -35,7 +35,7 @@ module _ {S : Type 0} where
     pub no_answer : empty ≡ true → known_items answers' ≡ []
     pub no_stray : empty ≡ true → host'.strayed ≡ false
 
-  -- so were those of each host
+  -- the rings of each host were checked, and are the same (own)
   pub record LooksAll (hosts : List (HostEnd S)) (requests : List Requests) (answers : List Answers)
       (hosts' : List (HostEnd S)) (requests' : List Requests) (answers' : List Answers) (empty : Bool) : Type
       0 where

@@ -15,9 +15,9 @@ use Rattle.vtl_hosts.specs.Rounds.{host_in}
 use Rattle.vtl_hosts.specs.Turns.{count_on, IsCommand}
 use Rattle.vtl_hosts.specs.Inner.Rings.{Deals, Requests}
 
--- How the reading of commands ends, behind so many frames: the input has ended; a write failed; threads are missing; a
+-- How the reading of commands ends, after this many frames: the input has ended; a write failed; threads are missing; a
 -- move or an inventory was read; the next frame is refused, and this is its number; a read failed; or there is no
--- memory for the data of the next.
+-- memory for the data of the next (own).
 abbrev pub ReadingEnds : (Request → Bool) → ℕ → Option (List ℕ) → ℕ → Option (List ℕ) → Result Break WireFault → Type 0
 ReadingEnds takes count left count' left' (Ok Ended) = ReadsRequest left left' None
 ReadingEnds takes count left count' left' (Ok Stopped) = left' ≡ left
@@ -30,7 +30,7 @@ ReadingEnds takes count left count' left' (Err ReadFault) = TakesSome left left'
 ReadingEnds takes count left count' left' (Err WriteFault) = ⊥
 ReadingEnds takes count left count' left' (Err NoMemory) = LacksData left left'
 
--- commands were read and counted, and went to their hosts
+-- commands were read and counted, and went to their hosts (own)
 pub record ReadsCommands (takes : Request → Bool)
     (count : ℕ) (rings : List Requests) (left : Option (List ℕ))
     (count' : ℕ) (rings' : List Requests) (left' : Option (List ℕ)) : Type 0 where
@@ -41,7 +41,7 @@ pub record ReadsCommands (takes : Request → Bool)
   pub counted : count' ≡ count_on count commands
   pub dealt : Deals rings rings' commands
 
--- a command was read, and went to its host; or the reading ends
+-- a command was read, and went to its host; or the reading ends (own)
 abbrev pub ReadsNext : (Request → Bool) → ℕ → List Requests → Option (List ℕ) → ℕ → List Requests
     → Option (List ℕ) → Result (Option Break) WireFault → Type 0
 ReadsNext takes count rings left count' rings' left' (Ok None) =
@@ -51,7 +51,7 @@ ReadsNext takes count rings left count' rings' left' (Ok (Some found)) =
 ReadsNext takes count rings left count' rings' left' (Err fault) =
     ReadingEnds takes count left count' left' (Err fault) × (rings' ≡ rings)
 
--- commands were read, and went to their hosts, and the reading ended behind them
+-- commands were read, and went to their hosts, and the reading ended behind them (own)
 pub record ReadsRound (takes : Request → Bool)
     (count : ℕ) (rings : List Requests) (left : Option (List ℕ))
     (count' : ℕ) (rings' : List Requests) (left' : Option (List ℕ))

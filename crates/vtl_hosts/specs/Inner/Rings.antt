@@ -10,14 +10,14 @@ use Rattle.vtl_wire.specs.declared.answers.Answer.{Answer}
 use Rattle.vtl_wire.specs.declared.requests.Request.{Request}
 use Rattle.vtl_hosts.specs.Rounds.{Given, of_host, of_place}
 
--- the reader's end of the ring of a host's requests, and the writer's end of that of its answers
+-- the reader's end of the ring of a host's requests, and the writer's end of that of its answers (own)
 abbrev pub Requests : Type 0
 Requests = Producer Request Global AnyItems
 
 abbrev pub Answers : Type 0
 Answers = Consumer Answer Global AnyItems
 
--- the rings are the same, and into each these commands of its host were put, in their order
+-- the rings are the same, and into each these commands of its host were put, in their order (own)
 pub record Deals (old new : List Requests) (commands : List Request) : Type 0 where
   pub long : length new ≡ length old
   pub same :
@@ -26,7 +26,7 @@ pub record Deals (old new : List Requests) (commands : List Request) : Type 0 wh
       (k : ℕ) (d : Requests) → k < length old
       → sent (slice_index_or new k d) ≡ sent (slice_index_or old k d) ++ of_host (k + 1) commands
 
--- the rings are the same, and from each these answers were taken, in their order
+-- the rings are the same, and from each these answers were taken, in their order (own)
 pub record Takes (old new : List Answers) (given : List Given) : Type 0 where
   pub long : length new ≡ length old
   pub same :

@@ -6,32 +6,32 @@ use Rattle.vtl_wire.specs.declared.answers.Answer.{Answer}
 use Rattle.vtl_wire.specs.declared.faults.WireFault.{WireFault}
 use Rattle.vtl_wire.specs.declared.faults.WireFault.TheVariants.{BadFrame, ReadFault, WriteFault, NoMemory}
 use Rattle.vtl_wire.specs.declared.requests.Request.{Request}
-use Rattle.vtl_wire.specs.Answers.{spell_answer}
 use Rattle.vtl_wire.specs.Requests.{IsRequest, spell_requests}
-use Rattle.vtl_wire.specs.Writes.{AppendsFront}
-use Rattle.vtl_hosts.specs.Turns.{AnswersTurns, EndsPart, EndsWhole, HostsState, Turn, count_on, requests_of, spell_turns}
+use Rattle.vtl_wire.specs.Serving.{WritesAnswer, WritesFront}
+use Rattle.vtl_hosts.specs.Turns.{AnswersTurns, EndsPart, EndsWhole, FitsTurn, HostsState, Turn, count_on, requests_of, spell_turns}
 
--- a move or an inventory was answered, and this is written of the answer
-abbrev pub AnswersAndWrites : {G : Type 0} → (Option (List ℕ) → Option (List ℕ) → List ℕ → Type 0)
+-- a move or an inventory was answered, and this is written of the answer (own)
+abbrev pub AnswersAndWrites : {G : Type 0} → (Option (List ℕ) → Option (List ℕ) → Answer → Type 0)
     → (G → Request → Answer → G → Type 0) → G → Request → Option (List ℕ) → G → Option (List ℕ) → Type 0
 AnswersAndWrites writes answers old request before new now =
-    (answer : Answer) × answers old request answer new × writes before now (spell_answer answer)
+    (answer : Answer) × answers old request answer new × writes before now answer
 
 -- a move or an inventory was answered, and its answer written; or a write failed, or there was no memory, and nothing
--- was done
-abbrev pub AnswersAlone : {G : Type 0} → (G → Request → Answer → G → Type 0) → G → Request → Option (List ℕ) → G
-    → Option (List ℕ) → Result (Unit {0}) WireFault → Type 0
-AnswersAlone answers old request before new now (Ok done) =
-    AnswersAndWrites Appends answers old request before new now
-AnswersAlone answers old request before new now (Err (BadFrame number)) = ⊥
-AnswersAlone answers old request before new now (Err ReadFault) = ⊥
-AnswersAlone answers old request before new now (Err WriteFault) =
-    AnswersAndWrites AppendsFront answers old request before new now
-AnswersAlone answers old request before new now (Err NoMemory) = (new ≡ old) × (now ≡ before)
+-- was done (own)
+abbrev pub AnswersAlone : {G : Type 0} → (G → Request → Answer → G → Type 0) → (G → Request → Type 0) → G → Request
+    → Option (List ℕ) → G → Option (List ℕ) → Result (Unit {0}) WireFault → Type 0
+AnswersAlone answers lacks old request before new now (Ok done) =
+    AnswersAndWrites WritesAnswer answers old request before new now
+AnswersAlone answers lacks old request before new now (Err (BadFrame number)) = ⊥
+AnswersAlone answers lacks old request before new now (Err ReadFault) = ⊥
+AnswersAlone answers lacks old request before new now (Err WriteFault) =
+    AnswersAndWrites WritesFront answers old request before new now
+AnswersAlone answers lacks old request before new now (Err NoMemory) =
+    lacks old request × (new ≡ old) × (now ≡ before)
 
 module _ {S G : Type 0} (serves : S → Request → Answer → S → Type 0) (takes : G → Request → Bool)
-    (answers : G → Request → Answer → G → Type 0) where
-  -- turns were read, answered and written, and their frames counted
+    (answers : G → Request → Answer → G → Type 0) (lacks : G → Request → Type 0) where
+  -- turns were read, answered and written, and their frames counted (own)
   pub record ServesTurns (count : ℕ) (old : HostsState S G) (left before : Option (List ℕ)) (count' : ℕ)
       (new : HostsState S G) (left' now : Option (List ℕ)) : Type 0 where
     pub turns : List Turn
@@ -39,16 +39,17 @@ module _ {S G : Type 0} (serves : S → Request → Answer → S → Type 0) (ta
     pub read : Consumes left left' (spell_requests (requests_of turns))
     pub spelled : All IsRequest (requests_of turns)
     pub written : Appends before now (spell_turns turns)
+    pub fit : All FitsTurn turns
     pub counted : count' ≡ count_on count (requests_of turns)
 
-  -- the serving ends behind the last turn
+  -- the serving ends behind the last turn (own)
   abbrev pub EndsServing : ℕ → HostsState S G → Option (List ℕ) → Option (List ℕ) → HostsState S G
       → Option (List ℕ) → Option (List ℕ) → Result (Unit {0}) WireFault → Type 0
   EndsServing count old left before new left' now result =
-      EndsWhole serves takes answers count old left before new left' now result
+      EndsWhole serves takes answers lacks count old left before new left' now result
       ⊎ EndsPart serves takes answers old left before new left' now result
 
-  -- one more turn, or the serving ends
+  -- one more turn, or the serving ends (own)
   abbrev pub ServesNext : ℕ → HostsState S G → Option (List ℕ) → Option (List ℕ) → ℕ → HostsState S G
       → Option (List ℕ) → Option (List ℕ) → Result Bool WireFault → Type 0
   ServesNext count old left before count' new left' now (Ok true) =

@@ -1,25 +1,27 @@
 -- The thread that writes.
 use Rattle.std.specs.Prelude.{◌≡◌, ℕ, Bool, true, false, List, [], ◌∷◌, ◌++◌, Option}
-use Rattle.std.specs.Io.KnownBytes.{Appends}
 use Rattle.rtrb.specs.Ring.{SameConsumer, received}
 use Rattle.vtl_wire.specs.declared.answers.Answer.{Answer}
-use Rattle.vtl_wire.specs.Answers.{spell_answer}
-use Rattle.vtl_wire.specs.Writes.{AppendsFront}
-use Rattle.vtl_hosts.specs.Rounds.{Given, spell_given}
+use Rattle.vtl_wire.specs.Serving.{WritesAnswer as WritesOne, WritesFront}
+use Rattle.vtl_hosts.specs.Rounds.{Given, WritesCut, WritesWhole}
 use Rattle.vtl_hosts.specs.Inner.Rings.{Answers, Takes}
 
--- These bytes were written; or a beginning of them, and a write failed. Once one failed, nothing is written.
-abbrev pub WritesBytes : Option (List ℕ) → Bool → Option (List ℕ) → Bool → List ℕ → Type 0
-WritesBytes before false now false bytes = Appends before now bytes
-WritesBytes before false now true bytes = AppendsFront before now bytes
-WritesBytes before true now true bytes = now ≡ before
-WritesBytes before true now false bytes = ⊥
-
--- so an answer was written
+-- An answer was written, which a frame holds; or a beginning of it, and a write failed. Once one failed, nothing is
+-- written (own).
 abbrev pub WritesAnswer : Option (List ℕ) → Bool → Option (List ℕ) → Bool → Answer → Type 0
-WritesAnswer before failed now failed' answer = WritesBytes before failed now failed' (spell_answer answer)
+WritesAnswer before false now false answer = WritesOne before now answer
+WritesAnswer before false now true answer = WritesFront before now answer
+WritesAnswer before true now true answer = now ≡ before
+WritesAnswer before true now false answer = ⊥
 
--- an answer was taken from a ring, and written so; or there was none
+-- answers were written, one after the other (own)
+abbrev pub WritesGiven : Option (List ℕ) → Bool → Option (List ℕ) → Bool → List Given → Type 0
+WritesGiven before false now false given = WritesWhole before now given
+WritesGiven before false now true given = WritesCut before now given
+WritesGiven before true now true given = now ≡ before
+WritesGiven before true now false given = ⊥
+
+-- an answer was taken from a ring and written; or there was none (own)
 abbrev pub WritesNext :
     Answers → Option (List ℕ) → Bool → Answers → Option (List ℕ) → Bool → Bool → Type 0
 WritesNext old before failed new now failed' true =
@@ -28,9 +30,9 @@ WritesNext old before failed new now failed' true =
 WritesNext old before failed new now failed' false =
     SameConsumer old new × (received new ≡ received old) × (now ≡ before) × (failed' ≡ failed)
 
--- answers were taken from the rings, and written so, one after the other
+-- answers were taken from the rings and written, one after the other (own)
 pub record WritesAll (old : List Answers) (before : Option (List ℕ)) (failed : Bool)
     (new : List Answers) (now : Option (List ℕ)) (failed' : Bool) : Type 0 where
   pub given : List Given
   pub taken : Takes old new given
-  pub written : WritesBytes before failed now failed' (spell_given given)
+  pub written : WritesGiven before failed now failed' given

@@ -25,7 +25,7 @@ header_by bytes (Some kind) = if big_number 4 (drop 12 bytes) == 0 then Some (he
 abbrev pub header_at : List ℕ → Option Header
 header_at bytes = header_by bytes (kind_with (slice_index bytes 0))
 
--- the frame of a header that has these behind it (own)
+-- the frame of a header and what follows it (own)
 abbrev pub frame_with : Header → List ℕ → List ℕ → Frame
 frame_with header front payload = record {
   kind = header.kind;

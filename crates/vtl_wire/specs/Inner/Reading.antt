@@ -1,4 +1,4 @@
--- Bytes that are read in so many as are wanted (own).
+-- Reading a given number of bytes (own).
 use Rattle.std.specs.Prelude.{◌≡◌, ◌≢◌, ◌⊎◌, ℕ, ◌<◌, ◌+◌, Bool, true, false, List, [], ◌++◌, length, Option, None, Some, Result, Ok, Err}
 use Rattle.std.specs.Io.KnownBytes.{Consumes, IsAtEnd}
 use Rattle.vtl_base.specs.declared.bytes.TheConstants.{INLINE_BYTES}
@@ -19,14 +19,14 @@ count_read (Ok (Some count)) = count
 count_read (Ok None) = 0
 count_read (Err fault) = 0
 
--- the input ended within so many bytes (own)
+-- the input ended within this many bytes (own)
 pub record EndsWithin (left left' : Option (List ℕ)) (count : ℕ) : Type 0 where
   pub read : List ℕ
   pub taken : Consumes left left' read
   pub short : length read < count
   pub ended : IsAtEnd left'
 
--- fewer than so many bytes were read (own)
+-- fewer than this many bytes were read (own)
 abbrev pub TakesFewer : Option (List ℕ) → Option (List ℕ) → ℕ → Type 0
 TakesFewer left left' count = (read : List ℕ) × (length read < count) × Consumes left left' read
 
@@ -35,20 +35,20 @@ abbrev pub ReadsWhole : Option (List ℕ) → Option (List ℕ) → List ℕ →
 ReadsWhole left left' bytes true = Consumes left left' bytes
 ReadsWhole left left' bytes false = EndsWithin left left' (length bytes)
 
--- why bytes are not read: a read failed before the last of them; or there is no memory for so many, and none of them is
--- read (own)
+-- why bytes are not read: a read failed before the last of them; or there is no memory for this many, and none of them
+-- is read (own)
 abbrev pub MissesBytes : Option (List ℕ) → Option (List ℕ) → ℕ → WireFault → Type 0
 MissesBytes left left' count (BadFrame number) = ⊥
 MissesBytes left left' count ReadFault = TakesFewer left left' count
 MissesBytes left left' count WriteFault = ⊥
 MissesBytes left left' count NoMemory = (INLINE_BYTES < count) × Consumes left left' []
 
--- so many bytes were read, or the input ended within them (own)
+-- this many bytes were read, or the input ended within them (own)
 abbrev pub ReadsBytes : Option (List ℕ) → Option (List ℕ) → ℕ → Option (List ℕ) → Type 0
 ReadsBytes left left' count (Some bytes) = (length bytes ≡ count) × Consumes left left' bytes
 ReadsBytes left left' count None = EndsWithin left left' count
 
--- the two parts behind a header were read, or the input ended within them (own)
+-- the two parts after a header were read, or the input ended within them (own)
 abbrev pub ReadsParts : Option (List ℕ) → Option (List ℕ) → ℕ → ℕ → Option Parts → Type 0
 ReadsParts left left' front payload (Some parts) =
     (length parts.front ≡ front) × (length parts.payload ≡ payload)
@@ -83,7 +83,7 @@ FindsRequest left left' (Frame request) = ReadsRequest left left' (Some request)
 FindsRequest left left' Ended = ReadsRequest left left' None
 FindsRequest left left' Refused = RefusesRequest left left'
 
--- why nothing is found out: a read failed before a whole request was read, or memory ran out (own)
+-- why no frame is found: a read failed before a whole request was read, or memory ran out (own)
 abbrev pub MissesFrame : Option (List ℕ) → Option (List ℕ) → WireFault → Type 0
 MissesFrame left left' (BadFrame number) = ⊥
 MissesFrame left left' ReadFault = TakesSome left left'

@@ -16,7 +16,7 @@ command_head header =
     && (nat_le header.front MOST_CDB && nat_le header.payload MOST_DATA))
     then Some (Command header.host header.detail header.tag) else None
 
--- no host, no drive and no data, and so many bytes first (own)
+-- no host, no drive and no data, and this many bytes first (own)
 abbrev pub is_plain : Header → ℕ → Bool
 is_plain header front =
     header.host == 0 && (header.detail == 0 && (header.front == front && header.payload == 0))

@@ -12,7 +12,7 @@ returns-in_err-round-clause-serves g c =
     record { hosts = servers_of c.args.ends.now.hosts.items; desk = c.args.desk.now } in
     let exit = err_from_is_err_and c.from_residual.result c.from_residual.ensures.1 in
     rw (exit.1, exit.2)
-    (turn_missed g.S.Host.answers g.G.Desk.is_taken g.G.Desk.answers c.args.frames.now old _ _
+    (turn_missed g.S.Host.answers g.G.Desk.is_taken g.G.Desk.answers g.G.Desk.lacks c.args.frames.now old _ _
     (servers_of c.serve_round-round.new.ends.hosts.items) c.serve_round-round.new.frames _ _ c.in_err-round.field-0.0
     (rw (c.in_err-round.was, whole) at c.serve_round-round.ensures.runs))
 
@@ -26,7 +26,7 @@ returns-in_err-serve_alone-in-Next-clause-serves g c =
     err_from_is_err_and c.from_residual-in_err-serve_alone-in-Next.result
     c.from_residual-in_err-serve_alone-in-Next.ensures.1 in
     rw (exit.1, exit.2)
-    (turn_cut g.S.Host.answers g.G.Desk.is_taken g.G.Desk.answers c.args.frames.now old _ _
+    (turn_cut g.S.Host.answers g.G.Desk.is_taken g.G.Desk.answers g.G.Desk.lacks c.args.frames.now old _ _
     (servers_of c.serve_round-round.new.ends.hosts.items) c.serve_round-round.new.frames _ _ _ c.in-Next.request
     c.serve_alone.new.desk
     (rw (c.in_ok-round.was, c.in-Next.is, whole) at c.serve_round-round.ensures.runs)
@@ -37,7 +37,7 @@ returns-in-Ended-clause-serves g c =
     let whole : c.serve_round-round.result.whole ≡ true = is_so _ c.if-not-round.false in
     let old : HostsState g.row.S.Denot g.row.G.Denot =
     record { hosts = servers_of c.args.ends.now.hosts.items; desk = c.args.desk.now } in
-    turn_ended g.S.Host.answers g.G.Desk.is_taken g.G.Desk.answers c.args.frames.now old _ _
+    turn_ended g.S.Host.answers g.G.Desk.is_taken g.G.Desk.answers g.G.Desk.lacks c.args.frames.now old _ _
     (servers_of c.serve_round-round.new.ends.hosts.items) c.serve_round-round.new.frames _ _
     (rw (c.in_ok-round.was, c.in-Ended.is, whole) at c.serve_round-round.ensures.runs)
 
@@ -46,7 +46,7 @@ returns-in-Stopped-clause-serves g c =
     let whole : c.serve_round-round.result.whole ≡ true = is_so _ c.if-not-round.false in
     let old : HostsState g.row.S.Denot g.row.G.Denot =
     record { hosts = servers_of c.args.ends.now.hosts.items; desk = c.args.desk.now } in
-    turn_stopped g.S.Host.answers g.G.Desk.is_taken g.G.Desk.answers c.args.frames.now old _ _
+    turn_stopped g.S.Host.answers g.G.Desk.is_taken g.G.Desk.answers g.G.Desk.lacks c.args.frames.now old _ _
     (servers_of c.serve_round-round.new.ends.hosts.items) c.serve_round-round.new.frames _ _
     (rw (c.in_ok-round.was, c.in-Stopped.is, whole) at c.serve_round-round.ensures.runs)
 
@@ -56,7 +56,7 @@ returns-in_ok-serve_alone-in-Next-clause-serves g c =
     let whole : c.serve_round-round.result.whole ≡ true = is_so _ c.if-not-round.false in
     let old : HostsState g.row.S.Denot g.row.G.Denot =
     record { hosts = servers_of c.args.ends.now.hosts.items; desk = c.args.desk.now } in
-    turn_done g.S.Host.answers g.G.Desk.is_taken g.G.Desk.answers c.args.frames.now old _ _
+    turn_done g.S.Host.answers g.G.Desk.is_taken g.G.Desk.answers g.G.Desk.lacks c.args.frames.now old _ _
     (servers_of c.serve_round-round.new.ends.hosts.items) c.serve_round-round.new.frames _ _ _ c.in-Next.request
     c.serve_alone.new.desk
     (rw (c.in_ok-round.was, c.in-Next.is, whole) at c.serve_round-round.ensures.runs)
@@ -67,6 +67,6 @@ returns-in-Again-clause-serves g c =
     let whole : c.serve_round-round.result.whole ≡ true = is_so _ c.if-not-round.false in
     let old : HostsState g.row.S.Denot g.row.G.Denot =
     record { hosts = servers_of c.args.ends.now.hosts.items; desk = c.args.desk.now } in
-    turn_again g.S.Host.answers g.G.Desk.is_taken g.G.Desk.answers c.args.frames.now old _ _
+    turn_again g.S.Host.answers g.G.Desk.is_taken g.G.Desk.answers g.G.Desk.lacks c.args.frames.now old _ _
     (servers_of c.serve_round-round.new.ends.hosts.items) c.serve_round-round.new.frames _ _
     (rw (c.in_ok-round.was, c.in-Again.is, whole) at c.serve_round-round.ensures.runs)

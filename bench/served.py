@@ -1,0 +1,246 @@
+#!/usr/bin/env python3
+"""Speed of `vtl serve`, each beside a plain peer: TEST UNIT READY there and back beside a process that only exchanges
+the frames (peer.c, which takes `cc`); WRITE of 256 KiB blocks over files, a filemark each 64 MiB, beside the raw file
+with as many syncs (syncs.c counts them); READ of them beside a raw read through a pipe; two hosts at two drives beside
+one at one, also where each sync takes 20 milliseconds more, and two raw files beside one; and the memory at rest,
+without a host and with 64 that have spoken.
+
+Of five times, taken in turns, the best and the median. --program PATH: another program than the proved one. The files
+lie in a new folder beside the repository's own, or in the one that a word names."""
+import argparse
+import os
+import statistics
+import struct
+import subprocess
+import sys
+import tempfile
+import threading
+import time
+
+TOP = os.path.dirname(os.path.dirname(os.path.abspath(__file__)))
+PROVED = os.path.join(TOP, "crates", "vtl", "out", "vtl")
+HEADER = struct.Struct(">BBBBII4x")
+READY, REWIND, MARK = bytes(6), bytes.fromhex("010000000000"), bytes.fromhex("100000000100")
+BLOCK, BLOCKS, GROUP, TRIPS, ROUNDS, HOSTS = 262_144, 2_048, 256, 20_000, 5, 64
+# a slow sync, in milliseconds, and so many blocks are written where each is
+SLOW, FEWER = 20, 512
+WRITE, READ = b"\x0a\x00\x04\x00\x00\x00", b"\x08\x00\x04\x00\x00\x00"
+DATA = os.urandom(BLOCK)
+
+
+class Peer:
+    """A process at the other end of two pipes. Answers are read to their end, and GOOD has to be their status."""
+
+    def __init__(self, words, folder, **environment):
+        self.process = subprocess.Popen(words, cwd=folder, stdin=subprocess.PIPE, stdout=subprocess.PIPE,
+                                        env={**os.environ, **environment})
+        self.answers = self.process.stdout
+
+    def send(self, block, data=b"", host=1, drive=1):
+        self.process.stdin.write(HEADER.pack(1, host, drive, len(block), len(data), 0) + block + data)
+
+    def flush(self):
+        self.process.stdin.flush()
+
+    def answer(self):
+        _, _, status, sense, length, _ = HEADER.unpack(self.answers.read(HEADER.size))
+        self.answers.read(sense)
+        return status, self.answers.read(length)
+
+    def exchange(self, block, data=b"", host=1, drive=1):
+        self.send(block, data, host, drive)
+        self.flush()
+        return self.answer()
+
+    def good(self):
+        """The host of the next answer."""
+        _, host, status, sense, length, _ = HEADER.unpack(self.answers.read(HEADER.size))
+        if status:
+            sys.exit(f"status {status:02x}h in the place of GOOD: {self.answers.read(sense).hex()}")
+        self.answers.read(length)
+        return host
+
+    def memory(self):
+        with open(f"/proc/{self.process.pid}/status", encoding="utf-8") as file:
+            return next(int(line.split()[1]) * 1024 for line in file if line.startswith("VmRSS"))
+
+    def end(self):
+        self.process.stdin.close()
+        self.answers.close()
+        if self.process.wait():
+            sys.exit(f"status {self.process.returncode}")
+
+
+def compiled(folder, source, *flags):
+    path = os.path.join(folder, source.removesuffix(".c"))
+    path += ".so" if flags else ""
+    subprocess.run(["cc", "-O2", *flags, "-o", path, os.path.join(TOP, "bench", source)], check=True)
+    return path
+
+
+def timed(work):
+    start = time.perf_counter()
+    work()
+    return time.perf_counter() - start
+
+
+def best(*works):
+    """The least and the median of five times of each work, taken in turns."""
+    rounds = [[work() for work in works] for _ in range(ROUNDS)]
+    return [(min(times), statistics.median(times)) for times in zip(*rounds)]
+
+
+def ratio(one, other):
+    return f"{one[0] / other[0]:.2f} ({one[1] / other[1]:.2f})"
+
+
+def twice(one, two):
+    return f"{2 * one[0] / two[0]:.2f} ({2 * one[1] / two[1]:.2f})"
+
+
+class Bench:
+    def __init__(self, program, folder):
+        self.program, self.folder = program, folder
+        self.shim = {"LD_PRELOAD": compiled(folder, "syncs.c", "-shared", "-fPIC"),
+                     "SYNCS_TOLD": os.path.join(folder, "syncs")}
+
+    def library(self, drives, *flags, **environment):
+        """A new library of so many drives over files, served."""
+        for name in os.listdir(self.folder):
+            if ".tape" in name or name.endswith(".pr"):
+                os.remove(os.path.join(self.folder, name))
+        tapes = ", ".join(f'{{ barcode = "T{at}", file = "{at}.tape", capacities = [1_099_511_627_776], home = {at} }}'
+                          for at in range(1, drives + 1))
+        stores = ", ".join(f'{{ number = {at}, reservations = "{at}.pr" }}' for at in range(1, drives + 1))
+        with open(os.path.join(self.folder, "lib.toml"), "w", encoding="utf-8") as file:
+            file.write(f"cartridge = [{tapes}]\ndrive = [{stores}]\n")
+        subprocess.run([self.program, "create", "--config", "lib.toml"], cwd=self.folder, check=True,
+                       stdout=subprocess.DEVNULL)
+        return Peer([self.program, "serve", *flags, "--config", "lib.toml"], self.folder, **environment)
+
+    def trips(self, peer):
+        peer.exchange(READY)
+        seconds = timed(lambda: [peer.exchange(READY) for _ in range(TRIPS)])
+        peer.end()
+        return seconds
+
+    def writes(self, drives=1, blocks=BLOCKS, **environment):
+        """So many blocks to each of these drives, by a host each, a filemark each 64 MiB; two commands of a host are
+        not answered at a time."""
+        peer = self.library(drives, **environment)
+        for at in range(1, drives + 1):
+            peer.exchange(READY, b"", at, at)
+        groups = [(WRITE, DATA)] * GROUP + [(MARK, b"")]
+        orders = {at: iter(groups * (blocks // GROUP)) for at in range(1, drives + 1)}
+
+        def give(host):
+            order = next(orders[host], None)
+            if order:
+                peer.send(*order, host, host)
+                peer.flush()
+            return 1 if order else 0
+
+        def work():
+            waiting = sum(give(host) for _ in range(2) for host in orders)
+            while waiting:
+                waiting += give(peer.good()) - 1
+
+        seconds = timed(work)
+        return peer, seconds
+
+    def written(self, drives=1, blocks=BLOCKS, **environment):
+        peer, seconds = self.writes(drives, blocks, **environment)
+        peer.end()
+        return seconds
+
+    def slowly(self, drives):
+        return self.written(drives, FEWER, **self.shim, SYNCS_MS=str(SLOW))
+
+    def syncs(self):
+        """How many syncs the writes of one host take."""
+        self.written(**self.shim)
+        with open(self.shim["SYNCS_TOLD"], encoding="ascii") as file:
+            return int(file.read())
+
+    def raw_file(self, number, syncs):
+        file = os.open(os.path.join(self.folder, f"raw{number}.tape"), os.O_CREAT | os.O_WRONLY | os.O_TRUNC)
+        for block in range(BLOCKS):
+            os.write(file, DATA)
+            for _ in range((block + 1) * syncs // BLOCKS - block * syncs // BLOCKS):
+                os.fsync(file)
+        os.close(file)
+
+    def raw(self, syncs, files=1):
+        """So many raw files, each with as many blocks and syncs, at once."""
+        threads = [threading.Thread(target=self.raw_file, args=(number, syncs)) for number in range(1, files + 1)]
+
+        def work():
+            for thread in threads:
+                thread.start()
+            for thread in threads:
+                thread.join()
+
+        return timed(work)
+
+    def reads(self):
+        """The blocks of a group and its filemark, over and over, so that they are cached."""
+        peer, _ = self.writes()
+        peer.exchange(REWIND)
+
+        def work():
+            for number in range(BLOCKS):
+                status, data = peer.exchange(READ)
+                if status == 0x02:
+                    status, data = peer.exchange(READ)
+                if len(data) != BLOCK:
+                    sys.exit(f"block {number} has {len(data)} bytes")
+
+        seconds = timed(work)
+        peer.end()
+        return seconds
+
+    def raw_reads(self):
+        self.raw(1)
+        with subprocess.Popen(["cat", "raw1.tape"], cwd=self.folder, stdout=subprocess.PIPE) as cat:
+            return timed(lambda: [cat.stdout.read(BLOCK) for _ in range(BLOCKS)])
+
+    def rest(self):
+        peer = self.library(1, "--memory")
+        peer.exchange(READY)
+        before = peer.memory()
+        for host in range(2, HOSTS + 1):
+            peer.exchange(READY, b"", host)
+        after = peer.memory()
+        peer.end()
+        return before, (after - before) / (HOSTS - 1)
+
+
+def main():
+    parser = argparse.ArgumentParser()
+    parser.add_argument("folder", nargs="?")
+    parser.add_argument("--program", default=PROVED)
+    given = parser.parse_args()
+    with tempfile.TemporaryDirectory(prefix="vtl-served-", dir=given.folder or os.path.dirname(TOP)) as folder:
+        peer = compiled(folder, "peer.c")
+        bench = Bench(os.path.abspath(given.program), folder)
+        served, plain = best(lambda: bench.trips(bench.library(1, "--memory")),
+                             lambda: bench.trips(Peer([peer], folder)))
+        print(f"TEST UNIT READY there and back: {served[0] / TRIPS * 1e6:.1f} us, {ratio(served, plain)} of two "
+              "processes that exchange the frames", flush=True)
+        syncs = bench.syncs()
+        one, raw, two, both = best(bench.written, lambda: bench.raw(syncs), lambda: bench.written(2),
+                                   lambda: bench.raw(syncs, 2))
+        print(f"WRITE: {BLOCKS * BLOCK / one[0] / 1e6:,.0f} MB/s, {ratio(raw, one)} of the raw file with {syncs} syncs",
+              flush=True)
+        slow, slow_two = best(lambda: bench.slowly(1), lambda: bench.slowly(2))
+        print(f"two hosts at two drives get {twice(one, two)} times as much done as one, and two raw files "
+              f"{twice(raw, both)}; where a sync takes {SLOW} ms more {twice(slow, slow_two)}", flush=True)
+        cached, piped = best(bench.reads, bench.raw_reads)
+        print(f"READ, cached: {BLOCKS * BLOCK / cached[0] / 1e6:,.0f} MB/s, {ratio(piped, cached)} of a raw read "
+              "through a pipe", flush=True)
+        rest, host = bench.rest()
+        print(f"at rest: {rest / 1024:,.0f} KiB, and {host / 1024:.1f} KiB more for each host that has spoken")
+
+
+if __name__ == "__main__":
+    main()
