@@ -1,10 +1,15 @@
 //! Which line of a script each answer is of, and what it means.
+ghost use Rattle.std.specs.Prelude.{◌≡◌, IfSome, OnOk};
+ghost use Rattle.vtl_script.specs.Lines.{line_fields, parse_fields};
+ghost use Rattle.script_reasons.specs.Drives.{has};
+ghost use Rattle.answer_notes.specs.Causes.{counted_of, IsCause, IsMeaning};
+ghost use Rattle.answer_notes.specs.Queues.{with_parsed};
+
 use crate::queues::{Asked, Queue};
 use crate::senses::sense_of;
 use script_reasons::Drives;
 use std::alloc::{AllocError, Global};
-use std::cell::Cell;
-use vtl_base::DriveNo;
+use std::sync::Mutex;
 use vtl_explain::answer_lines::Cause;
 use vtl_explain::{AnswerLine, Counted, SenseText};
 use vtl_script::lines::{ParsedLine, parse};
@@ -13,7 +18,9 @@ use vtl_script::lines::{ParsedLine, parse};
 const DIGITS: usize = 36;
 
 // What INFORMATION counts in the answer to a command block (SSC-4).
-fn counted_in(block: &[u8]) -> Counted {
+fn counted_in(block: &[u8]) -> Counted
+    ensures { result ≡ counted_of block.now }
+{
     match block {
         [0x10, ..] => Counted::Filemarks,
         [0x11, 0x01, ..] => Counted::Filemarks,
@@ -22,19 +29,10 @@ fn counted_in(block: &[u8]) -> Counted {
     }
 }
 
-// Every drive that there may be.
-fn every_drive() -> Drives {
-    let mut drives = Drives::none();
-    for number in 1..17u8 {
-        if let Some(drive) = DriveNo::new(number) {
-            drives = drives.with(drive);
-        }
-    }
-    drives
-}
-
 // What an answer that is not GOOD reports.
-fn cause_of(answer: &[u8], counted: Counted) -> Option<Cause> {
+fn cause_of(answer: &[u8], counted: Counted) -> Option<Cause>
+    ensures { IfSome result (IsCause answer.now counted) }
+{
     if answer == b"CONFLICT".as_slice() {
         return Some(Cause::Conflict);
     }
@@ -49,24 +47,53 @@ fn cause_of(answer: &[u8], counted: Counted) -> Option<Cause> {
     }
 }
 
+// Notes a line that was read, with its number.
+fn note_line(
+    alloc: Global,
+    drives: &Drives,
+    queue: &mut Queue,
+    number: u64,
+    line: &[u8],
+) -> Result<(), AllocError>
+    ensures { OnOk result (queue.new ≡
+        with_parsed number (parse_fields (has drives.now) (line_fields line.now)) queue.old) }
+{
+    match parse(alloc, drives, line) {
+        Ok(ParsedLine::Command(command)) => queue.add(Asked {
+            line: number,
+            host: command.host.number(),
+            counted: counted_in(command.cdb.as_slice()),
+        }),
+        Ok(ParsedLine::Move { .. }) => queue.add_move(Asked {
+            line: number,
+            host: 0,
+            counted: Counted::Bytes,
+        }),
+        Ok(ParsedLine::PhaseEnd) => queue.end_phase(),
+        Ok(ParsedLine::Nothing) | Ok(ParsedLine::Refused) => Ok(()),
+        Err(_) => Err(AllocError),
+    }
+}
+
 /// The lines of a script that are to be answered. What reads the script adds them, and what writes the answers takes
-/// them. Where memory runs out there are none any more.
+/// them, one call at a time: a call that is made beside another finds no lines, and changes none. Where memory runs out
+/// there are none any more.
 #[derive(Drop)]
 pub struct Answers {
     alloc: Global,
     drives: Drives,
     is_on: bool,
-    queue: Cell<Option<Queue>>,
+    queue: Mutex<Option<Queue>>,
 }
 
 impl Answers {
-    /// No lines yet; where `is_on` is false none are added.
+    /// No lines yet. Where `is_on` is false, none are ever added.
     pub fn new(alloc: Global, is_on: bool) -> Self {
         Answers {
             alloc,
-            drives: every_drive(),
+            drives: Drives::all(),
             is_on,
-            queue: Cell::new(if is_on { Some(Queue::new(alloc)) } else { None }),
+            queue: Mutex::new(if is_on { Some(Queue::new(alloc)) } else { None }),
         }
     }
 
@@ -75,47 +102,44 @@ impl Answers {
         self.is_on
     }
 
-    /// A line of the script was read, of this number.
+    // The lines, which are given away. There are none while another call has them.
+    fn taken(&self) -> Option<Queue> {
+        let mut held = self.queue.try_lock()?;
+        held.take()
+    }
+
+    // Puts back lines that were taken out.
+    fn put(&self, queue: Queue) {
+        if let Some(mut held) = self.queue.try_lock() {
+            *held = Some(queue);
+        }
+    }
+
+    /// Adds a line of the script, with its number.
     pub fn add(&self, number: u64, line: &[u8]) {
-        if let Some(mut queue) = self.queue.take() {
-            if self.added(&mut queue, number, line).is_ok() {
-                self.queue.set(Some(queue));
+        if let Some(mut queue) = self.taken() {
+            if note_line(self.alloc, &self.drives, &mut queue, number, line).is_ok() {
+                self.put(queue);
             }
         }
     }
 
-    fn added(&self, queue: &mut Queue, number: u64, line: &[u8]) -> Result<(), AllocError> {
-        match parse(self.alloc, &self.drives, line) {
-            Ok(ParsedLine::Command(command)) => queue.add(Asked {
-                line: number,
-                host: command.host.number(),
-                counted: counted_in(command.cdb.as_slice()),
-            }),
-            Ok(ParsedLine::Move { .. }) => queue.add_move(Asked {
-                line: number,
-                host: 0,
-                counted: Counted::Bytes,
-            }),
-            Ok(ParsedLine::PhaseEnd) => queue.end_phase(),
-            Ok(ParsedLine::Nothing) | Ok(ParsedLine::Refused) => Ok(()),
-            Err(_) => Err(AllocError),
-        }
-    }
-
-    /// The script has ended.
+    /// Notes that the script has ended.
     pub fn end(&self) {
-        if let Some(mut queue) = self.queue.take() {
+        if let Some(mut queue) = self.taken() {
             if queue.end_phase().is_ok() {
-                self.queue.set(Some(queue));
+                self.put(queue);
             }
         }
     }
 
-    /// What the next answer means, of which these are the first bytes, where it is not GOOD.
-    pub fn next(&self, answer: &[u8]) -> Option<AnswerLine> {
-        let mut queue = self.queue.take()?;
+    /// What the next answer means, given its first bytes. None where it is GOOD, and where its meaning is not known.
+    pub fn next(&self, answer: &[u8]) -> Option<AnswerLine>
+        ensures { IfSome result (IsMeaning answer.now) }
+    {
+        let mut queue = self.taken()?;
         let asked = queue.next();
-        self.queue.set(Some(queue));
+        self.put(queue);
         let asked = asked?;
         Some(AnswerLine {
             line: asked.line,

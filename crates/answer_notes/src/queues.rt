@@ -1,8 +1,12 @@
 //! The lines of a script whose answers are to come, in the order of the answers.
+ghost use Rattle.std.specs.Prelude.{◌≡◌, ◌≤◌, ◌++◌, length, OnOk, OnErr, MatchOption};
+ghost use Rattle.answer_notes.specs.Queues.{lines_of_host, asked_in_turn, no_lines, with_line, with_end, with_move, IsNext, IsNone};
+
 use std::alloc::{AllocError, Global};
+use std::marker::Model;
 use vtl_explain::Counted;
 
-// A line that is answered: its number, its host, and what INFORMATION counts in its answer.
+// A line that gets an answer: its number, its host, and what INFORMATION counts in the answer.
 #[derive(Clone, Copy)]
 pub(crate) struct Asked {
     pub(crate) line: u64,
@@ -18,8 +22,45 @@ pub(crate) struct Queue {
     next: usize,
 }
 
+impl Model for Queue {
+    ghost use Rattle.std.specs.Prelude.{◌≤◌, drop, length};
+    ghost use Rattle.answer_notes.specs.Queues.{Lines};
+
+    ghost Value = { Lines };
+
+    ghost view = { λ q. record { phase = q.phase.items; due = drop q.next q.due.items } };
+
+    ghost invariant = { λ q. q.next ≤ length q.due.items };
+}
+
+// Adds the lines of a host to those whose answers are to come.
+fn add_host(due: &mut Vec<Asked>, phase: &[Asked], host: u8) -> Result<(), AllocError>
+    ensures added { OnOk result (due.new.items ≡ due.old.items ++ lines_of_host host phase.now) }
+    ensures longer { length due.old.items ≤ length due.new.items }
+{
+    for asked in phase {
+        if asked.host == host {
+            due.push(*asked)?;
+        }
+    }
+    Ok(())
+}
+
+// Adds the lines of a phase, by rising host, each host's in order.
+fn add_phase(due: &mut Vec<Asked>, phase: &[Asked]) -> Result<(), AllocError>
+    ensures added { OnOk result (due.new.items ≡ due.old.items ++ asked_in_turn phase.now) }
+    ensures longer { length due.old.items ≤ length due.new.items }
+{
+    for place in 0..64u8 {
+        add_host(due, phase, place + 1)?;
+    }
+    Ok(())
+}
+
 impl Queue {
-    pub(crate) fn new(alloc: Global) -> Self {
+    pub(crate) fn new(alloc: Global) -> Self
+        ensures { result ≡ no_lines }
+    {
         Queue {
             phase: Vec::new(alloc),
             due: Vec::new(alloc),
@@ -27,38 +68,41 @@ impl Queue {
         }
     }
 
-    // A command is added to the phase.
-    pub(crate) fn add(&mut self, asked: Asked) -> Result<(), AllocError> {
+    // Adds a command to the phase.
+    pub(crate) fn add(&mut self, asked: Asked) -> Result<(), AllocError>
+        ensures ok { OnOk result (self.new ≡ with_line asked self.old) }
+        ensures err { OnErr result (self.new ≡ self.old) }
+    {
         self.phase.push(asked)?;
         Ok(())
     }
 
-    // The phase ends: its answers come by rising host, each host's in order.
-    pub(crate) fn end_phase(&mut self) -> Result<(), AllocError> {
+    // Ends the phase: its answers come by rising host, each host's in order.
+    pub(crate) fn end_phase(&mut self) -> Result<(), AllocError>
+        ensures { OnOk result (self.new ≡ with_end self.old) }
+    {
         if self.next >= self.due.len() {
             self.due.clear();
             self.next = 0;
         }
-        for host in 1..65u8 {
-            for asked in self.phase.as_slice() {
-                if asked.host == host {
-                    self.due.push(*asked)?;
-                }
-            }
-        }
+        add_phase(&mut self.due, self.phase.as_slice())?;
         self.phase.clear();
         Ok(())
     }
 
-    // A move is answered behind the phase that it ends.
-    pub(crate) fn add_move(&mut self, asked: Asked) -> Result<(), AllocError> {
+    // Adds a move, which is answered after the phase that it ends.
+    pub(crate) fn add_move(&mut self, asked: Asked) -> Result<(), AllocError>
+        ensures { OnOk result (self.new ≡ with_move asked self.old) }
+    {
         self.end_phase()?;
         self.due.push(asked)?;
         Ok(())
     }
 
     // The line whose answer comes next.
-    pub(crate) fn next(&mut self) -> Option<Asked> {
+    pub(crate) fn next(&mut self) -> Option<Asked>
+        ensures { MatchOption result (IsNone self.old self.new) (IsNext self.old self.new) }
+    {
         let asked = *self.due.as_slice().get(self.next)?;
         self.next = self.next.saturating_add(1);
         Some(asked)

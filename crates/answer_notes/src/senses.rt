@@ -1,11 +1,14 @@
 //! Sense data of their bytes.
-ghost use Rattle.std.specs.Prelude.{◌≡◌, IfSome};
-ghost use Rattle.scsi_sense.specs.SenseData.{sense_bytes};
+ghost use Rattle.std.specs.Prelude.{◌≡◌, IfSome, MatchOption};
+ghost use Rattle.scsi_sense.specs.SenseData.{key_number, sense_bytes};
+ghost use Rattle.answer_notes.specs.Causes.{IsNoKey};
 
 use scsi_sense::{Sense, SenseKey};
 
 // The sense key of this number, where drives and changers have it.
-fn key_of(number: u8) -> Option<SenseKey> {
+fn key_of(number: u8) -> Option<SenseKey>
+    ensures { MatchOption result (IsNoKey number) (λ key. key_number key ≡ number) }
+{
     match number {
         0x0 => Some(SenseKey::NoSense),
         0x2 => Some(SenseKey::NotReady),

@@ -1,14 +1,18 @@
 //! A writer of answers that writes beside them what each means.
+ghost use Rattle.std.specs.Prelude.{◌≡◌, min, take};
+ghost use Rattle.answer_notes.specs.Meanings.{WritesMeaning, ExplainsAnswer};
+
 use crate::answers::Answers;
 use std::alloc::Global;
 use std::io::{self, Write};
+use vtl_explain::AnswerLine;
 use vtl_script::write_text;
 
 // The bytes of an answer that count here: `CHECK`, a space, and 36 digits.
 const FRONT: usize = 42;
 
-/// A writer that passes each call on to the one below. Behind each answer that is not GOOD it writes to another writer
-/// what the answer means. What cannot be written there, or finds no memory, is left out.
+/// A writer that passes each call on to the writer below. After each answer that is not GOOD it writes to a second
+/// writer what the answer means. A meaning that cannot be written there, or for which memory runs out, is left out.
 #[derive(Drop)]
 pub struct AnswerWriter<'a, W, E> {
     below: W,
@@ -20,7 +24,7 @@ pub struct AnswerWriter<'a, W, E> {
 }
 
 impl<'a, W, E> AnswerWriter<'a, W, E> {
-    /// A writer over this one, and what writes the meanings.
+    /// A writer of answers over `below`, which writes the meanings to `errors`.
     pub fn new(below: W, errors: E, alloc: Global, answers: &'a Answers) -> Self {
         AnswerWriter {
             below,
@@ -33,20 +37,36 @@ impl<'a, W, E> AnswerWriter<'a, W, E> {
     }
 }
 
+// Writes what an answer means. What cannot be written, or finds no memory, is left out.
+fn tell<E: Write>(alloc: Global, line: &AnswerLine, errors: &mut E)
+    ensures { WritesMeaning line.now (E.contents errors.old) (E.contents errors.new) }
+{
+    let text = match format!(in alloc; "{line}\n") {
+        Ok(text) => text,
+        Err(_) => return,
+    };
+    let _ = write_text(errors, text.as_str().as_bytes());
+}
+
 impl<'a, W, E: Write> AnswerWriter<'a, W, E> {
-    // An answer has ended.
-    fn end_answer(&mut self) {
+    // An answer has ended, of which these are the first bytes: what it means is written, if that is known.
+    fn end_answer(&mut self)
+        ensures below { self.new.below ≡ self.old.below }
+        ensures count { self.new.count ≡ 0 }
+        ensures told { ExplainsAnswer (take (min self.old.count 42) self.old.front)
+            (E.contents self.old.errors) (E.contents self.new.errors) }
+    {
         let count = self.count.min(FRONT);
         self.count = 0;
         if let Some(line) = self.answers.next(&self.front[..count]) {
-            if let Ok(text) = format!(in self.alloc; "{line}\n") {
-                let _ = write_text(&mut self.errors, text.as_str().as_bytes());
-            }
+            tell(self.alloc, &line, &mut self.errors);
         }
     }
 
-    // These bytes were written.
-    fn note(&mut self, bytes: &[u8]) {
+    // Notes bytes that were written.
+    fn note(&mut self, bytes: &[u8])
+        ensures { self.new.below ≡ self.old.below }
+    {
         if !self.answers.is_on() {
             return;
         }
@@ -64,6 +84,8 @@ impl<'a, W, E: Write> AnswerWriter<'a, W, E> {
 }
 
 impl<'a, W: Write, E: Write> Write for AnswerWriter<'a, W, E> {
+    ghost contents = { λ writer. W.contents writer.below };
+
     fn write(&mut self, buf: &[u8]) -> io::Result<usize> {
         let written = self.below.write(buf);
         if let Ok(count) = &written {

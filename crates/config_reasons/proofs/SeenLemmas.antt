@@ -1,14 +1,12 @@
 -- What a value is shown as.
-use Rattle.std.proofs.Common.{◌≡◌, ℕ, ℤ, true, false, List, Option, Some, None, IfSome, String, string_bytes, refl, ap, ◌∙◌}
+use Rattle.std.proofs.Common.{◌≡◌, ℕ, ℤ, Bool, true, false, List, Option, Some, None, String, string_bytes, refl, ap, ◌∙◌}
 use Rattle.std.specs.Prelude.{is_some}
 use Rattle.std.proofs.lemmas.Option.{same_Some}
 use Rattle.std.specs.declared.alloc.Global.{Global}
 use Rattle.toml.specs.Data.{Data, string, integer, float, boolean, datetime, array, table, Items, as_str, as_integer, as_array, as_float, as_bool, as_datetime}
-use Rattle.std.specs.List.{Contains}
-use Rattle.toml.specs.View.{items_of}
-use Rattle.vtl_config.specs.Values.{count_items, is_capacity_value}
-use Rattle.config_reasons.proofs.ListLemmas.{contained}
-use Rattle.config_reasons.specs.Seen.{IsSeen, IsNoCapacityOf}
+use Rattle.vtl_config.specs.Values.{count_items}
+use Rattle.config_reasons.specs.Seen.{IsSeen, first_outside}
+use Rattle.config_reasons.specs.declared.seen.Outside.{Outside}
 use Rattle.config_reasons.specs.declared.seen.Seen.TheVariants as seen
 
 pub seen_text : (value : Data) (text : List ℕ) (copy : String Global) → Some text ≡ as_str value
@@ -30,15 +28,15 @@ seen_number (datetime x) number is = cc
 seen_number (array x) number is = cc
 seen_number (table x) number is = cc
 
-pub seen_list : (value : Data) (items : Items) (count : ℕ) (outside : Option ℤ) → Some items ≡ as_array value
-    → count ≡ count_items items → IfSome outside (IsNoCapacityOf items) → IsSeen value (seen.List count outside)
+pub seen_list : (value : Data) (items : Items) (count : ℕ) (outside : Option Outside) → Some items ≡ as_array value
+    → count ≡ count_items items → outside ≡ first_outside items → IsSeen value (seen.List count outside)
 seen_list (string x) items count outside is counted out = cc
 seen_list (integer x) items count outside is counted out = cc
 seen_list (float x) items count outside is counted out = cc
 seen_list (boolean x) items count outside is counted out = cc
 seen_list (datetime x) items count outside is counted out = cc
 seen_list (array x) items count outside is counted out =
-    rw (← same_Some _ _ is) (outside, ap (λ (n : ℕ). seen.List n outside) counted, out)
+    rw (← same_Some _ _ is) (rw counted (rw out refl))
 seen_list (table x) items count outside is counted out = cc
 
 pub seen_fraction : (value : Data) → is_some (as_float value) ≡ true → IsSeen value seen.Fraction
@@ -50,14 +48,14 @@ seen_fraction (datetime x) is = cc
 seen_fraction (array x) is = cc
 seen_fraction (table x) is = cc
 
-pub seen_boolean : (value : Data) → is_some (as_bool value) ≡ true → IsSeen value seen.Boolean
-seen_boolean (string x) is = cc
-seen_boolean (integer x) is = cc
-seen_boolean (float x) is = cc
-seen_boolean (boolean x) is = refl
-seen_boolean (datetime x) is = cc
-seen_boolean (array x) is = cc
-seen_boolean (table x) is = cc
+pub seen_boolean : (value : Data) (it : Bool) → Some it ≡ as_bool value → IsSeen value (seen.Boolean it)
+seen_boolean (string x) it is = cc
+seen_boolean (integer x) it is = cc
+seen_boolean (float x) it is = cc
+seen_boolean (boolean x) it is = ap seen.Boolean (same_Some _ _ is)
+seen_boolean (datetime x) it is = cc
+seen_boolean (array x) it is = cc
+seen_boolean (table x) it is = cc
 
 pub seen_date : (value : Data) → is_some (as_datetime value) ≡ true → IsSeen value seen.Date
 seen_date (string x) is = cc
@@ -70,7 +68,7 @@ seen_date (table x) is = cc
 
 -- a value of none of the other kinds
 pub seen_table : (value : Data) → as_str value ≡ None → as_integer value ≡ None → as_array value ≡ None
-    → is_some (as_float value) ≡ false → is_some (as_bool value) ≡ false → is_some (as_datetime value) ≡ false
+    → is_some (as_float value) ≡ false → as_bool value ≡ None → is_some (as_datetime value) ≡ false
     → IsSeen value seen.Table
 seen_table (string x) no_str no_int no_array no_float no_bool no_date = cc
 seen_table (integer x) no_str no_int no_array no_float no_bool no_date = cc
@@ -79,10 +77,3 @@ seen_table (boolean x) no_str no_int no_array no_float no_bool no_date = cc
 seen_table (datetime x) no_str no_int no_array no_float no_bool no_date = cc
 seen_table (array x) no_str no_int no_array no_float no_bool no_date = cc
 seen_table (table x) no_str no_int no_array no_float no_bool no_date = refl
-
--- a number among some values is one of the items
-pub out_of : (found : Option ℤ) (values : List Data)
-    → IfSome found (λ number. Contains values (integer number) × (is_capacity_value (integer number) ≡ false))
-    → IfSome found (IsNoCapacityOf (items_of values))
-out_of None values out = tt
-out_of (Some number) values out = (contained values (integer number) out.0, out.1)

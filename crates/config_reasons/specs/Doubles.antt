@@ -1,4 +1,4 @@
--- Which entry before has the value that may not be double.
+-- The earlier entry that has a value which may not occur twice.
 use Rattle.std.specs.Prelude.{◌≡◌, ◌≤◌, ◌-◌, ℕ, List, Some}
 use Rattle.std.specs.List.{Contains}
 use Rattle.toml.specs.Data.{Data, string, Members}
@@ -10,7 +10,7 @@ use Rattle.vtl_config.specs.declared.rules.Place.{Place}
 use Rattle.vtl_config.specs.declared.rules.Place.TheVariants.{Top, Drive, Cartridge}
 use Rattle.config_reasons.specs.Entries.{table_at}
 
--- both tables have the key, with one value
+-- both tables have the key, with one value (own)
 abbrev pub HaveSame : Key → Members → Members → Type 0
 HaveSame key here there = (value : Data) × (value_at key here ≡ Some value) × (value_at key there ≡ Some value)
 
@@ -37,11 +37,11 @@ Shares key place here there = HaveSame key here there
 abbrev pub IsOther : Key → Members → Members → Place → Type 0
 IsOther key root here other = (there : Members) × (table_at other root ≡ Some there) × Shares key other here there
 
--- one of the first drives
+-- one of the first drives (own)
 abbrev pub IsDriveBefore : ℕ → Place → Type 0
 IsDriveBefore before other = (number : ℕ) × (other ≡ Drive number) × (1 ≤ number) × (number ≤ before)
 
--- one of the first cartridges
+-- one of the first cartridges (own)
 abbrev pub IsCartridgeBefore : ℕ → Place → Type 0
 IsCartridgeBefore before other = (number : ℕ) × (other ≡ Cartridge number) × (1 ≤ number) × (number ≤ before)
 

@@ -1,7 +1,7 @@
 -- The entries of a configuration's table, by their places.
-use Rattle.std.specs.Prelude.{◌-◌, ℕ, Option, Some, None}
+use Rattle.std.specs.Prelude.{◌-◌, ℕ, List, Option, Some, None}
 use Rattle.std.specs.Option.{option_and_then}
-use Rattle.toml.specs.Data.{Data, Members, as_table, at}
+use Rattle.toml.specs.Data.{Data, Members, as_str, as_table, at}
 use Rattle.vtl_config.specs.Values.{value_at}
 use Rattle.vtl_config.specs.declared.keys.Key.{Key}
 use Rattle.vtl_config.specs.declared.keys.Key.TheVariants as key
@@ -27,6 +27,10 @@ table_at (Cartridge number) root = table_in key.Cartridge number root
 -- the value of a key of the table at a place (own)
 abbrev pub value_of : Place → Key → Members → Option Data
 value_of place key root = option_and_then (value_at key) (table_at place root)
+
+-- the text of a key of the table at a place (own)
+abbrev pub text_at : Place → Key → Members → Option (List ℕ)
+text_at place key root = option_and_then as_str (value_of place key root)
 
 -- the value that breaks a rule at a place: an entry that is no table, or the value of the key that the rule names (own)
 abbrev pub value_for : Place → Rule → Members → Option Data

@@ -10,11 +10,14 @@ use Rattle.vtl_config.specs.declared.rules.Place.TheVariants as places
 use Rattle.vtl_config.specs.declared.rules.Rule.{Rule}
 use Rattle.vtl_config.specs.declared.rules.Rule.TheVariants as rules
 use Rattle.explanations.specs.Lines.{line_of}
-use Rattle.config_reasons.specs.Seen.{seen_text}
+use Rattle.config_reasons.specs.Seen.{among_text, seen_text}
 use Rattle.config_reasons.specs.declared.reasons.ConfigReason.{ConfigReason}
 use Rattle.config_reasons.specs.declared.reasons.Entry.{Entry}
 use Rattle.config_reasons.specs.declared.reasons.Found.{Found}
 use Rattle.config_reasons.specs.declared.reasons.Found.TheVariants as found
+use Rattle.config_reasons.specs.declared.seen.Outside.{Outside}
+use Rattle.config_reasons.specs.declared.seen.Seen.{Seen}
+use Rattle.config_reasons.specs.declared.seen.Seen.TheVariants as seen
 use Rattle.config_reasons.specs.declared.spots.Spot.{Spot}
 
 -- the barcode of an entry, where it has one (own)
@@ -45,15 +48,22 @@ abbrev pub missing_of : Rule → List ℕ
 missing_of (rules.Missing key) = name_of key
 missing_of _ = []
 
+-- the value that is no capacity, where a list of capacities is refused for one (own)
+abbrev pub outside_in : Rule → Seen → Option Outside
+outside_in (rules.OtherKind key.Capacities) (seen.List count outside) = outside
+outside_in (rules.OutOfRange key.Capacities) (seen.List count outside) = outside
+outside_in _ _ = None
+
 -- what is refused (own)
 abbrev pub refused_text : Rule → Found → List ℕ
 refused_text rule (found.NoText spot) = codes "refused: the text is no UTF-8"
 refused_text rule (found.NoDocument spot message) = codes "refused: the text is no TOML: " ++ string_bytes message
 refused_text rule (found.OtherKey name) = codes "refused: the key " ++ string_bytes name
 refused_text rule found.Nothing = codes "refused: the key " ++ (missing_of rule ++ codes " is missing")
-refused_text rule (found.Value seen) = codes "refused: " ++ (subject_of rule ++ (codes " is " ++ seen_text seen))
+refused_text rule (found.Value value) =
+    codes "refused: " ++ (subject_of rule ++ (codes " is " ++ (seen_text value ++ among_text (outside_in rule value))))
 
--- a place in a text
+-- a place in a text (own)
 abbrev pub spot_text : Spot → List ℕ
 spot_text spot = codes "line " ++ (decimal spot.line ++ (codes ", column " ++ decimal spot.column))
 
@@ -88,10 +98,15 @@ keys_text places.Top = codes "cartridge and drive"
 keys_text (places.Drive number) = codes "number and reservations"
 keys_text (places.Cartridge number) = codes "barcode, file, capacities and home"
 
--- the entry that has a value which may not be double (own)
+-- the earlier entry that has the value which may not occur twice (own)
 abbrev pub other_text : Option Entry → List ℕ
 other_text None = []
 other_text (Some entry) = codes "; " ++ (entry_text entry ++ codes " has this one")
+
+-- what is allowed of a key whose values may not occur twice; a cartridge has a second file (own)
+abbrev pub double_text : Key → List ℕ
+double_text key.File = codes "a name that no entry before has, also with .2 behind it"
+double_text _ = codes "a value that no entry before has"
 
 -- what is allowed where a rule is broken (own)
 abbrev pub allowed_by : Rule → Place → Option Entry → List ℕ
@@ -102,7 +117,7 @@ allowed_by rules.OtherKey place other = codes "allowed: " ++ keys_text place
 allowed_by (rules.Missing key) place other = codes "allowed: " ++ values_text key
 allowed_by (rules.OtherKind key) place other = codes "allowed: " ++ values_text key
 allowed_by (rules.OutOfRange key) place other = codes "allowed: " ++ values_text key
-allowed_by (rules.Double key) place other = codes "allowed: a value that no entry before has" ++ other_text other
+allowed_by (rules.Double key) place other = codes "allowed: " ++ (double_text key ++ other_text other)
 allowed_by rules.NoSuchDrive place other = codes "allowed: a slot, or a drive that has an entry"
 
 -- what is allowed where a reason stands (own)

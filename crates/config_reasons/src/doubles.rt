@@ -1,4 +1,4 @@
-//! Which entry before has the value that may not be double.
+//! The earlier entry that has a value which may not occur twice.
 ghost use Rattle.std.specs.Prelude.{◌≡◌, ◌≤◌, Some, IfSome, IsTrue};
 ghost use Rattle.std.specs.List.{Contains};
 ghost use Rattle.toml.specs.Data.{string, integer};
@@ -42,7 +42,7 @@ fn has_same_text(here: &Table, there: &Table, key: Key) -> bool
     }
 }
 
-// The name is that of one of a cartridge's two files. Where memory runs out, it is not.
+// Whether the name is that of one of a cartridge's two files. False where memory runs out.
 fn is_of_both(alloc: Global, file: &str, name: &str) -> bool
     ensures { IsTrue result → Contains (both_names file.now) name.now }
 {
@@ -75,7 +75,7 @@ fn shares_cartridge_file(alloc: Global, here: &Table, there: &Table) -> bool
     }
 }
 
-// The value of a key stands in the table of another place.
+// Whether the table at another place has the same value of a key.
 fn shares(alloc: Global, key: Key, other: Place, here: &Table, there: &Table) -> bool
     ensures { IsTrue result → Shares key other (table_view here.now) (table_view there.now) }
 {
@@ -91,7 +91,7 @@ fn shares(alloc: Global, key: Key, other: Place, here: &Table, there: &Table) ->
     }
 }
 
-// The first of so many drives that has the value of the key.
+// The first of the first `before` drives that has the value of the key.
 fn drive_before(alloc: Global, root: &Table, key: Key, here: &Table, before: usize) -> Option<Place>
     ensures other { IfSome result (IsOther key (table_view root.now) (table_view here.now)) }
     ensures earlier { IfSome result (IsDriveBefore before) }
@@ -107,7 +107,7 @@ fn drive_before(alloc: Global, root: &Table, key: Key, here: &Table, before: usi
     None
 }
 
-// The first of so many cartridges that has the value of the key.
+// The first of the first `before` cartridges that has the value of the key.
 fn cartridge_before(
     alloc: Global,
     root: &Table,
@@ -137,7 +137,7 @@ fn count_drives(root: &Table) -> usize {
     }
 }
 
-// An entry before, in the order in which entries are read, that has the value of the key.
+// The first earlier entry, in the order in which entries are read, that has the value of the key.
 pub(crate) fn double_of(alloc: Global, root: &Table, place: Place, key: Key) -> Option<Place>
     ensures { IfSome result (IsDouble key place (table_view root.now)) }
 {

@@ -1,9 +1,8 @@
 //! The entries of a configuration's table, by their places.
-ghost use Rattle.std.specs.Prelude.{◌≡◌, option_map, Some, IfSome};
-ghost use Rattle.toml.specs.Data.{string};
+ghost use Rattle.std.specs.Prelude.{◌≡◌, option_map};
 ghost use Rattle.toml.specs.View.{view, table_view};
 ghost use Rattle.vtl_config.specs.Values.{value_at};
-ghost use Rattle.config_reasons.specs.Entries.{entry_in, table_in, table_at, value_of, value_for};
+ghost use Rattle.config_reasons.specs.Entries.{entry_in, table_in, table_at, value_of, text_at, value_for};
 
 use toml::{Table, Value};
 use vtl_config::{Key, Place, Rule};
@@ -50,7 +49,7 @@ pub(crate) fn value_of<'a>(root: &'a Table, place: Place, key: Key) -> Option<&'
 
 // The text of a key of the table at a place.
 pub(crate) fn text_of<'a>(root: &'a Table, place: Place, key: Key) -> Option<&'a str>
-    ensures { IfSome result (λ text. value_of place key (table_view root.now) ≡ Some (string text.now)) }
+    ensures { option_map (λ text. text.now) result ≡ text_at place key (table_view root.now) }
 {
     value_of(root, place, key)?.as_str()
 }

@@ -13,5 +13,5 @@ mod texts;
 
 pub use reading::reason_of;
 pub use reasons::{ConfigReason, Entry, Found};
-pub use seen::Seen;
+pub use seen::{Outside, Seen};
 pub use spots::Spot;

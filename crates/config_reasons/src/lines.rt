@@ -8,8 +8,8 @@ use explanations::Explanation;
 use std::alloc::{AllocError, Global};
 
 impl ConfigReason {
-    /// Adds four lines: what is refused, where, what is allowed, and what to do. Where memory runs out, the first ones
-    /// may be there. `file` is the name of the configuration's file.
+    /// Adds four lines: what is refused, where, what is allowed, and what to do. Where memory runs out, only the first
+    /// of them may be there. `file` is the name of the configuration's file.
     pub fn add_to(
         &self,
         alloc: Global,

@@ -1,4 +1,4 @@
-//! What a text has where it breaks a rule.
+//! What stands in a text where it breaks a rule.
 ghost use Rattle.std.specs.Prelude.{◌≡◌, IfOk, IfSome};
 ghost use Rattle.toml.specs.Errors.{IsWithin};
 ghost use Rattle.toml.specs.View.{table_view};
@@ -53,7 +53,7 @@ fn found_in(alloc: Global, root: &Table, place: Place, rule: Rule) -> Option<Fou
     }
 }
 
-// The entry before that has the value of the rule's key, where the rule is on doubles.
+// The earlier entry that has the value of the rule's key, where the rule says that no value may occur twice.
 fn other_in(alloc: Global, root: &Table, place: Place, rule: Rule) -> Option<Entry>
     ensures { IfSome result (IsOtherIn place rule (table_view root.now)) }
 {
@@ -85,7 +85,7 @@ fn reason_in(alloc: Global, root: &Table, place: Place, rule: Rule) -> Option<Co
     }
 }
 
-// The reason outside all entries.
+// The reason for a rule that is broken outside all entries.
 fn outside(rule: Rule, found: Found) -> ConfigReason
     ensures { result ≡ outside rule found }
 {

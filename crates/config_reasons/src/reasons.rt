@@ -6,7 +6,7 @@ use vtl_config::{Place, Rule};
 /// An entry of a configuration, or what stands outside all entries.
 #[derive(Debug, Drop)]
 pub struct Entry {
-    /// Where it is.
+    /// Where the entry is.
     pub place: Place,
     /// The barcode that its table has, where it has a text for one.
     pub barcode: Option<String>,
@@ -15,11 +15,11 @@ pub struct Entry {
 /// What stands where a rule is broken.
 #[derive(Debug, Drop)]
 pub enum Found {
-    /// The text is no UTF-8: the first bytes that are none are here.
+    /// The text is not UTF-8: the first invalid bytes are here.
     NoText(Spot),
-    /// The text is no TOML: this was met here.
+    /// The text is not TOML: where the parser refused it, and its message.
     NoDocument { spot: Spot, message: String },
-    /// This key is none of those that the place has.
+    /// This key is not one that the place may have.
     OtherKey(String),
     /// The key is missing.
     Nothing,
@@ -32,10 +32,10 @@ pub enum Found {
 pub struct ConfigReason {
     /// The rule that is broken.
     pub rule: Rule,
-    /// Where.
+    /// The entry in which it is broken.
     pub entry: Entry,
-    /// By what.
+    /// What breaks it.
     pub found: Found,
-    /// The entry before that has the value, where a value is double.
+    /// The earlier entry that has the value, where a value occurs twice.
     pub other: Option<Entry>,
 }

@@ -1,31 +1,42 @@
 //! Values of a configuration, as they are shown.
-ghost use Rattle.std.specs.Prelude.{◌≡◌, IfOk, IfSome, None, false, length, map};
-ghost use Rattle.std.specs.List.{Contains};
+ghost use Rattle.std.specs.Prelude.{◌≡◌, IfOk, None};
 ghost use Rattle.toml.specs.Data.{integer, as_str};
-ghost use Rattle.toml.specs.View.{view};
+ghost use Rattle.toml.specs.View.{view, items_view};
 ghost use Rattle.vtl_config.specs.Values.{is_capacity_value};
-ghost use Rattle.config_reasons.specs.Seen.{IsSeen};
+ghost use Rattle.config_reasons.specs.Seen.{item_outside, first_outside, IsSeen};
 
 use std::alloc::{AllocError, Global};
 use std::fmt;
 use toml::Value;
 use vtl_base::limits::{MAX_CAPACITY, MIN_CAPACITY};
 
-/// What a value is, as far as a person is shown it.
+/// A value of a list that is no capacity.
+#[derive(Clone, Copy, PartialEq, Eq, Debug)]
+pub enum Outside {
+    /// This whole number.
+    Number(i64),
+    /// A value of another kind.
+    NoNumber,
+}
+
+/// A value, as far as it is shown to a person.
 #[derive(Debug, Drop)]
 pub enum Seen {
-    /// This text.
+    /// A text.
     Text(String),
-    /// This number without fraction.
+    /// A whole number.
     Number(i64),
     /// A number with a fraction.
     Fraction,
     /// `true` or `false`.
-    Boolean,
+    Boolean(bool),
     /// A date or a time.
     Date,
-    /// A list of so many values, and where there is one, a number of them that is no capacity.
-    List { count: usize, outside: Option<i64> },
+    /// A list: how many values it has, and the first of them that is no capacity, if there is one.
+    List {
+        count: usize,
+        outside: Option<Outside>,
+    },
     /// A table.
     Table,
 }
@@ -39,22 +50,35 @@ fn is_capacity(number: i64) -> bool
     }
 }
 
-// A number among these values that is no capacity.
-fn outside(items: &[Value]) -> Option<i64>
-    ensures { IfSome result (λ number. Contains (map view items.now) (integer number)
-        × (is_capacity_value (integer number) ≡ false)) }
+// The value, where it is no capacity.
+fn item_outside(item: &Value) -> Option<Outside>
+    ensures { result ≡ item_outside (view item.now) }
+{
+    let number = match item.as_integer() {
+        Some(number) => number,
+        None => return Some(Outside::NoNumber),
+    };
+    if is_capacity(number) {
+        None
+    } else {
+        Some(Outside::Number(number))
+    }
+}
+
+// The first of these values that is no capacity.
+fn first_outside(items: &[Value]) -> Option<Outside>
+    ensures { result ≡ first_outside (items_view items.now) }
 {
     for item in items {
-        if let Some(number) = item.as_integer() {
-            if !is_capacity(number) {
-                return Some(number);
-            }
+        let found = item_outside(item);
+        if found.is_some() {
+            return found;
         }
     }
     None
 }
 
-// What a value is that is no text.
+// How a value is shown that is not a text.
 fn not_text(value: &Value) -> Seen
     requires { as_str (view value.now) ≡ None }
     ensures { IsSeen (view value.now) result }
@@ -66,14 +90,14 @@ fn not_text(value: &Value) -> Seen
         let items = list.as_slice();
         return Seen::List {
             count: items.len(),
-            outside: outside(items),
+            outside: first_outside(items),
         };
     }
     if value.is_float() {
         return Seen::Fraction;
     }
-    if value.is_bool() {
-        return Seen::Boolean;
+    if let Some(it) = value.as_bool() {
+        return Seen::Boolean(it);
     }
     if value.is_datetime() {
         return Seen::Date;
@@ -82,7 +106,7 @@ fn not_text(value: &Value) -> Seen
 }
 
 impl Seen {
-    /// What a value is.
+    /// How a value is shown.
     pub fn of(alloc: Global, value: &Value) -> Result<Seen, AllocError>
         ensures { IfOk result (IsSeen (view value.now)) }
     {
@@ -93,9 +117,9 @@ impl Seen {
     }
 }
 
-// A number of a list that is no capacity, where there is one.
+// A value of a list that is no capacity, if there is one.
 #[derive(Clone, Copy)]
-struct Among(Option<i64>);
+pub(crate) struct Among(pub(crate) Option<Outside>);
 
 impl fmt::Display for Among {
     ghost use Rattle.std.specs.Prelude.{Some};
@@ -105,7 +129,8 @@ impl fmt::Display for Among {
 
     fn fmt<W: fmt::Write>(&self, f: &mut fmt::Formatter<W>) -> fmt::Result {
         match self.0 {
-            Some(number) => write!(f, ", one of which is {number}"),
+            Some(Outside::Number(number)) => write!(f, ", one of which is {number}"),
+            Some(Outside::NoNumber) => write!(f, ", one of which is no whole number"),
             None => Ok(()),
         }
     }
@@ -122,12 +147,10 @@ impl fmt::Display for Seen {
             Seen::Text(text) => write!(f, "'{text}'"),
             Seen::Number(number) => write!(f, "{number}"),
             Seen::Fraction => write!(f, "a number with a fraction"),
-            Seen::Boolean => write!(f, "true or false"),
+            Seen::Boolean(true) => write!(f, "true"),
+            Seen::Boolean(false) => write!(f, "false"),
             Seen::Date => write!(f, "a date or a time"),
-            Seen::List { count, outside } => {
-                let among = Among(*outside);
-                write!(f, "a list of {count}{among}")
-            }
+            Seen::List { count, .. } => write!(f, "a list of {count}"),
             Seen::Table => write!(f, "a table"),
         }
     }

@@ -25,7 +25,7 @@ fn next_spot(spot: Spot, byte: u8) -> Spot
     }
 }
 
-// The place behind so many bytes of a text.
+// The place after the first `behind` bytes of a text.
 pub(crate) fn spot_at(text: &[u8], behind: usize) -> Spot
     requires { behind ≤ length text.now }
     ensures { result ≡ spot_at text.now behind }

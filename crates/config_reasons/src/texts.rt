@@ -1,8 +1,9 @@
 //! The words of a reason.
 ghost use Rattle.std.specs.Prelude.{◌≡◌};
-ghost use Rattle.config_reasons.specs.Texts.{subject_of, missing_of, keys_text, rule_fix};
+ghost use Rattle.config_reasons.specs.Texts.{subject_of, missing_of, outside_in, keys_text, double_text, rule_fix};
 
 use crate::reasons::{ConfigReason, Entry, Found};
+use crate::seen::{Among, Outside, Seen};
 use std::fmt;
 use vtl_base::limits::{
     DRIVES, FIRST_SLOT, MAX_BARCODE, MAX_CAPACITY, MAX_PARTITIONS, MIN_CAPACITY, SLOTS,
@@ -68,6 +69,17 @@ fn missing_of(rule: Rule) -> &'static str
     }
 }
 
+// The value that is no capacity, where a list of capacities is refused for one.
+fn outside_in(rule: Rule, seen: &Seen) -> Option<Outside>
+    ensures { result ≡ outside_in rule seen.now }
+{
+    match (rule, seen) {
+        (Rule::OtherKind(Key::Capacities), Seen::List { outside, .. }) => *outside,
+        (Rule::OutOfRange(Key::Capacities), Seen::List { outside, .. }) => *outside,
+        _ => None,
+    }
+}
+
 // What is refused.
 #[derive(Clone, Copy)]
 pub(crate) struct RefusedText<'a>(pub(crate) &'a ConfigReason);
@@ -87,7 +99,10 @@ impl<'a> fmt::Display for RefusedText<'a> {
             }
             Found::OtherKey(name) => write!(f, "refused: the key {name}"),
             Found::Nothing => write!(f, "refused: the key {missing} is missing"),
-            Found::Value(seen) => write!(f, "refused: {subject} is {seen}"),
+            Found::Value(seen) => {
+                let among = Among(outside_in(self.0.rule, seen));
+                write!(f, "refused: {subject} is {seen}{among}")
+            }
         }
     }
 }
@@ -164,7 +179,17 @@ fn keys_of(place: Place) -> &'static str
     }
 }
 
-// The entry that has a value which may not be double.
+// What is allowed of a key whose values may not occur twice.
+fn double_text(key: Key) -> &'static str
+    ensures { result.now ≡ double_text key }
+{
+    match key {
+        Key::File => "a name that no entry before has, also with .2 behind it",
+        _ => "a value that no entry before has",
+    }
+}
+
+// The earlier entry that has the value which may not occur twice.
 #[derive(Clone, Copy)]
 struct OtherText<'a>(&'a Option<Entry>);
 
@@ -208,9 +233,10 @@ impl<'a> fmt::Display for AllowedText<'a> {
                 let values = ValuesText(key);
                 write!(f, "allowed: {values}")
             }
-            Rule::Double(_) => {
+            Rule::Double(key) => {
                 let other = OtherText(&self.0.other);
-                write!(f, "allowed: a value that no entry before has{other}")
+                let values = double_text(key);
+                write!(f, "allowed: {values}{other}")
             }
             Rule::NoSuchDrive => write!(f, "allowed: a slot, or a drive that has an entry"),
         }

@@ -60,8 +60,8 @@ impl Explanation {
         }
     }
 
-    /// Adds a line: the first 120 bytes of the text. A byte that is no printable ASCII character is a question mark.
-    /// Where memory runs out, nothing is added.
+    /// Adds a line: the first 120 bytes of the text. Each byte that is not a printable ASCII character becomes a
+    /// question mark. Where memory runs out, nothing is added.
     pub fn add(&mut self, alloc: Global, text: &str) -> Result<(), AllocError>
         ensures ok { OnOk result (self.new ≡ self.old ++ line_of text.now) }
         ensures err { OnErr result (self.new ≡ self.old) }

@@ -7,7 +7,7 @@ use Rattle.tape_disk.specs.Disk.{Cuts, DiskState, Elapses, Follows, IsDisk, Same
 use Rattle.vtl_base.specs.declared.faults.DevFault.{DevFault}
 use Rattle.file_disk.specs.Inner.Transfers.{HasRead, HasWritten}
 use Rattle.file_disk.proofs.RunLemmas.{ran_none, ran_on}
-use Rattle.file_disk.proofs.SmearLemmas.{smeared_same, smeared_twice, smeared_wider}
+use Rattle.file_disk.specs.Smears.{smeared_same, smeared_twice, smeared_wider}
 
 -- a fact of every error
 pub on_err : {T E : Type 0} (P : Type 0) (result : Result T E) → P → OnErr result P

@@ -1,7 +1,7 @@
+pub mod FailedCall
 pub mod FileDisk
-pub mod Forgetful
 pub mod Inner
 pub mod OpenFile
 pub mod Opening
 pub mod RawFile
-pub mod Staged
+pub mod Smears

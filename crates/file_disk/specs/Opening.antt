@@ -1,19 +1,9 @@
--- Why a file is not made or opened, and how an earlier process has to leave one.
+-- How an earlier process has to leave a file.
 use Rattle.std.specs.Prelude.{◌≡◌, ◌≢◌, ◌⊎◌, ℕ, ◌<◌, ◌++◌, List, length}
 use Rattle.gate_journal.specs.Gates.{last_gate}
 use Rattle.gate_journal.specs.Side.{Front, OPEN, StandsFor, spell, start}
 use Rattle.gate_journal.specs.declared.header.SideKind.TheVariants.{Cartridge}
 use Rattle.file_disk.specs.RawFile.{ReachesAll}
-use Rattle.file_disk.specs.declared.error.FileError.{FileError}
-use Rattle.file_disk.specs.declared.error.FileError.TheVariants.{Exists, Missing, NotAFile, InUse, Device}
-
--- where an error of the system is reported, it is the first one (own)
-abbrev pub IsOneFailure : FileError → Type 0
-IsOneFailure (Device fault) = fault.failures ≡ 1
-IsOneFailure Exists = Unit {0}
-IsOneFailure Missing = Unit {0}
-IsOneFailure NotAFile = Unit {0}
-IsOneFailure InUse = Unit {0}
 
 -- the bytes that a side begins with: its own gate, the mark of its kind, the pair gate (own)
 abbrev pub START_BYTES : ℕ

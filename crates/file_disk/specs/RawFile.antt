@@ -49,7 +49,7 @@ pub record WritesSomeBytes (at : ℕ) (bytes : List ℕ) (result : Result ℕ St
   pub crash : Follows (Smeared at (length bytes)) old.may_leave new.may_leave
   pub keeps : (image : List ℕ) → old.may_leave image → new.may_leave image
 
--- A call that takes away what stands from a place on (own, of POSIX's ftruncate).
+-- A call that removes what stands from a place on (own, of POSIX's ftruncate).
 pub record CutsFile (len : ℕ) (result : Result Unit CallFailed) (old new : DiskState) : Type 0 where
   pub done : OnOk result (new.seen ≡ take len old.seen)
   pub smeared : OnErr result (Cut len old.seen new.seen)

@@ -10,7 +10,8 @@ use crate::transfers::{CALLS, read_all};
 // that this needs no memory.
 const PIECE: usize = 4096;
 
-// One call that writes bytes from a place on again: up to where. An interrupted one wrote none.
+// Makes one call that writes the bytes from a place on again, and returns the place after them. An interrupted call
+// wrote none.
 fn again_on<F: RawFile>(file: &mut F, at: u64, to: u64) -> Result<u64, CallFailed>
     requires place { to < 2 ^ 63 }
     requires order { at < to }

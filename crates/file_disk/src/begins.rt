@@ -36,7 +36,7 @@ fn has_mark(start: &[u8; START_BYTES]) -> bool
     found == MARK
 }
 
-// How bytes begin of which these are the first.
+// How a file begins, by its first bytes.
 fn begins_with(start: &[u8; START_BYTES]) -> Begins
     ensures { (rest : List ℕ) → BeginsSo result (start.now ++ rest) }
 {

@@ -25,14 +25,12 @@ struct Size {
     is_told: bool,
 }
 
-/// A disk over an open file, honest where the file is. Short reads and writes are gone on with, an
-/// interrupted one is made again, and every other error of the system is a counted failure. After a
-/// write, a cut or a sync that failed the length is asked for anew; while the system does not tell
-/// it, each call fails. What a sync may pass over is written again as it stands before the next one:
-/// of a file that was just opened the last open gate and what stands behind the end gate, of a
-/// cartridge's also its first ten bytes, and all of one that is not finished; after a sync that
-/// failed what was written since the last good one. Where that is more than two ranges each later
-/// sync fails.
+/// A disk over an open file, honest where the file is. A short read or write is continued, an interrupted call is made
+/// again, and every other error of the system is a counted failure. After a write, a cut or a sync that failed, the
+/// length is asked for again; while the system does not give it, each call fails. Before the next sync, what that may
+/// pass over is written again as it stands: of a file that was just opened the last open gate and what stands behind
+/// the end gate, of a cartridge's also its first ten bytes, and of an unfinished one all bytes; after a sync that
+/// failed what was written since the last good one. Where that is more than two ranges, each later sync fails.
 #[derive(Drop)]
 pub struct DiskOver<F: RawFile> {
     looked: Looked<F>,
@@ -60,7 +58,7 @@ impl<F: RawFile> Model for DiskOver<F> {
         (F.passed_over d.looked.file) (F.unsynced d.looked.file) };
 }
 
-// The length that the system gives of a file, or else the one that it gave last.
+// The length that the system gives for a file, or else the one that it gave last.
 fn measured<F: RawFile>(file: &F, last: u64) -> Size
     ensures { (F.state file.now).honest →
         (result.is_told ≡ true) × (result.bytes ≡ length (F.state file.now).seen) }
@@ -77,7 +75,7 @@ fn measured<F: RawFile>(file: &F, last: u64) -> Size
     }
 }
 
-// Whether a file may have so many bytes from that place on.
+// Whether a file may have `count` bytes from that place on.
 pub(crate) fn fits(at: u64, count: usize) -> bool
     ensures { IsTrue result ↔ (at + count < 2 ^ 63) }
 {
@@ -128,7 +126,7 @@ impl<F: RawFile> DiskOver<F> {
         &self.looked.file
     }
 
-    // Asks for the length where it is not known: whether it is.
+    // Asks for the length where it is not known. Returns whether it is known then.
     fn is_measured(&mut self) -> bool
         ensures same { self.new ≡ self.old }
         ensures known { (F.state self.old.file).honest → result ≡ true }
@@ -139,7 +137,7 @@ impl<F: RawFile> DiskOver<F> {
         self.size.is_told
     }
 
-    // A call that is refused. The file is asked for no bytes, which moves its clock on.
+    // Refuses a call and counts a failure. Reading no bytes moves the file's clock on.
     fn refuse(&mut self) -> DevFault
         ensures honesty { IsAsHonest (F.state self.old.file) (F.state self.new.file) }
         ensures time { (F.state self.old.file).honest →
@@ -153,8 +151,8 @@ impl<F: RawFile> DiskOver<F> {
         self.failures.rise()
     }
 
-    // Looks at a file that was just opened, before a write or a cut: what is in doubt of it then, and
-    // what was written since its last good sync. None where that failed.
+    // Reads what a file that was just opened holds, before a write or a cut. Returns what is in doubt of it then, and
+    // what was written since its last good sync. None where a call failed.
     fn begin(&mut self) -> Option<(Doubt, Written)>
         ensures failures { self.new.failures ≡ self.old.failures }
         ensures rested { Rested F.state F.passed_over F.unsynced self.old.file self.new.file }
@@ -171,8 +169,8 @@ impl<F: RawFile> DiskOver<F> {
         }
     }
 
-    // Writes again what is in doubt: what was written since the last good sync. None where that
-    // failed, or nobody knows what is in doubt.
+    // Writes again what is in doubt. Returns what was written since the last good sync. None where a call failed, or
+    // where it is not known what is in doubt.
     fn heal(&mut self) -> Option<Written>
         ensures failures { self.new.failures ≡ self.old.failures }
         ensures rested { Rested F.state F.passed_over F.unsynced self.old.file self.new.file }

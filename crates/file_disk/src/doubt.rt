@@ -1,4 +1,4 @@
-//! What of an open file is in doubt, and how it is made sure.
+//! What is in doubt of an open file, and how it is made sure.
 ghost use Rattle.std.specs.Prelude.{◌≡◌, ◌≢◌, ◌⊎◌, ◌<◌, ◌≤◌, ◌^◌, ℕ, false, length, IfSome, OnOk};
 ghost use Rattle.file_disk.specs.Opening.{IsLeftWell};
 ghost use Rattle.file_disk.specs.RawFile.{ReachesAll};
@@ -18,15 +18,15 @@ use gate_journal::{Gates, last_gates};
 pub(crate) enum Doubt {
     /// No place.
     Nothing,
-    /// What an earlier process left, of which nothing was looked at.
+    /// What an earlier process left. Nothing of it was read yet.
     Opened,
     /// What was written since the last good sync, or what was found at the opening.
     SyncFailed,
 }
 
-// What is in doubt of a side that begins so and has these gates in so many bytes: the last open gate,
-// what stands behind the end gate, and of a cartridge's the bytes that it begins with. None where the
-// gates do not lie in the bytes.
+// What is in doubt of a side of `bytes` bytes that begins so and has these gates: the last open gate, what stands
+// behind the end gate, and of a cartridge's the bytes that it begins with. None where the gates do not lie in these
+// bytes.
 fn doubt_of(begins: Begins, gates: Gates, bytes: u64) -> Option<Written>
     ensures gates { IfSome result (λ written. (place : ℕ) →
         (place ≡ gates.last) ⊎ ((gates.end < place) × (place < bytes)) → Covers written place) }
@@ -59,7 +59,8 @@ fn started(begins: Begins) -> Written
     }
 }
 
-// Looks at the gates of a file of so many bytes that begins so. None where that failed.
+// Finds the gates of a file of this length that begins so. Returns what is in doubt of it, and what was written since
+// its last good sync. None where a call failed.
 fn look_at_gates<F: RawFile>(
     looked: &mut Looked<F>,
     begins: Begins,
@@ -85,7 +86,8 @@ fn look_at_gates<F: RawFile>(
     Some((Doubt::SyncFailed, written))
 }
 
-// Looks at a file of so many bytes that was just opened. None where that failed.
+// Reads what a file of this length holds that was just opened. Returns what is in doubt of it, and what was written
+// since its last good sync. None where a call failed.
 fn look<F: RawFile>(looked: &mut Looked<F>, bytes: u64) -> Option<(Doubt, Written)>
     ensures read { OnlyRead F.state F.passed_over F.unsynced looked.old.file looked.new.file }
     ensures found { (F.state looked.old.file).honest → bytes ≡ length (F.state looked.old.file).seen →
@@ -100,7 +102,7 @@ fn look<F: RawFile>(looked: &mut Looked<F>, bytes: u64) -> Option<(Doubt, Writte
     }
 }
 
-// Writes the ranges again, as far as they lie in so many bytes.
+// Writes the ranges again, as far as they lie in the first `bytes` bytes.
 fn write_ranges<F: RawFile>(file: &mut F, written: Written, bytes: u64) -> Result<(), CallFailed>
     requires known { written.is_apart ≡ false }
     requires length { (F.state file.old).honest → bytes ≡ length (F.state file.old).seen }
@@ -118,7 +120,7 @@ fn write_ranges<F: RawFile>(file: &mut F, written: Written, bytes: u64) -> Resul
     write_again(file, written.start.from, written.start.end.min(bytes))
 }
 
-// Looks at a file that was just opened; of another one that was done.
+// Reads what a file holds, where it was just opened; else what is known of it stays.
 fn looked_at<F: RawFile>(
     looked: &mut Looked<F>,
     doubt: Doubt,
@@ -159,8 +161,8 @@ fn healed<F: RawFile>(looked: &mut Looked<F>, written: Written, bytes: u64) -> (
     }
 }
 
-/// Writes again what is in doubt of a file of so many bytes: what is in doubt of it then, and what
-/// was written since its last good sync.
+/// Writes again what is in doubt of a file of this length. Returns what is in doubt of it then, and what was written
+/// since its last good sync.
 pub(crate) fn settled<F: RawFile>(
     looked: &mut Looked<F>,
     doubt: Doubt,
@@ -182,7 +184,7 @@ pub(crate) fn settled<F: RawFile>(
     }
 }
 
-/// The same before a write or a cut, of a file that was just opened alone.
+/// What `settled` does before a write or a cut: it only reads what a file holds that was just opened.
 pub(crate) fn begun<F: RawFile>(
     looked: &mut Looked<F>,
     doubt: Doubt,

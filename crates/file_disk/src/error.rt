@@ -1,24 +1,24 @@
 //! Why a file is not made or opened.
+use crate::failed::FailedCall;
 use thiserror::Error;
-use vtl_base::DevFault;
 
 /// Why a file was not made or opened.
 #[derive(Clone, Copy, PartialEq, Eq, Debug, Error)]
 pub enum FileError {
-    /// There is a file of this name, or something else. It was not touched.
+    /// A file or something else has this name already. It was not touched.
     #[error("file exists")]
     Exists,
-    /// There is no file of this name, or not the folder that it names.
+    /// No file has this name, or the folder in the name does not exist.
     #[error("no such file")]
     Missing,
-    /// What has this name is no regular file. It was not touched.
+    /// What has this name is not a regular file. It was not touched.
     #[error("not a file")]
     NotAFile,
-    /// Another process has the file open as a disk, or this one.
+    /// This or another process has the file open as a disk.
     #[error("file in use")]
     InUse,
-    /// The system reported another error, in the opening itself or in a read, a write or a sync of
-    /// it. A file that was made is gone again, where the system could take it away.
+    /// The system reported another error, in this call. A file that was made is removed again, if the system can remove
+    /// it.
     #[error("device fault")]
-    Device(DevFault),
+    Device(FailedCall),
 }

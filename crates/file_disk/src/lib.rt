@@ -6,21 +6,19 @@ mod begins;
 pub mod disk;
 mod doubt;
 pub mod error;
-pub mod forgetful;
+pub mod failed;
 mod looked;
 pub mod opening;
 pub mod raw;
-pub mod staged;
 pub mod system;
 mod transfers;
 mod written;
 
 pub use disk::DiskOver;
 pub use error::FileError;
-pub use forgetful::ForgetfulFile;
+pub use failed::{FailedCall, SystemCall};
 pub use opening::{create, no_file, open, open_or_create, open_to_read};
 pub use raw::{CallFailed, RawFile, Stop};
-pub use staged::{StagedFile, Turn};
 pub use system::SystemFile;
 
 /// A disk over a file of the operating system.

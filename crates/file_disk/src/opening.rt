@@ -1,14 +1,14 @@
 //! Making and opening the file of a disk.
-ghost use Rattle.std.specs.Prelude.{◌≡◌, [], IfOk, IfErr};
-ghost use Rattle.std.specs.IoError.{error_kind};
-ghost use Rattle.file_disk.specs.FileDisk.{file_state};
-ghost use Rattle.file_disk.specs.Inner.Causes.{IsErrorOfKind, IsLockAnswer};
-ghost use Rattle.file_disk.specs.Opening.{IsOneFailure};
+ghost use Rattle.std.specs.Prelude.{◌≡◌, [], IfOk, IfSome};
+ghost use Rattle.file_disk.specs.FailedCall.{failed_by};
+ghost use Rattle.file_disk.specs.FileDisk.{file_state, system_failed};
+ghost use Rattle.file_disk.specs.Inner.Causes.{IsErrorOf, IsLockAnswer};
 ghost use Rattle.file_disk.specs.declared.error.FileError.{FileError};
 
 use crate::FileDisk;
 use crate::disk::DiskOver;
 use crate::error::FileError;
+use crate::failed::{FailedCall, SystemCall};
 use crate::raw::RawFile;
 use crate::system::SystemFile;
 use std::fs::{File, OpenOptions, TryLockError};
@@ -17,7 +17,6 @@ use std::os::fd::AsRawFd;
 use std::path::Path;
 use std::{fs, io};
 use tape_disk::Disk;
-use vtl_base::DevFault;
 
 // What a file is opened for.
 #[derive(Clone, Copy, PartialEq, Eq, Debug)]
@@ -26,40 +25,41 @@ enum Access {
     Read,
 }
 
-fn device() -> FileError
-    ensures { result ≡ FileError.Device (record { failures = 1 }) }
+fn device(call: SystemCall, error: &io::Error) -> FileError
+    ensures { result ≡ FileError.Device (failed_by call error.now) }
 {
-    FileError::Device(DevFault { failures: 1 })
+    FileError::Device(FailedCall::of(call, error))
 }
 
-// What an error of the system means for a name.
-fn error_of(error: &io::Error) -> FileError
-    ensures one { IsOneFailure result }
-    ensures cause { IsErrorOfKind (error_kind error.now) result }
+// The error for a file of this name, by what the system reported in this call.
+fn error_of(call: SystemCall, error: &io::Error) -> FileError
+    ensures { IsErrorOf call error.now result }
 {
-    error_of_kind(error.kind())
-}
-
-fn error_of_kind(kind: ErrorKind) -> FileError
-    ensures one { IsOneFailure result }
-    ensures cause { IsErrorOfKind kind result }
-{
-    match kind {
+    match error.kind() {
         ErrorKind::AlreadyExists => FileError::Exists,
         ErrorKind::NotFound => FileError::Missing,
         ErrorKind::IsADirectory => FileError::NotAFile,
-        _ => device(),
+        _ => device(call, error),
     }
 }
 
-/// Makes a file of no bytes and opens it, for this process alone. At Ok the name is sure. What exists
-/// is not touched. The name is taken as it stands, from the working directory. Else `Exists`, of a
-/// regular file; `NotAFile`, of a folder, a pipe, a device or a link that leads nowhere, and of a name
-/// that ends in `/`; `Missing`, of its folder; `Device`; `InUse` where another process locked the new
-/// file first, which then stays.
+// Why a sync of this file failed.
+fn not_synced(file: &SystemFile) -> FileError
+    ensures { IfSome (system_failed file.now) (λ failed. result ≡ FileError.Device failed) }
+{
+    match file.failed() {
+        Some(failed) => FileError::Device(failed),
+        None => FileError::Device(FailedCall::none_moved(SystemCall::Sync)),
+    }
+}
+
+/// Makes a file of no bytes and opens it, for this process alone. At Ok the name is sure. Nothing that exists is
+/// touched. The name is used as it stands, relative to the working directory. Errors: `Exists` where a regular file has
+/// the name; `NotAFile` where a folder, a pipe, a device or a link that leads nowhere has it, or where it ends in `/`;
+/// `Missing` where its folder does not exist; `InUse` where another process locked the new file first, which then
+/// stays; `Device` for every other error of the system.
 pub fn create(rt: &HostRuntime, path: &str) -> Result<FileDisk, FileError>
     ensures ok { IfOk result (λ disk. disk.failures ≡ 0) }
-    ensures device { IfErr result IsOneFailure }
 {
     let mut options = OpenOptions::new();
     options.read(true).write(true).create_new(true);
@@ -79,8 +79,9 @@ pub fn create(rt: &HostRuntime, path: &str) -> Result<FileDisk, FileError>
     // Where it fails the lock is held until the name is gone: nobody else opens the file before that.
     if file.sync().is_err() {
         let _ = fs::remove_file(rt, path);
+        let error = not_synced(&file);
         drop(file);
-        return Err(device());
+        return Err(error);
     }
     let disk = DiskOver::new(file);
     if let Err(error) = sync_folder(rt, path) {
@@ -92,43 +93,36 @@ pub fn create(rt: &HostRuntime, path: &str) -> Result<FileDisk, FileError>
 }
 
 // Why a file of this name was not made: what has the name may be no regular file.
-fn not_made(rt: &HostRuntime, path: &str, error: &io::Error) -> FileError
-    ensures { IsOneFailure result }
-{
-    match error_of(error) {
+fn not_made(rt: &HostRuntime, path: &str, error: &io::Error) -> FileError {
+    match error_of(SystemCall::Open, error) {
         FileError::Exists => what_exists(rt, path),
         other => other,
     }
 }
 
-fn what_exists(rt: &HostRuntime, path: &str) -> FileError
-    ensures { IsOneFailure result }
-{
+fn what_exists(rt: &HostRuntime, path: &str) -> FileError {
     match fs::metadata(rt, path) {
         Ok(found) if found.is_file() => FileError::Exists,
         Ok(_) => FileError::NotAFile,
         // A link that leads nowhere.
         Err(error) if error.kind() == ErrorKind::NotFound => FileError::NotAFile,
-        Err(_) => device(),
+        Err(error) => device(SystemCall::Look, &error),
     }
 }
 
-/// Opens a file for change, for this process alone. Nothing is read, written or synced: what an
-/// earlier process may have left in doubt the first sync of the disk makes sure (`DiskOver::opened`).
-/// Else `Missing`, `NotAFile`, `InUse` or `Device`.
+/// Opens a file for reading and writing, for this process alone. Nothing is read, written or synced: the first sync of
+/// the disk makes sure what an earlier process may have left in doubt (`DiskOver::opened`). Errors: `Missing`,
+/// `NotAFile`, `InUse` or `Device`.
 pub fn open(rt: &HostRuntime, path: &str) -> Result<FileDisk, FileError>
     ensures ok { IfOk result (λ disk. disk.failures ≡ 0) }
-    ensures device { IfErr result IsOneFailure }
 {
     open_as(rt, path, Access::Change)
 }
 
-/// Opens a file for change as `open` does, or makes it with no bytes, as `create` does, where it is
-/// missing. At Ok the name is sure of a file of no bytes: whoever made it may have been stopped before
-/// that.
+/// Opens a file as `open` does, or makes it with no bytes, as `create` does, where it is missing. At Ok the name of a
+/// file of no bytes is sure, since whoever made it may have been stopped before that.
 pub fn open_or_create(rt: &HostRuntime, path: &str) -> Result<FileDisk, FileError>
     ensures ok { IfOk result (λ disk. disk.failures ≡ 0) }
-    ensures device { IfErr result IsOneFailure }
 {
     let disk = match open(rt, path) {
         Ok(disk) => disk,
@@ -147,18 +141,16 @@ pub fn open_or_create(rt: &HostRuntime, path: &str) -> Result<FileDisk, FileErro
     }
 }
 
-/// Opens a file to be read, for this process alone, and syncs it: each call that would change it
-/// fails. Nothing is written again, so where a sync failed before, what is read may not be on the
-/// device. Else `Missing`, `NotAFile`, `InUse` or `Device`.
+/// Opens a file for reading, for this process alone, and syncs it. Each call of the disk that would change the file
+/// fails. Nothing is written again, so where a sync failed before, what is read may not be on the device. Errors:
+/// `Missing`, `NotAFile`, `InUse` or `Device`.
 pub fn open_to_read(rt: &HostRuntime, path: &str) -> Result<FileDisk, FileError>
     ensures ok { IfOk result (λ disk. disk.failures ≡ 0) }
-    ensures device { IfErr result IsOneFailure }
 {
     open_as(rt, path, Access::Read)
 }
 
-/// A disk of no bytes, over no file: it stands for a file that is missing. Each call that would change
-/// it fails.
+/// A disk of no bytes over no file, which stands for a file that is missing. Each call that would change it fails.
 pub fn no_file() -> FileDisk
     ensures failures { result.failures ≡ 0 }
     ensures empty { (file_state result).honest → (file_state result).seen ≡ [] }
@@ -166,28 +158,26 @@ pub fn no_file() -> FileDisk
     DiskOver::new(SystemFile::none())
 }
 
-// The name is looked at first, since the opening of a pipe may wait for its other end.
+// Asks first what has the name, since the opening of a pipe may wait for its other end.
 fn open_as(rt: &HostRuntime, path: &str, access: Access) -> Result<FileDisk, FileError>
     ensures ok { IfOk result (λ disk. disk.failures ≡ 0) }
-    ensures device { IfErr result IsOneFailure }
 {
     match fs::metadata(rt, path) {
         Ok(found) if found.is_file() => {}
         Ok(_) => return Err(FileError::NotAFile),
-        Err(error) => return Err(error_of(&error)),
+        Err(error) => return Err(error_of(SystemCall::Look, &error)),
     }
     let mut options = OpenOptions::new();
     options.read(true).write(access == Access::Change);
     match options.open(rt, path) {
         Ok(file) => prepared(file, access),
-        Err(error) => Err(error_of(&error)),
+        Err(error) => Err(error_of(SystemCall::Open, &error)),
     }
 }
 
 // A disk over an open file, which is locked, and synced where it is only read.
 fn prepared(file: File, access: Access) -> Result<FileDisk, FileError>
     ensures ok { IfOk result (λ disk. disk.failures ≡ 0) }
-    ensures device { IfErr result IsOneFailure }
 {
     let mut file = match locked(file) {
         Ok(file) => SystemFile::over(file),
@@ -197,22 +187,21 @@ fn prepared(file: File, access: Access) -> Result<FileDisk, FileError>
         Access::Change => Ok(DiskOver::opened(file)),
         Access::Read => match file.sync() {
             Ok(()) => Ok(DiskOver::new(file)),
-            Err(_) => Err(device()),
+            Err(_) => Err(not_synced(&file)),
         },
     }
 }
 
 // An open file that is a regular one, above the standard streams and locked.
-fn locked(file: File) -> Result<File, FileError>
-    ensures { IfErr result IsOneFailure }
-{
-    let Ok(file) = above_streams(file) else {
-        return Err(device());
+fn locked(file: File) -> Result<File, FileError> {
+    let file = match above_streams(file) {
+        Ok(file) => file,
+        Err(error) => return Err(device(SystemCall::Renumber, &error)),
     };
     match file.metadata() {
         Ok(found) if found.is_file() => {}
         Ok(_) => return Err(FileError::NotAFile),
-        Err(_) => return Err(device()),
+        Err(error) => return Err(device(SystemCall::Look, &error)),
     }
     match lock(&file) {
         Ok(()) => Ok(file),
@@ -230,9 +219,7 @@ fn above_streams(file: File) -> io::Result<File> {
     }
 }
 
-fn lock(file: &File) -> Result<(), FileError>
-    ensures { IfErr result IsOneFailure }
-{
+fn lock(file: &File) -> Result<(), FileError> {
     match file.try_lock() {
         Ok(()) => Ok(()),
         Err(error) => lock_answer(&error),
@@ -241,20 +228,17 @@ fn lock(file: &File) -> Result<(), FileError>
 
 // Where the file system has no locks the file is taken without one.
 fn lock_answer(error: &TryLockError) -> Result<(), FileError>
-    ensures one { IfErr result IsOneFailure }
-    ensures cause { IsLockAnswer error.now result }
+    ensures { IsLockAnswer error.now result }
 {
     match error {
         TryLockError::WouldBlock => Err(FileError::InUse),
         TryLockError::Error(error) if error.kind() == ErrorKind::Unsupported => Ok(()),
-        TryLockError::Error(_) => Err(device()),
+        TryLockError::Error(error) => Err(device(SystemCall::Lock, error)),
     }
 }
 
 // Makes the names in the folder of this file sure.
-fn sync_folder(rt: &HostRuntime, path: &str) -> Result<(), FileError>
-    ensures { IfErr result IsOneFailure }
-{
+fn sync_folder(rt: &HostRuntime, path: &str) -> Result<(), FileError> {
     let folder = match Path::new(path).parent() {
         Some(parent) if !parent.as_str().is_empty() => parent.as_str(),
         _ => ".",
@@ -265,6 +249,6 @@ fn sync_folder(rt: &HostRuntime, path: &str) -> Result<(), FileError>
     };
     match synced {
         Ok(()) => Ok(()),
-        Err(_) => Err(device()),
+        Err(error) => Err(device(SystemCall::SyncFolder, &error)),
     }
 }

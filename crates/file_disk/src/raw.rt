@@ -22,7 +22,7 @@ pub struct CallFailed;
 /// laws below and nobody else writes the file: that is a premise for each real file. Of a file whose
 /// honesty is not known a contract says nothing.
 pub trait RawFile {
-    // That of a disk. A file counts no failures.
+    // The state of a disk. A file counts no failures.
     ghost state: { Self → DiskState };
 
     // The places whose bytes a sync may pass over and yet answer Ok, until they are written again:
@@ -32,12 +32,12 @@ pub trait RawFile {
     // The places that were written since the last good sync, by whichever process.
     ghost unsynced: { Self → ℕ → Type 0 };
 
-    /// The bytes of the file, or nothing where the system does not tell.
+    /// The length of the file in bytes; None where the system does not give it.
     fn size(&self) -> Option<u64>
         ensures { (state self.now).honest → result ≡ Some (length (state self.now).seen) };
 
-    /// Puts bytes from a place on at the start of the buffer: how many. It may be fewer than there
-    /// is room for, and none at the end of the file.
+    /// Reads bytes from a place on into the start of the buffer, and returns how many. They may be fewer than there is
+    /// room for; at the end of the file there are none.
     fn read_some(&mut self, at: u64, buffer: &mut [u8]) -> Result<usize, Stop>
         ensures bound { IfOk result (λ count. count ≤ length buffer.new) }
         ensures honesty { IsAsHonest (state self.old) (state self.new) }
@@ -49,7 +49,7 @@ pub trait RawFile {
             ReachesStill (passed_over self.old) (passed_over self.new) }
         ensures unsynced { (state self.old).honest → AddsNone (unsynced self.old) (unsynced self.new) };
 
-    /// Writes the first of the bytes from a place on: how many. The place is the end at most.
+    /// Writes the first of the bytes from a place on, and returns how many. The place is at most the end of the file.
     fn write_some(&mut self, at: u64, bytes: &[u8]) -> Result<usize, Stop>
         requires { (state self.old).honest → at ≤ length (state self.old).seen }
         ensures bound { IfOk result (λ count. count ≤ length bytes.now) }
@@ -64,8 +64,8 @@ pub trait RawFile {
         ensures unsynced { (state self.old).honest →
             AddsRange at (at + length bytes.now) (unsynced self.old) (unsynced self.new) };
 
-    /// Writes the first of the bytes from a place on, where they stand already: how many. They stay,
-    /// whatever crash comes, and a sync no longer passes over those that were written.
+    /// Writes the first of the bytes from a place on, where they stand already, and returns how many. They stay,
+    /// whatever crash comes, and a sync no longer passes over the bytes that were written.
     fn write_again(&mut self, at: u64, bytes: &[u8]) -> Result<usize, Stop>
         requires inside { (state self.old).honest → at + length bytes.now ≤ length (state self.old).seen }
         requires there { (state self.old).honest →
@@ -81,7 +81,7 @@ pub trait RawFile {
         ensures unsynced { (state self.old).honest →
             AddsRange at (at + length bytes.now) (unsynced self.old) (unsynced self.new) };
 
-    /// Takes away the bytes from a place on. The place is the end at most.
+    /// Removes the bytes from a place on. The place is at most the end of the file.
     fn cut(&mut self, len: u64) -> Result<(), CallFailed>
         requires { (state self.old).honest → len ≤ length (state self.old).seen }
         ensures honesty { IsAsHonest (state self.old) (state self.new) }
@@ -92,8 +92,8 @@ pub trait RawFile {
             ReachesStill (passed_over self.old) (passed_over self.new) }
         ensures unsynced { (state self.old).honest → AddsNone (unsynced self.old) (unsynced self.new) };
 
-    /// Makes bytes and length sure, but for the places that it passes over. After a fault it may pass
-    /// over those too that were written since the last good one.
+    /// Makes bytes and length sure, but for the places that it passes over. After a fault it may also pass over the
+    /// places that were written since the last good sync.
     fn sync(&mut self) -> Result<(), CallFailed>
         ensures honesty { IsAsHonest (state self.old) (state self.new) }
         ensures time { (state self.old).honest → Elapses (state self.old) (state self.new) }

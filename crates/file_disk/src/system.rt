@@ -1,16 +1,21 @@
 //! A file of the operating system, by its calls.
-ghost use Rattle.std.specs.Prelude.{◌≡◌, ◌≢◌, None, Some};
-ghost use Rattle.file_disk.specs.FileDisk.{system_file};
+ghost use Rattle.std.specs.Prelude.{◌≡◌, ◌≢◌, ◌<◌, None, Some};
+ghost use Rattle.std.specs.IoError.{error_kind};
+ghost use Rattle.file_disk.specs.FailedCall.{failed_by, none_moved};
+ghost use Rattle.file_disk.specs.FileDisk.{system_failed, system_file};
 
+use crate::failed::{FailedCall, SystemCall};
 use crate::raw::{CallFailed, RawFile, Stop};
 use std::fs::File;
-use std::io::ErrorKind;
+use std::io::{self, ErrorKind};
 use std::os::unix::fs::FileExt;
 
-/// An open file of the operating system, or none. Whether it is honest no proof says.
+/// An open file of the operating system, or none. No proof says whether it is honest. It remembers which of its calls
+/// failed last.
 #[derive(Drop)]
 pub struct SystemFile {
     file: Option<File>,
+    failed: Option<FailedCall>,
 }
 
 // What an error of the system means for a call that moves bytes.
@@ -26,22 +31,74 @@ fn stop_of(kind: ErrorKind) -> Stop
 }
 
 impl SystemFile {
-    /// A file that is open, as it stands. It takes no lock and looks at nothing, so it has no error. That
-    /// the file is a regular one, open for what is asked of it and not for appending, and opened
-    /// nowhere else, in this process or another, is the caller's; and that a disk over it is made by
-    /// `DiskOver::opened` where it was written before. `create`, `open` and `open_to_read` see to all of
-    /// this for theirs.
+    /// A file that is open, as it stands. It takes no lock and asks the system nothing, so it cannot fail. The caller
+    /// ensures that the file is a regular one, open for what is asked of it and not for appending, and opened nowhere
+    /// else, in this process or another; and that a disk over it is made by `DiskOver::opened` where it was written
+    /// before. `create`, `open` and `open_to_read` ensure all of this themselves.
     pub fn over(file: File) -> SystemFile
-        ensures { system_file result ≡ Some file }
+        ensures file { system_file result ≡ Some file }
+        ensures failed { system_failed result ≡ None }
     {
-        SystemFile { file: Some(file) }
+        SystemFile {
+            file: Some(file),
+            failed: None,
+        }
     }
 
     /// No file. It has no bytes, its sync answers Ok, and each call that would change it fails.
     pub fn none() -> SystemFile
-        ensures { system_file result ≡ None }
+        ensures file { system_file result ≡ None }
+        ensures failed { system_failed result ≡ None }
     {
-        SystemFile { file: None }
+        SystemFile {
+            file: None,
+            failed: None,
+        }
+    }
+
+    /// The call that failed last, and what the system answered; `None` where none failed. A read or a write that should
+    /// have moved bytes and moved none counts as failed; one that a signal interrupted does not, and neither does
+    /// asking for the length.
+    pub fn failed(&self) -> Option<FailedCall>
+        ensures { result ≡ system_failed self.now }
+    {
+        self.failed
+    }
+
+    // Notes the error of a call that moves bytes, unless it was interrupted.
+    fn stop(&mut self, call: SystemCall, error: &io::Error) -> Stop
+        ensures interrupted { error_kind error.now ≡ ErrorKind.Interrupted →
+            (result ≡ Stop.Interrupted) × (self.new ≡ self.old) }
+        ensures failed { error_kind error.now ≢ ErrorKind.Interrupted →
+            (result ≡ Stop.Failed) × (system_failed self.new ≡ Some (failed_by call error.now)) }
+        ensures file { system_file self.new ≡ system_file self.old }
+    {
+        let stop = stop_of(error.kind());
+        if stop == Stop::Failed {
+            self.failed = Some(FailedCall::of(call, error));
+        }
+        stop
+    }
+
+    // Notes a call that should have moved `asked` bytes and moved none.
+    fn moved(&mut self, call: SystemCall, asked: usize, count: usize)
+        ensures none { count ≡ 0 → 0 < asked → system_failed self.new ≡ Some (none_moved call) }
+        ensures some { 0 < count → self.new ≡ self.old }
+        ensures nothing { asked ≡ 0 → self.new ≡ self.old }
+        ensures file { system_file self.new ≡ system_file self.old }
+    {
+        if count == 0 && asked > 0 {
+            self.failed = Some(FailedCall::none_moved(call));
+        }
+    }
+
+    // Notes the error of another call.
+    fn failing(&mut self, call: SystemCall, error: &io::Error) -> CallFailed
+        ensures failed { system_failed self.new ≡ Some (failed_by call error.now) }
+        ensures file { system_file self.new ≡ system_file self.old }
+    {
+        self.failed = Some(FailedCall::of(call, error));
+        CallFailed
     }
 }
 
@@ -73,8 +130,11 @@ impl RawFile for SystemFile {
             return Ok(0);
         };
         match file.read_at(buffer, at) {
-            Ok(count) => Ok(count),
-            Err(error) => Err(stop_of(error.kind())),
+            Ok(count) => {
+                self.moved(SystemCall::ReadAt, buffer.len(), count);
+                Ok(count)
+            }
+            Err(error) => Err(self.stop(SystemCall::ReadAt, &error)),
         }
     }
 
@@ -83,8 +143,11 @@ impl RawFile for SystemFile {
             return Err(Stop::Failed);
         };
         match file.write_at(bytes, at) {
-            Ok(count) => Ok(count),
-            Err(error) => Err(stop_of(error.kind())),
+            Ok(count) => {
+                self.moved(SystemCall::WriteAt, bytes.len(), count);
+                Ok(count)
+            }
+            Err(error) => Err(self.stop(SystemCall::WriteAt, &error)),
         }
     }
 
@@ -93,8 +156,11 @@ impl RawFile for SystemFile {
             return Err(Stop::Failed);
         };
         match file.write_at(bytes, at) {
-            Ok(count) => Ok(count),
-            Err(error) => Err(stop_of(error.kind())),
+            Ok(count) => {
+                self.moved(SystemCall::WriteAt, bytes.len(), count);
+                Ok(count)
+            }
+            Err(error) => Err(self.stop(SystemCall::WriteAt, &error)),
         }
     }
 
@@ -105,7 +171,7 @@ impl RawFile for SystemFile {
         };
         match file.set_len(len) {
             Ok(()) => Ok(()),
-            Err(_) => Err(CallFailed),
+            Err(error) => Err(self.failing(SystemCall::Cut, &error)),
         }
     }
 
@@ -115,7 +181,7 @@ impl RawFile for SystemFile {
         };
         match file.sync_all() {
             Ok(()) => Ok(()),
-            Err(_) => Err(CallFailed),
+            Err(error) => Err(self.failing(SystemCall::Sync, &error)),
         }
     }
 }

@@ -5,11 +5,10 @@ ghost use Rattle.file_disk.specs.RawFile.{AddsNone, AddsRange, IsAsHonest, Reach
 
 use crate::raw::{CallFailed, RawFile, Stop};
 
-// How many calls one read or write makes at most: no run lives to see them all interrupted.
+// The most calls that one read or write makes. No process lives long enough to see them all interrupted.
 pub(crate) const CALLS: u64 = u64::MAX;
 
-// One call that reads behind the bytes that were read: how many are there then. An interrupted
-// one read none.
+// Makes one call that reads the next bytes. Returns how many were read then in all. An interrupted call read none.
 fn read_on<F: RawFile>(
     file: &mut F,
     at: u64,
@@ -72,8 +71,7 @@ pub(crate) fn read_all<F: RawFile>(
     Err(CallFailed)
 }
 
-// One call that writes behind the bytes that were written: how many are there then. An
-// interrupted one wrote none.
+// Makes one call that writes the next bytes. Returns how many were written then in all. An interrupted call wrote none.
 fn write_on<F: RawFile>(
     file: &mut F,
     at: u64,

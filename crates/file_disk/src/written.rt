@@ -2,7 +2,8 @@
 ghost use Rattle.std.specs.Prelude.{◌≡◌, ◌⊎◌, ◌<◌, ◌≤◌, ℕ, false, IfSome};
 ghost use Rattle.file_disk.specs.Inner.Doubts.{Covers, InSpan};
 
-/// Bytes from a place to another, the second one not counted. None where it does not come later.
+/// The bytes from one place up to another, which is not included. There are none where the second place is not the
+/// later one.
 #[derive(Clone, Copy)]
 pub(crate) struct Span {
     pub from: u64,
@@ -32,8 +33,8 @@ impl Span {
     }
 }
 
-/// The bytes that were written: two ranges at most, or more, of which nothing is kept. An opening has
-/// a third one.
+/// The bytes that were written: at most two ranges. Where they were more, none is recorded. An opening has a third
+/// range.
 #[derive(Clone, Copy)]
 pub(crate) struct Written {
     pub one: Span,
@@ -57,7 +58,7 @@ impl Written {
         }
     }
 
-    /// The first bytes of a file, so many.
+    /// The first `bytes` bytes of a file.
     pub fn first(bytes: u64) -> Written
         ensures { (place : ℕ) → place < bytes → InSpan result.start place }
     {
@@ -70,7 +71,7 @@ impl Written {
         }
     }
 
-    /// More ranges than are kept, or unknown ones.
+    /// More ranges than are recorded, or unknown ones.
     pub fn apart() -> Written
         ensures { (place : ℕ) → Covers result place }
     {
@@ -82,7 +83,7 @@ impl Written {
         }
     }
 
-    /// These bytes too.
+    /// These ranges, and the bytes from `at` up to `end`.
     pub fn noted(self, at: u64, end: u64) -> Written
         ensures covers { (place : ℕ) →
             Covers self place ⊎ ((at ≤ place) × (place < end)) → Covers result place }

@@ -1,51 +1,82 @@
 //! What a call for a file was answered.
-ghost use Rattle.std.specs.Prelude.{◌≡◌};
-ghost use Rattle.file_reasons.specs.Answers.{answer_of_kind, answer_of_file, answer_fix};
+ghost use Rattle.std.specs.Prelude.{◌≡◌, true, IfSome};
+ghost use Rattle.std.specs.IoError.{error_kind, raw_os_error};
+ghost use Rattle.file_reasons.specs.Answers.{answer_of_call, answer_of_kind, answer_of_file, may_have_words};
 
-use file_disk::FileError;
+use file_disk::{FailedCall, FileError};
+use std::alloc::Global;
 use std::fmt;
 use std::io::{self, ErrorKind};
+use vtl_base::limits::SCRIPT_BYTES;
 
 /// What a call for a file was answered.
 #[derive(Clone, Copy, PartialEq, Eq, Debug)]
 pub enum Answer {
-    /// There is no file of this name, or not the folder that it names.
+    /// No file has this name, or the folder in the name does not exist.
     Missing,
-    /// What has this name is no regular file.
+    /// The name is too long, what it names as a folder is none, or the links in it lead nowhere.
+    BadName,
+    /// What has this name is not a regular file.
     NotAFile,
-    /// There is a file of this name, or something else.
+    /// A file or something else has this name already.
     Exists,
-    /// Another process has the file open, or this one.
+    /// This or another process has the file open.
     InUse,
     /// The system does not allow it.
     Denied,
     /// The file system is full, or a quota is reached.
     NoRoom,
-    /// The file system is mounted to be read only.
+    /// The file system is mounted read-only.
     ReadOnly,
+    /// A read came to the end of the file before it had all bytes.
+    Ended,
+    /// A write wrote no byte.
+    TookNone,
+    /// The file may not be so long.
+    TooLarge,
+    /// The reader of the stream has ended.
+    NoReader,
+    /// The script is longer than a script may be.
+    LongScript,
     /// The system reported another error, with this number where it has one.
     Other(Option<i32>),
 }
 
-// What an error of the system says.
+// The answer that an error of the system stands for.
 fn answer_of_kind(kind: ErrorKind, number: Option<i32>) -> Answer
     ensures { result ≡ answer_of_kind kind number }
 {
     match kind {
         ErrorKind::NotFound => Answer::Missing,
+        ErrorKind::NotADirectory | ErrorKind::InvalidFilename | ErrorKind::FilesystemLoop => {
+            Answer::BadName
+        }
         ErrorKind::IsADirectory => Answer::NotAFile,
         ErrorKind::AlreadyExists => Answer::Exists,
         ErrorKind::PermissionDenied => Answer::Denied,
         ErrorKind::StorageFull | ErrorKind::QuotaExceeded => Answer::NoRoom,
         ErrorKind::ReadOnlyFilesystem => Answer::ReadOnly,
+        ErrorKind::UnexpectedEof => Answer::Ended,
+        ErrorKind::WriteZero => Answer::TookNone,
+        ErrorKind::FileTooLarge => Answer::TooLarge,
+        ErrorKind::BrokenPipe => Answer::NoReader,
         _ => Answer::Other(number),
     }
 }
 
 impl Answer {
-    /// What the system answered.
-    pub fn of_error(error: &io::Error) -> Answer {
+    /// What the system answered, by its error.
+    pub fn of_error(error: &io::Error) -> Answer
+        ensures { result ≡ answer_of_kind (error_kind error.now) (raw_os_error error.now) }
+    {
         answer_of_kind(error.kind(), error.raw_os_error())
+    }
+
+    /// What a call for an open file was answered.
+    pub fn of_call(failed: FailedCall) -> Answer
+        ensures { result ≡ answer_of_call failed }
+    {
+        answer_of_kind(failed.kind, failed.number)
     }
 
     /// Why a file was not made or opened.
@@ -57,25 +88,20 @@ impl Answer {
             FileError::Missing => Answer::Missing,
             FileError::NotAFile => Answer::NotAFile,
             FileError::InUse => Answer::InUse,
-            FileError::Device(_) => Answer::Other(None),
+            FileError::Device(failed) => Answer::of_call(failed),
         }
     }
 
-    // What to do about it.
-    pub(crate) fn fix(self) -> &'static str
-        ensures { result.now ≡ answer_fix self }
+    /// The system's own words for it, with its number, where it is none of the common ones.
+    pub fn words(self, alloc: Global) -> Option<String>
+        ensures { IfSome result (λ words. may_have_words self ≡ true) }
     {
         match self {
-            Answer::Missing =>
-                "to do: correct the name, or make the missing files of a configuration with vtl create",
-            Answer::NotAFile => "to do: name a regular file",
-            Answer::Exists => "to do: choose another name",
-            Answer::InUse => "to do: end the other vtl that has it open",
-            Answer::Denied => "to do: let this user read and write the file",
-            Answer::NoRoom => "to do: make room on the file system",
-            Answer::ReadOnly => "to do: mount the file system for writing",
-            Answer::Other(_) =>
-                "to do: look at the device, and at what the system has logged of it",
+            Answer::Other(Some(number)) => {
+                let error = io::Error::from_raw_os_error(number);
+                format!(in alloc; "{error}").ok()
+            }
+            _ => None,
         }
     }
 }
@@ -89,12 +115,24 @@ impl fmt::Display for Answer {
     fn fmt<W: fmt::Write>(&self, f: &mut fmt::Formatter<W>) -> fmt::Result {
         match self {
             Answer::Missing => write!(f, "there is no such file or folder"),
+            Answer::BadName => write!(
+                f,
+                "the name is too long, a folder in it is none, or its links lead nowhere"
+            ),
             Answer::NotAFile => write!(f, "what has this name is no regular file"),
             Answer::Exists => write!(f, "the name is taken"),
-            Answer::InUse => write!(f, "the file is in use by another process"),
+            Answer::InUse => write!(
+                f,
+                "the file is in use by another process, or open under another name"
+            ),
             Answer::Denied => write!(f, "the system does not allow it"),
             Answer::NoRoom => write!(f, "the file system is full"),
             Answer::ReadOnly => write!(f, "the file system is read only"),
+            Answer::Ended => write!(f, "the file has ended before all bytes were read"),
+            Answer::TookNone => write!(f, "no byte was taken"),
+            Answer::TooLarge => write!(f, "the file may not be so long"),
+            Answer::NoReader => write!(f, "the program that read it has ended"),
+            Answer::LongScript => write!(f, "a script has {SCRIPT_BYTES} bytes at most"),
             Answer::Other(Some(number)) => write!(f, "the system reported error {number}"),
             Answer::Other(None) => write!(f, "the system reported an error"),
         }

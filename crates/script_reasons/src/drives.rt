@@ -1,13 +1,14 @@
 //! Which drives are configured.
 ghost use Rattle.std.specs.Prelude.{◌≡◌};
-ghost use Rattle.script_reasons.specs.Drives.{has};
+ghost use Rattle.script_reasons.specs.Drives.{has, AreNone, AreAll, AreWith};
 
 use scsi_sense::Reply;
 use std::alloc::Global;
 use vtl_base::{DriveNo, NoMemory};
 use vtl_script::{Item, Runner};
 
-/// Drives by their numbers. A line is read as for a runner that has these; they run nothing.
+/// The drives that are configured. With them a line can be read as for a runner that has these drives; they run
+/// nothing.
 #[derive(Clone, Copy, Debug)]
 pub struct Drives {
     // by place, from 0 on
@@ -16,12 +17,23 @@ pub struct Drives {
 
 impl Drives {
     /// No drive.
-    pub fn none() -> Self {
+    pub fn none() -> Self
+        ensures { AreNone result }
+    {
         Drives { are: [false; 16] }
     }
 
-    /// One drive more.
-    pub fn with(self, drive: DriveNo) -> Self {
+    /// Every drive that there may be.
+    pub fn all() -> Self
+        ensures { AreAll result }
+    {
+        Drives { are: [true; 16] }
+    }
+
+    /// These drives and one more.
+    pub fn with(self, drive: DriveNo) -> Self
+        ensures { AreWith drive self result }
+    {
         let mut are = self.are;
         are[drive.place()] = true;
         Drives { are }

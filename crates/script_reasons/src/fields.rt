@@ -1,6 +1,6 @@
 //! The fields of a line, by their places.
 ghost use Rattle.std.specs.Prelude.{◌≤◌, IfSome, length};
-ghost use Rattle.script_reasons.specs.Reasons.{IsPartOf};
+ghost use Rattle.script_reasons.specs.Reasons.{IsFieldOf};
 
 // A part of a line: where it begins, and where it ends.
 #[derive(Clone, Copy)]
@@ -25,7 +25,7 @@ fn place_of(line: &[u8], from: usize, is_space: bool) -> usize
 // The field that begins first from this place on.
 pub(crate) fn field_from(line: &[u8], from: usize) -> Option<Part>
     requires { from ≤ length line.now }
-    ensures { IfSome result (IsPartOf line.now) }
+    ensures { IfSome result (IsFieldOf line.now) }
 {
     let begin = place_of(line, from, false);
     let end = place_of(line, begin, true);

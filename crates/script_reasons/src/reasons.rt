@@ -1,12 +1,14 @@
 //! Why a line of a script is refused.
-ghost use Rattle.std.specs.Prelude.{◌≡◌, ◌≤◌, ◌<◌, IfSome, length};
+ghost use Rattle.std.specs.Prelude.{◌≡◌, ◌≤◌, IfOk, IfSome, length, string_bytes};
+ghost use Rattle.std.specs.Char.{is_ascii_hexdigit};
+ghost use Rattle.std.specs.List.{list_all};
 ghost use Rattle.vtl_script.specs.Lines.{decimal_of};
 ghost use Rattle.script_reasons.specs.Drives.{has};
-ghost use Rattle.script_reasons.specs.Reasons.{IsLineRefused, IsPartOf, IsLineReason};
+ghost use Rattle.script_reasons.specs.Reasons.{IsLineRefused, IsPartOf, bytes_of_part, IsWrongIn, IsLineReason, empty_end, too_long};
 
 use crate::drives::Drives;
 use crate::fields::{Part, field_from};
-use std::alloc::Global;
+use std::alloc::{AllocError, Global};
 use vtl_base::DriveNo;
 use vtl_base::limits::{DRIVES, LINE_BYTES, NEXUSES};
 use vtl_script::Runner;
@@ -17,21 +19,21 @@ use vtl_script::lines::{ParsedLine, parse};
 pub enum Fault {
     /// The line has more bytes than a line may have.
     TooLong,
-    /// HOST is no number of 1 to 64.
+    /// HOST is not a number from 1 to 64.
     Host,
-    /// DRIVE is no number of 1 to 16.
+    /// DRIVE is not a number from 1 to 16.
     Drive,
     /// DRIVE is not configured.
     NotConfigured,
     /// The command block or the data have an odd number of digits.
     Odd,
-    /// The command block or the data are no hexadecimal digits.
+    /// The command block or the data have another character than hexadecimal digits.
     NoHex,
     /// A field is missing.
     Missing,
-    /// A field is too many.
+    /// There is a field too many.
     TooMany,
-    /// FROM or TO is no number of 1 to 5 digits.
+    /// FROM or TO is not a number of 1 to 5 digits.
     Address,
     /// FROM or TO is missing.
     NoAddress,
@@ -69,19 +71,19 @@ fn is_refused(alloc: Global, drives: &Drives, line: &[u8]) -> bool
     }
 }
 
-// The number that 1 to 5 decimal digits spell.
-fn number_in(field: &[u8]) -> Option<u32> {
-    if field.is_empty() || field.len() > 5 {
+// A decimal number of at most 5 digits.
+fn number_in(field: &[u8]) -> Option<u32>
+    ensures { result ≡ decimal_of field.now }
+{
+    if field.len() > 5 {
         return None;
     }
-    let mut number = 0u32;
+    let mut number = 0;
     for digit in field {
         if !digit.is_ascii_digit() {
             return None;
         }
-        number = number
-            .saturating_mul(10)
-            .saturating_add(u32::from(*digit - b'0'));
+        number = 10 * number + u32::from(*digit - b'0');
     }
     Some(number)
 }
@@ -89,25 +91,26 @@ fn number_in(field: &[u8]) -> Option<u32> {
 // The bytes of a part.
 fn text_in<'a>(line: &'a [u8], part: Part) -> &'a [u8]
     requires { IsPartOf line.now part }
+    ensures { result.now ≡ bytes_of_part line.now part }
 {
     &line[part.from..part.to]
 }
 
 // The end of a line, where something is missing.
-fn at_end(line: &[u8], fault: Fault) -> Option<Wrong>
-    ensures { IfSome result (λ wrong. IsPartOf line.now wrong.part) }
+fn end_of(line: &[u8]) -> Part
+    ensures part { result ≡ empty_end line.now }
+    ensures inside { IsPartOf line.now result }
 {
-    let part = Part {
+    Part {
         from: line.len(),
         to: line.len(),
-    };
-    Some(Wrong { fault, part })
+    }
 }
 
 // What is wrong with a field that should be an element address.
 fn address_fault(line: &[u8], part: Part) -> Option<Wrong>
     requires { IsPartOf line.now part }
-    ensures { IfSome result (λ wrong. IsPartOf line.now wrong.part) }
+    ensures { (drives : Drives) → IfSome result (IsWrongIn drives line.now) }
 {
     match number_in(text_in(line, part)) {
         Some(_) => None,
@@ -118,13 +121,20 @@ fn address_fault(line: &[u8], part: Part) -> Option<Wrong>
     }
 }
 
+// Whether a field has only hexadecimal digits.
+fn is_hex(field: &[u8]) -> bool
+    ensures { result ≡ list_all is_ascii_hexdigit field.now }
+{
+    field.iter().all(|byte| byte.is_ascii_hexdigit())
+}
+
 // What is wrong with a field that should be hexadecimal digits.
 fn hex_fault(line: &[u8], part: Part) -> Option<Wrong>
     requires { IsPartOf line.now part }
-    ensures { IfSome result (λ wrong. IsPartOf line.now wrong.part) }
+    ensures { (drives : Drives) → IfSome result (IsWrongIn drives line.now) }
 {
     let text = text_in(line, part);
-    if !text.iter().all(|byte| byte.is_ascii_hexdigit()) {
+    if !is_hex(text) {
         return Some(Wrong {
             fault: Fault::NoHex,
             part,
@@ -142,7 +152,7 @@ fn hex_fault(line: &[u8], part: Part) -> Option<Wrong>
 // What is wrong with the host.
 fn host_fault(line: &[u8], part: Part) -> Option<Wrong>
     requires { IsPartOf line.now part }
-    ensures { IfSome result (λ wrong. IsPartOf line.now wrong.part) }
+    ensures { (drives : Drives) → IfSome result (IsWrongIn drives line.now) }
 {
     match number_in(text_in(line, part)) {
         Some(number) if number >= 1 && number <= NEXUSES as u32 => None,
@@ -156,7 +166,7 @@ fn host_fault(line: &[u8], part: Part) -> Option<Wrong>
 // What is wrong with the drive.
 fn drive_fault(drives: &Drives, line: &[u8], part: Part) -> Option<Wrong>
     requires { IsPartOf line.now part }
-    ensures { IfSome result (λ wrong. IsPartOf line.now wrong.part) }
+    ensures { IfSome result (IsWrongIn drives.now line.now) }
 {
     let number = match number_in(text_in(line, part)) {
         Some(number) if number <= DRIVES as u32 => number as u8,
@@ -175,16 +185,48 @@ fn drive_fault(drives: &Drives, line: &[u8], part: Part) -> Option<Wrong>
     }
 }
 
-// What is wrong behind `move`.
+// A field too many, where there is one from this place on.
+fn field_too_many(line: &[u8], from: usize) -> Option<Wrong>
+    requires { from ≤ length line.now }
+    ensures { (drives : Drives) → IfSome result (IsWrongIn drives line.now) }
+{
+    let part = field_from(line, from)?;
+    Some(Wrong {
+        fault: Fault::TooMany,
+        part,
+    })
+}
+
+// An element address that is missing.
+fn no_address(line: &[u8]) -> Option<Wrong>
+    ensures { (drives : Drives) → IfSome result (IsWrongIn drives line.now) }
+{
+    Some(Wrong {
+        fault: Fault::NoAddress,
+        part: end_of(line),
+    })
+}
+
+// A drive or a command block that is missing.
+fn no_field(line: &[u8]) -> Option<Wrong>
+    ensures { (drives : Drives) → IfSome result (IsWrongIn drives line.now) }
+{
+    Some(Wrong {
+        fault: Fault::Missing,
+        part: end_of(line),
+    })
+}
+
+// What is wrong after `move`.
 fn move_fault(line: &[u8], behind: usize) -> Option<Wrong>
     requires { behind ≤ length line.now }
-    ensures { IfSome result (λ wrong. IsPartOf line.now wrong.part) }
+    ensures { (drives : Drives) → IfSome result (IsWrongIn drives line.now) }
 {
     let Some(from) = field_from(line, behind) else {
-        return at_end(line, Fault::NoAddress);
+        return no_address(line);
     };
     let Some(to) = field_from(line, from.to) else {
-        return at_end(line, Fault::NoAddress);
+        return no_address(line);
     };
     if let Some(wrong) = address_fault(line, from) {
         return Some(wrong);
@@ -192,45 +234,37 @@ fn move_fault(line: &[u8], behind: usize) -> Option<Wrong>
     if let Some(wrong) = address_fault(line, to) {
         return Some(wrong);
     }
-    let part = field_from(line, to.to)?;
-    Some(Wrong {
-        fault: Fault::TooMany,
-        part,
-    })
+    field_too_many(line, to.to)
 }
 
-// What is wrong with the data, and behind them.
+// What is wrong with the data, or after them.
 fn data_fault(line: &[u8], behind: usize) -> Option<Wrong>
     requires { behind ≤ length line.now }
-    ensures { IfSome result (λ wrong. IsPartOf line.now wrong.part) }
+    ensures { (drives : Drives) → IfSome result (IsWrongIn drives line.now) }
 {
     let data = field_from(line, behind)?;
     if let Some(wrong) = hex_fault(line, data) {
         return Some(wrong);
     }
-    let part = field_from(line, data.to)?;
-    Some(Wrong {
-        fault: Fault::TooMany,
-        part,
-    })
+    field_too_many(line, data.to)
 }
 
 // What is wrong with a command, whose first field is this.
 fn command_fault(drives: &Drives, line: &[u8], host: Part) -> Option<Wrong>
     requires { IsPartOf line.now host }
-    ensures { IfSome result (λ wrong. IsPartOf line.now wrong.part) }
+    ensures { IfSome result (IsWrongIn drives.now line.now) }
 {
     if let Some(wrong) = host_fault(line, host) {
         return Some(wrong);
     }
     let Some(drive) = field_from(line, host.to) else {
-        return at_end(line, Fault::Missing);
+        return no_field(line);
     };
     if let Some(wrong) = drive_fault(drives, line, drive) {
         return Some(wrong);
     }
     let Some(block) = field_from(line, drive.to) else {
-        return at_end(line, Fault::Missing);
+        return no_field(line);
     };
     if let Some(wrong) = hex_fault(line, block) {
         return Some(wrong);
@@ -240,7 +274,7 @@ fn command_fault(drives: &Drives, line: &[u8], host: Part) -> Option<Wrong>
 
 // What is wrong with a line that is refused.
 fn fault_in(drives: &Drives, line: &[u8]) -> Option<Wrong>
-    ensures { IfSome result (λ wrong. IsPartOf line.now wrong.part) }
+    ensures { IfSome result (IsWrongIn drives.now line.now) }
 {
     let first = field_from(line, 0)?;
     if text_in(line, first) == b"move".as_slice() {
@@ -251,19 +285,22 @@ fn fault_in(drives: &Drives, line: &[u8]) -> Option<Wrong>
 }
 
 // The text of a part, where it has bytes and is text.
-fn field_of(alloc: Global, line: &[u8], part: Part) -> Option<String>
+fn field_of(alloc: Global, line: &[u8], part: Part) -> Result<Option<String>, AllocError>
     requires { IsPartOf line.now part }
+    ensures { IfOk result (λ field. IfSome field (λ text. string_bytes text ≡ bytes_of_part line.now part)) }
 {
     if part.from == part.to {
-        return None;
+        return Ok(None);
     }
-    let text = std::str::from_utf8(text_in(line, part)).ok()?;
-    String::from_str(alloc, text).ok()
+    match std::str::from_utf8(text_in(line, part)) {
+        Ok(text) => Ok(Some(String::from_str(alloc, text)?)),
+        Err(_) => Ok(None),
+    }
 }
 
 impl LineReason {
-    /// Why this line is refused, its line feed and the carriage return before it left out. None where it is not, and
-    /// where memory runs out.
+    /// Why this line is refused. The line is given without its line feed and without a carriage return before that.
+    /// None where it is not refused, and where memory runs out.
     pub fn of(alloc: Global, drives: Drives, number: u64, line: &[u8]) -> Option<LineReason>
         ensures { IfSome result (IsLineReason drives number line.now) }
     {
@@ -275,14 +312,14 @@ impl LineReason {
             line: number,
             column: wrong.part.from + 1,
             fault: wrong.fault,
-            field: field_of(alloc, line, wrong.part),
+            field: field_of(alloc, line, wrong.part).ok()?,
             drives,
         })
     }
 
     /// A line of more bytes than a line may have.
     pub fn too_long(drives: Drives, number: u64) -> LineReason
-        ensures { (result.line ≡ number) × (result.fault ≡ Fault.TooLong) }
+        ensures { result ≡ too_long drives number }
     {
         LineReason {
             line: number,

@@ -1,4 +1,7 @@
 //! The lines that explain a refused line of a script.
+ghost use Rattle.std.specs.Prelude.{◌≡◌, ◌≤◌, ◌++◌, IfOk, OnOk, string_bytes};
+ghost use Rattle.script_reasons.specs.Texts.{with_number, with_configured, listed, configured_of, drives_text, fault_subject, no_field, field_text, fault_allowed, fault_refused, column_text, fix_text, reason_lines};
+
 use crate::drives::Drives;
 use crate::reasons::{Fault, LineReason};
 use explanations::Explanation;
@@ -7,24 +10,55 @@ use vtl_base::DriveNo;
 use vtl_base::limits::{DRIVES, LINE_BYTES, NEXUSES};
 use vtl_script::Runner;
 
-// The numbers of the drives that are configured, parted by commas.
-fn numbers_of(alloc: Global, drives: &Drives) -> Result<String, AllocError> {
+// Adds a number, after a comma where it is not the first.
+fn add_number(text: &mut String, number: u8) -> Result<(), AllocError>
+    ensures { OnOk result (string_bytes text.new ≡ with_number (string_bytes text.old) number) }
+{
+    if !text.is_empty() {
+        text.push_str(", ")?;
+    }
+    write!(text, "{number}")?;
+    Ok(())
+}
+
+// Adds the number of a drive that is configured.
+fn add_drive(text: &mut String, drives: &Drives, number: u8) -> Result<(), AllocError>
+    requires { (1 ≤ number) × (number ≤ 16) }
+    ensures { OnOk result (string_bytes text.new ≡ with_configured drives.now (string_bytes text.old) number) }
+{
+    match DriveNo::new(number) {
+        Some(drive) if drives.configured(drive) => add_number(text, number),
+        _ => Ok(()),
+    }
+}
+
+// The numbers of the drives that are configured, separated by commas.
+fn numbers_of(alloc: Global, drives: &Drives) -> Result<String, AllocError>
+    ensures { IfOk result (λ text. string_bytes text ≡ listed (configured_of drives.now)) }
+{
     let mut text = String::new(alloc);
-    for number in 1..DRIVES + 1 {
-        if let Some(drive) = DriveNo::new(number) {
-            if drives.configured(drive) {
-                if !text.is_empty() {
-                    text.push_str(", ")?;
-                }
-                write!(text, "{number}")?;
-            }
-        }
+    for place in 0..DRIVES {
+        add_drive(&mut text, drives, place + 1)?;
     }
     Ok(text)
 }
 
+// The drives that are configured, or that there is none.
+fn drives_text(alloc: Global, drives: &Drives) -> Result<String, AllocError>
+    ensures { IfOk result (λ text. string_bytes text ≡ drives_text drives.now) }
+{
+    let numbers = numbers_of(alloc, drives)?;
+    if numbers.is_empty() {
+        String::from_str(alloc, "and none is")
+    } else {
+        Ok(numbers)
+    }
+}
+
 // What is refused, before the field.
-fn subject_of(fault: Fault) -> &'static str {
+fn subject_of(fault: Fault) -> &'static str
+    ensures { result.now ≡ fault_subject fault }
+{
     match fault {
         Fault::TooLong => "the line is too long",
         Fault::Host => "HOST is ",
@@ -38,14 +72,38 @@ fn subject_of(fault: Fault) -> &'static str {
     }
 }
 
-// What is allowed, and what to do.
-fn allowed(alloc: Global, reason: &LineReason) -> Result<String, AllocError> {
-    match reason.fault {
+// What is shown where there is no field, or none that is text.
+fn no_field(fault: Fault) -> &'static str
+    ensures { result.now ≡ no_field fault }
+{
+    match fault {
+        Fault::TooLong | Fault::Missing | Fault::NoAddress => "",
+        _ => "no text",
+    }
+}
+
+// The field, where there is one.
+fn text_of(fault: Fault, field: &Option<String>) -> &str
+    ensures { result.now ≡ field_text fault field.now }
+{
+    match field {
+        Some(field) => field.as_str(),
+        None => no_field(fault),
+    }
+}
+
+// What is allowed.
+fn allowed(alloc: Global, fault: Fault, drives: &Drives) -> Result<String, AllocError>
+    ensures { IfOk result (λ text. string_bytes text ≡ fault_allowed fault drives.now) }
+{
+    match fault {
         Fault::TooLong => format!(in alloc; "allowed: {LINE_BYTES} bytes"),
-        Fault::Host => format!(in alloc; "allowed: 1 to {NEXUSES}"),
+        Fault::Host => format!(in alloc;
+            "allowed: 1 to {NEXUSES}; a line may also be move FROM TO or --, or begin with #"
+        ),
         Fault::Drive | Fault::NotConfigured => {
-            let drives = numbers_of(alloc, &reason.drives)?;
-            format!(in alloc; "allowed: a drive that is configured, {drives}")
+            let numbers = drives_text(alloc, drives)?;
+            format!(in alloc; "allowed: a drive that is configured, {numbers}")
         }
         Fault::Odd | Fault::NoHex => format!(in alloc;
             "allowed: two hexadecimal digits for each byte"
@@ -59,25 +117,43 @@ fn allowed(alloc: Global, reason: &LineReason) -> Result<String, AllocError> {
     }
 }
 
+// What is refused, with the field.
+#[tactic(auto, unfolding(crate::specs::Texts::fault_refused))]
+fn refused(alloc: Global, fault: Fault, field: &Option<String>) -> Result<String, AllocError>
+    ensures { IfOk result (λ text. string_bytes text ≡ fault_refused fault field.now) }
+{
+    let (subject, field) = (subject_of(fault), text_of(fault, field));
+    format!(in alloc; "refused: {subject}{field}")
+}
+
+// Where the field begins.
+#[tactic(auto, unfolding(crate::specs::Texts::column_text))]
+fn place(alloc: Global, line: u64, column: usize) -> Result<String, AllocError>
+    ensures { IfOk result (λ text. string_bytes text ≡ column_text line column) }
+{
+    format!(in alloc; "where: line {line} of the script, column {column}")
+}
+
+// What to do.
+#[tactic(auto, unfolding(crate::specs::Texts::fix_text))]
+fn fix() -> &'static str
+    ensures { result.now ≡ fix_text }
+{
+    "to do: correct the line; the phases before its own were carried out"
+}
+
 impl LineReason {
-    /// Adds four lines: what is refused, where, what is allowed, and what to do. Where memory runs out, the first ones
-    /// may be there.
-    pub fn add_to(&self, alloc: Global, lines: &mut Explanation) -> Result<(), AllocError> {
-        let subject = subject_of(self.fault);
-        let field = match &self.field {
-            Some(field) => field.as_str(),
-            None => "",
-        };
-        let refused = format!(in alloc; "refused: {subject}{field}")?;
+    /// Adds four lines: what is refused, where, what is allowed, and what to do. Where memory runs out, only the first
+    /// of them may be there.
+    pub fn add_to(&self, alloc: Global, lines: &mut Explanation) -> Result<(), AllocError>
+        ensures { OnOk result (lines.new ≡ lines.old ++ reason_lines self.now) }
+    {
+        let refused = refused(alloc, self.fault, &self.field)?;
+        let place = place(alloc, self.line, self.column)?;
+        let allowed = allowed(alloc, self.fault, &self.drives)?;
         lines.add(alloc, refused.as_str())?;
-        let (line, column) = (self.line, self.column);
-        let place = format!(in alloc; "where: line {line} of the script, column {column}")?;
         lines.add(alloc, place.as_str())?;
-        let allowed = allowed(alloc, self)?;
         lines.add(alloc, allowed.as_str())?;
-        lines.add(
-            alloc,
-            "to do: correct the line; the phases before its own were carried out",
-        )
+        lines.add(alloc, fix())
     }
 }

@@ -29,14 +29,14 @@ EntriesAt list table entries =
 abbrev pub IsAtHome : List ℕ → ℕ → Type 0
 IsAtHome numbers home = IsDriveNumber home → Contains numbers home
 
--- What reading the drives makes sure of: each is what its entry says, and no number or file is double (own).
+-- What holds of the drives that were read: each is what its entry says, and no number or file occurs twice (own).
 pub record AreDrives (entries : List Data) (drives : List DriveEntry) : Type 0 where
   pub each : Paired IsDrive entries drives
   pub numbers : AreDistinct (numbers_of drives)
   pub files : AreDistinct (drive_files drives)
 
--- What reading the cartridges makes sure of, in a library of these drives: each is what its entry says, no barcode or
--- home is double, nor a file, both files of each cartridge counted, and each home that is a drive is listed (own).
+-- What holds of the cartridges that were read, in a library of these drives: each is what its entry says, no barcode or
+-- home occurs twice, nor a file, both files of each cartridge counted, and each home that is a drive is listed (own).
 pub record AreCartridges (drives : List DriveEntry) (entries : List Data) (cartridges : List CartridgeEntry) :
     Type 0 where
   pub each : Paired IsCartridge entries cartridges
@@ -87,7 +87,7 @@ pub record Says (text : List ℕ) (config : Config) : Type 0 where
   pub document : parse_document text ≡ Some table
   pub says : IsConfig table config
 
--- The place where a text breaks a rule: it is no UTF-8, or no TOML document, or its table breaks the rule (own).
+-- The place where a text breaks a rule: it is not UTF-8, or not a TOML document, or its table breaks the rule (own).
 pub data TextBreaks (text : List ℕ) (place : Place) (rule : Rule) : Type 0 where
   no_text : place ≡ Top → rule ≡ NotUtf8 → ¬ IsUtf8 text → TextBreaks text place rule
   no_document : place ≡ Top → rule ≡ NotToml → IsUtf8 text → parse_document text ≡ None → TextBreaks text place rule

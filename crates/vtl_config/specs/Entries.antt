@@ -14,36 +14,36 @@ use Rattle.vtl_config.specs.declared.entries.DriveEntry.{DriveEntry}
 use Rattle.vtl_config.specs.declared.entries.CartridgeEntry.{CartridgeEntry}
 use Rattle.vtl_config.specs.declared.keys.Key.TheVariants.{Barcode, File, Capacities, Home, Number, Reservations}
 
--- an element address in numbers
+-- an element address in numbers (own)
 abbrev pub address_of : Address → ℕ
 address_of (address.Slot slot) = slot
 address_of (address.Drive drive) = drive
 
--- the numbers of drives, in order
+-- the numbers of drives, in order (own)
 abbrev pub numbers_of : List DriveEntry → List ℕ
 numbers_of drives = map (λ drive. drive.number) drives
 
--- the files of drives
+-- the files of drives (own)
 abbrev pub drive_files : List DriveEntry → List (List ℕ)
 drive_files drives = map (λ drive. drive.reservations) drives
 
--- the barcodes of cartridges
+-- the barcodes of cartridges (own)
 abbrev pub barcodes_of : List CartridgeEntry → List (List ℕ)
 barcodes_of cartridges = map (λ cartridge. cartridge.barcode) cartridges
 
--- the first files of cartridges
+-- the first files of cartridges (own)
 abbrev pub cartridge_files : List CartridgeEntry → List (List ℕ)
 cartridge_files cartridges = map (λ cartridge. cartridge.file) cartridges
 
--- the second files of cartridges
+-- the second files of cartridges (own)
 abbrev pub second_files : List CartridgeEntry → List (List ℕ)
 second_files cartridges = map (λ cartridge. cartridge.second_file) cartridges
 
--- both files of each cartridge, in order
+-- both files of each cartridge, in order (own)
 abbrev pub both_files : List CartridgeEntry → List (List ℕ)
 both_files cartridges = flat_map (λ cartridge. cartridge.file ∷ cartridge.second_file ∷ []) cartridges
 
--- the homes of cartridges
+-- the homes of cartridges (own)
 abbrev pub homes_of : List CartridgeEntry → List ℕ
 homes_of cartridges = map (λ cartridge. address_of cartridge.home) cartridges
 
@@ -65,7 +65,7 @@ pub record IsCartridgeTable (entry : Members) (barcode file capacities : List �
   pub home_value : value_at Home entry ≡ Some (whole home)
   pub is_home : IsAddress home
 
--- the value is a drive's table
+-- the value is a drive's table (own)
 abbrev pub IsDrive : Data → DriveEntry → Type 0
 IsDrive (table entry) drive = IsDriveTable entry drive.number drive.reservations
 IsDrive _ drive = ⊥
@@ -77,14 +77,14 @@ IsCartridge (table entry) cartridge =
     × (cartridge.second_file ≡ second_name cartridge.file)
 IsCartridge _ cartridge = ⊥
 
--- R holds of each of the values and its entry, in order, and there are as many
+-- R holds of each of the values and its entry, in order, and there are as many (own)
 abbrev pub Paired : {A B : Type 0} → (A → B → Type 0) → List A → List B → Type 0
 Paired R [] [] = ⊤
 Paired R [] (b ∷ bs) = ⊥
 Paired R (a ∷ as') [] = ⊥
 Paired R (a ∷ as') (b ∷ bs) = R a b × Paired R as' bs
 
--- no two of them are equal
+-- no two of them are equal (own)
 abbrev pub AreDistinct : {A : Type 0} → List A → Type 0
 AreDistinct [] = ⊤
 AreDistinct (x ∷ xs) = ¬ Contains xs x × AreDistinct xs

@@ -11,10 +11,10 @@ second_name file = file ++ codes ".2"
 abbrev pub both_names : List ℕ → List (List ℕ)
 both_names file = file ∷ second_name file ∷ []
 
--- a name is that of one of the two
+-- a name is that of one of the two (own)
 abbrev pub is_of_both : List ℕ → List ℕ → Bool
 is_of_both file name = bytes_eq name file || bytes_eq name (second_name file)
 
--- one stands in both lists
+-- one stands in both lists (own)
 abbrev pub Meets : {A : Type 0} → List A → List A → Type 0
 Meets {A} xs ys = (x : A) × Contains xs x × Contains ys x

@@ -29,15 +29,15 @@ drive_keys = Number ∷ Reservations ∷ []
 abbrev pub cartridge_keys : List Key
 cartridge_keys = Barcode ∷ File ∷ Capacities ∷ Home ∷ []
 
--- the keys of a table
+-- the keys of a table (own)
 abbrev pub keys_of : Members → List (List ℕ)
 keys_of no_members = []
 keys_of (member key value rest) = key ∷ keys_of rest
 
--- the name is that of one of these keys
+-- the name is that of one of these keys (own)
 abbrev pub is_one_of : List Key → List ℕ → Bool
 is_one_of keys name = list_any (λ key. bytes_eq (name_of key) name) keys
 
--- the table has no key but these
+-- the table has no key but these (own)
 abbrev pub has_only : List Key → Members → Bool
 has_only keys table = list_all (is_one_of keys) (keys_of table)

@@ -18,7 +18,7 @@ pub data TableBreaks (keys : List Key) (entry : Members) (rule : Rule) : Type 0 
   other_key : rule ≡ OtherKey → has_only keys entry ≡ false → TableBreaks keys entry rule
   misfits : (key : Key) → Contains keys key → Misfits key (value_at key entry) rule → TableBreaks keys entry rule
 
--- The rule that a drive's table breaks behind these drives (own).
+-- The rule that a drive's table breaks after these drives (own).
 pub data DriveTableBreaks (before : List DriveEntry) (entry : Members) (rule : Rule) : Type 0 where
   drive_alone : TableBreaks drive_keys entry rule → DriveTableBreaks before entry rule
   double_number :
@@ -28,8 +28,8 @@ pub data DriveTableBreaks (before : List DriveEntry) (entry : Members) (rule : R
       (file : List ℕ) → rule ≡ Double Reservations → value_at Reservations entry ≡ Some (string file)
       → Contains (drive_files before) file → DriveTableBreaks before entry rule
 
--- The rule that a cartridge's table breaks in a library of these drives, behind these cartridges. A file is double
--- where one of the cartridge's two names is that of a drive's file, or of one of the two files of a cartridge before
+-- The rule that a cartridge's table breaks in a library of these drives, after these cartridges. A file occurs twice
+-- where one of the cartridge's two names is that of a drive's file, or of one of the two files of an earlier cartridge
 -- (own).
 pub data CartridgeTableBreaks (drives : List DriveEntry) (before : List CartridgeEntry) (entry : Members)
     (rule : Rule) : Type 0 where

@@ -10,15 +10,15 @@ use Rattle.vtl_config.specs.declared.rules.Rule.{Rule}
 use Rattle.vtl_config.specs.declared.rules.Rule.TheVariants.{Missing, OtherKind, OutOfRange}
 use Rattle.vtl_config.specs.Keys.{name_of}
 
--- the value of a key of a table, if it has the key
+-- the value of a key of a table, if it has the key (own)
 abbrev pub value_at : Key → Members → Option Data
 value_at key entry = get_member (name_of key) entry
 
--- a whole number, from 0 on, as a value
+-- a whole number, from 0 on, as a value (own)
 abbrev pub whole : ℕ → Data
 whole n = integer (pos n)
 
--- the kinds of values: a text, a number without fraction, a list, a list of numbers without fraction
+-- the kinds of values: a text, a whole number, a list, a list of whole numbers (own)
 pub data Kind : Type 0 where
   text : Kind
   number : Kind
@@ -36,21 +36,21 @@ kind_of_key Home = number
 kind_of_key Number = number
 kind_of_key Reservations = text
 
--- each of the items passes the test
+-- each of the items passes the test (own)
 abbrev pub items_all : (Data → Bool) → Items → Bool
 items_all test no_items = true
 items_all test (item value rest) = test value && items_all test rest
 
--- how many items there are
+-- how many items there are (own)
 abbrev pub count_items : Items → ℕ
 count_items no_items = 0
 count_items (item value rest) = suc (count_items rest)
 
--- the value is an integer
+-- the value is an integer (own)
 abbrev pub is_integer : Data → Bool
 is_integer value = is_some (as_integer value)
 
--- the value is of this kind
+-- the value is of this kind (own)
 abbrev pub is_of_kind : Kind → Data → Bool
 is_of_kind text value = is_some (as_str value)
 is_of_kind number value = is_integer value
@@ -76,7 +76,7 @@ abbrev pub hold_capacities : Items → Bool
 hold_capacities items =
     (nat_le 1 (count_items items) && nat_le (count_items items) MAX_PARTITIONS) && items_all is_capacity_value items
 
--- the whole number that an integer is, from 0 on
+-- the whole number that an integer is, from 0 on (own)
 abbrev pub natural_of : ℤ → Option ℕ
 natural_of (pos n) = Some n
 natural_of (negsuc n) = None

@@ -1,4 +1,4 @@
-//! Whether one of a cartridge's two files is a file of an entry before.
+//! Whether one of a cartridge's two files is a file of an earlier entry.
 ghost use Rattle.std.specs.Prelude.{◌≡◌, ◌↔◌, IsTrue};
 ghost use Rattle.std.specs.List.{list_any};
 ghost use Rattle.std.specs.Str.{bytes_eq};
@@ -8,7 +8,7 @@ ghost use Rattle.vtl_config.specs.FileNames.{second_name, both_names, is_of_both
 use crate::entries::{CartridgeEntry, DriveEntry};
 use crate::file_names::SECOND;
 
-// The name is that of the second file of a cartridge whose first has the name `file`.
+// Whether the name is that of the second file of a cartridge whose first has the name `file`.
 fn is_second_of(name: &str, file: &str) -> bool
     ensures { result ≡ bytes_eq name.now (second_name file.now) }
 {
@@ -18,7 +18,7 @@ fn is_second_of(name: &str, file: &str) -> bool
     }
 }
 
-// The name is that of one of its two files.
+// Whether the name is that of one of a cartridge's two files.
 fn is_of_both(name: &str, file: &str) -> bool
     ensures { result ≡ is_of_both file.now name.now }
 {
@@ -33,7 +33,7 @@ fn any_is_drive_file(drives: &[DriveEntry], file: &str) -> bool
         .any(|drive| is_of_both(drive.reservations.as_str(), file))
 }
 
-// One of the two is the file of a drive.
+// Whether one of the two is the file of a drive.
 pub(crate) fn meets_drive_files(drives: &[DriveEntry], file: &str) -> bool
     ensures { IsTrue result ↔ Meets (both_names file.now) (drive_files drives.now) }
 {
@@ -48,7 +48,7 @@ fn any_is_cartridge_file(cartridges: &[CartridgeEntry], file: &str) -> bool
         .any(|cartridge| is_of_both(cartridge.file.as_str(), file))
 }
 
-// One of the two is the first file of a cartridge.
+// Whether one of the two is the first file of a cartridge.
 pub(crate) fn meets_cartridge_files(cartridges: &[CartridgeEntry], file: &str) -> bool
     ensures { IsTrue result ↔ Meets (both_names file.now) (cartridge_files cartridges.now) }
 {
@@ -61,7 +61,7 @@ fn any_is_second_file(cartridges: &[CartridgeEntry], file: &str) -> bool
     cartridges.iter().any(|cartridge| is_of_both(cartridge.second_file.as_str(), file))
 }
 
-// One of the two is the second file of a cartridge.
+// Whether one of the two is the second file of a cartridge.
 pub(crate) fn meets_second_files(cartridges: &[CartridgeEntry], file: &str) -> bool
     ensures { IsTrue result ↔ Meets (both_names file.now) (second_files cartridges.now) }
 {

@@ -1,4 +1,4 @@
-//! Whether what an entry has stands at an entry before.
+//! Whether an earlier entry has a value that may not occur twice.
 ghost use Rattle.std.specs.Prelude.{◌≡◌, ◌==◌, ◌↔◌, IsTrue};
 ghost use Rattle.std.specs.List.{Contains, list_any};
 ghost use Rattle.std.specs.Str.{bytes_eq};

@@ -9,8 +9,8 @@ use std::marker::Model;
 pub(crate) const SECOND: &str = ".2";
 
 /// The name of a file, as a configuration has it (own). Only the reading of a configuration makes one, once for each
-/// file of an entry, and it is not copied. Who makes or opens the file gives the name up for a `UsedName`: so what
-/// is given a configuration makes or opens each of its files once at most. To a contract it is its bytes.
+/// file of an entry, and it is not copied. Whoever makes or opens the file uses the name up, for a `UsedName`: so code
+/// that gets a configuration can make or open each of its files at most once. To a contract it is its bytes.
 #[derive(Drop, Debug)]
 pub struct FileName {
     text: String,
@@ -46,14 +46,14 @@ impl FileName {
         FileName { text }
     }
 
-    /// The name, to be compared.
+    /// The name, for comparing it.
     pub fn as_str(&self) -> &str
         ensures { result.now ≡ self.now }
     {
         self.text.as_str()
     }
 
-    /// Gives the name up: its file is made or opened now.
+    /// Uses the name up: its file is made or opened now.
     pub fn use_up(self) -> UsedName
         ensures { result ≡ self }
     {

@@ -17,13 +17,13 @@ pub enum Place {
 /// The rules of a configuration (own): each line is a refusal, and there is no other.
 #[derive(Clone, Copy, PartialEq, Eq, Debug)]
 pub enum Rule {
-    /// The bytes are no UTF-8.
+    /// The bytes are not UTF-8.
     NotUtf8,
-    /// The text is no TOML document.
+    /// The text is not a TOML document.
     NotToml,
-    /// An entry of a list is no table.
+    /// An entry of a list is not a table.
     NotATable,
-    /// A key is none of those that the place has.
+    /// A key is not one that the place may have.
     OtherKey,
     /// The key is missing.
     Missing(Key),
@@ -31,8 +31,8 @@ pub enum Rule {
     OtherKind(Key),
     /// The value of the key is outside its limits.
     OutOfRange(Key),
-    /// The value of the key stands at an entry before. A cartridge has two files: one of their names is that of a
-    /// file of an entry before.
+    /// An earlier entry has the same value of the key. A cartridge has two files: an earlier entry has a file with the
+    /// name of one of them.
     Double(Key),
     /// The home is a drive that is not listed.
     NoSuchDrive,
@@ -44,7 +44,7 @@ pub enum ConfigError {
     /// The text breaks a rule.
     #[error("{place:?}: {rule:?}")]
     Refused { place: Place, rule: Rule },
-    /// A growth was refused.
+    /// Memory ran out.
     #[error("out of memory")]
     NoMemory,
 }

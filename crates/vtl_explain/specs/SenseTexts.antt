@@ -12,11 +12,11 @@ use Rattle.vtl_explain.specs.declared.sense_texts.Counted.TheVariants.{Bytes, Bl
 abbrev pub hex : ℕ → List ℕ
 hex byte = digit_glyph true (byte / 16) ∷ digit_glyph true (byte % 16) ∷ []
 
--- so many bytes (own)
+-- a number of bytes, in words (own)
 abbrev pub size : ℕ → List ℕ
 size number = if number == 1 then codes "1 byte" else decimal number ++ codes " bytes"
 
--- so many of what is counted were left (own)
+-- how many of what is counted were left, in words (own)
 abbrev pub left : ℕ → Counted → List ℕ
 left number Bytes =
     if number == 1 then codes "1 byte of the length was left"

@@ -5,8 +5,8 @@ ghost use Rattle.vtl_explain.specs.Words.{words_of};
 
 use scsi_sense::{Sense, SenseKey};
 
-/// A condition that drives and changers report by sense data (SPC-4, SSC-4, SMC-3). What keeps the reservations fails
-/// as a medium does, and a deferred error is the error that it reports.
+/// A condition that drives and changers report by sense data (SPC-4, SSC-4, SMC-3). A keeper of reservations that has
+/// failed is reported like a failed medium, and a deferred error is the error that it reports.
 #[derive(Clone, Copy, PartialEq, Eq, Debug)]
 pub enum Condition {
     /// There is nothing to report.
@@ -15,7 +15,7 @@ pub enum Condition {
     IncorrectLength,
     /// A filemark was met.
     Filemark,
-    /// What was written is there, and the partition is nearly full.
+    /// The data were written, and the partition is nearly full.
     EarlyWarning,
     /// The beginning of a partition was met.
     Beginning,
@@ -23,9 +23,9 @@ pub enum Condition {
     NotPresent,
     /// A device failed while what was pending was stored.
     WriteError,
-    /// A device failed while it was read, or a side was refused.
+    /// A device failed while a block was read or a cartridge loaded, or a side was refused.
     ReadError,
-    /// The medium or what keeps the reservations has failed.
+    /// The medium or the keeper of the reservations has failed.
     Failed,
     /// A command block has no code, or one that is not known.
     UnknownCommand,
@@ -37,7 +37,7 @@ pub enum Condition {
     WrongList,
     /// A reservation is released under another type than its own.
     WrongRelease,
-    /// An element address is no slot's and no drive's.
+    /// An element address is neither a slot's nor a drive's.
     WrongAddress,
     /// The destination of a move holds a cartridge.
     DestinationFull,
@@ -61,7 +61,7 @@ pub enum Condition {
     EndOfData,
     /// Memory ran out.
     NoMemory,
-    /// What was to be changed does not fit.
+    /// The data do not fit, and nothing changed.
     NoRoom,
 }
 
@@ -95,7 +95,7 @@ const BY_CODE: [Condition; 26] = [
     Condition::NoRoom,
 ];
 
-// What sense data of a condition have.
+// The sense data of a condition.
 #[derive(Clone, Copy)]
 struct Row {
     key: SenseKey,
@@ -179,7 +179,7 @@ impl Condition {
         }
     }
 
-    /// Its words, without what was left.
+    /// Its words, without the count of what was left.
     pub fn words(self) -> &'static str
         ensures { result.now ≡ words_of self }
     {

@@ -1,13 +1,13 @@
 //! Laws of the lines. Each is a function that does nothing, and its contract is the law.
 ghost use Rattle.vtl_explain.specs.Laws.{EachAttentionIsACondition, EachLineFits, EachSenseHasItsCondition};
 
-/// What drives and changers report is of the condition of its name.
+/// The sense data that drives and changers report are of the condition with their name.
 pub fn each_sense_has_its_condition()
     ensures senses { EachSenseHasItsCondition }
     ensures attentions { EachAttentionIsACondition }
 {}
 
-/// The line of what drives and changers report has at most 120 columns.
+/// The line for any sense data that drives and changers report has at most 120 columns.
 pub fn each_line_fits()
     ensures { EachLineFits }
 {}

@@ -31,7 +31,7 @@ impl fmt::Display for Hex {
     }
 }
 
-// So many bytes.
+// A number of bytes, in words.
 #[derive(Clone, Copy)]
 struct Size(u32);
 
@@ -49,7 +49,7 @@ impl fmt::Display for Size {
     }
 }
 
-// So many of what is counted were left.
+// What was left of a count, in words.
 #[derive(Clone, Copy)]
 struct Left {
     number: u32,
@@ -75,7 +75,7 @@ impl fmt::Display for Left {
     }
 }
 
-// What INFORMATION says, behind the words.
+// What INFORMATION says, after the words.
 #[derive(Clone, Copy)]
 struct Rest {
     information: Option<u32>,
@@ -112,7 +112,7 @@ impl fmt::Display for Rest {
     }
 }
 
-// A text where this is so, and else none.
+// The text where the condition holds, else an empty one.
 fn text_if(is_so: bool, text: &'static str) -> &'static str
     ensures { result.now ≡ if is_so then text.now else [] }
 {

@@ -1,5 +1,5 @@
 -- The command line of the program, in the words of the parser.
-use Rattle.std.specs.Prelude.{true, Some, codes}
+use Rattle.std.specs.Prelude.{ℕ, true, List, Some, codes}
 use Rattle.clap.specs.Simple.{App, Shape, new_app, new_rule, on_top, with_rule, with_subcommand}
 use Rattle.clap.specs.Walk.{Rule}
 use Rattle.clap.specs.declared.builder.action.ArgAction.TheVariants.{Set, SetTrue}
@@ -29,10 +29,9 @@ file_word = record (new_rule (codes "file")) { action = Some Set; value_names = 
 abbrev pub barcode_word : Rule
 barcode_word = record (new_rule (codes "barcode")) { action = Some Set; value_names = 1; required = true }
 
--- `run [--memory] [--config FILE] [--explain]` (own)
-abbrev pub run_command : App
-run_command =
-    with_rule (with_rule (with_rule (new_app (codes "run")) memory_flag) config_option) explain_flag
+-- a word that opens a library, behind which stands `[--memory] [--config FILE] [--explain]` (own)
+abbrev pub library_command : List ℕ → App
+library_command name = with_rule (with_rule (with_rule (new_app name) memory_flag) config_option) explain_flag
 
 -- `create --config FILE [--explain]` (own)
 abbrev pub create_command : App
@@ -52,10 +51,12 @@ abbrev pub needs_a_word : Shape → Shape
 needs_a_word shape =
     record shape { has_version = true; subcommand_required = true; disable_help_subcommand = true }
 
--- `vtl`, with one of the four words behind it (own)
+-- `vtl`, with one of the five words behind it (own)
 abbrev pub vtl_command : App
 vtl_command =
     with_subcommand
     (with_subcommand
-    (with_subcommand (with_subcommand (on_top needs_a_word (new_app (codes "vtl"))) run_command.top)
-    create_command.top) check_command.top) reclaim_command.top
+    (with_subcommand
+    (with_subcommand
+    (with_subcommand (on_top needs_a_word (new_app (codes "vtl"))) (library_command (codes "run")).top)
+    (library_command (codes "serve")).top) create_command.top) check_command.top) reclaim_command.top

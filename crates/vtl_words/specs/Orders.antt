@@ -16,21 +16,23 @@ use Rattle.vtl_words.specs.declared.orders.Order.TheVariants as order
 use Rattle.vtl_words.specs.declared.orders.WordsError.{WordsError}
 use Rattle.vtl_words.specs.declared.orders.WordsError.TheVariants.{Help, Refused, NoMemory}
 
--- an order, with texts as bytes
+-- an order, with texts as bytes (own)
 pub data Asked : Type 0 where
   run : Bool → Option (List ℕ) → Asked
+  serve : Bool → Option (List ℕ) → Asked
   create : List ℕ → Asked
   check : List ℕ → Asked
   reclaim : (config barcode : List ℕ) → Asked
 
--- the order as it is seen
+-- the order as it is seen (own)
 abbrev pub asked_of : Order → Asked
 asked_of (order.Run memory config) = run memory (option_map string_bytes config)
+asked_of (order.Serve memory config) = serve memory (option_map string_bytes config)
 asked_of (order.Create config) = create (string_bytes config)
 asked_of (order.Check file) = check (string_bytes file)
 asked_of (order.Reclaim config barcode) = reclaim (string_bytes config) barcode
 
--- the flag was given
+-- the flag was given (own)
 abbrev pub is_set : Option (List ℕ) → Bool
 is_set value = option_map_or (λ text. bytes_eq text (codes "true")) value false
 
@@ -44,13 +46,15 @@ abbrev pub asked_by : List ℕ → List Row → Option Asked
 asked_by word rows =
     if bytes_eq word (codes "run")
     then Some (run (is_set (first_of (codes "memory") rows)) (first_of (codes "config") rows))
+    else if bytes_eq word (codes "serve")
+    then Some (serve (is_set (first_of (codes "memory") rows)) (first_of (codes "config") rows))
     else if bytes_eq word (codes "create") then option_map create (first_of (codes "config") rows)
     else if bytes_eq word (codes "check") then option_map check (first_of (codes "file") rows)
     else if bytes_eq word (codes "reclaim")
     then reclaim_by (first_of (codes "config") rows) (first_of (codes "barcode") rows)
     else None
 
--- what matches ask for
+-- what matches ask for (own)
 abbrev pub order_from : Option (List ℕ × List Row) → Option Asked
 order_from None = None
 order_from (Some matches) = asked_by matches.0 matches.1
@@ -65,7 +69,7 @@ abbrev pub IsNoOrder : Option Asked → Type 0
 IsNoOrder None = ⊤
 IsNoOrder (Some asked) = ¬ HasForm asked
 
--- words as bytes
+-- words as bytes (own)
 abbrev pub texts_of : List (String Global) → List (List ℕ)
 texts_of words = map (λ word. string_bytes word) words
 

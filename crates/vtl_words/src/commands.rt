@@ -27,14 +27,17 @@ Example:
 
 Statuses:
   0  done
-  1  refused: the command line, a configuration, a script line, a checked file
-     or a cartridge that is to be reclaimed
+  1  refused: the command line, a configuration, a script line, a frame, a
+     checked file or a cartridge that is to be reclaimed
   2  failed: a device, a file or a stream; a missing file, or one in use;
      a refused store of reservations
   3  out of memory
 ";
 
 const RUN_ABOUT: &str = "Runs the script on standard input and prints its answers";
+
+const SERVE_ABOUT: &str =
+    "Answers requests on standard input as they come, all hosts at once: binary frames";
 
 const CREATE_ABOUT: &str =
     "Makes the files of each cartridge and drive that has none; others are kept";
@@ -155,14 +158,33 @@ fn with_word<'a>(command: Command<'a>, word: Command<'a>) -> Result<Command<'a>,
     Ok(added)
 }
 
-fn run_command<'a>(alloc: Global) -> Result<Command<'a>, AllocError>
-    ensures app { IfOk result (λ r. app_of r ≡ line.run_command) }
+// A command of this name that opens a library.
+fn library_command<'a>(
+    alloc: Global,
+    name: &'a str,
+    about: &'a str,
+) -> Result<Command<'a>, AllocError>
+    ensures app { IfOk result (λ r. app_of r ≡ line.library_command name.entry.now) }
     ensures local { IfOk result (λ r. (out-Command r).has_globals ≡ false) }
 {
-    let flagged = with(named(alloc, "run", RUN_ABOUT), memory_flag(alloc))?;
+    let flagged = with(named(alloc, name, about), memory_flag(alloc))?;
     let configured = with(flagged, config_option(alloc))?;
     let whole = with(configured, explain_flag(alloc))?;
     Ok(whole)
+}
+
+fn run_command<'a>(alloc: Global) -> Result<Command<'a>, AllocError>
+    ensures app { IfOk result (λ r. app_of r ≡ line.library_command (codes "run")) }
+    ensures local { IfOk result (λ r. (out-Command r).has_globals ≡ false) }
+{
+    library_command(alloc, "run", RUN_ABOUT)
+}
+
+fn serve_command<'a>(alloc: Global) -> Result<Command<'a>, AllocError>
+    ensures app { IfOk result (λ r. app_of r ≡ line.library_command (codes "serve")) }
+    ensures local { IfOk result (λ r. (out-Command r).has_globals ≡ false) }
+{
+    library_command(alloc, "serve", SERVE_ABOUT)
 }
 
 fn create_command<'a>(alloc: Global) -> Result<Command<'a>, AllocError>
@@ -213,12 +235,14 @@ pub(crate) fn vtl_command<'a>(alloc: Global) -> Result<Command<'a>, AllocError>
     ensures { IfOk result (λ r. app_of r ≡ line.vtl_command) }
 {
     let run = run_command(alloc)?;
+    let serve = serve_command(alloc)?;
     let create = create_command(alloc)?;
     let check = check_command(alloc)?;
     let reclaim = reclaim_command(alloc)?;
     let one = with_word(program(alloc), run)?;
-    let two = with_word(one, create)?;
-    let three = with_word(two, check)?;
-    let four = with_word(three, reclaim)?;
-    Ok(four)
+    let two = with_word(one, serve)?;
+    let three = with_word(two, create)?;
+    let four = with_word(three, check)?;
+    let five = with_word(four, reclaim)?;
+    Ok(five)
 }

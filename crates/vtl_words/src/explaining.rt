@@ -3,8 +3,8 @@ ghost use Rattle.std.specs.Prelude.{◌≡◌};
 ghost use Rattle.vtl_words.specs.Explaining.{asks_to_explain};
 ghost use Rattle.vtl_words.specs.Orders.{texts_of};
 
-/// Whether words ask for an explanation of what is refused: behind the first, which is the program's name, one is
-/// `--explain`, and none before it is `--`. So it is too in words that are refused.
+/// Whether words ask for an explanation of what is refused: after the first, which is the program's name, one is
+/// `--explain`, and none before it is `--`. This holds of words that are refused, too.
 pub fn asks_to_explain(words: &[String]) -> bool
     ensures { result ≡ asks_to_explain (texts_of words.now) }
 {

@@ -12,15 +12,20 @@ pub enum Order {
         memory: bool,
         config: Option<String>,
     },
+    /// Serves frames over such a library.
+    Serve {
+        memory: bool,
+        config: Option<String>,
+    },
     /// Makes the files of a configuration that are missing.
     Create {
         config: String,
     },
-    /// Tells what a file holds.
+    /// Says what a file holds.
     Check {
         file: String,
     },
-    /// Gives back the room of overwritten data of the cartridge of a configuration that has this barcode.
+    /// Reclaims the cartridge of a configuration that has this barcode.
     Reclaim {
         config: String,
         barcode: Barcode,
@@ -30,13 +35,13 @@ pub enum Order {
 /// Why command words give no order.
 #[derive(Debug, Drop, Error)]
 pub enum WordsError {
-    /// The words ask for help or for the version, which is this text.
+    /// The words ask for help or for the version: its text.
     #[error("{0}")]
     Help(String),
     /// The words are refused.
     #[error("command line refused")]
     Refused,
-    /// A growth was refused.
+    /// Memory ran out.
     #[error("out of memory")]
     NoMemory,
 }

@@ -17,7 +17,7 @@ use clap::error::ErrorKind;
 use std::alloc::Global;
 use vtl_base::{Barcode, NoMemory};
 
-// What an error of the parser is reported as.
+// The fault that stands for an error of the parser.
 fn told(alloc: Global, error: &clap::Error) -> WordsError
     ensures { Tells (kind_of error.now) result }
 {
@@ -73,14 +73,36 @@ fn copied(alloc: Global, value: Option<&str>) -> Result<Option<String>, NoMemory
     }
 }
 
-fn run_order(alloc: Global, matches: &ArgMatches<'_>) -> Result<Order, NoMemory>
-    ensures { IfOk result (λ order.
-        asked_by (codes "run") (rows_of (found_of matches.now)) ≡ Some (asked_of order)) }
+// Which library is to be opened: whether it is in memory, and by which configuration.
+fn library_in(alloc: Global, matches: &ArgMatches<'_>) -> Result<(bool, Option<String>), NoMemory>
+    ensures { IfOk result (λ library.
+        (library.0 ≡ is_set (first_of (codes "memory") (rows_of (found_of matches.now))))
+        × (option_map string_bytes library.1 ≡ first_of (codes "config") (rows_of (found_of matches.now)))) }
 {
     let memory = is_set(value_of(matches, "memory"));
     match copied(alloc, value_of(matches, "config")) {
-        Ok(config) => Ok(Order::Run { memory, config }),
+        Ok(config) => Ok((memory, config)),
         Err(_) => Err(NoMemory),
+    }
+}
+
+fn run_order(alloc: Global, matches: &ArgMatches<'_>) -> Result<Order, WordsError>
+    ensures ok { IfOk result (AsksFor (asked_by (codes "run") (rows_of (found_of matches.now)))) }
+    ensures err { IfErr result (AsksNothing (asked_by (codes "run") (rows_of (found_of matches.now)))) }
+{
+    match library_in(alloc, matches) {
+        Ok((memory, config)) => Ok(Order::Run { memory, config }),
+        Err(NoMemory) => Err(WordsError::NoMemory),
+    }
+}
+
+fn serve_order(alloc: Global, matches: &ArgMatches<'_>) -> Result<Order, WordsError>
+    ensures ok { IfOk result (AsksFor (asked_by (codes "serve") (rows_of (found_of matches.now)))) }
+    ensures err { IfErr result (AsksNothing (asked_by (codes "serve") (rows_of (found_of matches.now)))) }
+{
+    match library_in(alloc, matches) {
+        Ok((memory, config)) => Ok(Order::Serve { memory, config }),
+        Err(_no_memory) => Err(WordsError::NoMemory),
     }
 }
 
@@ -110,7 +132,7 @@ fn check_order(alloc: Global, matches: &ArgMatches<'_>) -> Result<Order, WordsEr
     }
 }
 
-// The barcode that is given; none where it is not there, or is no barcode.
+// The barcode that is given; None where none is given, or where it is no barcode.
 fn barcode_in(matches: &ArgMatches<'_>) -> Option<Barcode>
     ensures { MatchOption result
         (IfSome (first_of (codes "barcode") (rows_of (found_of matches.now))) (λ text. ¬ IsBarcode text))
@@ -144,10 +166,10 @@ fn order_by(alloc: Global, word: &str, matches: &ArgMatches<'_>) -> Result<Order
     ensures err { IfErr result (AsksNothing (asked_by word.now (rows_of (found_of matches.now)))) }
 {
     if word == "run" {
-        return match run_order(alloc, matches) {
-            Ok(order) => Ok(order),
-            Err(_) => Err(WordsError::NoMemory),
-        };
+        return run_order(alloc, matches);
+    }
+    if word == "serve" {
+        return serve_order(alloc, matches);
     }
     if word == "create" {
         return create_order(alloc, matches);
@@ -171,7 +193,7 @@ pub(crate) fn order_in(alloc: Global, matches: &ArgMatches<'_>) -> Result<Order,
     }
 }
 
-/// The order that the words of a command line give. The first word is the program's name. Else the text of help,
+/// The order that the words of a command line give. The first word is the program's name. Errors: `Help` with its text,
 /// `Refused`, or `NoMemory`.
 pub fn read_words(alloc: Global, words: &[String]) -> Result<Order, WordsError>
     ensures ok { IfOk result (λ order. Asks (texts_of words.now) (asked_of order)) }

@@ -20,7 +20,7 @@ pub enum WordsReason {
     Barcode(String),
 }
 
-// What the parser says of the fault of words.
+// Why the parser refuses the words, as it says.
 fn parser_reason(alloc: Global, words: &[String]) -> Option<WordsReason> {
     let command = vtl_command(alloc).ok()?;
     match command.try_get_matches_from(words) {
@@ -54,8 +54,8 @@ fn form_reason(alloc: Global, matches: &ArgMatches<'_>) -> Option<WordsReason>
 }
 
 impl WordsReason {
-    /// Why these words are refused. None where they are not, where they ask for help or for the version, and where
-    /// memory runs out. The words are parsed a second time.
+    /// Why these words are refused. None where they are not refused, where they ask for help or for the version, and
+    /// where memory runs out. The words are parsed a second time.
     pub fn of(alloc: Global, words: &[String]) -> Option<WordsReason>
         ensures { IfSome result (λ _. AreRefused (texts_of words.now)) }
     {
@@ -68,7 +68,8 @@ impl WordsReason {
         }
     }
 
-    /// Adds lines: what is refused, what is allowed, what to do. Where memory runs out, the first ones may be there.
+    /// Adds lines: what is refused, what is allowed, what to do. Where memory runs out, only the first of them may be
+    /// there.
     pub fn add_to(&self, alloc: Global, lines: &mut Explanation) -> Result<(), AllocError> {
         match self {
             WordsReason::Parser(text) => add_parser(alloc, text.as_str(), lines),

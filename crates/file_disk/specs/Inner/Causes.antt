@@ -4,18 +4,20 @@ use Rattle.std.specs.IoError.{error_kind}
 use Rattle.std.specs.declared.fs.locks.TryLockError.{TryLockError}
 use Rattle.std.specs.declared.fs.locks.TryLockError.TheVariants as locks
 use Rattle.std.specs.declared.io.Error as io
-use Rattle.std.specs.declared.io.ErrorKind.{ErrorKind}
 use Rattle.std.specs.declared.io.ErrorKind.TheVariants as kinds
+use Rattle.file_disk.specs.FailedCall.{failed_by}
 use Rattle.file_disk.specs.declared.error.FileError.{FileError}
 use Rattle.file_disk.specs.declared.error.FileError.TheVariants.{Exists, Missing, NotAFile, InUse, Device}
+use Rattle.file_disk.specs.declared.failed.SystemCall.{SystemCall}
+use Rattle.file_disk.specs.declared.failed.SystemCall.TheVariants as calls
 
--- what an error of the system of this kind means for a name (own)
-pub record IsErrorOfKind (kind : ErrorKind) (error : FileError) : Type 0 where
-  pub exists : kind ≡ kinds.AlreadyExists → error ≡ Exists
-  pub missing : kind ≡ kinds.NotFound → error ≡ Missing
-  pub folder : kind ≡ kinds.IsADirectory → error ≡ NotAFile
-  pub other : kind ≢ kinds.AlreadyExists → kind ≢ kinds.NotFound → kind ≢ kinds.IsADirectory →
-      error ≡ Device (record { failures = 1 })
+-- what an error of the system in a call means for a name: of another kind it is that of the call (own)
+pub record IsErrorOf (call : SystemCall) (cause : io.Error) (error : FileError) : Type 0 where
+  pub exists : error_kind cause ≡ kinds.AlreadyExists → error ≡ Exists
+  pub missing : error_kind cause ≡ kinds.NotFound → error ≡ Missing
+  pub folder : error_kind cause ≡ kinds.IsADirectory → error ≡ NotAFile
+  pub other : error_kind cause ≢ kinds.AlreadyExists → error_kind cause ≢ kinds.NotFound
+      → error_kind cause ≢ kinds.IsADirectory → error ≡ Device (failed_by call cause)
 
 -- What an answer of the system to the asking for a lock means: where there are no locks a file is taken
 -- without one (own).
@@ -23,4 +25,4 @@ pub record IsLockAnswer (error : TryLockError) (result : Result Unit FileError) 
   pub in_use : error ≡ locks.WouldBlock → result ≡ Err InUse
   pub no_locks : (cause : io.Error) → error ≡ locks.Error cause → error_kind cause ≡ kinds.Unsupported → result ≡ Ok tt
   pub failed : (cause : io.Error) → error ≡ locks.Error cause → error_kind cause ≢ kinds.Unsupported →
-      result ≡ Err (Device (record { failures = 1 }))
+      result ≡ Err (Device (failed_by calls.Lock cause))

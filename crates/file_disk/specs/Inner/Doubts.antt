@@ -1,4 +1,4 @@
--- What of a file is in doubt.
+-- What is in doubt of a file.
 use Rattle.std.specs.Prelude.{◌≡◌, ◌⊎◌, ℕ, ◌<◌, ◌≤◌, List, true}
 use Rattle.file_disk.specs.Opening.{BeginsWithGate, IsLeftWell, IsUnfinished}
 use Rattle.file_disk.specs.RawFile.{ReachesAll}
@@ -30,7 +30,7 @@ IsInDoubt Nothing written seen passed_over unsynced = ReachesAll passed_over × 
 IsInDoubt Opened written seen passed_over unsynced = IsLeftWell seen passed_over unsynced
 IsInDoubt SyncFailed written seen passed_over unsynced = LieIn written passed_over × LieIn written unsynced
 
--- the file was looked at (own)
+-- what the file holds was read (own)
 abbrev pub IsLookedAt : Doubt → Type 0
 IsLookedAt Nothing = Unit {0}
 IsLookedAt Opened = ⊥

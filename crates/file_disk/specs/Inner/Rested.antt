@@ -15,7 +15,7 @@ pub record Rests (old new : DiskState) : Type 0 where
   pub nothing : (t : ℕ) (image : List ℕ) → t ≤ old.moment → new.left_since t image → old.left_since t image
   pub keeps : (t : ℕ) (image : List ℕ) → t ≤ old.moment → old.left_since t image → new.left_since t image
 
--- the state of a file that is only looked at, with a count of failures of its own (own)
+-- the state of a file that is only read, with a count of failures of its own (own)
 abbrev pub looked_state : {F : Type 0} → (F → DiskState) → Looked F → DiskState
 looked_state state looked = with_failures (state looked.file) (failure_count looked.failures)
 

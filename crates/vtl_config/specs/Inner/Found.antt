@@ -1,4 +1,4 @@
--- What is found of an entry before it is taken.
+-- What is found in an entry before it is accepted.
 use Rattle.std.specs.Prelude.{◌≡◌, ℕ, Some, false, List, ◌++◌, ⊤}
 use Rattle.std.specs.List.{Contains}
 use Rattle.toml.specs.Data.{Data, table, Members}
@@ -15,7 +15,7 @@ use Rattle.vtl_config.specs.declared.rules.Rule.TheVariants.{OtherKind}
 use Rattle.vtl_config.specs.declared.rules.ConfigError.{ConfigError}
 use Rattle.vtl_config.specs.declared.rules.ConfigError.TheVariants.{Refused, NoMemory}
 
--- a drive's table, none of whose values stands before
+-- a drive's table, none of whose values an earlier entry has (own)
 pub record FitsDriveTable (before : List DriveEntry) (entry : Members) (number : ℕ) (file : List ℕ) : Type 0 where
   pub is_table : IsDriveTable entry number file
   pub new_number : ¬ Contains (numbers_of before) number
@@ -25,7 +25,7 @@ abbrev pub FitsDrive : List DriveEntry → Data → ℕ → List ℕ → Type 0
 FitsDrive before (table entry) number file = FitsDriveTable before entry number file
 FitsDrive before _ number file = ⊥
 
--- a cartridge's table, none of whose values stands before, and whose home is listed
+-- a cartridge's table, none of whose values an earlier entry has, and whose home is listed (own)
 pub record FitsCartridgeTable (drives : List DriveEntry) (before : List CartridgeEntry) (entry : Members)
     (barcode file capacities : List ℕ) (home : ℕ) : Type 0 where
   pub is_table : IsCartridgeTable entry barcode file capacities home
@@ -39,7 +39,7 @@ FitsCartridge drives before (table entry) barcode file capacities home =
     FitsCartridgeTable drives before entry barcode file capacities home
 FitsCartridge drives before _ barcode file capacities home = ⊥
 
--- why drives or cartridges are refused; memory may run out at any
+-- why drives or cartridges are refused; memory may run out at any (own)
 abbrev pub DrivesRefused : List Data → ConfigError → Type 0
 DrivesRefused entries (Refused place rule) = BrokenAt AreDrives DriveTableBreaks Drive entries place rule
 DrivesRefused entries NoMemory = ⊤
@@ -49,13 +49,13 @@ CartridgesRefused drives entries (Refused place rule) =
     BrokenAt (AreCartridges drives) (CartridgeTableBreaks drives) Cartridge entries place rule
 CartridgesRefused drives entries NoMemory = ⊤
 
--- a list is none
+-- a list is not one (own)
 abbrev pub IsNoList : Key → Members → ConfigError → Type 0
 IsNoList list entry error =
     (value : Data) × (error ≡ Refused Top (OtherKind list)) × (value_at list entry ≡ Some value)
     × (is_of_kind (kind_of_key list) value ≡ false)
 
--- why a table is refused; memory may run out at any
+-- why a table is refused; memory may run out at any (own)
 abbrev pub TableRefused : Members → ConfigError → Type 0
 TableRefused entry (Refused place rule) = ConfigBreaks entry place rule
 TableRefused entry NoMemory = ⊤

@@ -7,17 +7,17 @@ use Rattle.vtl_words.specs.declared.orders.Order.{Order}
 use Rattle.vtl_words.specs.declared.orders.WordsError.{WordsError}
 use Rattle.vtl_words.specs.declared.orders.WordsError.TheVariants.{Help, Refused, NoMemory}
 
--- what an error of the parser is reported as
+-- what an error of the parser is reported as (own)
 abbrev pub Tells : ErrorKind → WordsError → Type 0
 Tells kind (Help text) = IsTextRequest kind
 Tells kind Refused = ¬ IsTextRequest kind × (kind ≢ OutOfMemory)
 Tells kind NoMemory = ⊤
 
--- the order is what is asked for, and that has its form
+-- the order is what is asked for, and that has its form (own)
 abbrev pub AsksFor : Option Asked → Order → Type 0
 AsksFor asked order = (asked ≡ Some (asked_of order)) × HasForm (asked_of order)
 
--- no order is given, unless memory ran out
+-- no order is given, unless memory ran out (own)
 abbrev pub AsksNothing : Option Asked → WordsError → Type 0
 AsksNothing asked (Help text) = ⊥
 AsksNothing asked Refused = IsNoOrder asked

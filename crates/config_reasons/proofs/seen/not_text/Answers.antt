@@ -2,13 +2,13 @@ use Rattle.std.proofs.Common.{map, ap, length, sym, ◌∙◌}
 use Rattle.std.proofs.lemmas.List.{length-map}
 use Rattle.toml.specs.View.{view}
 use Rattle.config_reasons.proofs.ListLemmas.{count_values}
-use Rattle.config_reasons.proofs.SeenLemmas.{seen_list, out_of}
+use Rattle.config_reasons.proofs.SeenLemmas.{seen_list}
 use Rattle.config_reasons.proofs.seen.not_text.Goals as goal
 
 pub returns-in-Some-as_array : goal.returns-in-Some-as_array
 returns-in-Some-as_array c =
     let values = map view c.in-Some-as_array.list.now.items in
-    seen_list (view c.args.value.now) _ _ c.outside.result c.in-Some-as_array.ensures
+    seen_list (view c.args.value.now) _ _ c.first_outside.result c.in-Some-as_array.ensures
     (ap length c.as_slice-items.ensures.value
     ∙ (sym (length-map c.in-Some-as_array.list.now.items view) ∙ sym (count_values values)))
-    (out_of c.outside.result values (rw c.as_slice-items.ensures.value at c.outside.ensures))
+    (rw c.as_slice-items.ensures.value at c.first_outside.ensures)

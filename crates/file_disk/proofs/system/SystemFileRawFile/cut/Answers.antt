@@ -1,4 +1,4 @@
-use Rattle.file_disk.specs.Inner.SystemFile.{of_honest}
+use Rattle.file_disk.specs.Inner.SystemFile.{of_honest, as_honest}
 use Rattle.file_disk.proofs.system.SystemFileRawFile.cut.Goals as goal
 
 pub returns-in-Ok-clause-time : goal.returns-in-Ok-clause-time
@@ -18,3 +18,12 @@ returns-in_default-clause-time c = λ honest. of_honest c.args.self.now honest
 
 pub returns-in_default-clause-cuts : goal.returns-in_default-clause-cuts
 returns-in_default-clause-cuts c = λ honest. of_honest c.args.self.now honest
+
+pub returns-in-Err-clause-honesty : goal.returns-in-Err-clause-honesty
+returns-in-Err-clause-honesty c = as_honest _ _
+
+pub returns-in-Err-clause-reaches : goal.returns-in-Err-clause-reaches
+returns-in-Err-clause-reaches c = λ honest. of_honest c.args.self.now honest
+
+pub returns-in-Err-clause-unsynced : goal.returns-in-Err-clause-unsynced
+returns-in-Err-clause-unsynced c = λ honest. of_honest c.args.self.now honest

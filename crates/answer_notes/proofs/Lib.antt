@@ -1,0 +1,2 @@
+mod QueueLemmas
+mod WriterLemmas

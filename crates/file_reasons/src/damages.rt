@@ -1,0 +1,172 @@
+//! What stands in a file where `check` finds a damage or a bad record.
+ghost use Rattle.std.specs.Prelude.{◌≡◌, ◌++◌, OnOk};
+ghost use Rattle.file_reasons.specs.Damages.{allowed_line, damage_lines, frame_found, place_lines};
+
+use crate::sizes::Size;
+use explanations::Explanation;
+use std::alloc::{AllocError, Global};
+use std::fmt;
+use vtl_base::limits::MAX_BODY;
+
+const OPEN: u8 = 0xa5;
+
+// The bytes of a frame's gate and of its length.
+const FRONT: u64 = 5;
+
+/// What stands at a place where a frame is damaged, or has a bad record.
+#[derive(Clone, Copy, PartialEq, Eq, Debug)]
+pub enum Found {
+    /// The file ends before the gate.
+    NoGate,
+    /// A closed gate, after too few frames.
+    Closed,
+    /// An open gate, and the file ends in the length behind it.
+    NoLength,
+    /// An open gate, and a length that no frame has.
+    BadLength(u32),
+    /// An open gate and a length, after which the file has only this many bytes.
+    CutOff { length: u32, bytes: u64 },
+    /// A whole frame of this length.
+    Whole(u32),
+}
+
+impl Found {
+    /// What stands at a gate, given its byte, the length after it, and how many bytes the file has from the gate on.
+    pub fn of(gate: u8, length: u32, bytes: u64) -> Found
+        ensures { result ≡ frame_found gate length bytes }
+    {
+        if bytes == 0 {
+            Found::NoGate
+        } else if gate != OPEN {
+            Found::Closed
+        } else if bytes < FRONT {
+            Found::NoLength
+        } else if length == 0 || length > MAX_BODY {
+            Found::BadLength(length)
+        } else if bytes - FRONT <= length as u64 {
+            Found::CutOff {
+                length,
+                bytes: bytes - FRONT,
+            }
+        } else {
+            Found::Whole(length)
+        }
+    }
+}
+
+// What may stand where something else was found.
+#[derive(Clone, Copy)]
+struct MayStand {
+    found: Found,
+}
+
+impl fmt::Display for MayStand {
+    ghost use Rattle.std.specs.Prelude.{Some};
+    ghost use Rattle.file_reasons.specs.Damages.{may_stand};
+
+    ghost output = { λ may. Some (may_stand may.found) };
+
+    fn fmt<W: fmt::Write>(&self, f: &mut fmt::Formatter<W>) -> fmt::Result {
+        match self.found {
+            Found::NoGate => write!(f, "a gate"),
+            Found::Closed => write!(f, "an open gate, since the copy has more frames"),
+            Found::NoLength | Found::BadLength(_) => write!(
+                f,
+                "an open gate, and a length of 1 to {MAX_BODY} bytes behind it"
+            ),
+            Found::CutOff { .. } => write!(
+                f,
+                "as many bytes as the length says, and a gate behind them"
+            ),
+            Found::Whole(_) => write!(f, "records that can stand behind those before them"),
+        }
+    }
+}
+
+impl fmt::Display for Found {
+    ghost use Rattle.std.specs.Prelude.{Some};
+    ghost use Rattle.file_reasons.specs.Damages.{found_text};
+
+    ghost output = { λ found. Some (found_text found) };
+
+    fn fmt<W: fmt::Write>(&self, f: &mut fmt::Formatter<W>) -> fmt::Result {
+        match self {
+            Found::NoGate => write!(f, "the end of the file"),
+            Found::Closed => write!(f, "a closed gate"),
+            Found::NoLength => write!(f, "an open gate, and the end of the file behind it"),
+            Found::BadLength(length) => write!(
+                f,
+                "an open gate, and a length of {length} behind it"
+            ),
+            Found::CutOff { length, bytes } => {
+                let bytes = Size(*bytes);
+                write!(
+                    f,
+                    "an open gate, a length of {length}, and {bytes} behind it"
+                )
+            }
+            Found::Whole(length) => {
+                let size = Size(*length as u64);
+                write!(f, "a whole frame of {size}, of which a record is bad")
+            }
+        }
+    }
+}
+
+/// A file that is damaged, or has a bad record: where, and what stands there.
+#[derive(Debug, Drop)]
+pub struct DamageReason {
+    /// The file's name.
+    pub file: String,
+    /// The place of the gate.
+    pub place: u64,
+    /// What stands there.
+    pub found: Found,
+}
+
+impl fmt::Display for DamageReason {
+    ghost use Rattle.std.specs.Prelude.{Some};
+    ghost use Rattle.file_reasons.specs.Damages.{damage_place};
+
+    ghost output = { λ reason. Some (damage_place reason) };
+
+    fn fmt<W: fmt::Write>(&self, f: &mut fmt::Formatter<W>) -> fmt::Result {
+        let (place, file) = (self.place, &self.file);
+        write!(f, "byte {place} of the file {file}")
+    }
+}
+
+impl DamageReason {
+    // Adds what stands there, and where.
+    fn add_place(&self, alloc: Global, lines: &mut Explanation) -> Result<(), AllocError>
+        ensures { OnOk result (lines.new ≡ lines.old ++ place_lines self.now) }
+    {
+        let (found, reason) = (self.found, self);
+        let refused = format!(in alloc; "refused: {found}")?;
+        let stands = format!(in alloc; "where: {reason}")?;
+        lines.add(alloc, refused.as_str())?;
+        lines.add(alloc, stands.as_str())
+    }
+
+    // Adds what may stand there.
+    fn add_allowed(&self, alloc: Global, lines: &mut Explanation) -> Result<(), AllocError>
+        ensures { OnOk result (lines.new ≡ lines.old ++ allowed_line self.now) }
+    {
+        let may = MayStand { found: self.found };
+        let allowed = format!(in alloc; "allowed: {may}")?;
+        lines.add(alloc, allowed.as_str())
+    }
+
+    /// Adds four lines: what stands there, where, what may stand there, what to do. Where memory runs out, only the
+    /// first of them may be there.
+    pub fn add_to(&self, alloc: Global, lines: &mut Explanation) -> Result<(), AllocError>
+        ensures { OnOk result (lines.new ≡ lines.old ++ damage_lines self.now) }
+    {
+        self.add_place(alloc, lines)?;
+        self.add_allowed(alloc, lines)?;
+        lines.add(
+            alloc,
+            "to do: put the file back from where it was saved, a cartridge's with its second one",
+        )
+    }
+}

@@ -1,0 +1,50 @@
+//! What to do about a call that failed.
+ghost use Rattle.std.specs.Prelude.{◌≡◌};
+ghost use Rattle.file_reasons.specs.Fixes.{missing_fix, denied_fix, fix_of};
+
+use crate::answers::Answer;
+use crate::reasons::FileCall;
+
+// What to do where there is no such file or folder. What makes a file needs the folder.
+fn missing_fix(call: FileCall) -> &'static str
+    ensures { result.now ≡ missing_fix call }
+{
+    match call {
+        FileCall::Make => "to do: correct the name, or make the folder in which the file is to be",
+        FileCall::Read => "to do: correct the name",
+        _ =>
+            "to do: correct the name, or make the missing files of a configuration with vtl create",
+    }
+}
+
+// What to do where the system does not allow it. What makes a file writes in the folder.
+fn denied_fix(call: FileCall) -> &'static str
+    ensures { result.now ≡ denied_fix call }
+{
+    match call {
+        FileCall::Make => "to do: let this user write in the folder in which the file is to be",
+        _ => "to do: let this user read and write the file",
+    }
+}
+
+// What to do about a call that had this answer.
+pub(crate) fn fix_of(call: FileCall, answer: Answer) -> &'static str
+    ensures { result.now ≡ fix_of call answer }
+{
+    match answer {
+        Answer::Missing => missing_fix(call),
+        Answer::BadName => "to do: correct the name",
+        Answer::NotAFile => "to do: name a regular file",
+        Answer::Exists => "to do: choose another name",
+        Answer::InUse => "to do: end the other vtl that has it open, or name the file once",
+        Answer::Denied => denied_fix(call),
+        Answer::NoRoom => "to do: make room on the file system",
+        Answer::ReadOnly => "to do: mount the file system for writing",
+        Answer::Ended => "to do: find what made the file shorter while it was open",
+        Answer::TookNone => "to do: make room where the bytes go",
+        Answer::TooLarge => "to do: raise the limit on the length of files",
+        Answer::NoReader => "to do: let the program that reads it run to the end",
+        Answer::LongScript => "to do: run it in several parts",
+        Answer::Other(_) => "to do: look at the device, and at what the system has logged of it",
+    }
+}
