@@ -1,12 +1,14 @@
-//! A virtual tape library: runs scripts of commands against drives, over cartridges in files or in memory.
+//! A virtual tape library: runs scripts of commands against drives, or serves frames of them, over cartridges in files
+//! or in memory.
 #![tactic(auto)]
 
 use answer_notes::{AnswerWriter, Answers};
 use std::env;
-use std::io::{self, ErrorKind};
+use std::io::{self, BufReader, ErrorKind};
 use std::process::ExitCode;
-use vtl_program::explaining::{asks, run_explained};
+use vtl_program::explaining::{asks, asks_of_lines, run_explained};
 use vtl_program::files::SystemFiles;
+use vtl_program::noted_streams::NotingWriter;
 use vtl_program::notes::Notes;
 use vtl_program::noting::NotingReader;
 use vtl_program::programs::VtlFault;
@@ -32,12 +34,19 @@ fn words_of(rt: &HostRuntime) -> Result<Vec<String>, VtlFault> {
 fn main(rt: HostRuntime) -> ExitCode {
     let (stdout, stderr) = (rt.stdout(), rt.stderr());
     let mut errors = io::writer(&stderr);
-    let words = words_of(&rt);
+    let (input, words) = match BufReader::new(rt.alloc(), rt.reader()) {
+        Ok(input) => (input, words_of(&rt)),
+        Err(_) => {
+            let bare = BufReader::with_capacity(rt.alloc(), 0, rt.reader());
+            (bare.unwrap(), Err(VtlFault::NoMemory))
+        }
+    };
     let progress = GibLines::new(&rt, &words);
-    let notes = Notes::new(asks(&words));
-    let answers = Answers::new(rt.alloc(), notes.is_on());
-    let mut reader = NotingReader::new(rt.reader(), rt.alloc(), &notes, &answers);
+    let notes = Notes::new(rt.alloc(), asks(&words));
+    let answers = Answers::new(rt.alloc(), asks_of_lines(rt.alloc(), &words));
+    let mut reader = NotingReader::new(input, rt.alloc(), &notes, &answers);
     let (output, meanings) = (io::writer(&stdout), io::writer(&stderr));
+    let output = NotingWriter::new(output, notes.output());
     let mut writer = AnswerWriter::new(output, meanings, rt.alloc(), &answers);
     let files = SystemFiles {
         rt: &rt,

@@ -166,6 +166,7 @@ module _ {D : Type 0} (state : D → DiskState) (old mid new : TwoDisks D)
   cause_again (Err faults.Words) cause = absurd cause
   cause_again (Err faults.Config) cause = absurd cause
   cause_again (Err (faults.Script line)) cause = absurd cause
+  cause_again (Err (faults.Frame number)) cause = absurd cause
 
   pub moments_again : AreHonest state old → TwoLeave state old mid (MayLeave state old)
       → LeavesOnly (state mid.first) (state new.first) (state mid.first).may_leave

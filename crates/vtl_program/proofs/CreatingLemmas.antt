@@ -6,7 +6,7 @@ use Rattle.std.specs.Io.KnownBytes.{Appends}
 use Rattle.tape_disk.specs.Disk.{DiskState}
 use Rattle.vtl_program.specs.declared.creating.Fate.{Fate}
 use Rattle.vtl_program.specs.declared.programs.VtlFault.{VtlFault}
-use Rattle.vtl_program.specs.declared.programs.VtlFault.TheVariants.{Words, Config, Script, Device, NoMemory}
+use Rattle.vtl_program.specs.declared.programs.VtlFault.TheVariants.{Words, Config, Script, Frame, Device, NoMemory}
 use Rattle.vtl_program.specs.Creating.{FailsAt, IsMadeOrKept, IsNotMade, IsNotOut, MakeAnswers, SideFile, TellsAll, TellsFiles, TellsSome, fate_line, label_of}
 
 module _ {D : Type 0} (state : D → DiskState) (made : MakeAnswers D) where
@@ -118,6 +118,7 @@ module _ {D : Type 0} (state : D → DiskState) (made : MakeAnswers D) where
   file_result file fate before now (Err Words) became written out = absurd out
   file_result file fate before now (Err Config) became written out = absurd out
   file_result file fate before now (Err (Script number)) became written out = absurd out
+  file_result file fate before now (Err (Frame number)) became written out = absurd out
 
   -- a file was not made
   pub none_made : (file : SideFile) (known : Option (List ℕ)) (fault : VtlFault)

@@ -7,6 +7,7 @@ pub mod OneTextLemmas
 mod OrdersLemmas
 mod ReclaimLemmas
 mod RunningLemmas
+mod ServingLemmas
 pub mod SideTextLemmas
 mod SidesLemmas
 mod StartingLemmas

@@ -12,7 +12,7 @@ use Rattle.vtl_config.specs.Entries.{AreDistinct, address_of, homes_of, numbers_
 use Rattle.vtl_config.specs.declared.entries.CartridgeEntry.{CartridgeEntry}
 use Rattle.vtl_config.specs.declared.entries.DriveEntry.{DriveEntry}
 use Rattle.vtl_program.specs.declared.programs.VtlFault.{VtlFault}
-use Rattle.vtl_program.specs.declared.programs.VtlFault.TheVariants.{Words, Config, Script, Device, NoMemory}
+use Rattle.vtl_program.specs.declared.programs.VtlFault.TheVariants.{Words, Config, Script, Frame, Device, NoMemory}
 use Rattle.vtl_program.specs.Faults.{IsFailure}
 use Rattle.vtl_program.specs.Inner.Waiting.{AreHome, IsNotHome, IsOffAt, PutsHome, SwitchesOnAt}
 use Rattle.vtl_program.specs.Sides.{SidesGiven}
@@ -279,12 +279,14 @@ module _ {D : Type 0} (state : D → DiskState) (sides : SidesGiven D) (gives_up
   refused_home Config before behind entry starting are failure home refused up = absurd failure
   refused_home Words before behind entry starting are failure home refused up = absurd failure
   refused_home (Script line) before behind entry starting are failure home refused up = absurd failure
+  refused_home (Frame number) before behind entry starting are failure home refused up = absurd failure
 
   pub not_home : (fault : VtlFault) (taken : Bool) → (fault ≡ Config) × (taken ≡ true)
       → (taken ≡ true → ¬ AreDistinct (homes_of entries)) → IsNotHome state sides gives_up entries fault
   not_home Config taken is double = double is.1
   not_home Words taken is double = absurd (cc)
   not_home (Script line) taken is double = absurd (cc)
+  not_home (Frame number) taken is double = absurd (cc)
   not_home Device taken is double = absurd (cc)
   not_home NoMemory taken is double = absurd (cc)
 
@@ -297,6 +299,7 @@ module _ {D : Type 0} (state : D → DiskState) (sides : SidesGiven D) (gives_up
     off_of Config why = λ distinct. why distinct.0
     off_of Words why = why
     off_of (Script line) why = why
+    off_of (Frame number) why = why
 
     -- the store of the drive at a place was refused, and all before it was given up
     pub refused_on : (fault : VtlFault) (before behind : List DriveEntry) (entry : DriveEntry)
@@ -312,6 +315,7 @@ module _ {D : Type 0} (state : D → DiskState) (sides : SidesGiven D) (gives_up
     refused_on Config before behind entry starting are failure on refused up = absurd failure
     refused_on Words before behind entry starting are failure on refused up = absurd failure
     refused_on (Script line) before behind entry starting are failure on refused up = absurd failure
+    refused_on (Frame number) before behind entry starting are failure on refused up = absurd failure
 
     -- the drive at a place was not switched on, and all was given up
     pub not_on : (fault : VtlFault) (before behind : List DriveEntry) (entry : DriveEntry) (store : OpenStore D)
@@ -340,3 +344,4 @@ module _ {D : Type 0} (state : D → DiskState) (sides : SidesGiven D) (gives_up
     not_on Device before behind entry store back old new are on given off up double = absurd off
     not_on Words before behind entry store back old new are on given off up double = absurd off
     not_on (Script line) before behind entry store back old new are on given off up double = absurd off
+    not_on (Frame number) before behind entry store back old new are on given off up double = absurd off

@@ -23,8 +23,8 @@ verdict_of lines =
     if starts_with (◌==◌) lines (codes "cartridge ") || starts_with (◌==◌) lines (codes "reservations ") then Done
     else Refused
 
--- two disks were looked at: the lines are those of what they give, or there are none for a cause that is one; their
--- bytes are then sure, and at no moment a crash left anything new (own)
+-- two disks were checked: the lines are those of what they give, or there are none, for a cause that holds; their bytes
+-- are then sure, and at no moment a crash left anything new (own)
 pub record LooksAt {D : Type 0} (state : D → DiskState) (old new : TwoDisks D) (lines : Result (List ℕ) VtlFault) :
     Type 0 where
   pub keeps : KeepsDisks state old new
@@ -49,7 +49,8 @@ TellsLines (Ok lines) before now (Err fault) = (fault ≡ Device) × AppendsPart
 TellsLines (Err why) before now result = (result ≡ Err why) × Known.Keeps before now
 
 module _ {D : Type 0} (state : D → DiskState) (opens_to_read : List ℕ → Result D FileError → Type 0) where
-  -- a disk to read a second file of this name by: that of its opening; where the file is missing, one of no bytes (own)
+  -- a disk for reading the second file of this name: that of its opening; where the file is missing, one of no bytes
+  -- (own)
   abbrev pub IsSecondRead : List ℕ → D → Type 0
   IsSecondRead name disk =
       opens_to_read name (Ok disk)
@@ -61,7 +62,7 @@ module _ {D : Type 0} (state : D → DiskState) (opens_to_read : List ℕ → Re
 
   module _ (closes : List ℕ → D → Type 0) (name : List ℕ) where
     -- both files were opened, the second one by its name, or as one of no bytes where it is missing; their disks were
-    -- looked at and returned, and the lines of what they give are written (own)
+    -- checked and returned, and the lines of what they give are written (own)
     pub record ChecksBoth (before now : Option (List ℕ)) (result : Result Verdict VtlFault) : Type 0 where
       pub disks : TwoDisks D
       pub first : opens_to_read name (Ok disks.first)
@@ -80,8 +81,8 @@ module _ {D : Type 0} (state : D → DiskState) (opens_to_read : List ℕ → Re
       pub closed : closes name disk
       pub second : IsSecondUnread (second_name name)
 
-    -- What `vtl check` does with a name: both files are looked at; or one is not opened, or memory runs out before
-    -- that, and nothing is written (own).
+    -- What `vtl check` does with a name: both files are checked; or one is not opened, or memory runs out before that,
+    -- and nothing is written (own).
     abbrev pub ChecksOrder : (before now : Option (List ℕ)) → Result Verdict VtlFault → Type 0
     ChecksOrder before now result =
         ChecksBoth before now result

@@ -1,4 +1,4 @@
--- What `vtl create` makes of the files of a configuration, and what it tells (own).
+-- What `vtl create` makes of the files of a configuration, and what it reports (own).
 use Rattle.std.specs.Prelude.{◌≡◌, ◌≢◌, ◌⊎◌, ◌<◌, ℕ, List, [], ◌∷◌, ◌++◌, map, codes, decimal, Option, None, Some, Result, Ok, Err}
 use Rattle.std.specs.Io.{StartsWith}
 use Rattle.std.specs.Io.KnownBytes.{Appends, Keeps}
@@ -29,7 +29,7 @@ pub data SideFile : Type 0 where
 abbrev pub files_of : Config → List SideFile
 files_of config = map CartridgeFile config.cartridges.items ++ map StoreFile config.drives.items
 
--- what a file is called where it is reported: a cartridge's by its barcode, a drive's by `DRIVE` and its number (own)
+-- the label of a file in reports: a cartridge's is its barcode, a drive's is `DRIVE` and its number (own)
 abbrev pub label_of : SideFile → List ℕ
 label_of (CartridgeFile entry) = entry.barcode
 label_of (StoreFile entry) = codes "DRIVE" ++ decimal entry.number
@@ -70,17 +70,18 @@ abbrev pub fate_word : Fate → List ℕ
 fate_word Created = codes "created "
 fate_word Kept = codes "kept "
 
--- the line of a file: what became of it, and what it is called (own)
+-- the line of a file: what became of it, and its label (own)
 abbrev pub fate_line : List ℕ → Fate → List ℕ
 fate_line label fate = fate_word fate ++ label ++ 10 ∷ []
 
--- why a line is not out: memory ran out before it; or the writer failed, and a beginning of it is (own)
+-- why a line was not written: memory ran out before it; or the writer failed, and a beginning of it was written (own)
 abbrev pub IsNotOut : List ℕ → Option (List ℕ) → Option (List ℕ) → VtlFault → Type 0
 IsNotOut line before now Faults.NoMemory = Keeps before now
 IsNotOut line before now Faults.Device = AppendsPart before now line
 IsNotOut line before now Faults.Words = ⊥
 IsNotOut line before now Faults.Config = ⊥
 IsNotOut line before now (Faults.Script number) = ⊥
+IsNotOut line before now (Faults.Frame number) = ⊥
 
 -- a file of this name was made, or something has the name, or the system refused it otherwise (own)
 abbrev pub IsNewFile : {D : Type 0} → (List ℕ → Result D FileError → Type 0) → List ℕ
@@ -132,7 +133,7 @@ module _ {D : Type 0} (state : D → DiskState) (files : MakeAnswers D) where
   abbrev pub IsRefusedFile : List ℕ → Type 0
   IsRefusedFile name = (error : FileError) × (error ≢ Exists) × files.makes name (Err error)
 
-  -- a new file was made, and its disk was returned so, to have it taken away (own)
+  -- a new file was made, and its disk was returned for removing the file (own)
   abbrev pub IsTakenAway : List ℕ → (D → D → Type 0) → Type 0
   IsTakenAway name ends =
       (disk : D) × files.makes name (Ok disk) × ((last : D) × files.takes_away name last × ends disk last)
@@ -146,7 +147,7 @@ module _ {D : Type 0} (state : D → DiskState) (files : MakeAnswers D) where
   IsSecondLeft name = (second : D) × files.opens_second name (Ok second) × files.closes_second name second
 
   -- why a missing file was not made: the system refused it, or the second one; or a call of its disk failed, or memory
-  -- ran out and none did; and a file that was made is taken away (own)
+  -- ran out and none did; and a file that was made is removed (own)
   abbrev pub IsNotMade : SideFile → VtlFault → Type 0
   IsNotMade (CartridgeFile entry) Faults.Device =
       IsRefusedFile entry.file
@@ -164,6 +165,7 @@ module _ {D : Type 0} (state : D → DiskState) (files : MakeAnswers D) where
   IsNotMade file Faults.Words = ⊥
   IsNotMade file Faults.Config = ⊥
   IsNotMade file (Faults.Script line) = ⊥
+  IsNotMade file (Faults.Frame number) = ⊥
 
 module _ {D : Type 0} (state : D → DiskState) (files : MakeAnswers D) where
   -- a fault came at a file, with this much of its line written: it was not made; or memory ran out before its line; or

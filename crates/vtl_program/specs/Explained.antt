@@ -1,5 +1,5 @@
 -- The program with the lines that explain a fault (own).
-use Rattle.std.specs.Prelude.{ℕ, Bool, true, false, List, Option, Result, Ok, Err}
+use Rattle.std.specs.Prelude.{ℕ, Bool, true, false, ◌&&◌, List, Option, Result, Ok, Err}
 use Rattle.std.specs.Io.KnownBytes.{Keeps}
 use Rattle.explanations.specs.Lines.{AreLines}
 use Rattle.tape_disk.specs.Disk.{DiskState}
@@ -22,10 +22,10 @@ Explains true before now = (lines : List ℕ) × AreLines lines × AppendsPart b
 
 -- The whole program runs as it does without an explanation: its files, its output, its status and the line of its fault
 -- are the same. Behind that line, on standard error alone, stand the lines that explain it, where they are asked for
--- (own).
+-- and that line was written (own).
 pub record RunsExplained {D : Type 0} (state : D → DiskState) (files : FileAnswers D)
     (words : Result (List (List ℕ)) VtlFault) (left left' before now errors errors' : Option (List ℕ))
     (ended : Ended) : Type 0 where
   pub reported : Option (List ℕ)
   pub runs : RunsProgram state files words left left' before now errors reported ended
-  pub explains : Explains (asks words) reported errors'
+  pub explains : Explains (asks words && ended.is_reported) reported errors'

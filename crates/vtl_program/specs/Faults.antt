@@ -6,17 +6,26 @@ use Rattle.aptpl_store.specs.declared.error.StoreError.{StoreError}
 use Rattle.aptpl_store.specs.declared.error.StoreError.TheVariants as refusals
 use Rattle.vtl_script.specs.declared.faults.ScriptFault.{ScriptFault}
 use Rattle.vtl_script.specs.declared.faults.ScriptFault.TheVariants as script
+use Rattle.vtl_wire.specs.declared.faults.WireFault.{WireFault}
+use Rattle.vtl_wire.specs.declared.faults.WireFault.TheVariants as wire
 use Rattle.vtl_program.specs.declared.programs.VtlFault.{VtlFault}
-use Rattle.vtl_program.specs.declared.programs.VtlFault.TheVariants.{Words, Config, Script, Device, NoMemory}
+use Rattle.vtl_program.specs.declared.programs.VtlFault.TheVariants.{Words, Config, Script, Frame, Device, NoMemory}
 
--- the program's fault that a script's fault is (own)
+-- the program's fault for a script's fault (own)
 abbrev pub fault_of : ScriptFault → VtlFault
 fault_of (script.BadLine line) = Script line
 fault_of script.ReadFault = Device
 fault_of script.WriteFault = Device
 fault_of script.NoMemory = NoMemory
 
--- the program's fault that an error of the system is (own)
+-- the program's fault for a fault of a serving (own)
+abbrev pub fault_of_wire : WireFault → VtlFault
+fault_of_wire (wire.BadFrame number) = Frame number
+fault_of_wire wire.ReadFault = Device
+fault_of_wire wire.WriteFault = Device
+fault_of_wire wire.NoMemory = NoMemory
+
+-- the program's fault for an error of the system (own)
 abbrev pub fault_of_error : ErrorKind → VtlFault
 fault_of_error kinds.OutOfMemory = NoMemory
 fault_of_error _ = Device
@@ -31,6 +40,7 @@ abbrev pub status_of : VtlFault → ℕ
 status_of Words = 1
 status_of Config = 1
 status_of (Script line) = 1
+status_of (Frame number) = 1
 status_of Device = 2
 status_of NoMemory = 3
 
@@ -39,6 +49,7 @@ abbrev pub fault_text : VtlFault → List ℕ
 fault_text Words = codes "vtl: command line refused"
 fault_text Config = codes "vtl: configuration refused"
 fault_text (Script line) = codes "vtl: script line " ++ decimal line ++ codes " refused"
+fault_text (Frame number) = codes "vtl: frame " ++ decimal number ++ codes " refused"
 fault_text Device = codes "vtl: device fault"
 fault_text NoMemory = codes "vtl: out of memory"
 
@@ -53,3 +64,4 @@ IsFailure NoMemory = Unit {0}
 IsFailure Words = ⊥
 IsFailure Config = ⊥
 IsFailure (Script line) = ⊥
+IsFailure (Frame number) = ⊥

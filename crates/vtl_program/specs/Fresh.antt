@@ -13,9 +13,8 @@ use Rattle.library.specs.Counts.{AcceptedNone}
 use Rattle.vtl_config.specs.declared.entries.CartridgeEntry.{CartridgeEntry}
 use Rattle.vtl_config.specs.declared.entries.DriveEntry.{DriveEntry}
 use Rattle.vtl_program.specs.declared.programs.VtlFault.{VtlFault}
-use Rattle.vtl_program.specs.Orders.{IsStart}
 use Rattle.vtl_program.specs.Program.{HaveAcceptedNone}
-use Rattle.vtl_program.specs.Starting.{IsBuiltIn, IsDriveOf, IsStarted}
+use Rattle.vtl_program.specs.Starting.{IsBuiltIn, IsDriveOf, IsStart, IsStarted}
 
 module _ {D : Type 0} where
   -- the drive in a place of a row (own)

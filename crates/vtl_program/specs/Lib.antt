@@ -12,6 +12,7 @@ pub mod Pace
 pub mod Program
 pub mod Progress
 pub mod Reclaims
+pub mod Serving
 pub mod SideText
 pub mod Sides
 pub mod Starting

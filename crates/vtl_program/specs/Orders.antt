@@ -8,7 +8,7 @@ use Rattle.file_disk.specs.declared.error.FileError.{FileError}
 use Rattle.bays.specs.Elements.{HeldState}
 use Rattle.vtl_script.specs.Text.{AppendsPart}
 use Rattle.vtl_config.specs.declared.entries.Config.{Config}
-use Rattle.vtl_words.specs.Orders.{Asked, Asks, RefusesWords, check, create, reclaim, run, texts_of}
+use Rattle.vtl_words.specs.Orders.{Asked, Asks, RefusesWords, check, create, reclaim, run, serve, texts_of}
 use Rattle.vtl_words.specs.declared.orders.WordsError.{WordsError}
 use Rattle.vtl_words.specs.declared.orders.WordsError.TheVariants.{Help, Refused, NoMemory}
 use Rattle.vtl_program.specs.declared.programs.Ended.{Ended}
@@ -22,15 +22,10 @@ use Rattle.vtl_program.specs.Faults.{IsFailure}
 use Rattle.vtl_program.specs.Files.{FileAnswers, ReadsConfig}
 use Rattle.vtl_program.specs.Program.{EndsProgram, IsIdle, RunsFrom}
 use Rattle.vtl_program.specs.Reclaims.{ReclaimsNamed}
+use Rattle.vtl_program.specs.Serving.{ServesOrder}
 use Rattle.vtl_program.specs.Sides.{SidesGiven, file_sides, memory_state, new_sides, takes_any}
-use Rattle.vtl_program.specs.Starting.{IsBuiltIn, IsNotStarted, IsStarted}
+use Rattle.vtl_program.specs.Starting.{IsBuiltIn, IsNotStarted, IsStart, IsStarted, built_in_barcode, built_in_capacities}
 use Rattle.vtl_program.specs.Unfinished.{NotStartedState}
-
--- a library is like this, or it was not switched on for such a fault (own)
-abbrev pub IsStart : {D : Type 0} → (HeldState D → Type 0) → (VtlFault → Type 0)
-    → Result (HeldState D) VtlFault → Type 0
-IsStart Is IsNot (Ok held) = Is held
-IsStart Is IsNot (Err fault) = IsNot fault
 
 -- a library is switched on, a script is run over it, every buffer is written out, and the library is returned; or it
 -- is not switched on, and nothing is read or written (own)
@@ -40,8 +35,8 @@ RunsOver {D} state closes_all Is IsNot left left' before now outcome =
     (start : Result (HeldState D) VtlFault) × IsStart Is IsNot start
     × RunsFrom state closes_all start left left' before now outcome
 
--- a script is run over the library of a configuration, over such sides; that homes or numbers are double is no reason;
--- or memory runs out before anything is asked of the sides, and nothing is read or written (own)
+-- A script is run over the library of a configuration, over such sides. That homes or numbers are double is no reason
+-- not to. Or memory runs out before anything is asked of the sides, and nothing is read or written (own).
 abbrev pub RunsConfig : {D : Type 0} → (D → DiskState) → SidesGiven D → (closes_all : HeldState D → Type 0)
     → (gives_up : NotStartedState D → Type 0) → Config
     → (left left' before now : Option (List ℕ)) → Result (Unit {0}) VtlFault → Type 0
@@ -51,14 +46,6 @@ RunsConfig state sides closes_all gives_up config left left' before now outcome 
     (IsStarted sides.gives_cartridge state sides.gives_store config.cartridges.items config.drives.items)
     (λ fault. IsFailure fault × IsNotStarted state sides gives_up config.cartridges.items config.drives.items fault)
     left left' before now outcome
-
--- the barcode of the built-in configuration's cartridge (own)
-abbrev pub built_in_barcode : List ℕ
-built_in_barcode = codes "T00001L6"
-
--- the capacities of the built-in configuration's cartridge: one, of 16 MiB (own)
-abbrev pub built_in_capacities : List ℕ
-built_in_capacities = 16777216 ∷ []
 
 -- a script is run over the library of the configuration that a file says, over such sides; where there is no
 -- configuration, nothing is read or written (own)
@@ -116,11 +103,17 @@ verdict_from (Ok done) = Ok Done
 verdict_from (Err fault) = Err fault
 
 module _ {D : Type 0} (state : D → DiskState) (files : FileAnswers D) where
-  -- what an order does; but for a run no script is read (own)
+  -- what an order does; but for a run and a serving nothing is read (own)
   abbrev pub DoesOrder : Asked → (left left' before now : Option (List ℕ)) → Result Verdict VtlFault → Type 0
   DoesOrder (run memory config) left left' before now result =
       (outcome : Result (Unit {0}) VtlFault)
       × RunsOrder state files.reads (file_sides state files.opens files.opens_second files.hands_back)
+      files.closes_all files.gives_up
+      memory config left left' before now outcome
+      × (result ≡ verdict_from outcome)
+  DoesOrder (serve memory config) left left' before now result =
+      (outcome : Result (Unit {0}) VtlFault)
+      × ServesOrder state files.reads (file_sides state files.opens files.opens_second files.hands_back)
       files.closes_all files.gives_up
       memory config left left' before now outcome
       × (result ≡ verdict_from outcome)

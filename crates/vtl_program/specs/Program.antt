@@ -39,9 +39,9 @@ abbrev pub IsIdle : (left left' before now : Option (List ℕ)) → Type 0
 IsIdle left left' before now = Keeps left left' × Keeps before now
 
 -- A script was run for all hosts over this library, which threads shared: each command was answered by a drive in some
--- state. Then every buffer was written out, by a turn of each drive, and the library is this: it has the drives that it
--- had, the types keep its slots and drives, and nothing is left to be written of any, or what is loaded in one has
--- failed. No more was read than a script may have (own).
+-- state. Then every buffer was written out, by a turn of each drive. The library has the drives that it had, the types
+-- keep its slots and drives, and nothing is left to be written of any, or what is loaded in one has failed. No more was
+-- read than a script may have (own).
 pub record RunsStarted {D : Type 0} (state : D → DiskState) (old : HeldState D)
     (left left' before now : Option (List ℕ)) (new : HeldState D) (outcome : Result (Unit {0}) VtlFault) : Type 0 where
   pub ended : Result (Unit {0}) ScriptFault
@@ -73,7 +73,7 @@ abbrev pub verdict_status : Verdict → ℕ
 verdict_status Done = 0
 verdict_status Refused = 1
 
--- the line of a fault is out, or a beginning of it is (own)
+-- the line of a fault was written, or a beginning of it (own)
 abbrev pub Reports : VtlFault → (before now : Option (List ℕ)) → Bool → Type 0
 Reports fault before now true = Appends before now (whole_line fault)
 Reports fault before now false = AppendsPart before now (whole_line fault)

@@ -1,7 +1,7 @@
 -- What is reported of a reclaim while it works (own).
 use Rattle.std.specs.Prelude.{ℕ, ◌/◌, nat_lt, List, ◌++◌, codes, decimal, Option, None, Some, if◌then◌else◌}
 
--- the full GiB of so many bytes (own)
+-- how many full GiB these bytes are (own)
 abbrev pub gib_of : ℕ → ℕ
 gib_of bytes = bytes / 1073741824
 
@@ -9,6 +9,6 @@ gib_of bytes = bytes / 1073741824
 abbrev pub full_gib : ℕ → ℕ → Option ℕ
 full_gib before after = if nat_lt (gib_of before) (gib_of after) then Some (gib_of after) else None
 
--- the line of so many GiB (own)
+-- the line for this many GiB (own)
 abbrev pub gib_line : ℕ → List ℕ
 gib_line full = decimal full ++ codes " GiB written\n"

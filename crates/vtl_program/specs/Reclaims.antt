@@ -23,9 +23,9 @@ use Rattle.vtl_program.specs.SideText.{bad_record_line, damaged_line, not_a_side
 use Rattle.vtl_program.specs.declared.programs.Verdict.{Verdict}
 use Rattle.vtl_program.specs.declared.programs.Verdict.TheVariants.{Done, Refused}
 use Rattle.vtl_program.specs.declared.programs.VtlFault.{VtlFault}
-use Rattle.vtl_program.specs.declared.programs.VtlFault.TheVariants.{Words, Config as BadConfig, Script, Device, NoMemory}
+use Rattle.vtl_program.specs.declared.programs.VtlFault.TheVariants.{Words, Config as BadConfig, Script, Frame, Device, NoMemory}
 
--- the line of a cartridge that was reclaimed: what it is called, and how often it was so far (own)
+-- the line of a cartridge that was reclaimed: its name, and how often it was reclaimed so far (own)
 abbrev pub reclaimed_line : List ℕ → ℕ → List ℕ
 reclaimed_line barcode epoch = codes "reclaimed " ++ barcode ++ codes " epoch " ++ decimal epoch ++ 10 ∷ []
 
@@ -33,9 +33,9 @@ reclaimed_line barcode epoch = codes "reclaimed " ++ barcode ++ codes " epoch " 
 abbrev pub not_reclaimed_line : List ℕ
 not_reclaimed_line = codes "not reclaimed" ++ 10 ∷ []
 
--- why a cartridge is not reclaimed, by the images of its two files, and the line for it: its copy has no room, or its
+-- Why a cartridge is not reclaimed, by the images of its two files, and the line for it. Its copy has no room, or its
 -- epoch is the greatest; no side counts; or a frame of the side that counts is not whole, or spells no changes that
--- apply (own)
+-- apply (own).
 abbrev pub RefusalText : Images → List ℕ → Type 0
 RefusalText images text =
     ((contents : Contents) × GivesContents contents images
@@ -49,7 +49,7 @@ abbrev pub IsLine : List ℕ → Result (List ℕ) VtlFault → Type 0
 IsLine line (Ok text) = text ≡ line
 IsLine line (Err fault) = fault ≡ NoMemory
 
--- the line for a cause why a cartridge is not reclaimed, or the fault that the cause is (own)
+-- the line for a cause why a cartridge is not reclaimed, or the fault for that cause (own)
 abbrev pub TellsCause : ReclaimError → Result (List ℕ) VtlFault → Type 0
 TellsCause EpochsSpent lines = IsLine not_reclaimed_line lines
 TellsCause (Cartridge causes.SideFull) lines = IsLine not_reclaimed_line lines
@@ -85,15 +85,16 @@ module _ {D : Type 0} (state : D → DiskState) where
   IsUntold Words old new = ⊥
   IsUntold BadConfig old new = ⊥
   IsUntold (Script line) old new = ⊥
+  IsUntold (Frame number) old new = ⊥
 
   -- a cartridge is not reclaimed for the cause that its line says; nothing was written, and what stands there is sure
   -- (own)
   abbrev pub RefusesUntouched : TwoDisks D → TwoDisks D → List ℕ → Type 0
   RefusesUntouched old new text = RefusalText (seen_of_two state old) text × StaysSure state old new
 
-  -- Two disks were reclaimed as the cartridge that is called so: the lines say that it was, or why it was not, or there
-  -- are none for a cause that is one; and at every moment a crash leaves what it might have left before, or what gives
-  -- the volume that stood there (own).
+  -- Two disks were reclaimed as the cartridge with this name. The lines say that it was reclaimed, or why it was not,
+  -- or there are none, for a cause that holds. At every moment a crash leaves what it might have left before, or what
+  -- gives the volume that stood there (own).
   pub record Reclaims (barcode : List ℕ) (old new : TwoDisks D) (lines : Result (List ℕ) VtlFault) : Type 0 where
     pub keeps : KeepsDisks state old new
     pub none_failed : OnOk lines (NoneOfTwo state old new)

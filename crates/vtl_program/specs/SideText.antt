@@ -15,7 +15,7 @@ use Rattle.cartridge.specs.Contents.{Contents, GivesContents, IsBadFrameAt, IsDa
 use Rattle.cartridge.specs.Disks.{NoneOfTwo, OnlyOfTwo}
 use Rattle.aptpl_store.specs.Contents.{GivesStates, IsBadStateAt, IsNoStore, latest}
 use Rattle.vtl_program.specs.declared.programs.VtlFault.{VtlFault}
-use Rattle.vtl_program.specs.declared.programs.VtlFault.TheVariants.{Words, Config, Script, Device, NoMemory}
+use Rattle.vtl_program.specs.declared.programs.VtlFault.TheVariants.{Words, Config, Script, Frame, Device, NoMemory}
 
 -- the line of a cartridge: its barcode, how many partitions and frames the side of it that counts has (own)
 abbrev pub cartridge_line : List ℕ → ℕ → ℕ → List ℕ
@@ -73,10 +73,10 @@ damaged_line at = codes "damaged at " ++ decimal at ++ 10 ∷ []
 abbrev pub bad_record_line : ℕ → List ℕ
 bad_record_line at = codes "bad record at " ++ decimal at ++ 10 ∷ []
 
--- What `vtl check` prints of the images of two files: the lines of the cartridge whose contents they give; that of the
--- store whose states the first one gives, whatever the second one is; or one line: that they are no side; the gate of
--- the first frame that is not whole, of the side that counts or of the store; or the gate of the first frame that
--- spells no changes that apply, on a store's side no state (own).
+-- What `vtl check` prints of the images of two files. It is the lines of the cartridge whose contents they give, or
+-- that of the store whose states the first one gives, whatever the second one is. Else it is one line. The line says
+-- that they are no side; or it has the gate of the first frame that is not whole, of the side that counts or of the
+-- store. Or it has the gate of the first frame that spells no changes that apply, on a store's side no state (own).
 abbrev pub SideText : Images → List ℕ → Type 0
 SideText images text =
     ((contents : Contents) × GivesContents contents images × TellsContents contents text)
@@ -94,6 +94,7 @@ IsStoreNotTold NoMemory old new = NoneFailed old new × (old.honest → Only old
 IsStoreNotTold Words old new = ⊥
 IsStoreNotTold Config old new = ⊥
 IsStoreNotTold (Script line) old new = ⊥
+IsStoreNotTold (Frame number) old new = ⊥
 
 module _ {D : Type 0} (state : D → DiskState) where
   -- why two disks have no lines: a call of one of them failed; or memory ran out, and none did, and what
@@ -104,3 +105,4 @@ module _ {D : Type 0} (state : D → DiskState) where
   IsNotTold Words old new = ⊥
   IsNotTold Config old new = ⊥
   IsNotTold (Script line) old new = ⊥
+  IsNotTold (Frame number) old new = ⊥

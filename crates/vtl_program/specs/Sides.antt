@@ -1,4 +1,4 @@
--- Where the sides of a library come from: out of files, or made in memory (own).
+-- Where the sides of a library come from: from files, or made in memory (own).
 use Rattle.std.specs.Prelude.{◌≡◌, ◌⊎◌, ℕ, [], true, false, List, None, Result, Ok, Err}
 use Rattle.tape_disk.specs.CallLog.{log_state}
 use Rattle.tape_disk.specs.Disk.{DiskState, Keeps, Only}
@@ -46,11 +46,11 @@ module _ {D : Type 0} where
     pub unread : shelved.known ≡ false
     pub same : shelved.disks ≡ record { first = first; second = second }
 
-  -- a store of a drive that works, with no save under way (own)
+  -- a store of a drive that works, with no save in flight (own)
   abbrev pub IsFoundStore : OpenStore D → Type 0
   IsFoundStore store = (store.torn ≡ None) × (store.failed ≡ false)
 
-  -- the store of the drive of this number that was just made: nothing was saved (own)
+  -- the store of the drive with this number that was just made: nothing was saved (own)
   pub record IsNewStore (number : ℕ) (store : OpenStore D) : Type 0 where
     pub heading : store.heading ≡ heading_for number
     pub states : store.states ≡ []
@@ -80,10 +80,10 @@ module _ {D : Type 0} where
       pub any_moment : (state disk).honest → LeavesOnly (state disk) (state last) (state disk).may_leave
 
     module _ (opens opens_second : List ℕ → Result D FileError → Type 0) (hands_back : List ℕ → D → Type 0) where
-      -- the sides that files hold, by what an opening of a file may answer and which disks may be returned: a
-      -- cartridge over the disks that the openings of its entry's two files gave, as they were opened, or a store that
-      -- was found on such a disk; or a file was not opened, or the disk gives no store, and it was returned for this
-      -- file (own)
+      -- The sides that files hold, by what an opening of a file may answer and which disks may be returned. A
+      -- cartridge's are the disks that the openings of its entry's two files gave, as they were opened; a drive's is a
+      -- store that was found on such a disk. Or a file was not opened, or the disk gives no store, and it was returned
+      -- for this file (own).
       abbrev pub file_sides : SidesGiven D
       file_sides = record {
         gives_cartridge = λ entry cartridge.

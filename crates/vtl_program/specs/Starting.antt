@@ -1,5 +1,5 @@
 -- What a library holds when it was just switched on, and what was given where it was not.
-use Rattle.std.specs.Prelude.{◌≡◌, ◌≢◌, ◌⊎◌, ℕ, [], ◌∷◌, ◌++◌, true, false, List, Option, None, Some, Ok, Err, is_some}
+use Rattle.std.specs.Prelude.{◌≡◌, ◌≢◌, ◌⊎◌, ℕ, [], ◌∷◌, ◌++◌, true, false, List, Option, None, Some, Result, Ok, Err, is_some, codes}
 use Rattle.std.specs.List.{All, Contains}
 use Rattle.vtl_base.specs.declared.faults.NoMemory.{NoMemory}
 use Rattle.tape_disk.specs.Disk.{DiskState}
@@ -17,14 +17,14 @@ use Rattle.vtl_config.specs.declared.entries.DriveEntry.{DriveEntry}
 use Rattle.vtl_program.specs.Sides.{IsNewCartridge, IsNewStore, SidesGiven}
 use Rattle.vtl_program.specs.Unfinished.{NotStartedState, StartingState, waits_at}
 use Rattle.vtl_program.specs.declared.programs.VtlFault.{VtlFault}
-use Rattle.vtl_program.specs.declared.programs.VtlFault.TheVariants.{Words, Config, Script, Device}
+use Rattle.vtl_program.specs.declared.programs.VtlFault.TheVariants.{Words, Config, Script, Frame, Device}
 use Rattle.vtl_program.specs.declared.programs.VtlFault.TheVariants as Faults
 
 -- each of these entries was given something (own)
 abbrev pub AreGiven : {E G : Type 0} → (E → G → Type 0) → List E → Type 0
 AreGiven {E} {G} gives entries = All (λ entry. (given : G) × gives entry given) entries
 
--- each of these entries before one was given something, and that one was refused so (own)
+-- each of these entries before one was given something, and for that one this refusal holds (own)
 pub record IsRefusedIn {E G : Type 0} (gives : E → G → Type 0) (refuses : E → Type 0) (entries : List E) :
     Type 0 where
   pub before : List E
@@ -33,6 +33,20 @@ pub record IsRefusedIn {E G : Type 0} (gives : E → G → Type 0) (refuses : E 
   pub are : entries ≡ before ++ entry ∷ behind
   pub given : AreGiven gives before
   pub refused : refuses entry
+
+-- a library is like this, or it was not switched on for such a fault (own)
+abbrev pub IsStart : {D : Type 0} → (HeldState D → Type 0) → (VtlFault → Type 0)
+    → Result (HeldState D) VtlFault → Type 0
+IsStart Is IsNot (Ok held) = Is held
+IsStart Is IsNot (Err fault) = IsNot fault
+
+-- the barcode of the built-in configuration's cartridge (own)
+abbrev pub built_in_barcode : List ℕ
+built_in_barcode = codes "T00001L6"
+
+-- the capacities of the built-in configuration's cartridge: one, of 16 MiB (own)
+abbrev pub built_in_capacities : List ℕ
+built_in_capacities = 16777216 ∷ []
 
 module _ {D : Type 0} where
   module _ (state : D → DiskState) where
@@ -147,9 +161,9 @@ module _ {D : Type 0} (state : D → DiskState) (sides : SidesGiven D) (gives_up
     pub up : gives_up (record { starting = new; store = Some store })
 
   module _ (entries : List CartridgeEntry) (drives : List DriveEntry) where
-    -- why a library is not switched on over such sides: one is refused, the first in the order of cartridges and then
-    -- of drives, and all that was given before it is given up; memory runs out as a drive is switched on; or homes or
-    -- numbers are double, which they are not in a configuration (own)
+    -- Why a library is not switched on over such sides. One is refused, the first in the order of cartridges and then
+    -- of drives, and all that was given before it is given up. Or memory runs out as a drive is switched on. Or homes
+    -- or numbers are double, which they are not in a configuration (own).
     abbrev pub IsNotStarted : VtlFault → Type 0
     IsNotStarted Device = CartridgeIsRefused entries Device ⊎ StoreIsRefused entries drives Device
     IsNotStarted Faults.NoMemory =
@@ -158,3 +172,4 @@ module _ {D : Type 0} (state : D → DiskState) (sides : SidesGiven D) (gives_up
     IsNotStarted Config = ¬ (AreDistinct (homes_of entries) × AreDistinct (numbers_of drives))
     IsNotStarted Words = ⊥
     IsNotStarted (Script line) = ⊥
+    IsNotStarted (Frame number) = ⊥

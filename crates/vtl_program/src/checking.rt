@@ -30,7 +30,7 @@ pub struct Checked<D> {
     pub lines: Result<Bytes, VtlFault>,
     /// The first disk that was given.
     pub first: D,
-    /// The second one.
+    /// The second disk that was given.
     pub second: D,
 }
 
@@ -155,7 +155,7 @@ fn states_text<D: Disk>(
     Ok(Bytes::from_vec(text))
 }
 
-// A text, where there was memory for it.
+// A text, or `NoMemory` where memory ran out for it.
 pub(crate) fn told(text: Result<Bytes, NoMemory>) -> Result<Bytes, VtlFault>
     ensures ok { IfOk result (λ lines. text ≡ Ok lines) }
     ensures err { IfErr result (λ fault. fault ≡ VtlFault.NoMemory) }
@@ -163,7 +163,7 @@ pub(crate) fn told(text: Result<Bytes, NoMemory>) -> Result<Bytes, VtlFault>
     Ok(text?)
 }
 
-// A line, where there was memory for it.
+// A line, or `NoMemory` where memory ran out for it.
 pub(crate) fn line_text(line: Result<String, AllocError>) -> Result<Bytes, VtlFault>
     ensures ok { IfOk result (λ text. MatchResult line (λ known. text ≡ string_bytes known) (λ e. ⊥)) }
     ensures err { IfErr result (λ fault. fault ≡ VtlFault.NoMemory) }
@@ -191,7 +191,7 @@ pub(crate) fn bad_record_text(alloc: Global, at: u64) -> Result<Bytes, VtlFault>
 }
 
 // The lines of two disks of which no side counts as a cartridge's: of a store on the first, or why it gives no states.
-// The second one rests.
+// The second disk is not called.
 fn check_store<D: Disk>(alloc: Global, first: D, second: D) -> Checked<D>
     ensures disk { Keeps (D.state first) (D.state result.first) }
     ensures rests { result.second ≡ second }

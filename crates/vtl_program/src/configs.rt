@@ -22,8 +22,8 @@ pub fn config_of(alloc: Global, text: &[u8]) -> Result<Config, VtlFault>
     }
 }
 
-/// The configuration that the file of this name says. One that can't be read is a `Device` fault, a text that is
-/// refused a `Config` fault; where memory runs out, in the read too, it is `NoMemory`.
+/// The configuration that the file of this name says. Errors: `Device` where the file can't be read, `Config` where its
+/// text is refused, `NoMemory` where memory runs out, in the read too.
 pub fn config_in<F: TextFiles>(alloc: Global, files: &F, name: &str) -> Result<Config, VtlFault>
     ensures { ReadsConfig F.reads name.now result }
 {

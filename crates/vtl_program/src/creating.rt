@@ -1,4 +1,4 @@
-//! The missing files of a configuration are made.
+//! Making the missing files of a configuration.
 ghost use Rattle.std.specs.Prelude.{◌≡◌, ◌++◌, ◌∷◌, [], IsTrue, IfOk, IfErr, OnOk, map, codes, decimal, string_bytes};
 ghost use Rattle.std.specs.Io.KnownBytes.{Appends};
 ghost use Rattle.volume_core.specs.Volume.{are_capacities};
@@ -48,8 +48,8 @@ pub(crate) fn slice_of(capacities: &Capacities) -> &[u64]
     capacities.as_slice()
 }
 
-// Makes both files of a cartridge, where the first one is missing: what became of it, and the barcode. The second one
-// is made with no bytes where it is missing, and else stays as it is.
+// Makes both files of a cartridge, where the first one is missing. Returns what became of the first one, and the
+// barcode. The second one is made with no bytes where it is missing, and else stays as it is.
 fn create_cartridge<D: Disk + Drop, F: MakeFiles<D> + SecondFiles<D>>(
     alloc: Global,
     files: &F,
@@ -137,7 +137,7 @@ fn create_store<D: Disk + Drop, F: MakeFiles<D> + SecondFiles<D>>(
     }
 }
 
-// The word for it.
+// The word that reports it.
 fn word_of(fate: Fate) -> &'static str
     ensures { result.now ≡ fate_word fate }
 {
@@ -147,7 +147,7 @@ fn word_of(fate: Fate) -> &'static str
     }
 }
 
-// The line of a file that is called so.
+// The line of the file with this label.
 fn line_of(alloc: Global, fate: Fate, label: &[u8]) -> Result<Vec<u8>, AllocError>
     ensures { IfOk result (λ line. line.items ≡ fate_line label.now fate) }
 {
@@ -158,7 +158,7 @@ fn line_of(alloc: Global, fate: Fate, label: &[u8]) -> Result<Vec<u8>, AllocErro
     Ok(line)
 }
 
-// Reports what became of a file that is called so.
+// Reports what became of the file with this label.
 fn tell_fate<W: Write>(
     alloc: Global,
     writer: &mut W,
@@ -176,7 +176,7 @@ fn tell_fate<W: Write>(
     }
 }
 
-// What the file of a drive's reservations is called.
+// The label of the file of a drive's reservations.
 fn label_of(alloc: Global, number: DriveNo) -> Result<String, AllocError>
     ensures { IfOk result (λ label. string_bytes label ≡ codes "DRIVE" ++ decimal number) }
 {
@@ -260,13 +260,12 @@ fn make_stores<D: Disk + Drop, F: MakeFiles<D> + SecondFiles<D>, W: Write>(
     Ok(())
 }
 
-/// Makes the files of a configuration that are missing, cartridges first, then the stores of drives,
-/// each in the order of the configuration, and writes a line for each: `created NAME`, or `kept NAME`
-/// where something has the file's name already, which is not touched. NAME is the barcode, or `DRIVE`
-/// and the number. With a cartridge's first file its second one is made, where that is missing; of a
-/// cartridge that is kept it is not looked at. At the first fault it ends, and the file that was being
-/// made is gone again, where the system could take it away: `Device` where a file or the writer fails,
-/// `NoMemory`.
+/// Makes the files of a configuration that are missing, cartridges first, then the stores of drives, each in the order
+/// of the configuration. It writes a line for each: `created NAME`, or `kept NAME` where something has the file's name
+/// already, which is not touched. NAME is the barcode, or `DRIVE` and the number. With a cartridge's first file its
+/// second one is made, where that is missing; where the first one is there, the second is not looked for. It ends at
+/// the first fault, and the file that was being made is removed again, if the system can remove it. Errors: `Device`
+/// where a file or the writer fails, or `NoMemory`.
 pub fn create_missing<D: Disk + Drop, F: MakeFiles<D> + SecondFiles<D>, W: Write>(
     alloc: Global,
     files: &F,

@@ -1,5 +1,5 @@
 //! Why something was refused, on standard error behind the one line.
-ghost use Rattle.std.specs.Prelude.{◌≡◌, Result, Ok, Err, map};
+ghost use Rattle.std.specs.Prelude.{◌≡◌, ◌&&◌, Result, Ok, Err, map};
 ghost use Rattle.vtl_words.specs.Orders.{texts_of};
 ghost use Rattle.vtl_program.specs.Explained.{Explains, RunsExplained, asks};
 ghost use Rattle.vtl_program.specs.Files.{answers_of};
@@ -34,32 +34,54 @@ pub fn asks(words: &Result<Vec<String>, VtlFault>) -> bool
     }
 }
 
-// What may be refused of the words.
-#[derive(Drop)]
-enum Doubt {
-    // Nothing.
-    Nothing,
-    // They are refused.
-    Words(WordsReason),
-    // The configuration has to have this barcode.
-    Barcode(Barcode),
+/// Whether they ask for one of the lines of a script: where frames are served there are none.
+pub fn asks_of_lines(alloc: Global, words: &Result<Vec<String>, VtlFault>) -> bool {
+    match words {
+        Ok(words) if asks_to_explain(words.as_slice()) => {
+            !matches!(read_words(alloc, words.as_slice()), Ok(Order::Serve { .. }))
+        }
+        _ => false,
+    }
 }
 
-// The barcode of what is to be reclaimed.
-fn barcode_in(alloc: Global, words: &[String]) -> Option<Barcode> {
+// What an explanation has to be looked for in, besides what the files say.
+#[derive(Drop)]
+enum Doubt {
+    // In nothing else.
+    Nothing,
+    // In the words, which are refused.
+    Words(WordsReason),
+    // In the configuration, which has to have this barcode.
+    Barcode(Barcode),
+    // In the files of reservations, each of which has to be whole.
+    Stores,
+    // In these files, and in the frames.
+    Frames,
+}
+
+// What an explanation of an order has to be looked for in.
+fn doubt_in(alloc: Global, words: &[String]) -> Doubt {
     match read_words(alloc, words) {
         Ok(order) => match order {
             Order::Reclaim {
                 config: _config,
                 barcode,
-            } => Some(barcode),
-            _other => None,
+            } => Doubt::Barcode(barcode),
+            Order::Run {
+                memory: _memory,
+                config: _config,
+            } => Doubt::Stores,
+            Order::Serve {
+                memory: _memory,
+                config: _config,
+            } => Doubt::Frames,
+            _other => Doubt::Nothing,
         },
-        Err(_error) => None,
+        Err(_error) => Doubt::Nothing,
     }
 }
 
-// What may be refused of the words, where that is asked for.
+// What an explanation has to be looked for in, where one is asked for.
 fn doubt_of(alloc: Global, asked: bool, words: &Result<Vec<String>, VtlFault>) -> Doubt {
     let words = match words {
         Ok(words) if asked => words.as_slice(),
@@ -68,10 +90,7 @@ fn doubt_of(alloc: Global, asked: bool, words: &Result<Vec<String>, VtlFault>) -
     if let Some(reason) = WordsReason::of(alloc, words) {
         return Doubt::Words(reason);
     }
-    match barcode_in(alloc, words) {
-        Some(barcode) => Doubt::Barcode(barcode),
-        None => Doubt::Nothing,
-    }
+    doubt_in(alloc, words)
 }
 
 // Adds the lines of a barcode that a configuration does not have.
@@ -120,7 +139,8 @@ fn add_config(
     }
 }
 
-// Adds the lines of a refused configuration, or of a refused line of the script: there is one of the two at most.
+// Adds the lines of a refused configuration, of a refused line of the script, of a refused frame, or of two files that
+// were checked or were to be reclaimed: there is one of the four at most.
 fn add_text(
     alloc: Global,
     notes: &Notes,
@@ -130,6 +150,36 @@ fn add_text(
     add_config(alloc, notes, doubt, lines)?;
     if let Some(reason) = notes.refused() {
         reason.add_to(alloc, lines)?;
+    }
+    match doubt {
+        Doubt::Frames => add_frame(alloc, notes, lines),
+        Doubt::Barcode(_) => notes.add_images(alloc, true, lines),
+        _ => notes.add_images(alloc, false, lines),
+    }
+}
+
+// Adds the lines of a refused frame, where one was read.
+fn add_frame(alloc: Global, notes: &Notes, lines: &mut Explanation) -> Result<(), AllocError> {
+    match notes.frame() {
+        Some(reason) => reason.add_to(alloc, lines),
+        None => Ok(()),
+    }
+}
+
+// Adds the lines of what failed: of a file of reservations that was opened and is refused, or else of calls. A call for
+// another file may have failed before, as a cartridge was loaded, which ends no run.
+fn add_failed(
+    alloc: Global,
+    notes: &Notes,
+    doubt: &Doubt,
+    lines: &mut Explanation,
+) -> Result<(), AllocError> {
+    let is_store = match doubt {
+        Doubt::Stores | Doubt::Frames => notes.add_store(alloc, lines)?,
+        _ => false,
+    };
+    if !is_store {
+        let _ = notes.add_failed(alloc, lines)?;
     }
     Ok(())
 }
@@ -147,17 +197,15 @@ fn lines_for(
             Doubt::Words(reason) => reason.add_to(alloc, &mut lines)?,
             _ => add_text(alloc, notes, doubt, &mut lines)?,
         },
-        2 => {
-            if let Some(reason) = notes.failed() {
-                reason.add_to(alloc, &mut lines)?;
-            }
-        }
+        2 => add_failed(alloc, notes, doubt, &mut lines)?,
+        3 => notes.add_memory(alloc, &mut lines)?,
         _ => {}
     }
     Ok(lines)
 }
 
-// Writes the lines for a status, where they are asked for. What cannot be written, or finds no memory, is left out.
+// Writes the lines for a status, where they are asked for. Lines that cannot be written, or for which memory runs out,
+// are left out.
 fn explain<E: Write>(
     asked: bool,
     alloc: Global,
@@ -178,8 +226,15 @@ fn explain<E: Write>(
     let _ = write_text(errors, lines.as_str().as_bytes());
 }
 
-/// The program as `run` runs it, and behind the line of its fault the lines that explain it, where the words ask for
-/// them: then the program has done all that it does, and its status stands.
+// Whether lines stand behind the one line: they were asked for, and that line was written where there is one.
+fn is_wanted(asked: bool, reported: bool) -> bool
+    ensures { result ≡ (asked && reported) }
+{
+    asked && reported
+}
+
+/// The program as `run` runs it. Behind the line of its fault stand the lines that explain it, where the words ask for
+/// them and that line was written. By then the program has done all that it does, and its status stands.
 pub fn run_explained<
     D: Disk + Drop + Send,
     F: TextFiles
@@ -190,7 +245,7 @@ pub fn run_explained<
         + MakeFiles<D>,
     R: Threads + Wait + Clock + Sync,
     I: Read,
-    W: Write,
+    W: Write + Send,
     E: Write,
 >(
     rt: &R,
@@ -213,6 +268,7 @@ pub fn run_explained<
     let asked = asks(&words);
     let doubt = doubt_of(alloc, asked, &words);
     let ended = run::<D, F, R, I, W, E>(rt, alloc, files, words, reader, writer, errors);
-    explain(asked, alloc, ended.status, &doubt, notes, errors);
+    let wanted = is_wanted(asked, ended.is_reported);
+    explain(wanted, alloc, ended.status, &doubt, notes, errors);
     ended
 }

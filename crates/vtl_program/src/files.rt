@@ -1,12 +1,13 @@
 //! The calls for files that the program makes, by the files' names. The traits say what a function may do with files:
-//! each order's function has just those that it needs. A file is made or opened to be changed once at most, since its
-//! name is given up for that.
+//! each order's function has just those that it needs. A file is made or opened for writing at most once, since its
+//! name is used up.
 ghost use Rattle.std.specs.Prelude.{◌≡◌, ℕ, List, [], Result, Ok, Vec};
 ghost use Rattle.std.specs.declared.alloc.Global.{Global};
 ghost use Rattle.std.specs.declared.io.Error.{Error};
 ghost use Rattle.file_disk.specs.declared.error.FileError.{FileError};
 
 use crate::notes::Notes;
+use crate::open_files::NotedDisk;
 use crate::progress::GibLines;
 use crate::starting::NotStarted;
 use crate::watched::Watched;
@@ -27,7 +28,7 @@ pub trait TextFiles {
         ensures { reads name.now result };
 }
 
-/// Files that are looked at.
+/// Files that are only read.
 pub trait ReadFiles<D: Disk> {
     // The answers that a call may have, by the name.
     ghost opens_to_read: { List ℕ → Result D FileError → Type 0 };
@@ -35,7 +36,7 @@ pub trait ReadFiles<D: Disk> {
     // The disk that was returned for a name.
     ghost closes: { List ℕ → D → Type 0 };
 
-    /// A disk over the file of this name, which fails at each call that would change it.
+    /// A disk over the file of this name. Each of its calls that would change the file fails.
     fn open_to_read(&self, name: &str) -> Result<D, FileError>
         ensures { opens_to_read name.now result };
 
@@ -43,7 +44,7 @@ pub trait ReadFiles<D: Disk> {
     fn close(&self, name: &str, disk: D)
         ensures { closes name.now disk };
 
-    /// A disk of no bytes, which stands for a file that is missing. It fails at each call that would change it.
+    /// A disk of no bytes, which stands for a file that is missing. Each of its calls that would change it fails.
     fn nothing(&self) -> D
         ensures { (D.state result).honest → (D.state result).seen ≡ [] };
 }
@@ -92,11 +93,11 @@ pub trait TakesBack<L, S> {
 
     ghost gives_up: { S → Type 0 };
 
-    /// Takes the disks of a library back, as they are.
+    /// Takes back the disks of a library, as they are.
     fn close_all(&self, library: L)
         ensures { closes_all library };
 
-    /// Takes the disks of a library back that was not switched on, as they are.
+    /// Takes back the disks of a library that was not switched on, as they are.
     fn give_up(&self, starting: S)
         ensures { gives_up starting };
 }
@@ -121,16 +122,16 @@ pub trait MakeFiles<D> {
     fn leave(&self, name: UsedName, disk: D)
         ensures { leaves name disk };
 
-    /// Takes a disk back, and its file away, where the system can: one that a call of `make` gave.
+    /// Takes back a disk that `make` returned, and removes its file, if the system can remove it.
     fn take_away(&self, name: UsedName, disk: D)
         requires { (made : D) × makes name (Ok made) }
         ensures { takes_away name disk };
 }
 
-/// The files of the operating system. What they hold no contract of its calls says, so any answer is taken as it comes.
+/// The files of the operating system. No contract of its calls says what they hold, so any answer is possible.
 #[derive(Clone, Copy)]
 pub struct SystemFiles<'a> {
-    /// What reaches the system.
+    /// The runtime, through which the system is called.
     pub rt: &'a HostRuntime,
     /// Where writes are reported.
     pub progress: &'a GibLines<'a>,
@@ -138,30 +139,40 @@ pub struct SystemFiles<'a> {
     pub notes: &'a Notes,
 }
 
-/// A disk over a file of the operating system, whose writes are reported.
-pub type SystemDisk<'a> = Watched<'a, FileDisk, GibLines<'a>>;
+/// A disk over a file of the operating system, whose writes are reported, and the first call that fails is noted.
+pub type SystemDisk<'a> = Watched<'a, NotedDisk<'a, FileDisk>, GibLines<'a>>;
 
 impl<'a> SystemFiles<'a> {
-    // A disk whose writes are reported.
-    fn watched(&self, disk: FileDisk) -> SystemDisk<'a>
-        ensures { result.disk ≡ disk }
+    // The disk of the file of this number, whose writes are reported.
+    fn watched(&self, number: u64, disk: FileDisk) -> SystemDisk<'a>
+        ensures { result.disk.disk ≡ disk }
     {
         Watched {
-            disk,
+            disk: NotedDisk {
+                disk,
+                number,
+                files: self.notes.files(),
+            },
             progress: self.progress,
         }
     }
 
-    // The same, where there is one; what was answered is noted.
+    // Notes that a file of this name is opened, made or read, and returns its number.
+    fn enter(&self, name: &str) -> u64 {
+        self.notes.files().enter(self.rt.alloc(), name)
+    }
+
+    // The disk of the file of this name and number, if there is one. Notes what was answered.
     fn answer(
         &self,
         name: &str,
+        number: u64,
         call: FileCall,
         found: Result<FileDisk, FileError>,
     ) -> Result<SystemDisk<'a>, FileError> {
         self.notes.open(self.rt.alloc(), name, call, &found);
         match found {
-            Ok(disk) => Ok(self.watched(disk)),
+            Ok(disk) => Ok(self.watched(number, disk)),
             Err(error) => Err(error),
         }
     }
@@ -171,6 +182,7 @@ impl<'a> TextFiles for SystemFiles<'a> {
     ghost reads = { λ name answer. Unit {0} };
 
     fn read(&self, name: &str) -> io::Result<Vec<u8>> {
+        let _ = self.enter(name);
         let read = fs::read(self.rt, name);
         self.notes.read(self.rt.alloc(), name, &read);
         read
@@ -183,16 +195,19 @@ impl<'a> ReadFiles<SystemDisk<'a>> for SystemFiles<'a> {
     ghost closes = { λ name disk. Unit {0} };
 
     fn open_to_read(&self, name: &str) -> Result<SystemDisk<'a>, FileError> {
-        self.answer(name, FileCall::Open, file_disk::open_to_read(self.rt, name))
+        let number = self.enter(name);
+        let opened = file_disk::open_to_read(self.rt, name);
+        self.answer(name, number, FileCall::Open, opened)
     }
 
-    fn close(&self, _: &str, disk: SystemDisk<'a>) {
+    fn close(&self, name: &str, mut disk: SystemDisk<'a>) {
+        self.notes.look(self.rt.alloc(), name, &mut disk);
         drop(disk);
     }
 
     fn nothing(&self) -> SystemDisk<'a> {
         self.notes.pass_over();
-        self.watched(file_disk::no_file())
+        self.watched(0, file_disk::no_file())
     }
 }
 
@@ -203,12 +218,14 @@ impl<'a> SecondFiles<SystemDisk<'a>> for SystemFiles<'a> {
 
     fn open_second(&self, name: FileName) -> (UsedName, Result<SystemDisk<'a>, FileError>) {
         let name = name.use_up();
+        let number = self.enter(name.as_str());
         let opened = file_disk::open_or_create(self.rt, name.as_str());
-        let answer = self.answer(name.as_str(), FileCall::Open, opened);
+        let answer = self.answer(name.as_str(), number, FileCall::Open, opened);
         (name, answer)
     }
 
-    fn close_second(&self, _: UsedName, disk: SystemDisk<'a>) {
+    fn close_second(&self, name: UsedName, mut disk: SystemDisk<'a>) {
+        self.notes.look(self.rt.alloc(), name.as_str(), &mut disk);
         drop(disk);
     }
 }
@@ -220,12 +237,16 @@ impl<'a> ChangeFiles<SystemDisk<'a>> for SystemFiles<'a> {
 
     fn open(&self, name: FileName) -> (UsedName, Result<SystemDisk<'a>, FileError>) {
         let name = name.use_up();
+        let number = self.enter(name.as_str());
         let opened = file_disk::open(self.rt, name.as_str());
-        let answer = self.answer(name.as_str(), FileCall::Open, opened);
+        let answer = self.answer(name.as_str(), number, FileCall::Open, opened);
         (name, answer)
     }
 
-    fn hand_back(&self, _: UsedName, disk: SystemDisk<'a>) {
+    fn hand_back(&self, name: UsedName, mut disk: SystemDisk<'a>) {
+        let number = disk.disk.number;
+        self.notes.give_back(self.rt.alloc(), name.as_str(), number);
+        self.notes.look(self.rt.alloc(), name.as_str(), &mut disk);
         drop(disk);
     }
 }
@@ -253,8 +274,9 @@ impl<'a> MakeFiles<SystemDisk<'a>> for SystemFiles<'a> {
 
     fn make(&self, name: FileName) -> (UsedName, Result<SystemDisk<'a>, FileError>) {
         let name = name.use_up();
+        let number = self.enter(name.as_str());
         let made = file_disk::create(self.rt, name.as_str());
-        let answer = self.answer(name.as_str(), FileCall::Make, made);
+        let answer = self.answer(name.as_str(), number, FileCall::Make, made);
         (name, answer)
     }
 

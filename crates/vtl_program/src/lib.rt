@@ -1,5 +1,5 @@
-//! What the program does for each order of its words: libraries made, run, looked at and reclaimed, in files
-//! or in memory.
+//! What the program does for each order of its words: libraries made, run, served, checked and reclaimed, in files or
+//! in memory.
 #![tactic(auto)]
 
 pub mod checking;
@@ -7,10 +7,14 @@ pub mod configs;
 pub mod creating;
 pub mod explaining;
 pub mod files;
+mod images;
+pub mod labels;
 pub mod laws;
 pub mod lines;
+pub mod noted_streams;
 pub mod notes;
 pub mod noting;
+pub mod open_files;
 mod opened;
 pub mod orders;
 pub mod pace;
@@ -18,6 +22,7 @@ pub mod programs;
 pub mod progress;
 pub mod reclaiming;
 pub mod running;
+pub mod serving;
 pub mod side_checks;
 pub mod sides;
 pub mod starting;

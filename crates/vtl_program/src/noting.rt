@@ -1,11 +1,14 @@
 //! A script's reader that notes the lines which are to be answered, and the first that is refused.
+ghost use Rattle.std.specs.Prelude.{◌≡◌};
+
 use crate::notes::Notes;
 use answer_notes::Answers;
+use file_reasons::{Answer, FileCall, Source};
 use script_reasons::{Drives, LineReason};
 use std::alloc::Global;
-use std::io::{self, Read};
+use std::io::{self, ErrorKind, Read};
 use vtl_base::DriveNo;
-use vtl_base::limits::LINE_BYTES;
+use vtl_base::limits::{LINE_BYTES, SCRIPT_BYTES};
 use vtl_config::read_config;
 
 // The drive of the built-in configuration.
@@ -35,8 +38,9 @@ fn without_return(line: &[u8]) -> &[u8] {
     }
 }
 
-/// A reader that passes each call on to the one below, and notes each line, and why the first that is refused is. Where
-/// memory runs out for that, nothing more is noted.
+/// A reader that passes each call on to the reader below. It notes why a read failed. Of a script it also notes each
+/// line, why the first refused line is refused, and how many bytes were read; where no answers are explained, it notes
+/// the frames instead. Once memory runs out for a line, no further line is noted.
 #[derive(Drop)]
 pub struct NotingReader<'a, I> {
     below: I,
@@ -46,11 +50,12 @@ pub struct NotingReader<'a, I> {
     drives: Option<Drives>,
     line: Vec<u8>,
     lines: u64,
+    bytes: u64,
     is_over: bool,
 }
 
 impl<'a, I> NotingReader<'a, I> {
-    /// A reader over this one.
+    /// A reader over `below`.
     pub fn new(below: I, alloc: Global, notes: &'a Notes, answers: &'a Answers) -> Self {
         NotingReader {
             below,
@@ -60,12 +65,15 @@ impl<'a, I> NotingReader<'a, I> {
             drives: None,
             line: Vec::new(alloc),
             lines: 0,
-            is_over: !notes.is_on(),
+            bytes: 0,
+            is_over: !answers.is_on(),
         }
     }
 
     // The drives that are configured.
-    fn drives(&mut self) -> Drives {
+    fn drives(&mut self) -> Drives
+        ensures { self.new.below ≡ self.old.below }
+    {
         if let Some(drives) = self.drives {
             return drives;
         }
@@ -81,8 +89,10 @@ impl<'a, I> NotingReader<'a, I> {
         drives
     }
 
-    // A line has ended, at a line feed or with the text.
-    fn end_line(&mut self, is_last: bool) {
+    // Ends a line, at a line feed or with the text.
+    fn end_line(&mut self, is_last: bool)
+        ensures { self.new.below ≡ self.old.below }
+    {
         let drives = self.drives();
         self.lines = self.lines.saturating_add(1);
         let line = self.line.as_slice();
@@ -97,8 +107,10 @@ impl<'a, I> NotingReader<'a, I> {
         self.line.clear();
     }
 
-    // One byte more of a line.
-    fn add(&mut self, byte: u8) {
+    // Adds a byte to the line.
+    fn add(&mut self, byte: u8)
+        ensures { self.new.below ≡ self.old.below }
+    {
         if self.line.push(byte).is_err() {
             self.is_over = true;
         }
@@ -110,8 +122,32 @@ impl<'a, I> NotingReader<'a, I> {
         }
     }
 
-    // These bytes were read, or the text has ended.
-    fn note(&mut self, bytes: &[u8]) {
+    fn fail(&self, answer: Answer) {
+        self.notes
+            .fail(self.alloc, Source::Input, FileCall::Read, answer);
+    }
+
+    // Counts bytes that were read. A script that is too long is not noted any further; frames may be of any length.
+    fn count(&mut self, count: usize)
+        ensures { self.new.below ≡ self.old.below }
+    {
+        if !self.answers.is_on() {
+            return;
+        }
+        self.bytes = self.bytes.saturating_add(count as u64);
+        self.notes.read_script(self.bytes);
+        if self.bytes > SCRIPT_BYTES {
+            self.fail(Answer::LongScript);
+        }
+    }
+
+    // Notes bytes that were read, or that the text has ended. Bytes of frames are no lines.
+    fn note(&mut self, bytes: &[u8])
+        ensures { self.new.below ≡ self.old.below }
+    {
+        if !self.answers.is_on() {
+            self.notes.add_frames(bytes);
+        }
         if bytes.is_empty() && !self.is_over {
             self.end_line(true);
             self.answers.end();
@@ -131,11 +167,20 @@ impl<'a, I> NotingReader<'a, I> {
 }
 
 impl<'a, I: Read> Read for NotingReader<'a, I> {
+    ghost remaining = { λ reader. I.remaining reader.below };
+
     fn read(&mut self, buf: &mut [u8]) -> io::Result<usize> {
         let read = self.below.read(buf);
-        if let Ok(count) = &read {
-            let count = *count;
-            self.note(&buf[..count]);
+        match &read {
+            Ok(count) => {
+                let count = *count;
+                self.count(count);
+                self.note(&buf[..count]);
+            }
+            Err(error) if error.kind() != ErrorKind::Interrupted => {
+                self.fail(Answer::of_error(error));
+            }
+            Err(_) => {}
         }
         read
     }

@@ -14,6 +14,7 @@ use crate::files::{ChangeFiles, MakeFiles, ReadFiles, SecondFiles, TakesBack, Te
 use crate::programs::{Ended, Verdict, VtlFault, end};
 use crate::reclaiming::reclaim_named;
 use crate::running::{Left, run_shared};
+use crate::serving::serve_order;
 use crate::side_checks::check_named;
 use crate::sides::{FileSides, NewSides, Sides};
 use crate::starting::{NotStarted, Starting, built_in, start};
@@ -29,9 +30,9 @@ use vtl_base::Barcode;
 use vtl_config::Config;
 use vtl_words::{Order, WordsError, read_words};
 
-/// Runs a script over a library, where there is one, then writes every buffer out, whatever the script's end was, and
-/// returns the library. The first fault is answered: one of the script before one of the buffers. Where memory runs
-/// out before the script, nothing is read, and the library is returned as it was.
+/// Runs a script over a library, if there is one, then writes every buffer out, whatever the script's end was, and
+/// returns the library. The first fault is returned: one of the script before one of the buffers. Where memory runs out
+/// before the script, nothing is read, and the library is returned as it was.
 pub fn run_started<
     D: Disk + Drop + Send,
     S: TakesBack<Held<D>, NotStarted<D>>,
@@ -161,7 +162,7 @@ fn do_order<
         + MakeFiles<D>,
     R: Threads + Wait + Clock + Sync,
     I: Read,
-    W: Write,
+    W: Write + Send,
 >(
     rt: &R,
     alloc: Global,
@@ -180,6 +181,9 @@ fn do_order<
     match order {
         Order::Run { memory, config } => {
             run_order::<D, F, R, I, W>(rt, alloc, files, memory, config, reader, writer)?
+        }
+        Order::Serve { memory, config } => {
+            serve_order::<D, F, R, I, W>(rt, alloc, files, memory, config, reader, writer)?
         }
         Order::Create { config } => {
             create_order::<D, F, W>(alloc, files, config.as_str(), writer)?
@@ -219,7 +223,7 @@ pub fn obey<
         + MakeFiles<D>,
     R: Threads + Wait + Clock + Sync,
     I: Read,
-    W: Write,
+    W: Write + Send,
 >(
     rt: &R,
     alloc: Global,
@@ -253,7 +257,7 @@ pub fn run<
         + MakeFiles<D>,
     R: Threads + Wait + Clock + Sync,
     I: Read,
-    W: Write,
+    W: Write + Send,
     E: Write,
 >(
     rt: &R,

@@ -8,7 +8,7 @@ use std::time::{Clock, Duration};
 use volume_core::Turn;
 use vtl_base::limits::BUFFER_RECORDS;
 
-// A turn that stored so many changes stored much: half of what may be pending.
+// A turn that stored this many changes stored much: half of what may be pending.
 const MUCH: usize = BUFFER_RECORDS / 2;
 
 // How long a flusher rests where its turn stored less, in milliseconds.

@@ -8,6 +8,7 @@ use std::fmt;
 use std::io::{self, ErrorKind, Write};
 use vtl_base::NoMemory;
 use vtl_script::{ScriptFault, write_text};
+use vtl_wire::WireFault;
 
 /// Why the program ends with a status that is not 0.
 #[derive(Clone, Copy, PartialEq, Eq, Debug)]
@@ -18,6 +19,8 @@ pub enum VtlFault {
     Config,
     /// A line of the script is refused. Lines are counted from 1 on.
     Script { line: u64 },
+    /// A frame of the input is refused. Frames are counted from 1 on.
+    Frame { frame: u64 },
     /// A device, a file or a stream failed.
     Device,
     /// Memory ran out.
@@ -35,6 +38,21 @@ impl From<ScriptFault> for VtlFault {
             ScriptFault::BadLine { line } => VtlFault::Script { line },
             ScriptFault::ReadFault | ScriptFault::WriteFault => VtlFault::Device,
             ScriptFault::NoMemory => VtlFault::NoMemory,
+        }
+    }
+}
+
+impl From<WireFault> for VtlFault {
+    ghost use Rattle.std.specs.Prelude.{◌≡◌};
+    ghost use Rattle.vtl_program.specs.Faults.{fault_of_wire};
+
+    ghost from_gives = { λ fault result. result ≡ fault_of_wire fault };
+
+    fn from(fault: WireFault) -> Self {
+        match fault {
+            WireFault::BadFrame { frame } => VtlFault::Frame { frame },
+            WireFault::ReadFault | WireFault::WriteFault => VtlFault::Device,
+            WireFault::NoMemory => VtlFault::NoMemory,
         }
     }
 }
@@ -83,6 +101,7 @@ impl fmt::Display for FaultLine {
             VtlFault::Words => write!(f, "vtl: command line refused"),
             VtlFault::Config => write!(f, "vtl: configuration refused"),
             VtlFault::Script { line } => write!(f, "vtl: script line {line} refused"),
+            VtlFault::Frame { frame } => write!(f, "vtl: frame {frame} refused"),
             VtlFault::Device => write!(f, "vtl: device fault"),
             VtlFault::NoMemory => write!(f, "vtl: out of memory"),
         }
@@ -95,7 +114,7 @@ pub fn fault_line(fault: &VtlFault) -> (u8, FaultLine)
     ensures line { result.1.fault ≡ fault.now }
 {
     let status = match fault {
-        VtlFault::Words | VtlFault::Config | VtlFault::Script { .. } => 1,
+        VtlFault::Words | VtlFault::Config | VtlFault::Script { .. } | VtlFault::Frame { .. } => 1,
         VtlFault::Device => 2,
         VtlFault::NoMemory => 3,
     };
@@ -111,7 +130,7 @@ pub enum Verdict {
     Refused,
 }
 
-/// How the program ends: its status, and whether no fault is left without its line.
+/// How the program ends: its status, and whether the line of each fault was written.
 #[derive(Clone, Copy, PartialEq, Eq, Debug)]
 pub struct Ended {
     /// The status: 0 to 3.
@@ -120,7 +139,7 @@ pub struct Ended {
     pub is_reported: bool,
 }
 
-// Writes the line of a fault: whether it is out. Where a write fails, a beginning of it is.
+// Writes the line of a fault. Returns whether all of it was written. Where a write fails, a beginning of it is written.
 fn report<E: Write>(line: FaultLine, errors: &mut E) -> bool
     ensures { Reports line.fault (E.contents errors.old) (E.contents errors.new) result }
 {

@@ -24,7 +24,7 @@ pub fn full_gib(before: u64, after: u64) -> Option<u64>
     }
 }
 
-/// The line of so many GiB, with its line feed. There is room for each: the longest has 33 bytes.
+/// The line for this many GiB, with its line feed. There is room for each: the longest has 33 bytes.
 pub fn gib_line(full: u64) -> Result<ArrayString<64>, fmt::Error>
     ensures { IfOk result (λ text. text.bytes ≡ gib_line full) }
 {
@@ -41,7 +41,7 @@ pub fn ask_to_reclaim(words: &[String]) -> bool {
     }
 }
 
-/// The lines of a reclaim on standard error. Where one cannot be written, nothing happens.
+/// The lines of a reclaim on standard error. A line that cannot be written is left out.
 #[derive(Drop)]
 pub struct GibLines<'a> {
     rt: &'a HostRuntime,
@@ -50,7 +50,8 @@ pub struct GibLines<'a> {
 }
 
 impl<'a> GibLines<'a> {
-    /// Lines that are written where standard error is a terminal and the words ask for a reclaim, and else not.
+    /// The lines of a reclaim, where standard error is a terminal and the words ask for a reclaim; else none are
+    /// written.
     pub fn new(rt: &'a HostRuntime, words: &Result<Vec<String>, VtlFault>) -> GibLines<'a> {
         let is_reclaim = match words {
             Ok(words) => ask_to_reclaim(words.as_slice()),

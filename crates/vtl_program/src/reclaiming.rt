@@ -1,4 +1,4 @@
-//! A cartridge of a configuration is reclaimed, and a line reports it.
+//! Reclaiming a cartridge of a configuration, and the line that reports it.
 ghost use Rattle.std.specs.Prelude.{◌≡◌, ◌≤◌, ◌+◌, ◌++◌, Some, Ok, bytes_eq, length, vec_capacity, vec_len};
 ghost use Rattle.vtl_program.specs.Checks.{both, disks_checked};
 ghost use Rattle.vtl_program.specs.Reclaims.{Reclaims, ReclaimsEntry, ReclaimsNamed, TellsCause, TellsReclaim, entry_with, reclaimed_line, verdict_told};
@@ -17,7 +17,8 @@ use tape_disk::Disk;
 use vtl_base::{Barcode, Bytes};
 use vtl_config::{CartridgeEntry, Config};
 
-// So many bytes are reserved for the line of a reclaim. The longest, of 16 bytes of barcode and the last epoch, has 54.
+// The bytes that are reserved for the line of a reclaim. The longest line, of 16 bytes of barcode and the last epoch,
+// has 54.
 const LINE_ROOM: usize = 80;
 
 // Puts bytes behind what is in a text that has room for them.
@@ -48,7 +49,7 @@ fn reclaimed_text(room: Vec<u8>, barcode: &Barcode, epoch: u64) -> Bytes
     Bytes::from_vec(text)
 }
 
-// The line of a cartridge that was not, for this cause.
+// The line of a cartridge that was not reclaimed, for this cause.
 fn refusal_text(alloc: Global, error: ReclaimError) -> Result<Bytes, VtlFault>
     ensures { TellsCause error result }
 {
@@ -66,9 +67,9 @@ fn refusal_text(alloc: Global, error: ReclaimError) -> Result<Bytes, VtlFault>
     }
 }
 
-/// Reclaims the cartridge of two disks, which is called so: the line that says that it was, or why it was not. The room
-/// of that line is made first, so that a cartridge that was reclaimed has its line: where memory runs out nothing was
-/// written. After an `Err` what the disks give is the volume that they gave.
+/// Reclaims the cartridge on two disks. Returns the line that says that it was reclaimed, or why it was not; `barcode`
+/// stands in that line. The memory of the line is taken first, so that a cartridge that was reclaimed has its line:
+/// where memory runs out, nothing was written. After an `Err` the disks give the volume that they gave before.
 pub fn reclaim_side<D: Disk>(alloc: Global, barcode: &Barcode, first: D, second: D) -> Checked<D>
     ensures { Reclaims D.state barcode.now (both first second) (disks_checked result) result.lines }
 {
@@ -96,7 +97,7 @@ fn reclaim_with<D: Disk>(
     match reclaim(alloc, Shelved::of(first, second)) {
         Ok(shelved) => {
             let line = reclaimed_text(room, barcode, shelved.epoch());
-            // Asked for the proof's sake: whatever crash comes, the disks give the copy.
+            // Called for the proof: whatever crash comes, the disks give the copy.
             shelved.known();
             let (first, second) = shelved.into_disks();
             Checked {
@@ -118,7 +119,7 @@ fn reclaim_with<D: Disk>(
     }
 }
 
-// Whether the line of a reclaim says that it is done, or else why it is not.
+// Whether the line of a reclaim says that the cartridge was reclaimed, or why it was not.
 fn verdict_of(lines: &[u8]) -> Verdict
     ensures { result ≡ verdict_told lines.now }
 {
@@ -195,10 +196,10 @@ fn entry_with(entries: Vec<CartridgeEntry>, barcode: &Barcode) -> Option<Cartrid
         .find(|entry| has_barcode(entry, barcode))
 }
 
-/// Reclaims the cartridge of a configuration that has this barcode, and writes a line: `reclaimed BARCODE epoch E`; as
-/// of `vtl check` where no side of it counts or one is refused; `not reclaimed` where there is no room or no epoch for
-/// the copy. `Done` where it was reclaimed, else `Refused`. `Words` where no cartridge has the barcode, `Device`,
-/// `NoMemory`. The second file is made with no bytes where it is missing.
+/// Reclaims the cartridge of a configuration that has this barcode, and writes one line: `reclaimed BARCODE epoch E`.
+/// Where no side of it counts or one is refused, it is the line of `vtl check`; where there is no room or no epoch for
+/// the copy, `not reclaimed`. Returns `Done` where it was reclaimed, else `Refused`. Errors: `Words` where no cartridge
+/// has the barcode, `Device` or `NoMemory`. The second file is made with no bytes where it is missing.
 pub fn reclaim_named<D: Disk, F: ChangeFiles<D> + SecondFiles<D>, W: Write>(
     alloc: Global,
     files: &F,

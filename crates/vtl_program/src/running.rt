@@ -1,4 +1,4 @@
-//! A script is run over a library whose drives threads share.
+//! Running a script over a library whose drives threads share.
 ghost use Rattle.std.specs.Prelude.{◌≡◌};
 ghost use Rattle.library.specs.Counts.{places_filled};
 ghost use Rattle.vtl_program.specs.Program.{HaveAcceptedNone, RunsHeld, every_nexus, outcome_of};
@@ -42,8 +42,8 @@ fn outcome_of(
     }
 }
 
-// All hosts that a script may name.
-fn every_host() -> [Nexus; 64]
+/// All hosts.
+pub(crate) fn every_host() -> [Nexus; 64]
     ensures { result ≡ every_nexus }
 {
     let mut hosts = [Nexus::new(1).unwrap(); 64];
@@ -53,8 +53,8 @@ fn every_host() -> [Nexus; 64]
     hosts
 }
 
-// How many drives there are.
-fn count_drives<D: Disk>(bays: &[Option<Bay<D>>]) -> u64
+/// How many drives there are.
+pub(crate) fn count_drives<D: Disk>(bays: &[Option<Bay<D>>]) -> u64
     ensures { result ≡ places_filled bays.now }
 {
     let mut count = 0;
@@ -67,7 +67,7 @@ fn count_drives<D: Disk>(bays: &[Option<Bay<D>>]) -> u64
 }
 
 /// Runs a script over a library, and beside it a thread for each drive that stores what waits. Then every buffer is
-/// written out, whatever the script's end was. The first fault is answered: one of the script before one of the
+/// written out, whatever the script's end was. The first fault is returned: one of the script before one of the
 /// buffers. Where memory runs out before the script, nothing is read, and the library is as it was.
 pub fn run_shared<D: Disk + Drop + Send, R: Threads + Wait + Clock + Sync, I: Read, W: Write>(
     rt: &R,

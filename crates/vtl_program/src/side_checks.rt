@@ -1,4 +1,4 @@
-//! What two files hold is reported.
+//! Reporting what two files hold.
 ghost use Rattle.std.specs.Prelude.{◌≡◌, ◌==◌, ◌||◌, List, ℕ, IfOk, IfErr, MatchOption, codes};
 ghost use Rattle.std.specs.List.{starts_with};
 ghost use Rattle.vtl_program.specs.Checks.{ChecksOrder, IsSecondRead, IsSecondUnread, TellsLines, verdict_of};
@@ -14,7 +14,7 @@ use tape_disk::Disk;
 use vtl_base::Bytes;
 use vtl_config::second_file;
 
-// Whether the lines of a side tell what it holds, or else why it holds nothing.
+// Whether the lines of a side say what it holds, or why it holds nothing.
 fn verdict_of(lines: &[u8]) -> Verdict
     ensures { result ≡ verdict_of lines.now }
 {
@@ -25,8 +25,9 @@ fn verdict_of(lines: &[u8]) -> Verdict
     }
 }
 
-/// Writes the lines of a side: `Done` where they tell what it holds, `Refused` where they tell why it gives nothing. A
-/// writer that fails is a `Device` fault. Where there are no lines nothing is written, and the fault is why.
+/// Writes the lines of a side. Returns `Done` where they say what it holds, `Refused` where they say why it gives
+/// nothing. The error is `Device` where the writer fails. Where `lines` is a fault, nothing is written, and that fault
+/// is returned.
 pub fn tell_lines<W: Write>(
     lines: Result<Bytes, VtlFault>,
     writer: &mut W,
@@ -43,7 +44,8 @@ pub fn tell_lines<W: Write>(
     }
 }
 
-// A disk to read a second file of this name by, one of no bytes where the file is missing.
+// A disk for reading the second file of this name; one of no bytes where the file is missing, None where it was not
+// opened.
 fn second_to_read<D: Disk, F: ReadFiles<D>>(files: &F, name: &str) -> Option<D>
     ensures { MatchOption result (IsSecondUnread D.state F.opens_to_read name.now)
         (IsSecondRead D.state F.opens_to_read name.now) }
@@ -55,9 +57,9 @@ fn second_to_read<D: Disk, F: ReadFiles<D>>(files: &F, name: &str) -> Option<D>
     }
 }
 
-/// Reports what the file of this name holds, and beside it the one whose name has `.2` added, which may be
-/// missing: `Done` where it is a cartridge or a store, `Refused` where it is neither. No file is made or
-/// changed. `Device` where a file is not opened, `NoMemory`.
+/// Reports what the file of this name holds, together with the one whose name has `.2` added, which may be missing.
+/// Returns `Done` where it is a cartridge or a store, `Refused` where it is neither. No file is made or changed.
+/// Errors: `Device` where a file is not opened, a disk or the writer fails, or `NoMemory`.
 pub fn check_named<D: Disk, F: ReadFiles<D>, W: Write>(
     alloc: Global,
     files: &F,

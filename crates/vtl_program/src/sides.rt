@@ -1,4 +1,4 @@
-//! Where the sides of a library come from: out of files, or made in memory.
+//! Where the sides of a library come from: from files, or made in memory.
 ghost use Rattle.std.specs.Prelude.{◌≡◌, IfOk, IfErr};
 ghost use Rattle.aptpl_store.specs.Kept.{store_kept};
 ghost use Rattle.drive_core.specs.State.{left_of};
@@ -18,7 +18,7 @@ use std::alloc::Global;
 use tape_disk::{Disk, MemDisk};
 use vtl_config::{CartridgeEntry, DriveEntry};
 
-/// A store of a drive's reservations, and what of them a loss of power left.
+/// A store of a drive's reservations, and what a loss of power left of them.
 #[derive(Drop)]
 pub struct DriveStore<D: Disk> {
     /// The store, open.

@@ -1,12 +1,11 @@
-//! A library is switched on: each cartridge is at its home.
+//! Switching a library on, with each cartridge at its home.
 ghost use Rattle.std.specs.Prelude.{◌≡◌, true, IfOk, IfErr, OnOk, is_some};
 ghost use Rattle.aptpl_store.specs.Kept.{store_kept};
 ghost use Rattle.drive_core.specs.State.{left_of};
 ghost use Rattle.vtl_config.specs.Entries.{address_of};
 ghost use Rattle.vtl_program.specs.Inner.Waiting.{AreHome, IsNotHome, IsOffAt, PutsHome, SwitchesOnAt};
-ghost use Rattle.vtl_program.specs.Orders.{IsStart, built_in_barcode, built_in_capacities};
 ghost use Rattle.vtl_program.specs.Sides.{memory_state};
-ghost use Rattle.vtl_program.specs.Starting.{IsBuiltIn, IsNotStarted, IsStarted};
+ghost use Rattle.vtl_program.specs.Starting.{IsBuiltIn, IsNotStarted, IsStart, IsStarted, built_in_barcode, built_in_capacities};
 ghost use Rattle.vtl_program.specs.Unfinished.{IsBare, home_at};
 ghost use Rattle.vtl_program.specs.declared.programs.VtlFault.TheVariants as Faults;
 
@@ -26,9 +25,9 @@ use vtl_base::{Barcode, DriveNo, NoMemory, SlotNo};
 use vtl_config::{Address, CartridgeEntry, DriveEntry};
 
 // The drive, the barcode and the capacity of the built-in configuration.
-const DRIVE: u8 = 1;
+pub(crate) const DRIVE: u8 = 1;
 
-const BARCODE: &[u8] = b"T00001L6";
+pub(crate) const BARCODE: &[u8] = b"T00001L6";
 
 const CAPACITY: u64 = 16_777_216;
 
@@ -92,7 +91,7 @@ impl<D: Disk + Drop> Starting<D> {
         Ok(Starting { held, waiting })
     }
 
-    // Puts a cartridge into its home, or has it wait for the drive that is its home.
+    // Puts a cartridge into the slot that is its home, or holds it for the drive that is its home.
     fn put(&mut self, home: Address, cartridge: Parked<D>) -> Result<(), VtlFault>
         ensures ok { OnOk result (PutsHome (address_of home) cartridge self.old self.new) }
         ensures err { IfErr result (λ fault.
@@ -116,13 +115,13 @@ impl<D: Disk + Drop> Starting<D> {
         }
     }
 
-    // Has a cartridge wait for the drive that is its home.
+    // Holds a cartridge for the drive that is its home.
     fn put_beside(&mut self, drive: DriveNo, cartridge: Parked<D>) -> Result<(), VtlFault>
         ensures ok { OnOk result (PutsHome drive cartridge self.old self.new) }
         ensures err { IfErr result (λ fault.
             (fault ≡ Faults.Config) × (is_some (home_at self.old drive) ≡ true)) }
     {
-        // Asked for the proof's sake: the numbers of drives begin with 1.
+        // Called for the proof: the numbers of drives begin with 1.
         let _ = drive.number();
         let place = &mut self.waiting[drive.place()];
         if place.is_some() {
@@ -133,7 +132,7 @@ impl<D: Disk + Drop> Starting<D> {
     }
 
     // Switches a drive on, with the cartridge that waits for it. Where memory runs out, the cartridge waits again, and
-    // the store comes back.
+    // the store is returned.
     fn switch_on(
         &mut self,
         alloc: Global,
@@ -145,7 +144,7 @@ impl<D: Disk + Drop> Starting<D> {
         ensures err { IfErr result (λ off.
             IsOffAt D.state number opened.store self.old self.new off.store off.fault) }
     {
-        // Asked for the proof's sake: the numbers of drives begin with 1.
+        // Called for the proof: the numbers of drives begin with 1.
         let _ = number.number();
         let DriveStore { store, left } = opened;
         let place = number.place();
@@ -171,7 +170,7 @@ impl<D: Disk + Drop> Starting<D> {
     }
 }
 
-// Gets the cartridges, in the order of the configuration, each into its home. Where one is refused, those before it are
+// Puts the cartridges, in the order of the configuration, each into its home. Where one is refused, those before it are
 // given up.
 fn place_all<D: Disk + Drop, S: Sides<D> + TakesBack<Held<D>, NotStarted<D>>>(
     alloc: Global,
@@ -207,10 +206,10 @@ fn place_all<D: Disk + Drop, S: Sides<D> + TakesBack<Held<D>, NotStarted<D>>>(
     Ok(starting)
 }
 
-/// The library of a configuration, over these sides, made of one that has nothing: first its cartridges, then its
-/// drives, in the order of the configuration. What is refused first decides the fault: `Device` or `NoMemory`. Then all
-/// that was given before it is given up. Where memory runs out as a drive is switched on, its cartridge and its store
-/// are too.
+/// Switches on the library of a configuration, over these sides, from one that has nothing: first its cartridges, then
+/// its drives, in the order of the configuration. What is refused first decides the error: `Device` or `NoMemory`. All
+/// that was given before is then given up (`TakesBack::give_up`), with the cartridge and the store of a drive for which
+/// memory ran out as it was switched on.
 pub fn start<D: Disk + Drop, S: Sides<D> + TakesBack<Held<D>, NotStarted<D>>>(
     alloc: Global,
     sides: &S,
@@ -244,8 +243,8 @@ pub fn start<D: Disk + Drop, S: Sides<D> + TakesBack<Held<D>, NotStarted<D>>>(
     Ok(starting.held)
 }
 
-/// The library of the built-in configuration, in memory: drive 1 alone, holding `T00001L6` of one
-/// partition of 16,777,216 bytes. Else `NoMemory`.
+/// The library of the built-in configuration, in memory: drive 1 alone, holding `T00001L6` of one partition of
+/// 16,777,216 bytes. The only error is `NoMemory`.
 pub fn built_in(alloc: Global) -> Result<Held<MemDisk>, VtlFault>
     ensures { IsStart (IsBuiltIn memory_state built_in_barcode built_in_capacities)
         (λ fault. fault ≡ Faults.NoMemory) result }

@@ -4,7 +4,7 @@ use vtl_base::DevFault;
 
 /// Where writes are reported.
 pub trait Progress {
-    /// So many bytes were written.
+    /// Reports that this many bytes were written.
     fn written(&self, bytes: u64);
 }
 

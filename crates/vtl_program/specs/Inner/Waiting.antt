@@ -15,10 +15,10 @@ use Rattle.vtl_program.specs.Sides.{SidesGiven}
 use Rattle.vtl_program.specs.Starting.{AreGiven, CartridgeIsRefused, StandsAt, StaysOff}
 use Rattle.vtl_program.specs.Unfinished.{NotStartedState, StartingState, home_at, waits_at}
 use Rattle.vtl_program.specs.declared.programs.VtlFault.{VtlFault}
-use Rattle.vtl_program.specs.declared.programs.VtlFault.TheVariants.{Words, Config, Script, Device, NoMemory}
+use Rattle.vtl_program.specs.declared.programs.VtlFault.TheVariants.{Words, Config, Script, Frame, Device, NoMemory}
 
 module _ {D : Type 0} where
-  -- a cartridge was put into its home, which was empty, and all else is as it was
+  -- a cartridge was put into its home, which was empty, and all else is as it was (own)
   pub record PutsHome (address : ℕ) (cartridge : BufferState D) (old new : StartingState D) : Type 0 where
     pub free : home_at old address ≡ None
     pub here : home_at new address ≡ Some cartridge
@@ -27,7 +27,7 @@ module _ {D : Type 0} where
 
   module _ (state : D → DiskState) where
     -- the drive of this number was switched on over a store, with the cartridge that waited for it; it was not on
-    -- before, and all else is as it was
+    -- before, and all else is as it was (own)
     pub record SwitchesOnAt (number : ℕ) (store : OpenStore D) (old new : StartingState D) : Type 0 where
       pub no_slot : is_slot number ≡ false
       pub free : bay_at old.held.bays number ≡ None
@@ -40,7 +40,7 @@ module _ {D : Type 0} where
       pub taken : waits_at new.waiting number ≡ None
       pub elsewhere : (other : ℕ) → other ≢ number → waits_at new.waiting other ≡ waits_at old.waiting other
 
-    -- why the drive of this number was not switched on over a store: memory ran out; or it is on
+    -- why the drive of this number was not switched on over a store: memory ran out; or it is on (own)
     abbrev pub IsOffAt :
         ℕ → OpenStore D → (old new : StartingState D) → (back : Option (OpenStore D)) → VtlFault → Type 0
     IsOffAt number store old new back NoMemory = StaysOff state number store old new × (back ≡ Some store)
@@ -48,9 +48,10 @@ module _ {D : Type 0} where
     IsOffAt number store old new back Device = ⊥
     IsOffAt number store old new back Words = ⊥
     IsOffAt number store old new back (Script line) = ⊥
+    IsOffAt number store old new back (Frame frame) = ⊥
 
   module _ (gives_cartridge : CartridgeEntry → BufferState D → Type 0) where
-    -- each of these cartridges is at its home, and no drive is on
+    -- each of these cartridges is at its home, and no drive is on (own)
     pub record AreHome (entries : List CartridgeEntry) (starting : StartingState D) : Type 0 where
       pub given : AreGiven gives_cartridge entries
       pub homes : (address : ℕ) → StandsAt gives_cartridge entries address (home_at starting address)
@@ -59,10 +60,11 @@ module _ {D : Type 0} where
 module _ {D : Type 0} (state : D → DiskState) (sides : SidesGiven D) (gives_up : NotStartedState D → Type 0)
     (entries : List CartridgeEntry) where
   -- why not all of these cartridges are at their homes, over such sides: the first that is refused, and those before it
-  -- were given up; or homes are double
+  -- were given up; or homes are double (own)
   abbrev pub IsNotHome : VtlFault → Type 0
   IsNotHome Device = CartridgeIsRefused state sides gives_up entries Device
   IsNotHome NoMemory = CartridgeIsRefused state sides gives_up entries NoMemory
   IsNotHome Config = ¬ AreDistinct (homes_of entries)
   IsNotHome Words = ⊥
   IsNotHome (Script line) = ⊥
+  IsNotHome (Frame number) = ⊥

@@ -1,11 +1,11 @@
 use Rattle.std.proofs.Common.{◌≡◌, Ok}
 use Rattle.std.proofs.lemmas.Result.{err_from_is_err_and}
-use Rattle.vtl_program.specs.Orders.{built_in_barcode, built_in_capacities}
 use Rattle.vtl_program.specs.Sides.{file_sides, memory_state}
 use Rattle.vtl_program.specs.declared.programs.VtlFault.{VtlFault}
 use Rattle.vtl_program.specs.declared.programs.VtlFault.TheVariants as Faults
 use Rattle.vtl_program.proofs.OrdersLemmas.{not_configured}
 use Rattle.vtl_program.specs.Fresh.{if_built_in_fresh}
+use Rattle.vtl_program.specs.Starting.{built_in_barcode, built_in_capacities}
 use Rattle.vtl_program.proofs.orders.run_order.Goals as goal
 
 pub run_started-requires-after_bounds : goal.run_started-requires-after_bounds

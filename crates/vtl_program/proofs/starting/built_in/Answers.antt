@@ -3,9 +3,8 @@ use Rattle.side_pairs.specs.declared.which.Which.TheVariants.{First}
 use Rattle.cartridge.specs.Contents.{contents_from, heading_with, plain_head}
 use Rattle.tape_disk.specs.declared.memory.MemDisk.{MemDisk}
 use Rattle.vtl_program.specs.Inner.Waiting.{PutsHome, SwitchesOnAt}
-use Rattle.vtl_program.specs.Orders.{built_in_barcode, built_in_capacities}
 use Rattle.vtl_program.specs.Sides.{IsNewCartridge, IsNewStore, memory_state}
-use Rattle.vtl_program.specs.Starting.{IsBuiltIn}
+use Rattle.vtl_program.specs.Starting.{IsBuiltIn, built_in_barcode, built_in_capacities}
 use Rattle.vtl_program.specs.Unfinished.{StartingState}
 use Rattle.vtl_program.proofs.BuiltInLemmas.{built_in_is}
 use Rattle.vtl_program.proofs.starting.built_in.Goals as goal

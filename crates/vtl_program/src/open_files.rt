@@ -1,0 +1,232 @@
+//! Which files were opened, and which of their calls failed, noted for an explanation. Threads share it.
+use explanations::Explanation;
+use file_disk::{FailedCall, FileDisk, SystemCall};
+use file_reasons::{FileReason, MemoryReason};
+use std::alloc::{AllocError, Global};
+use std::io::ErrorKind;
+use std::sync::Mutex;
+use std::sync::atomic::{AtomicBool, AtomicU64, Ordering};
+use tape_disk::Disk;
+use vtl_base::DevFault;
+
+// How often the lock is tried, since no call waits for it. A thread that has it releases it after a few steps.
+const TRIES: u32 = 100_000;
+
+// A file that was opened, and the first of its calls that failed.
+#[derive(Drop)]
+struct OpenFile {
+    name: String,
+    failed: Option<FailedCall>,
+}
+
+/// Files that were opened or read, in order, each with the first of its calls that failed. Where memory runs out for a
+/// file it is left out.
+#[derive(Drop)]
+pub struct OpenFiles {
+    is_on: bool,
+    // The number of the file that was used last, counted from 1; 0 for none.
+    last: AtomicU64,
+    // Whether a call failed, also for a file that is left out.
+    has_failed: AtomicBool,
+    files: Mutex<Vec<OpenFile>>,
+}
+
+impl OpenFiles {
+    /// No file yet. Where `is_on` is false, none is ever noted.
+    pub fn new(alloc: Global, is_on: bool) -> Self {
+        OpenFiles {
+            is_on,
+            last: AtomicU64::new(0),
+            has_failed: AtomicBool::new(false),
+            files: Mutex::new(Vec::new(alloc)),
+        }
+    }
+
+    /// Notes that a file of this name is opened or read. Returns its number, 0 where it is left out.
+    pub fn enter(&self, alloc: Global, name: &str) -> u64 {
+        if !self.is_on {
+            return 0;
+        }
+        let Ok(name) = String::from_str(alloc, name) else {
+            return 0;
+        };
+        let Some(mut files) = self.files.try_lock() else {
+            return 0;
+        };
+        if files.push(OpenFile { name, failed: None }).is_err() {
+            return 0;
+        }
+        let number = files.len() as u64;
+        self.last.store(number, Ordering::SeqCst);
+        number
+    }
+
+    /// Notes that the file of this number is used.
+    pub fn used(&self, number: u64) {
+        if number > 0 {
+            self.last.store(number, Ordering::SeqCst);
+        }
+    }
+
+    /// Whether a call failed, also for a file that is left out.
+    pub fn has_failed(&self) -> bool {
+        self.has_failed.load(Ordering::SeqCst)
+    }
+
+    /// Whether a call for the file of this number failed; for one that is left out, whether any call did.
+    pub fn has_failed_for(&self, number: u64) -> bool {
+        if number == 0 {
+            return self.has_failed();
+        }
+        let Some(files) = self.files.try_lock() else {
+            return self.has_failed();
+        };
+        match files.as_slice().get((number - 1) as usize) {
+            Some(file) => file.failed.is_some(),
+            None => self.has_failed(),
+        }
+    }
+
+    /// Notes that a call for the file of this number failed.
+    pub fn fail(&self, number: u64, failed: FailedCall) {
+        self.has_failed.store(true, Ordering::SeqCst);
+        if number == 0 {
+            return;
+        }
+        for _ in 0..TRIES {
+            if let Some(mut files) = self.files.try_lock() {
+                if let Some(file) = files.as_mut_slice().get_mut((number - 1) as usize) {
+                    if file.failed.is_none() {
+                        file.failed = Some(failed);
+                    }
+                }
+                return;
+            }
+        }
+    }
+
+    /// Adds the lines of each file with a call that failed. Returns whether there is one.
+    pub fn add_failed(&self, alloc: Global, lines: &mut Explanation) -> Result<bool, AllocError> {
+        let Some(files) = self.files.try_lock() else {
+            return Ok(false);
+        };
+        let mut is_one = false;
+        for file in files.as_slice() {
+            if let Some(failed) = file.failed {
+                let name = String::from_str(alloc, file.name.as_str())?;
+                FileReason::of_call(alloc, name, failed).add_to(alloc, lines)?;
+                is_one = true;
+            }
+        }
+        Ok(is_one)
+    }
+
+    /// Adds the lines of memory that ran out, with the file that was used last.
+    pub fn add_last(&self, alloc: Global, lines: &mut Explanation) -> Result<(), AllocError> {
+        let last = self.last.load(Ordering::SeqCst);
+        let Some(files) = self.files.try_lock() else {
+            return Ok(());
+        };
+        if last == 0 {
+            return Ok(());
+        }
+        match files.as_slice().get((last - 1) as usize) {
+            Some(file) => {
+                let name = String::from_str(alloc, file.name.as_str())?;
+                MemoryReason::File(name).add_to(alloc, lines)
+            }
+            None => Ok(()),
+        }
+    }
+}
+
+/// A disk that says which of the calls below it failed last.
+pub trait SaysFailed {
+    /// The call that failed last; `None` where none failed.
+    fn failed(&self) -> Option<FailedCall>;
+}
+
+impl SaysFailed for FileDisk {
+    fn failed(&self) -> Option<FailedCall> {
+        self.file().failed()
+    }
+}
+
+/// A disk that passes each call on to the disk below, and notes the first that fails, with what the system answered.
+#[derive(Drop)]
+pub struct NotedDisk<'a, D> {
+    /// The disk below.
+    pub disk: D,
+    /// The number of its file.
+    pub number: u64,
+    /// Where failed calls are noted.
+    pub files: &'a OpenFiles,
+}
+
+impl<'a, D: SaysFailed> NotedDisk<'a, D> {
+    // Notes a call that failed. The system gave no answer where it did not say how long the file is.
+    fn fail(&self) {
+        let failed = match self.disk.failed() {
+            Some(failed) => failed,
+            None => FailedCall {
+                call: SystemCall::Look,
+                kind: ErrorKind::Other,
+                number: None,
+            },
+        };
+        self.files.fail(self.number, failed);
+    }
+}
+
+impl<'a, D: Disk + SaysFailed> Disk for NotedDisk<'a, D> {
+    ghost state = { λ noted. D.state noted.disk };
+
+    ghost effect = { λ call result old new. D.effect call result old.disk new.disk };
+
+    ghost is_disk = { λ noted honest. D.is_disk noted.disk honest };
+
+    fn len(&self) -> u64 {
+        self.disk.len()
+    }
+
+    fn read_at(&mut self, at: u64, buffer: &mut [u8]) -> Result<(), DevFault> {
+        self.files.used(self.number);
+        match self.disk.read_at(at, buffer) {
+            Ok(()) => Ok(()),
+            Err(fault) => {
+                self.fail();
+                Err(fault)
+            }
+        }
+    }
+
+    fn write_at(&mut self, at: u64, bytes: &[u8]) -> Result<(), DevFault> {
+        match self.disk.write_at(at, bytes) {
+            Ok(()) => Ok(()),
+            Err(fault) => {
+                self.fail();
+                Err(fault)
+            }
+        }
+    }
+
+    fn cut(&mut self, len: u64) -> Result<(), DevFault> {
+        match self.disk.cut(len) {
+            Ok(()) => Ok(()),
+            Err(fault) => {
+                self.fail();
+                Err(fault)
+            }
+        }
+    }
+
+    fn sync(&mut self) -> Result<(), DevFault> {
+        match self.disk.sync() {
+            Ok(()) => Ok(()),
+            Err(fault) => {
+                self.fail();
+                Err(fault)
+            }
+        }
+    }
+}
