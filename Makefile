@@ -1,7 +1,7 @@
 # docs/GATE.md says what each target does.
 RT := $(shell command -v rt)
 
-.PHONY: demo vtl check wrong rows rows-wrong nomemory mutants faults hostile asked endings examples stops kills bench \
+.PHONY: demo vtl check wrong rows rows-wrong nomemory mutants faults explained hostile memory endings examples stops kills bench \
 	gate fmt definitions install manual need-rt
 .DEFAULT_GOAL := demo
 
@@ -17,6 +17,8 @@ demo: need-rt
 # Where `make install` puts things; DESTDIR stands before it for a package.
 PREFIX = /usr/local
 DOC = $(DESTDIR)$(PREFIX)/share/doc/vtl
+# The examples, without the files that a run of them made.
+EXAMPLES = $(filter-out %.tape %.tape.2 %.pr,$(wildcard examples/*.*))
 
 vtl: need-rt
 	@cd crates/vtl && rt run -- run < stdin > /dev/null
@@ -32,7 +34,8 @@ install: crates/vtl/out/vtl
 	install -d $(DOC)/docs $(DOC)/examples
 	install -m 644 README.md $(DOC)
 	install -m 644 docs/*.md $(DOC)/docs
-	install -m 644 examples/* $(DOC)/examples
+	install -m 644 $(filter-out examples/tape.py,$(EXAMPLES)) $(DOC)/examples
+	install -m 755 examples/tape.py $(DOC)/examples
 
 check: need-rt
 	.ci/run
@@ -58,17 +61,21 @@ mutants: need-rt
 	python3 checks/mutants.py
 
 faults: vtl
-	@for crate in journal_bench cartridge_bench buffer_bench; do (cd crates/$$crate && rt run > /dev/null) || exit 1; done
+	@for crate in bench_journal bench_cartridge bench_buffer; do (cd crates/$$crate && rt run > /dev/null) || exit 1; done
 	python3 checks/faults.py --selftest
 	python3 checks/faults.py
+
+explained: vtl
+	python3 checks/explained_faults.py --selftest
+	python3 checks/explained_faults.py
 
 hostile: $(if $(PROGRAM),,vtl)
 	python3 checks/hostile.py --selftest
 	python3 checks/hostile.py --heads $(if $(PROGRAM),--program $(PROGRAM))
 	python3 checks/hostile.py $(if $(PROGRAM),--program $(PROGRAM)) $(if $(COUNT),--count $(COUNT)) $(if $(SEED),--seed $(SEED))
 
-asked: vtl
-	python3 checks/asked.py
+memory: vtl
+	python3 checks/memory.py
 
 endings: vtl
 	python3 checks/endings.py
@@ -98,6 +105,7 @@ bench: need-rt
 	python3 bench/hosts.py
 	python3 bench/loads.py
 	python3 bench/reclaim.py
+	python3 bench/served.py
 
 gate: need-rt
 	python3 bench/gate.py

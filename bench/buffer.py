@@ -6,10 +6,9 @@ import subprocess
 import sys
 
 TOP = os.path.dirname(os.path.dirname(os.path.abspath(__file__)))
-PROGRAM = os.path.join(TOP, "crates", "buffer_bench", "out", "buffer_bench")
-# records that wait at most, the 65,536 bytes of a block in it as often as 4,194,304 bytes have room for, and the syncs
-# of a frame
-WAIT, SYNCS = 64, 2
+PROGRAM = os.path.join(TOP, "crates", "bench_buffer", "out", "bench_buffer")
+# records and bytes of blocks that wait at most, and the syncs of a frame
+WAIT, BYTES, SYNCS = 256, 4_194_304, 2
 
 
 def run(word, count):
@@ -29,12 +28,12 @@ def best(word, count, wanted=None):
     return min(time for time, _, _ in runs)
 
 
-def frames_of(count, group):
-    """Frames that so many writes of one block make, with a filemark behind each group, which stores what waits with it:
-    the one that comes with 64 waiting finds them stored."""
+def frames_of(count, size, group):
+    """Frames that so many writes of one block of this size make, with a filemark behind each group, which stores what
+    waits with it: what has no room beside those that wait finds them stored."""
     frames = waiting = 0
     for i in range(count):
-        if waiting == WAIT:
+        if waiting == WAIT or (waiting + 1) * size > BYTES:
             frames, waiting = frames + 1, 0
         waiting += 1
         if group and i % group == group - 1:
@@ -46,16 +45,16 @@ def frames_of(count, group):
 
 def main():
     if not os.path.exists(PROGRAM):
-        sys.exit("build the program first: cd crates/buffer_bench && rt run")
+        sys.exit("build the program first: cd crates/bench_buffer && rt run")
     count, size, group = 4_096, 65_536, 1_024
-    frames = frames_of(count, group)
+    frames = frames_of(count, size, group)
     seconds = best("blocks", count, frames * SYNCS)
     print(f"{count:,} buffered WRITEs of {size:,} bytes, a filemark each {group:,}: {seconds:.3f} s, "
           f"{count * size / 1e6 / seconds:.0f} MB/s, {frames * SYNCS} syncs for {frames} frames")
     seconds = best("copy", count)
     print(f"a plain copy of the same bytes: {seconds:.3f} s, {count * size / 1e6 / seconds:.0f} MB/s")
-    for count in (64, 1_000_000):
-        frames = frames_of(count, None)
+    for count in (256, 1_000_000):
+        frames = frames_of(count, 1, None)
         seconds = best("bytes", count, frames * SYNCS)
         print(f"{count:,} buffered WRITEs of one byte: {seconds:.4f} s, {seconds / count * 1e9:.0f} ns a command, "
               f"{frames * SYNCS:,} syncs for {frames:,} frames")

@@ -4,7 +4,7 @@ from timed import Program
 
 
 def main():
-    best = Program("cartridge_bench", 1_000_000_000).best
+    best = Program("bench_cartridge", 1_000_000_000).best
     count, size = 200, 262_144
     for word, what in (("store", "store of"), ("fetch", "fetch of"), ("copy", "a plain copy of")):
         seconds, _, _ = best(word, count)

@@ -4,7 +4,7 @@ from timed import MIB, Program
 
 
 def main():
-    best = Program("journal_bench", 1_000_000).best
+    best = Program("bench_journal", 1_000_000).best
     count = 400
     for word in ("append", "copy"):
         seconds, _, memory = best(word, count)

@@ -4,7 +4,7 @@ script, beside a plain reading of its file in pieces of 65,536 bytes and beside 
 of blocks of 1 KiB, 64 KiB, 256 KiB and 1 MiB, cached and not cached; best of three times, taken in turns.
 
 --size N: so many bytes of blocks, at most, in each file (default 1 GiB; 100,000 blocks of 1 KiB in the first).
---program PATH: another program than the proved one. --library PATH: that of crates/buffer_bench, which makes the files
+--program PATH: another program than the proved one. --library PATH: that of crates/bench_buffer, which makes the files
 of larger blocks. The files lie in a new folder beside the repository's own, or in the one that a word names."""
 import argparse
 import itertools
@@ -85,7 +85,7 @@ def small_blocks(program, folder):
 
 
 def large_blocks(program, library, folder, size, total):
-    """A cartridge of blocks of 256 KiB, by the program of crates/buffer_bench, or of others by a script."""
+    """A cartridge of blocks of 256 KiB, by the program of crates/bench_buffer, or of others by a script."""
     new_library(program, folder)
     count = total // size
     path = os.path.join(folder, "t1.tape")
@@ -127,7 +127,7 @@ def measured(program, folder, name, count, empty):
 def main():
     words = argparse.ArgumentParser()
     words.add_argument("--program", default=PROVED)
-    words.add_argument("--library", default=os.path.join(TOP, "crates", "buffer_bench", "out", "buffer_bench"))
+    words.add_argument("--library", default=os.path.join(TOP, "crates", "bench_buffer", "out", "bench_buffer"))
     words.add_argument("--size", type=int, default=1 << 30)
     words.add_argument("folder", nargs="?", default=os.path.dirname(TOP))
     asked = words.parse_args()

@@ -18,7 +18,7 @@ import time
 
 TOP = os.path.dirname(os.path.dirname(os.path.abspath(__file__)))
 PROGRAM = os.path.join(TOP, "crates", "vtl", "out", "vtl")
-LIBRARY = os.path.join(TOP, "crates", "buffer_bench", "out", "buffer_bench")
+LIBRARY = os.path.join(TOP, "crates", "bench_buffer", "out", "bench_buffer")
 # as many blocks of a frame wait in a drive's buffer at most: 4,194,304 bytes
 BLOCK, COUNT, GROUP, WAIT, MARKS, SMALL = 262_144, 1_024, 256, 16, 200, 100_000
 READY = b"1 1 000000000000\n"
@@ -215,7 +215,7 @@ def opening(folder):
 def main(words):
     for program in (PROGRAM, LIBRARY):
         if not os.path.exists(program):
-            sys.exit("build the programs first: make vtl, and rt run in crates/buffer_bench")
+            sys.exit("build the programs first: make vtl, and rt run in crates/bench_buffer")
     with tempfile.TemporaryDirectory(dir=words[0] if words else os.path.dirname(TOP)) as folder:
         with open(os.path.join(folder, "lib.toml"), "w", encoding="utf-8") as file:
             file.write(CONFIG)

@@ -24,7 +24,7 @@ import tempfile
 import time
 
 sys.path.append(os.path.join(os.path.dirname(os.path.dirname(os.path.abspath(__file__))), "checks"))
-import reclaiming  # noqa: E402
+import cartridge_files  # noqa: E402
 
 TOP = os.path.dirname(os.path.dirname(os.path.abspath(__file__)))
 PROVED = os.path.join(TOP, "crates", "vtl", "out", "vtl")
@@ -166,7 +166,7 @@ def measured(program, folder, count):
     for epoch in range(1, ROUNDS + 1):
         seconds, memory = reclaimed(program, folder, epoch, whole)
         times, most = [*times, seconds], max(most, memory)
-        side = path + (reclaiming.SECOND if epoch % 2 else "")
+        side = path + (cartridge_files.SECOND if epoch % 2 else "")
         if os.path.getsize(side) != whole:
             sys.exit(f"the copy has {os.path.getsize(side):,} bytes in the place of {whole:,}")
         plain.append(copied(folder, side, False))
@@ -195,7 +195,7 @@ def main():
     program = os.path.abspath(asked.program)
     if not os.path.exists(program):
         sys.exit("build the program first: make vtl")
-    if not reclaiming.reclaims(program):
+    if not cartridge_files.reclaims(program):
         print("the program has no `vtl reclaim`: nothing is measured")
         return
     with tempfile.TemporaryDirectory(dir=asked.folder) as folder:

@@ -1,4 +1,4 @@
-"""Runs a program of crates/*_bench for a clock, five times."""
+"""Runs a program of crates/bench_* for a clock, five times."""
 import os
 import subprocess
 import sys

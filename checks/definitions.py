@@ -1,8 +1,9 @@
 #!/usr/bin/env python3
-"""Writes DEFINITIONS.md: the definitions in crates/*/specs, the limits and the laws, each by the comment over it.
+"""Writes DEFINITIONS.md: the definitions in crates/*/specs, the limits and the laws, each by the comment over it; and
+crates/README.md: the crates by their kinds (crate_list.py).
 
-definitions.py           writes the file
-definitions.py --check   says where the file differs, where two definitions share a name, where one has no comment, and
+definitions.py           writes the files
+definitions.py --check   says where a file differs, where two definitions share a name, where one has no comment, and
                          which lines of .rt, .antt, .md, .py and .c files are over 120 columns or left of a merge; ends
                          with 1 where there is any of these
 definitions.py --unreached   lists definitions that no public contract or law seems to reach, by their names
@@ -12,10 +13,10 @@ import os
 import re
 import sys
 
+import crate_list
 from index_words import WORDS
 
 TOP = os.path.dirname(os.path.dirname(os.path.abspath(__file__)))
-DOCS = os.path.join(TOP, "docs")
 WIDTH = 120
 HEAD = """# Definitions
 
@@ -234,16 +235,23 @@ def unreached():
                     yield f"{below_crates(path)}: {name}"
 
 
+def pages():
+    """Each page that is made, by its path, and the faults that were met on the way."""
+    (index, faults), (crate_page, others) = whole(), crate_list.text()
+    made = {os.path.join("docs", "DEFINITIONS.md"): index, os.path.join("crates", "README.md"): crate_page}
+    return made, faults + others
+
+
 def check():
-    text, faults = whole()
-    path = os.path.join(DOCS, "DEFINITIONS.md")
-    has = read(path) if os.path.isfile(path) else ""
-    differs = list(difflib.unified_diff(has.splitlines(), text.splitlines(), "docs/DEFINITIONS.md", "as it is made",
-                                        n=0, lineterm=""))
+    made, faults = pages()
+    differs = []
+    for path, text in made.items():
+        has = read(TOP, path) if os.path.isfile(os.path.join(TOP, path)) else ""
+        found = list(difflib.unified_diff(has.splitlines(), text.splitlines(), path, "as it is made", n=0, lineterm=""))
+        faults += [f"{path} is not what checks/definitions.py makes: run it"] if found else []
+        differs += found
     faults += long_lines()
     print("\n".join([*[line[:200] for line in differs[:60]], *faults]), end="\n" if differs or faults else "")
-    if differs:
-        print("docs/DEFINITIONS.md is not what checks/definitions.py makes: run it")
     print(f"definitions: {len(differs)} lines differ, {len(faults)} faults")
     return 1 if differs or faults else 0
 
@@ -256,9 +264,10 @@ def main(words):
         return 0
     if words:
         sys.exit(__doc__)
-    text, faults = whole()
-    with open(os.path.join(DOCS, "DEFINITIONS.md"), "w", encoding="utf-8") as file:
-        file.write(text)
+    made, faults = pages()
+    for path, text in made.items():
+        with open(os.path.join(TOP, path), "w", encoding="utf-8") as file:
+            file.write(text)
     print("\n".join(faults), end="\n" if faults else "")
     return 0
 

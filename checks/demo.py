@@ -7,7 +7,7 @@ import subprocess
 import sys
 import tempfile
 
-import frames
+import frames_owed
 import unproved
 
 EXAMPLES = os.path.join(unproved.TOP, "examples")
@@ -31,7 +31,7 @@ def step(room, words, script, expected):
     wanted = stored(expected)
     if expected.endswith(".check"):
         wanted = wanted.partition(b"\n")[2]
-    return done.returncode == 0 and frames.as_owed(done.stdout, wanted) == wanted
+    return done.returncode == 0 and frames_owed.as_owed(done.stdout, wanted) == wanted
 
 
 def main():

@@ -5,15 +5,19 @@ Done; a bad line; a reader that fails (a folder); a writer that fails (a full de
 configurations that are refused, files that are missing, that can't be written (and are gone again), and full devices
 under create, check and reclaim; a standard output that is closed from the start, of which nothing may land in a file;
 files that a run in another process has open, which goes on; checked files that hold no side, a damaged one or a bad
-record, whose line says so; memory that runs out, by limits of the system over a range: at each at which a script of no
-line ends well a long one does so too, or memory runs out in the program or in the command, and at some it does. But for
---short, a script of 2,147,483,648 bytes, and one of a byte more."""
+record, whose line says so; `vtl serve` (served_endings.py, served_crowd.py); memory that runs out, by limits of the
+system over a range: at each at which a script of no line ends well a long one does so too, or memory runs out in the
+program or in the command, and at some it does. But for --short, a script of 2,147,483,648 bytes, and one of a byte
+more."""
 import os
 import resource
 import signal
 import subprocess
 import sys
 import tempfile
+
+import served_crowd
+import served_endings
 
 TOP = os.path.dirname(os.path.dirname(os.path.abspath(__file__)))
 PROGRAM = os.path.join(TOP, "crates", "vtl", "out", "vtl")
@@ -219,6 +223,7 @@ def main(words):
         print(f"{name}: {f'status {wanted[0]}' if run == wanted else f'{run} in the place of {wanted}'}")
     times, others = ends_out_of_memory()
     wrong += len(others) if times else 1
+    wrong += served_endings.wrong_in(PROGRAM) + served_crowd.selftest() + served_crowd.wrong_in(PROGRAM)
     print("\n".join([f"memory that runs out: at {times} limits", *others]))
     print(f"endings: {wrong} are not as they should be")
     return 1 if wrong else 0

@@ -5,8 +5,8 @@
 the bytes of NAME.expected and nothing on standard error, with status 0; where there is a NAME.ends, its first line is
 the status and the rest standard error. Then each command of NAME.check, a line `$ vtl WORDS`, must print the lines
 below it, and write no file, `reclaim` excepted; nor may the second `create`. A cartridge may have more frames than are
-written there: a flusher may store a part of what waits before all of it is. --program PATH: another program than the
-proved one."""
+written there: a flusher may store a part of what waits before all of it is. Then examples/tape.py saves and restores
+folders (tape_example.py). --program PATH: another program than the proved one."""
 import argparse
 import os
 import shutil
@@ -14,7 +14,8 @@ import subprocess
 import sys
 import tempfile
 
-import frames
+import frames_owed
+import tape_example
 
 TOP = os.path.dirname(os.path.dirname(os.path.abspath(__file__)))
 EXAMPLES = os.path.join(TOP, "examples")
@@ -61,7 +62,7 @@ class Library:
     def compare(self, what, wanted, words, given=b""):
         self.compared += 1
         status, said, error = self.ended(words, given)
-        found = (status, frames.as_owed(said, wanted[1]), error)
+        found = (status, frames_owed.as_owed(said, wanted[1]), error)
         if found != wanted:
             self.wrong += 1
             print(f"{what}: other than expected")
@@ -108,8 +109,17 @@ def main():
         library.create()
         for name in names:
             library.run(name)
-    print(f"examples: {len(names)} scripts, {library.compared} commands, {library.wrong} other than expected")
-    return 1 if library.wrong or not names else 0
+    with tempfile.TemporaryDirectory(prefix="vtl-folders-") as room:
+        shutil.copy(os.path.join(EXAMPLES, "library.toml"), room)
+        begun = Library(program, room)
+        begun.create()
+        for name in ("01-backup", "02-append"):
+            begun.run(name)
+        compared, wrong = tape_example.folders(program, room)
+    wrong += library.wrong + begun.wrong
+    print(f"examples: {len(names)} scripts, {library.compared} commands, {compared} comparisons of folders, "
+          f"{wrong} other than expected")
+    return 1 if wrong or not names else 0
 
 
 if __name__ == "__main__":

@@ -1,8 +1,9 @@
-// Stands before the C library (LD_PRELOAD), for faults.py, nomemory.py, stops.py and asked.py. It lets one call of a
-// program end otherwise: of the kind that FAULTS names the FAULTS_AT-th. "memory": no memory is given. "fault": a call
-// for a file or a stream fails (EIO). "interrupted": it fails once (EINTR). "short": of several bytes one is read or
-// written. "lost": a write at a place is said to be done, and is not. Without FAULTS_AT none does. With FAULTS_BEHIND
-// only the calls count between that read of standard input and the next one; 0 is the start.
+// Stands before the C library (LD_PRELOAD), for faults.py, nomemory.py, no_threads.py, stops.py and memory.py. It lets
+// one call of a program end otherwise: of the kind that FAULTS names the FAULTS_AT-th. "memory": no memory is given.
+// "fault": a call for a file or a stream fails (EIO). "interrupted": it fails once (EINTR). "short": of several bytes
+// one is read or written. "lost": a write at a place is said to be done, and is not. "thread": a thread is not started
+// (EAGAIN). "threads": nor is any behind it. Without FAULTS_AT none does. With FAULTS_BEHIND only the calls count
+// between that read of standard input and the next one; 0 is the start.
 // The file that FAULTS_TOLD names gets how many calls of the kind there were, the name of the one, and how many threads
 // were started. The file that FAULTS_ASKED names gets a line for each call of malloc and realloc: how many bytes were
 // asked for. To the file that FAULTS_NOTES names each call is added that did something to a file or to standard output,
@@ -24,6 +25,7 @@ extern void *__libc_malloc(size_t);
 extern void *__libc_realloc(void *, size_t);
 
 static char kind;
+static int onwards;
 static long at, seen, behind = -1, reads, threads;
 static const char *name = "none";
 static int notes = -1, asked = -1, noting;
@@ -39,6 +41,7 @@ __attribute__((constructor)) static void begin(void) {
     at = number ? atol(number) : 0;
     behind = from ? atol(from) : -1;
     kind = said ? said[0] : 0;
+    onwards = said && !strcmp(said, "threads");
     notes = to_write("FAULTS_NOTES");
     asked = to_write("FAULTS_ASKED");
 }
@@ -66,7 +69,8 @@ void _exit(int status) {
 static int is_it(const char *call) {
     if (behind >= 0 && __atomic_load_n(&reads, __ATOMIC_SEQ_CST) != behind)
         return 0;
-    if (__atomic_add_fetch(&seen, 1, __ATOMIC_SEQ_CST) != at)
+    long number = __atomic_add_fetch(&seen, 1, __ATOMIC_SEQ_CST);
+    if (onwards ? number < at : number != at)
         return 0;
     name = call;
     return 1;
@@ -115,6 +119,8 @@ static int is_too_much(const char *call, size_t size) {
 
 // A thread that starts is counted.
 int pthread_create(pthread_t *thread, const pthread_attr_t *with, void *(*start)(void *), void *given) {
+    if (kind == 't' && is_it(__func__))
+        return EAGAIN;
     int (*call)(pthread_t *, const pthread_attr_t *, void *(*)(void *), void *) = dlsym(RTLD_NEXT, __func__);
     int status = call(thread, with, start, given);
     if (status == 0)
@@ -122,8 +128,10 @@ int pthread_create(pthread_t *thread, const pthread_attr_t *with, void *(*start)
     return status;
 }
 
+#ifndef NO_MEMORY
 void *malloc(size_t size) { return is_too_much("malloc", size) ? NULL : __libc_malloc(size); }
 void *realloc(void *from, size_t size) { return is_too_much("realloc", size) ? NULL : __libc_realloc(from, size); }
+#endif
 
 #define CALL(call, ...) is_refused(#call) ? -1 : syscall(SYS_##call, __VA_ARGS__)
 // A call that the system never interrupts.

@@ -28,24 +28,24 @@ import subprocess
 import sys
 import tempfile
 
+import cartridge_files
 import faults_selftest
-import reclaiming
+from cartridge_files import content
 from drive_model import MARK
 from fault_script import (ABORTED, ANSWERED, DEFERRED, FIRST, HAS_FAILED, NOT_PRESENT, RESERVED, RIGHT, SCRIPT, SECOND,
                           STATUS, WRITE_ERROR, misanswered)
 from real_library import LONGEST, PROVED, TOP, objects_of
-from reclaiming import content
 
 STORE = "DRIVE1"
 FILES = {FIRST: "1.tape", SECOND: "2.tape", STORE: "drive1.pr"}
 # the second files of cartridges too, which a program without `vtl reclaim` does not have
-EACH_FILE = [*FILES.values(), *(FILES[name] + reclaiming.SECOND for name in (FIRST, SECOND))]
+EACH_FILE = [*FILES.values(), *(FILES[name] + cartridge_files.SECOND for name in (FIRST, SECOND))]
 CONFIG = "".join(f'[[cartridge]]\nbarcode = "{name}"\nfile = "{FILES[name]}"\n'
                  f"capacities = [65_536]\nhome = {home}\n"
                  for name, home in [(FIRST, 1), (SECOND, 1001)]) + "[[drive]]\nnumber = 1\nreservations = "
 NEW = {name: f"cartridge {name} partitions 1 frames 0\npartition 0 objects 0 used 0\n" for name in (FIRST, SECOND)}
 NEW[STORE] = "reservations DRIVE1 frames 0 registrations 0\n"
-WORKS = ["journal_bench", "cartridge_bench", "buffer_bench"]
+WORKS = ["bench_journal", "bench_cartridge", "bench_buffer"]
 # calls of which the program needs no answer: where standard input stands, and a file's length as a hint
 HARMLESS = ("lseek", "statx")
 READY, READ = "64 1 000000000000\n", f"64 1 {LONGEST.hex()}\n"
@@ -123,10 +123,10 @@ def look(name):
 def reclaim(room, kind, at):
     """The volumes stay, the cartridge is of its epoch or the next one, and it can be reclaimed again."""
     words, path = ["reclaim", "--config", "lib.toml", FIRST], os.path.join(room.path, FILES[FIRST])
-    held, epoch = read_back(room)[0], reclaiming.side_that_counts(path)[2]
+    held, epoch = read_back(room)[0], cartridge_files.side_that_counts(path)[2]
     wanted = f"reclaimed {FIRST} epoch {epoch + 1}\n"
     run = room.run(words, "", kind, at)
-    there, done = reclaiming.side_that_counts(path)[2], run[:3] == (0, wanted, "")
+    there, done = cartridge_files.side_that_counts(path)[2], run[:3] == (0, wanted, "")
     wrong = [] if done or fails(kind, wanted, run) else ["its end"]
     wrong += [f"of epoch {epoch} there is {there}"] * (there != epoch + 1 if wanted in run.out else there < epoch)
     wrong += ["memory ran out behind the copy"] * (run.status == 3 and there != epoch)
@@ -292,7 +292,7 @@ def sweeps(tools, bare, new, used):
                             ("vtl check of a store", look(STORE), used), ("vtl run", serve, new)):
         for kind in ("memory", "fault", "interrupted", "short"):
             wrong += sweep(tools, room, what, way, kind)
-    for kind in ("memory", "fault", "interrupted", "short") if reclaiming.reclaims(tools[0]) else ():
+    for kind in ("memory", "fault", "interrupted", "short") if cartridge_files.reclaims(tools[0]) else ():
         room = Room(tools, used)
         with room.room:
             wrong += sweep(tools, room.path, "vtl reclaim", reclaim, kind)

@@ -31,10 +31,10 @@ import sys
 import tempfile
 import time
 
+import cartridge_files
 import pair_maker
 import pairs_selftest
 import plain_sides
-import reclaiming
 import side_maker
 
 TOP = os.path.dirname(os.path.dirname(os.path.abspath(__file__)))
@@ -89,7 +89,7 @@ class Room:
 
     def put(self, files):
         """Writes the file, and its second one or none."""
-        for path, data in zip((self.path, self.path + reclaiming.SECOND), files):
+        for path, data in zip((self.path, self.path + cartridge_files.SECOND), files):
             if data is not None:
                 with open(path, "wb") as file:
                     file.write(data)
@@ -118,7 +118,7 @@ class Room:
         ended, wanted = self.checked(files, limit), Ended(status, lines.encode(), b"")
         if ended != wanted:
             return lines, f"{ended} in the place of {wanted}" + (f", in {limit} bytes of memory" if limit else "")
-        return lines, None if reclaiming.pair(self.path) == tuple(files) else "a file has changed"
+        return lines, None if cartridge_files.pair(self.path) == tuple(files) else "a file has changed"
 
 
 def size_of(files):
@@ -171,7 +171,7 @@ def least_memory(program):
 def all_batches(program, seed, count, jobs):
     """The same of all files."""
     kinds, answers, wrong = collections.Counter(), collections.Counter(), []
-    base, is_paired = least_memory(program), reclaiming.reclaims(program)
+    base, is_paired = least_memory(program), cartridge_files.reclaims(program)
     with concurrent.futures.ProcessPoolExecutor(jobs) as pool:
         done = [pool.submit(batch, program, base, is_paired, seed, range(at, min(at + BATCH, count)))
                 for at in range(0, count, BATCH)]
@@ -195,7 +195,7 @@ def heads_batch(program, first, step):
             count += 1
             if ended != wanted:
                 wrong.append(f"{where}: {ended} in the place of {wanted}")
-            elif reclaiming.pair(room.path) != tuple(sides):
+            elif cartridge_files.pair(room.path) != tuple(sides):
                 wrong.append(f"{where}: a file has changed")
     return count, wrong
 
@@ -210,7 +210,7 @@ def heads(program, jobs):
 
 
 def look_at(program, seed, number):
-    is_paired = reclaiming.reclaims(program)
+    is_paired = cartridge_files.reclaims(program)
     kind, files = made(seed, number, is_paired)
     with tempfile.TemporaryDirectory(prefix="vtl-hostile-", dir=MEMORY) as folder:
         ended = Room(program, None, folder).checked(files)

@@ -8,11 +8,11 @@ import sys
 import tempfile
 import time
 
+import cartridge_files
 import hostile
 import pair_maker
 import pairs_selftest
 import plain_sides
-import reclaiming
 import rowfile
 import side_maker
 
@@ -62,10 +62,10 @@ def read_in(way, first, second):
 
 def stand_in_of_pairs(way, path):
     """Answers as the plain reader does for both files, but for this way."""
-    first, second = reclaiming.pair(path)
+    first, second = cartridge_files.pair(path)
     lines, status = read_in(way, first, second)
     if way == "makes" and second is None or way == "second" and len(second or b"") % 7 == 3:
-        with open(path + reclaiming.SECOND, "ab") as file:
+        with open(path + cartridge_files.SECOND, "ab") as file:
             file.write(b"\0")
     sys.stdout.write(lines)
     return status

@@ -1,4 +1,5 @@
 """Random scripts for kills.py, over two drives and three cartridges, with what the model of drives says of them."""
+import rowfile
 from drive_model import Cartridge, Drive, move
 
 TAPES = {"KILL1L6": 1, "KILL2L6": 2, "KILL3L6": 1001}
@@ -27,6 +28,10 @@ class Script:
         self.kinds, self.orders = chance.choice([(STREAM, 0.05), (MIXED, 0.15), (MIXED, 0.15), (STREAM, 0.6)])
         for most in [1, *chance.choices([1, 3, 8, 30, 70], k=chance.randint(3, 12))]:
             self.phase(most)
+
+    def parted(self):
+        """The lines, phase by phase."""
+        return rowfile.phases([rowfile.Line(at, line.encode()[:-1]) for at, line in enumerate(self.text)])
 
     def answered(self, answer, stored=None, ordered=None):
         self.answers.append(answer)

@@ -2,12 +2,13 @@
 """Kills the program over real files at random moments (SIGKILL), starts it again, and looks at what it then reads.
 
 A script of writes, filemarks, overwriting, motions, moves and reservations, made from the seed, is given to `vtl run`
-over two drives and three cartridges; after a random time, the opening included, it is killed. Answers that it had
-written by then are acknowledged, and must be those of drive_model.py; a script that ends before its kill must end with
-status 0 behind all of them, and nothing may stand on standard error. Started again, each volume must be what a first
-part of the changes given to it leaves, with every change up to its last acknowledged synchronizing command; the
-reservations of each drive must be what a loss of power leaves after a first part of the orders, with every acknowledged
-one. The next script goes on from there, ten on one library.
+over two drives and three cartridges, and each second one by frames to `vtl serve`, where the program has it; after a
+random time, the opening included, it is killed. Answers that it had written by then are acknowledged, and must be those
+of drive_model.py; a script that ends before its kill must end with status 0 behind all of them, and nothing may stand
+on standard error. Started again, each volume must be what a first part of the changes given to it leaves, with every
+change up to its last acknowledged synchronizing command; the reservations of each drive must be what a loss of power
+leaves after a first part of the orders, with every acknowledged one. The next script goes on from there, ten on one
+library.
 
 Between two scripts of a program that has `vtl reclaim` a cartridge is reclaimed, mostly killed at a random moment too.
 Each volume must be what it was; the epoch is what it was or one more, and one more where the line is out; a copy that
@@ -25,7 +26,8 @@ import sys
 import tempfile
 import time
 
-import reclaiming
+import cartridge_files
+import front_end
 from kill_script import TAPES, Script
 from real_library import PROVED, RealLibrary, end_of, files_of, is_cut, read
 
@@ -62,7 +64,7 @@ class Found:
 
     def __init__(self):
         self.kills = self.opening = self.cut = self.ended = self.beyond = self.lost = self.answers = self.standing = 0
-        self.reclaims = self.stopped = self.copies = 0
+        self.reclaims = self.stopped = self.copies = self.frames = 0
         self.prefixes, self.wrong = set(), []
 
     def add(self, killed, read, cut, parts, stands):
@@ -85,7 +87,7 @@ class Found:
 
 def reclaim_some(library, chance, found, seconds):
     """Reclaims a cartridge now and then, mostly killed within twice the time that one took; how long one takes."""
-    if library.wrong or not reclaiming.reclaims(library.program) or chance.random() < 0.3:
+    if library.wrong or not cartridge_files.reclaims(library.program) or chance.random() < 0.3:
         return seconds
     name, began = chance.choice(list(TAPES)), time.monotonic()
     delay = chance.random() * 2 * seconds if seconds and chance.random() < 0.8 else None
@@ -111,17 +113,19 @@ def live(program, seed, kills):
         began = time.monotonic()
         library.ended(["run", "--config", "drive.toml"])
         opening = time.monotonic() - began
-        pace = reclaim_takes = None
-        for _ in range(kills * 4 + 1):
+        reclaim_takes, paces = None, {}
+        ways = [library.run, library.run_frames] if front_end.serves(program) else [library.run]
+        for at in range(kills * 4 + 1):
             if found.kills == kills or library.wrong:
                 break
-            script = Script(chance, library.volumes, library.reservations)
+            script, run = Script(chance, library.volumes, library.reservations), ways[at % len(ways)]
             before = [read(path) for path in files_of(room)]
-            began = time.monotonic()
-            told, killed = library.run(script, pace.moment(chance, script) if pace else None)
+            began, pace = time.monotonic(), paces.get(run)
+            told, killed = run(script, pace.moment(chance, script) if pace else None)
             seconds = time.monotonic() - began
-            pace = pace or Pace(opening, seconds, script)
+            pace = paces.setdefault(run, Pace(opening, seconds, script))
             pace.learn(seconds, len(told) / len(script.answers), script)
+            found.frames += killed and run == library.run_frames
             compared(library, told, script)
             cut = any([is_cut(read(path), old) for path, old in zip(files_of(room), before)])
             if not killed and len(told) < len(script.answers):
@@ -161,10 +165,10 @@ def reclaimed_and_doctored(program):
     def close(place):
         return lambda side: side[:place] + b"\0" + side[place + 1:]
     ways = {"nothing": ("", bytes), "the copy is closed, and the old side counts": ("", bytes),
-            "the copy is closed, and a frame of the old side": (reclaiming.SECOND, close(0)),
-            "the copy is cut": (reclaiming.SECOND, lambda side: side[:-3]),
+            "the copy is closed, and a frame of the old side": (cartridge_files.SECOND, close(0)),
+            "the copy is cut": (cartridge_files.SECOND, lambda side: side[:-3]),
             "the pair gate is closed, and a frame of the old side": ("", close(9)),
-            "a byte of the last block is another": (reclaiming.SECOND,
+            "a byte of the last block is another": (cartridge_files.SECOND,
                                                     lambda side: side[:-2] + bytes([side[-2] ^ 1]) + side[-1:])}
     missed = []
     for way, (which, change) in ways.items():
@@ -177,7 +181,7 @@ def reclaimed_and_doctored(program):
             path = os.path.join(room, f"{name}.tape")
             if way.startswith("the copy is closed, and the old"):
                 # which holds the same, so nothing may be found
-                rewrite(path + reclaiming.SECOND, close(0))
+                rewrite(path + cartridge_files.SECOND, close(0))
             if "a frame of the old side" in way:
                 rewrite(path, lambda side: close(end_of(side)[0])(side))
             rewrite(path + which, change)
@@ -216,7 +220,7 @@ def stood_in(program):
 
 def selftest(program):
     (libraries, changes), (count, ends) = doctored(program), stood_in(program)
-    if reclaiming.reclaims(program):
+    if cartridge_files.reclaims(program):
         more, others = reclaimed_and_doctored(program)
         libraries, changes = libraries + more, changes + others
     print("\n".join([*changes, *ends, f"self-test: {libraries} libraries and {count} ends, "
@@ -254,8 +258,8 @@ def tell(founds):
     wrong = [it for found in founds for it in found.wrong]
     kills = total("kills")
     print("\n".join(wrong))
-    print(f"{kills} kills, {total('opening')} of them before the first answer; {total('ended')} scripts ended before "
-          "their kill")
+    print(f"{kills} kills, {total('opening')} of them before the first answer, {total('frames')} of a run by frames; "
+          f"{total('ended')} scripts ended before their kill")
     print(f"{total('answers')} answers were compared; in {total('cut')} kills a frame was cut in the middle, in "
           f"{kills - total('cut')} none was under way")
     print(f"in {total('lost')} kills a part of what was given is gone, in {total('beyond')} more is there than was "

@@ -115,7 +115,7 @@ class World:
 
     def do(self, call):
         if call.letter == "A":
-            self.out += call.bytes.decode()
+            self.out += call.bytes.decode("latin-1")
         elif call.letter == "O":
             for disk in self.disks.values():
                 disk.is_opened = False

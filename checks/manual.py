@@ -3,8 +3,9 @@
 
 The page has an entry for each command and each option that `vtl --help` and the help of a command name, and for no
 other; one for each status of the table *Exit status* of FORMATS.md, and for each line on standard error there. Where
-`man` is installed it shows the page without a warning. --program PATH: another program than the proved one.
---selftest: the page without any one of its entries is refused, with no program."""
+`man` is installed it shows the page without a warning. `make install` puts the program, the page, the documents and the
+examples where it says. --program PATH: another program than the proved one, which is not installed. --selftest: the
+page without any one of its entries is refused, with no program."""
 import argparse
 import os
 import re
@@ -108,6 +109,23 @@ def example(page, program):
     return said
 
 
+def installed():
+    """What `make install` puts elsewhere, leaves out, or makes a program of."""
+    with tempfile.TemporaryDirectory(prefix="vtl-install-") as room:
+        subprocess.run(["make", "-s", "-C", TOP, "install", "PREFIX=/usr", f"DESTDIR={room}"], check=True)
+        found = {os.path.relpath(os.path.join(folder, name), os.path.join(room, "usr")): os.stat(
+            os.path.join(folder, name)).st_mode & 0o777 for folder, _, names in os.walk(room) for name in names}
+    documents = [name for name in os.listdir(os.path.join(TOP, "docs")) if name.endswith(".md")]
+    examples = [name for name in os.listdir(os.path.join(TOP, "examples"))
+                if not name.endswith((".tape", ".tape.2", ".pr", "__pycache__"))]
+    own = [os.path.join("share/doc/vtl", *path) for path in (
+        ("README.md",), *(("docs", it) for it in documents), *(("examples", it) for it in examples))]
+    wanted = {path: 0o644 for path in ["share/man/man1/vtl.1", *own]}
+    wanted |= {"bin/vtl": 0o755, "share/doc/vtl/examples/tape.py": 0o755}
+    return [f"make install: {path} has mode {found.get(path, 0):o} in the place of {wanted.get(path, 0):o}"
+            for path in sorted({*found, *wanted}) if found.get(path) != wanted.get(path)]
+
+
 def selftest(page):
     """Each entry taken away, one after the other, has to be missed."""
     found = entries(page)
@@ -138,7 +156,7 @@ def main():
         return done.stdout
 
     said = faults(page, *asked_of_help(help_of), *asked_of_formats(text_of(os.path.join(TOP, "docs", "FORMATS.md"))))
-    said += shown() + example(page, program)
+    said += shown() + example(page, program) + (installed() if program == PROVED else [])
     print(*said, sep="\n", end="\n" if said else "")
     print(f"manual: {sum(map(len, entries(page).values()))} entries, {len(said)} faults")
     return 1 if said else 0

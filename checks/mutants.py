@@ -12,7 +12,7 @@ import tempfile
 TOP = os.path.dirname(os.path.dirname(os.path.abspath(__file__)))
 # what the edit makes of a crate, the crate and its file, the old text and the new one (or several of each, and of files
 # where they stand in several), the tests that must fail, behind their crate where two have one of that name, and the
-# rows that must, by their paths
+# rows and the checks that must, by their paths
 EDITS = [
     ("what waits is stored before each write", "tape_buffer", "src/adding.rt", "    if !pending.is_full_for(change) {",
      "    if pending.is_empty() {",
@@ -23,7 +23,7 @@ EDITS = [
      "        Ok(()) => { let _ = settle_over(cartridge, pending); Ok(()) }",
      ["writes_wait_for_one_frame", "a_turn_tells_how_many_waited", "what_waits_is_counted"]),
     ("a change is stored one change early", "tape_buffer", "src/adding.rt", "    if !pending.is_full_for(change) {",
-     "    if pending.len() < 63 && !pending.is_full_for(change) {",
+     "    if pending.len() < 255 && !pending.is_full_for(change) {",
      ["a_turn_tells_how_many_waited", "what_waits_is_counted"]),
     ("what waits is stored before each write", "drive_core", "src/writes.rt",
      "    let mut copy = Bytes::from_slice(alloc, sent)?;\n",
@@ -81,11 +81,11 @@ EDITS = [
     ("create opens a file that is there, and empties it", "file_disk", "src/opening.rt",
      "    options.read(true).write(true).create_new(true);",
      "    options.read(true).write(true).create(true).truncate(true);",
-     ["disk_tests::what_is_refused", "a_file_is_opened_once"]),
+     ["test_disk::what_is_refused", "a_file_is_opened_once"]),
     ("create opens a file that is there", "file_disk", "src/opening.rt",
      "    options.read(true).write(true).create_new(true);",
      "    options.read(true).write(true).create(true);",
-     ["disk_tests::what_is_refused", "rows/15-files/created-and-kept.row"]),
+     ["test_disk::what_is_refused", "rows/15-files/created-and-kept.row"]),
     ("a file is opened twice", "file_disk", "src/opening.rt", "    match lock(&file) {\n",
      "    match Ok::<(), FileError>(()) {\n", ["a_file_is_opened_once", "a_refused_opening_writes_nothing"]),
     ("a file is written before its lock is asked for", "file_disk", "src/opening.rt", "    match lock(&file) {\n",
@@ -104,14 +104,14 @@ EDITS = [
      ["reads_that_would_block_or_time_out"]),
     ("any read that failed is made again", "vtl_script", "src/read_buffers.rt",
      "        Err(_) => Err(ScriptFault::ReadFault),",
-     "        Err(_) => Ok(None),", ["script_tests::reads_that_fail", "reads_that_would_block_or_time_out"]),
+     "        Err(_) => Ok(None),", ["test_script::reads_that_fail", "reads_that_would_block_or_time_out"]),
     ("a write that timed out is made again", "vtl_script", "src/texts.rt",
      "            Err(e) if is_interrupted(e.kind()) => {}",
      "            Err(e) if is_interrupted(e.kind()) || e.kind() == std::io::ErrorKind::TimedOut => {}",
      ["writes_that_would_block_or_time_out"]),
     ("answers are not flushed", "vtl_script", "src/texts.rt",
      "    if writer.flush().is_err() {\n        return Err(ScriptFault::WriteFault);\n    }\n", "",
-     ["script_tests::reads_that_fail", "script_tests::writes_that_fail"]),
+     ["test_script::reads_that_fail", "test_script::writes_that_fail"]),
     ("a line that is far too long is a read that failed", "vtl_script", "src/phases.rt",
      "        Found::TooLong => Err(ScriptFault::BadLine { line: number }),",
      "        Found::TooLong => Err(ScriptFault::ReadFault),",
@@ -167,9 +167,9 @@ EDITS = [
      "    if !has_only(table, &KEYS) {",
      ["the_top_comes_first_and_drives_before_cartridges"]),
     ("help has two statuses exchanged", "vtl_words", "src/commands.rt",
-     ("  1  refused: the command line, a configuration, a script line, a checked file\n",
+     ("  1  refused: the command line, a configuration, a script line, a frame, a\n",
       "  2  failed: a device, a file or a stream; a missing file, or one in use;\n"),
-     ("  2  refused: the command line, a configuration, a script line, a checked file\n",
+     ("  2  refused: the command line, a configuration, a script line, a frame, a\n",
       "  1  failed: a device, a file or a stream; a missing file, or one in use;\n"),
      ["rows/13-words/help.row"]),
     ("the example of help has a line that is refused", "vtl_words", "src/commands.rt", "  vtl check daily1.tape\n",
@@ -210,6 +210,14 @@ EDITS = [
      "        if let Err(fault) = tell_fate(alloc, writer, fate, barcode.as_bytes()) {\n"
      "            return Err(fault);\n        }\n    }\n    end\n",
      ["a_creation_ends_where_a_line_is_not_out"]),
+    ("a library to be served that is not switched on is told as memory that ran out", "vtl_program", "src/serving.rt",
+     "    let held = start(alloc, sides, starting, cartridges, drives);\n",
+     "    let held = start(alloc, sides, starting, cartridges, drives);\n"
+     "    if held.is_err() {\n        return Err(VtlFault::NoMemory);\n    }\n", ["rows/13-words/serve.row"]),
+    ("a library that is switched on is not served, and memory ran out", "vtl_program", "src/serving.rt",
+     "    let held = start(alloc, sides, starting, cartridges, drives);\n",
+     "    let held = start(alloc, sides, starting, cartridges, drives);\n"
+     "    if held.is_ok() {\n        return Err(VtlFault::NoMemory);\n    }\n", ["rows/13-words/serve.row"]),
     ("the line of a fault that is out is said not to be out", "vtl_program", "src/programs.rt",
      "                is_reported: report(line, errors),",
      "                is_reported: report(line, errors) && false,", ["status_and_line_of_each_end"]),
@@ -225,6 +233,75 @@ EDITS = [
       "            let (turn, count) = {\n                let _all = self.row.lock(rt);\n"
       "                bay.take_turn(rt, gate)\n            };"),
      ["a_drive_works_while_another_stands_in_its_turn", "a_change_is_entered_while_another_drive_stores"]),
+    ("the hosts of a pipe are answered one after another", "vtl_hosts", "src/rounds.rt",
+     "    thread::for_each_mut(rt, hosts, 64, &answer);\n", "    thread::for_each_mut(rt, hosts, 1, &answer);\n",
+     ["hosts_wait_for_each_other", "a_drive_answers_while_another_stands_in_its_turn"]),
+    ("behind a move hosts are answered one after another", "vtl_hosts", "src/reading.rt",
+     "    let are_all = bells.have_begun(rt);\n",
+     "    let are_all = bells.have_begun(rt) && frames.frames() == 0;\n",
+     ["hosts_wait_for_each_other_behind_a_move"]),
+    ("a host has the bells of another", "vtl_hosts", "src/rounds.rt",
+     "    { answer_all(rt, bells, place, host) };\n", "    { answer_all(rt, bells, place ^ 1, host) };\n",
+     ["each_is_answered_before_the_next_is_sent"]),
+    ("the reader is stopped by an answer of host 64", "vtl_hosts", "src/writing.rt",
+     "    if *failed {\n", "    if *failed || place == 63 {\n", ["each_of_64_hosts_is_answered_in_order"]),
+    ("answers are written once nothing more is read", "vtl_hosts", "src/writing.rt", "    bells.begin(rt);\n",
+     "    bells.begin(rt);\n    for _ in rt.forever() {\n        let seen = bells.writer.count(rt);\n"
+     "        if bells.writer.wait_for_more(rt, seen) {\n            break;\n        }\n    }\n",
+     ["each_is_answered_before_the_next_is_sent"]),
+    ("reading goes on once a write failed", "vtl_hosts", "src/reading.rt", "    if bells.is_stopped() {\n",
+     "    if false && bells.is_stopped() {\n", ["nothing_more_is_read_once_a_write_failed"]),
+    ("a command wakes no host", "vtl_hosts", "src/bells.rt", "            bells.commands.ring(rt);\n",
+     "            let _ = (bells, rt);\n", ["each_is_answered_before_the_next_is_sent"]),
+    ("the reader takes threads that have not begun for begun", "vtl_hosts", "src/bells.rt",
+     "                return false;\n", "                return true;\n", ["checks/no_threads.py"]),
+    ("the thread that writes is not counted among those that begin", "vtl_hosts", "src/bells.rt",
+     "        let all = self.hosts.len().saturating_add(1);\n", "        let all = self.hosts.len();\n",
+     ["checks/no_threads.py"]),
+    ("the hosts are answered by the thread that may begin last", "vtl_hosts", "src/rounds.rt",
+     "    let (failed, _) = thread::join_mut(rt, &mut write, &mut answer);\n",
+     "    let (_, failed) = thread::join_mut(rt, &mut answer, &mut write);\n", ["checks/no_threads.py"]),
+    ("the answer that was made last is written first", "vtl_hosts", "src/bells.rt",
+     "        self.made.lock(rt).pop_front()\n", "        self.made.lock(rt).pop_back()\n",
+     ["answers_come_in_the_order_in_which_they_were_made"]),
+    ("hosts end once a write failed", "vtl_hosts", "src/hosts.rt", "        let count = own.commands.count(rt);\n",
+     "        if bells.is_stopped() {\n            return;\n        }\n        let count = own.commands.count(rt);\n",
+     ["nothing_more_is_read_once_a_write_failed"]),
+    ("an answer is not flushed", "vtl_wire", "src/answer_writers.rt",
+     "    write_whole(writer, answer)?;\n    flush(writer)\n", "    write_whole(writer, answer)\n",
+     ["each_is_answered_before_the_next_is_sent"]),
+    ("a flush of an answer that failed is passed over", "vtl_wire", "src/answer_writers.rt",
+     "    write_whole(writer, answer)?;\n    flush(writer)\n",
+     "    write_whole(writer, answer)?;\n    let _ = flush(writer);\n    Ok(())\n", ["test_wire::writes_that_fail"]),
+    ("a request is not flushed", "vtl_wire", "src/request_writers.rt",
+     "    write_request_whole(writer, request)?;\n    flush(writer)\n",
+     "    write_request_whole(writer, request)\n", ["each_request_written"]),
+    ("data that are cut off are a read fault", "vtl_wire", "src/parts.rt",
+     "        None => Ok(None),\n", "        None => Err(WireFault::ReadFault),\n", ["each_frame_cut_off"]),
+    ("a command of a served host goes to drive 1 where there is one", "vtl_serve", "src/one_host.rt",
+     "                let reply = library.command_lent(rt, seat, drive, cdb.as_slice(), &mut sent);\n",
+     "                let one = vtl_base::DriveNo::new(1).unwrap_or(drive);\n"
+     "                let other = if library.configured(one) { one } else { drive };\n"
+     "                let reply = library.command_lent(rt, seat, other, cdb.as_slice(), &mut sent);\n",
+     ["a_host_is_served"]),
+    ("a move that is served is made twice", "vtl_serve", "src/desks.rt",
+     "                let reply = library.move_medium(rt, from, to);\n",
+     "                let _first = library.move_medium(rt, from, to);\n"
+     "                let reply = library.move_medium(rt, from, to);\n", ["moves_and_inventories_are_served"]),
+    ("a move that is served is taken back", "vtl_serve", "src/desks.rt",
+     "                let reply = library.move_medium(rt, from, to);\n",
+     "                let reply = library.move_medium(rt, from, to);\n"
+     "                let _back = library.move_medium(rt, to, from);\n", ["moves_and_inventories_are_served"]),
+    ("drive 1 of a served library has no flusher", "vtl_serve", "src/libraries.rt",
+     "    beside_flushers(rt, library, gate, 1, &mut work)\n",
+     "    beside_flushers(rt, library, gate, 2, &mut work)\n", ["each_drive_has_a_flusher"]),
+    ("drive 16 has no flusher", "library", "src/beside.rt",
+     "    if !library.configured(drive) {\n", "    if !library.configured(drive) || number == 16 {\n",
+     ["each_of_16_drives_has_a_flusher"]),
+    ("the flushers of a served library end before its hosts are served", "vtl_serve", "src/libraries.rt",
+     "    let served = serve_hosts(rt, alloc, servers, desk, reader, writer);\n    library.close(rt);\n",
+     "    library.close(rt);\n    let served = serve_hosts(rt, alloc, servers, desk, reader, writer);\n",
+     ["a_drive_answers_while_another_stands_in_its_turn"]),
     ("the hosts of a library have their sessions one after another", "library", "src/sessions.rt",
      "        for line in lines {\n", "        let _all = self.row.lock(rt);\n        for line in lines {\n",
      ["sixteen_hosts_of_a_phase_meet"]),
@@ -275,7 +352,7 @@ EDITS = [
      "            held.enter(rt, &mut self.share, seat);\n        }\n",
      ["a_change_is_entered_while_another_drive_stores"]),
     ("the ledgers are locked while a drive carries a command out whose data are lent", "library", "src/places.rt",
-     "        drive_laws::replies_tell_changes::<Buffered<D>, AptplStore<D>>();\n"
+     "        drive_laws::replies_tell_changes::<Cataloged<D>, AptplStore<D>>();\n"
      "        let before = self.count_below_limit(rt);\n        known_drive(&self.bay);\n"
      "        let reply = self.bay.execute_lent(seat.nexus(), cdb, sent);\n        known_drive(&self.bay);\n"
      "        let after = self.bay.accepted();\n"
@@ -365,6 +442,77 @@ EDITS = [
      "    pair(which, first, second)?;\n    close(which, first, second)\n",
      "    pair(which, first, second)?;\n    close(which, first, second)?;\n    close(which, first, second)\n",
      ["a_stop_at_each_call_of_both"]),
+    ("the parser says nothing of what is no TOML", "config_reasons", "src/reading.rt",
+     "    match String::from_str(alloc, error.message()) {\n", "    match String::from_str(alloc, \"\") {\n",
+     ["the_parser_has_a_message"]),
+    ("what is no TOML is shown from its beginning", "config_reasons", "src/reading.rt",
+     "    refused_at(alloc, text, &error)\n",
+     "    match refused_at(alloc, text, &error) {\n"
+     "        Some(Found::NoDocument { spot: _, message }) => Some(Found::NoDocument {\n"
+     "            spot: spot_at(text.as_bytes(), 0),\n            message,\n        }),\n"
+     "        other => other,\n    }\n",
+     ["what_is_no_document"]),
+    ("no other entry is shown of a double", "config_reasons", "src/reading.rt",
+     "    let other = other_in(alloc, root, place, rule);\n",
+     "    let _ = other_in(alloc, root, place, rule);\n    let other: Option<Entry> = None;\n",
+     ["values_that_are_double"]),
+    ("files of cartridges are compared one way", "config_reasons", "src/doubles.rt",
+     "            is_of_both(alloc, file, other) || is_of_both(alloc, other, file)\n",
+     "            is_of_both(alloc, other, file)\n", ["values_that_are_double"]),
+    ("drives behind the first are never the other of a double", "config_reasons", "src/doubles.rt",
+     "drive_before(alloc, root, key, here, count_drives(root))",
+     "drive_before(alloc, root, key, here, count_drives(root).min(1))", ["values_that_are_double"]),
+    ("an address of a move is looked at twice, and the other one never", "script_reasons", "src/reasons.rt",
+     "    if let Some(wrong) = address_fault(line, to) {\n", "    if let Some(wrong) = address_fault(line, from) {\n",
+     ["each_fault_of_a_move"]),
+    ("a move that has a byte too many is explained as cut off", "frame_reasons", "src/reasons.rt",
+     "    if front as usize != wanted {\n", "    if (front as usize) < wanted {\n", ["checks/served_endings.py"]),
+    ("the first byte of a length of data is not explained", "frame_reasons", "src/reasons.rt",
+     "    let data = u32::from_be_bytes([a, b, c, d]);\n",
+     "    let _ = a;\n    let data = u32::from_be_bytes([0, b, c, d]);\n", ["checks/served_endings.py"]),
+    ("a length of data is explained before the drive", "frame_reasons", "src/reasons.rt",
+     "    if drive == 0 || drive > DRIVES {\n",
+     "    if data > MOST_DATA {\n        return Some(FrameField::Data(data));\n    }\n"
+     "    if drive == 0 || drive > DRIVES {\n", ["checks/served_endings.py"]),
+    ("the host of an inventory is not explained", "frame_reasons", "src/reasons.rt",
+     "    if host != 0 {\n", "    if host != 0 && wanted > 0 {\n", ["checks/served_endings.py"]),
+    ("a meaning is of the next line", "answer_notes", "src/answers.rt",
+     "            line: asked.line,\n", "            line: asked.line.saturating_add(1),\n",
+     ["each_answer_has_its_line"]),
+    ("what was not taken is noted", "answer_notes", "src/writers.rt",
+     "            self.note(&buf[..count]);\n", "            self.note(if count > 0 { buf } else { &[] });\n",
+     ["answers_are_passed_on"]),
+    ("of each file the call that failed last is explained", "vtl_program", "src/open_files.rt",
+     "                    if file.failed.is_none() {\n", "                    {\n",
+     ["each_file_has_its_first_failure"]),
+    ("a cut that fails is not noted", "vtl_program", "src/open_files.rt",
+     "        match self.disk.cut(len) {\n            Ok(()) => Ok(()),\n            Err(fault) => {\n"
+     "                self.fail();\n",
+     "        match self.disk.cut(len) {\n            Ok(()) => Ok(()),\n            Err(fault) => {\n",
+     ["each_call_that_fails_is_noted"]),
+    ("memory ran out at the file behind", "vtl_program", "src/open_files.rt",
+     "        match files.as_slice().get((last - 1) as usize) {", "        match files.as_slice().get(last as usize) {",
+     ["memory_ran_out_at_the_file_that_was_used_last"]),
+    ("a file of the system does not say what it was answered", "vtl_program", "src/open_files.rt",
+     "        self.file().failed()\n", "        let _ = self.file().failed();\n        None\n",
+     ["a_file_of_the_system_says_what_it_was_answered"]),
+    ("a flush that fails is not noted", "vtl_program", "src/noted_streams.rt",
+     "            self.fail_by(error);\n        }\n        flushed\n",
+     "            let _ = error;\n        }\n        flushed\n", ["a_flush_that_fails_is_told_as_a_write"]),
+    ("a write that was interrupted is noted", "vtl_program", "src/noted_streams.rt",
+     "        if error.kind() != ErrorKind::Interrupted {\n"
+     "            self.note.fail(Answer::of_error(error));\n        }\n",
+     "        self.note.fail(Answer::of_error(error));\n", ["what_standard_output_answered_is_told"]),
+    ("a failed read is explained as one of standard output", "vtl_program", "src/noting.rt",
+     "            .fail(self.alloc, Source::Input, FileCall::Read, answer);",
+     "            .fail(self.alloc, Source::Output, FileCall::Read, answer);",
+     ["what_standard_input_answered_is_told"]),
+    ("of the drives that are configured the last is named", "vtl_program", "src/noting.rt",
+     "            drives = drives.with(drive.number);", "            drives = Drives::none().with(drive.number);",
+     ["rows/14-scripts/explained.row"]),
+    ("the longest line is explained as too long", "vtl_program", "src/noting.rt",
+     "        if self.line.len() > LINE_BYTES {", "        if self.line.len() >= LINE_BYTES {",
+     ["rows/14-scripts/the-longest-line.row"]),
 ]
 # bodies that a contract refuses too, in the same form: they show that the tests of stops and faults can fail. Where a
 # sync is left out a read stands in its place, so that it is not the number of calls that fails.
@@ -390,7 +538,7 @@ STOPS = [
      ["a_stop_at_each_call_of_both", "the_worked_row", "volumes_that_look_random"]),
     ("a pair gate that is open is opened again", "side_pairs", "src/passes.rt",
      "    if pair == OPEN {\n        return Ok(());\n    }\n", "    let _ = pair;\n",
-     ["reclaim_tests::a_stop_at_each_call_of_both"]),
+     ["test_reclaim::a_stop_at_each_call_of_both"]),
     ("a frame of a copy is one byte short of full", "volume_copy", "src/spelling.rt",
      "    if ahead.entry.item.size() <= FRAME_BODY - bytes {\n",
      "    if ahead.entry.item.size() < FRAME_BODY - bytes {\n", ["copies"]),
@@ -429,12 +577,16 @@ STOPS = [
      "    pending.clear();\n", "", ["a_fault_at_each_call_of_a_drive"]),
     ("a command that is to store is answered with nothing stored", "drive_core", "src/storing.rt",
      "    match medium.settle() {\n",
-     "    if medium.pending() < 64 {\n        return Ok(());\n    }\n    match medium.settle() {\n",
+     "    if medium.pending() < 256 {\n        return Ok(());\n    }\n    match medium.settle() {\n",
      ["a_stop_at_each_call_of_a_drive", "a_fault_at_each_call_of_a_drive"]),
     ("what waits is not counted where a side is nearly full", "tape_buffer", "src/adding.rt",
      "    size <= cartridge.room() - pending.frame_bytes()\n",
      "    let _ = pending.len();\n    size <= cartridge.room()\n", ["what_waits_fills_a_side"]),
 ]
+
+
+# tests that wait for what a wrong body never does, and how long each may take
+SECONDS = {"test_hosts": "60", "test_serve": "60"}
 
 
 def crate_of(room, name):
@@ -452,21 +604,22 @@ def crate_of(room, name):
     return found.pop()
 
 
-def rows_failed(room, names):
-    """Those of the rows that fail as they stand, with the program of the copy."""
+def runs_failed(room, names):
+    """Those of the rows and of the checks that fail as they stand, with the program of the copy."""
     if not names:
         return set()
     built = subprocess.run([sys.executable, os.path.join(room, "checks", "unproved.py"), "--new"], cwd=room,
                            capture_output=True, text=True)
     if built.returncode:
         sys.exit(f"the program was not built\n{built.stderr}")
-    run = [sys.executable, os.path.join(TOP, "checks", "rows.py"), "--first", "--program",
-           os.path.join(room, ".unproved", "vtl")]
     missing = [name for name in names if not os.path.isfile(os.path.join(TOP, name))]
     if missing:
         sys.exit(f"there is no row {missing[0]}")
-    return {name for name in names
-            if subprocess.run([*run, os.path.join(TOP, name)], capture_output=True).returncode}
+    program = os.path.join(room, ".unproved", "vtl")
+    run = {name: [os.path.join(TOP, name)] if name.startswith("checks/")
+           else [os.path.join(TOP, "checks", "rows.py"), "--first", os.path.join(TOP, name)] for name in names}
+    return {name for name, words in run.items()
+            if subprocess.run([sys.executable, *words, "--program", program], capture_output=True).returncode}
 
 
 def write_texts(room, crate, texts):
@@ -499,11 +652,11 @@ def failed_in(room, edit):
     what, crate, names = edit[0], edit[1], edit[-1]
     texts, turned = turned_by(room, edit)
     write_texts(room, crate, turned)
-    rows = [name for name in names if name.startswith("rows/")]
-    failed = rows_failed(room, rows)
-    for tests in sorted({crate_of(room, name) for name in names if name not in rows}):
-        done = subprocess.run(["rt", "try", "--test", "--seconds", "600"], cwd=os.path.join(room, "crates", tests),
-                              capture_output=True, text=True)
+    runs = [name for name in names if name.startswith(("rows/", "checks/"))]
+    failed = runs_failed(room, runs)
+    for tests in sorted({crate_of(room, name) for name in names if name not in runs}):
+        done = subprocess.run(["rt", "try", "--test", "--seconds", SECONDS.get(tests, "600")],
+                              cwd=os.path.join(room, "crates", tests), capture_output=True, text=True)
         said = re.findall(r"^test (?:\w+::)*(\w+) \.\.\. (\w+)", done.stdout, re.MULTILINE)
         if not said:
             sys.exit(f"{what}: no test ran\n{done.stdout}{done.stderr}")
@@ -518,9 +671,9 @@ def lint():
     for edit in EDITS + STOPS:
         turned_by(TOP, edit)
     for name in names:
-        if name.startswith("rows/"):
+        if name.startswith(("rows/", "checks/")):
             if not os.path.isfile(os.path.join(TOP, name)):
-                sys.exit(f"there is no row {name}")
+                sys.exit(f"there is no row or check {name}")
         else:
             crate_of(TOP, name)
     print(f"mutants: {len(EDITS + STOPS)} bodies have their places, {len(names)} tests and rows are there")

@@ -3,9 +3,10 @@
 the C library (faults.c, which takes `cc`), and compares each end with those that nomemory_rows.py says.
 
 The scripts: a block and a filemark, over files and in memory; a reservation that outlives one loss of power and not the
-next; moves, over files and in memory. Each line is a phase, and is given when the one before it is answered. The
-growths of the start, of each line and of the end are counted apart, up to the first run that has no growth of that
-number. All is done twice: a command that memory runs out for is given once more, or it is not.
+next; moves, over files and in memory; the first of them by frames to `vtl serve` too. Each line is a phase, and is
+given when the one before it is answered. The growths of the start, of each line and of the end are counted apart, up
+to the first run that has no growth of that number. All is done twice: a command that memory runs out for is given once
+more, or it is not.
 
 A run of which a growth is refused ends with status 3 and `vtl: out of memory`, behind the answers up to that line. Or
 memory runs out for the command of that line: it changes nothing, the lines behind it are answered so, and given again
@@ -26,6 +27,8 @@ import sys
 import tempfile
 import threading
 
+import front_end
+import rowfile
 from real_library import PROVED, TOP, read
 from nomemory_rows import ABORTED, SCRIPTS, held
 
@@ -34,6 +37,8 @@ WAYS = ("not given again", "given again")
 SECONDS = 300
 # a program that has a growth of each number is wrong
 MOST = 1_000
+# the threads that a round of `vtl serve` starts: one that answers, one that writes, and 63 more for the hosts
+ROUND = 65
 # so often a line is swept once more for whose command memory is to run out
 AGAIN = 20
 
@@ -72,23 +77,29 @@ def is_at(run, end):
         run.files.keys() == end.files.keys()) and all(run.files[name] in end.files[name] for name in end.files)
 
 
+def fewer(script, run, threads):
+    """How many threads a run has less than one with no refusal, which has so many. Where a thread of a round of frames
+    does not start, or starts late, they are served in a round more, with threads of its own."""
+    lacking = threads - run.threads
+    return lacking % ROUND if script.words[0] == "serve" and run.threads + 1 >= ROUND else lacking
+
+
 def ended(script, way, place, run, threads):
     """What a refusal ended, or None where a run may not end so. With none refused so many threads are started."""
     fitting = [*ends(script, way, place)] if run.refused else [right_end(script)]
-    if run.refused and run.threads == threads - 1:
+    if run.refused and fewer(script, run, threads) == 1:
         # its work is done by the thread that waits for it
         fitting.append(right_end(script)._replace(what="a thread"))
     return next((end.what for end in fitting if is_at(run, end)), None)
 
 
-def give(child, lines, tries):
+def give(child, lines, tries, way):
     """Gives each line when the one before it is answered, and one that memory runs out for so many times."""
     told = []
     try:
         for text, _ in lines:
             for _ in range(tries):
-                child.stdin.write((text if text.startswith("move") else f"{text}\n--").encode() + b"\n")
-                told.append(child.stdout.readline().decode())
+                told.append(way(child, text, len(told)))
                 if told[-1] != f"{ABORTED}\n":
                     break
             if not told[-1]:
@@ -96,7 +107,19 @@ def give(child, lines, tries):
     except BrokenPipeError:
         pass
     rest, said = child.communicate()
-    return "".join(told) + rest.decode(), said.decode()
+    return "".join(told) + rest.decode(errors="replace"), said.decode()
+
+
+def by_line(child, text, _):
+    """Gives a line as a phase, and reads its answer."""
+    child.stdin.write((text if text.startswith("move") else f"{text}\n--").encode() + b"\n")
+    return child.stdout.readline().decode()
+
+
+def by_frame(child, text, tag):
+    """The same by a frame."""
+    told = front_end.exchange(child, rowfile.Line(0, text.encode()), tag).decode()
+    return f"{told}\n" if told else ""
 
 
 def run(tools, script, way, place, at):
@@ -114,7 +137,8 @@ def run(tools, script, way, place, at):
             watch = threading.Timer(SECONDS, child.kill)
             watch.start()
             try:
-                out, err = give(child, script.lines, 1 if way == WAYS[0] else 2)
+                out, err = give(child, script.lines, 1 if way == WAYS[0] else 2,
+                                by_frame if script.words[0] == "serve" else by_line)
             finally:
                 watch.cancel()
         files = {name: read(os.path.join(folder, name)) for name in os.listdir(folder)}
@@ -148,7 +172,7 @@ def sweep(tools, script, way, pool):
 
     threads = run(tools, script, way, 0, 0).threads
     first = [*pool.map(one, places, itertools.repeat(0))]
-    bad = [it for it in first if it[3] is None or it[2].refused or it[2].threads != threads]
+    bad = [it for it in first if it[3] is None or it[2].refused or fewer(script, it[2], threads)]
     if bad or not any(it[2].calls for it in first):
         return [f"{said}: without a refusal {next(iter(bad), first)}"]
     numbers = [(it[0], at) for it in first for at in range(1, it[2].calls + 1)]
@@ -189,10 +213,13 @@ def main():
         return nomemory_selftest.main()
     if not os.path.exists(said.program):
         sys.exit(f"{said.program} is not there; build the program first: make vtl")
+    import no_threads
     with tempfile.TemporaryDirectory(prefix="vtl-nomemory-") as folder:
-        wrong = swept((os.path.abspath(said.program), shim_in(folder)), SCRIPTS)
-    print("\n".join([*wrong, f"nomemory: {len(wrong)} wrong"]))
-    return 1 if wrong else 0
+        tools = os.path.abspath(said.program), shim_in(folder)
+        wrong = swept(tools, SCRIPTS)
+        others = no_threads.wrong_in(*tools)
+    print("\n".join([*wrong, f"nomemory: {len(wrong) + others} wrong"]))
+    return 1 if wrong or others else 0
 
 
 if __name__ == "__main__":

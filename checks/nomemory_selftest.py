@@ -5,12 +5,12 @@ import os
 import subprocess
 import tempfile
 
-from nomemory import ERRORS, WAYS, Run, ended, shim_in, swept
+from nomemory import ERRORS, ROUND, WAYS, Run, ended, shim_in, swept
 from nomemory_rows import (ABORTED, AT_END, AT_MARK, BLOCK_TAPE, DEFERRED, FAILED, MARK_TAPE, NEW_TAPE, NOT_PRESENT,
                            ONE_HOLDER, ONE_KEY, POWER_ON, READ_ERROR, SCRIPTS, TAPE, WRITE_ERROR, Script, held)
 
 ONCE, AGAIN = WAYS
-FILE, MEMORY, KEPT, LATER, _, MOVES, _ = SCRIPTS
+FILE, MEMORY, FRAMES, _, KEPT, LATER, _, MOVES, _ = SCRIPTS
 BLOCK = "GOOD 68656c6c6f"
 WHOLE = [POWER_ON, "GOOD", "GOOD", "GOOD", "GOOD", BLOCK, AT_MARK]
 NO_WRITE = [POWER_ON, "GOOD", ABORTED, "GOOD", "GOOD", AT_MARK, AT_END]
@@ -117,12 +117,19 @@ def misjudged():
         (THREADS, whole), (THREADS + 2, whole), (fewer, run_of(FILE, 0, NO_MARK, TAPE)),
         (fewer, run_of(FILE, 0, WHOLE, BLOCK_TAPE)), (fewer, run_of(FILE, 2, WHOLE, TAPE))]
         if ended(FILE, ONCE, 0, run, threads)]
+    # frames are then served in a round more, and a script is not; a round has its threads
+    counts, owed = [ROUND, 2 * ROUND, ROUND - 1, 2 * ROUND + 1, 0], ["a thread", "a thread", None, None, None]
+    for script, ways in [(FRAMES, owed), (FILE, ["a thread", None, None, None, None])]:
+        judged = [ended(script, ONCE, 0, run_of(script, 0, WHOLE, TAPE)._replace(threads=count), ROUND + 1)
+                  for count in counts]
+        if judged != ways:
+            wrong.append(f"threads of rounds are not judged as they should be: {script.name}: {judged}")
     row, good = STAND[1], run_of(FILE, 3, *STAND[1][4:])
     bare = good._replace(files={name: good.files[name] for name in good.files if name != "tape"})
     others = [good._replace(err=""), good._replace(err=2 * good.err), good._replace(out=good.out[:-1]), bare,
               good._replace(out=good.out + good.err), good._replace(files={**good.files, "more": b""}),
               good._replace(refused=False), good._replace(status=-9)]
-    return len(runs) + len(others) + 6, wrong + [
+    return len(runs) + len(others) + 15, wrong + [
         f"let through: {run}" for run in others if ended(*row[:3], run, THREADS)]
 
 

@@ -1,12 +1,15 @@
 """A library over real files for kills.py and stops.py: scripts are run over it, its cartridges are reclaimed, and what
 it then holds is compared."""
+import itertools
 import os
 import subprocess
 import sys
+import threading
 import time
 
+import cartridge_files
+import front_end
 import plain_sides
-import reclaiming
 from drive_model import MARK, Reservations, check
 from kill_script import TAPES, configuration
 
@@ -56,11 +59,25 @@ class RealLibrary:
             self.wrong.append(f"a script ended with status {child.returncode}: {said.decode(errors='replace')}")
         return told.decode().split("\n")[:-1], killed
 
+    def run_frames(self, script, moment):
+        """The same by frames, each phase once the one before it is answered. Answers count up to the first line, in the
+        order of a script's answers, that has none."""
+        run = front_end.Served(self.program, [b"run", b"--config", b"drive.toml"], self.room)
+        if moment:
+            threading.Thread(target=run.kill_after, args=moment).start()
+        for frames in front_end.in_turn(script.parted()):
+            run.phase(frames)
+        status, answers = run.end(), run.answers
+        told = [answers[tag].decode() for tag in itertools.takewhile(answers.__contains__, itertools.count())]
+        if run.errors or status not in (0, -9) or run.faults:
+            self.wrong.append(f"a run by frames ended with status {status}: {run.errors.decode()} {run.faults[:1]}")
+        return told, status == -9
+
     def reclaim(self, name, delay=None):
         """Reclaims a cartridge, killed so long after its start where a delay is given; whether it was, and whether the
         other file counts then. It may leave the cartridge as it was, or reclaimed, and nothing between."""
         path = os.path.join(self.room, f"{name}.tape")
-        _, _, epoch, _ = reclaiming.side_that_counts(path)
+        _, _, epoch, _ = cartridge_files.side_that_counts(path)
         child = subprocess.Popen([self.program, "reclaim", "--config", "drive.toml", name], cwd=self.room,
                                  stdin=subprocess.DEVNULL, stdout=subprocess.PIPE, stderr=subprocess.PIPE)
         if delay is not None:
@@ -70,7 +87,7 @@ class RealLibrary:
         killed, line = child.returncode == -9, f"reclaimed {name} epoch {epoch + 1}\n".encode()
         if said or out not in (line, b"" if killed else line) or child.returncode not in (0, -9 if killed else 0):
             self.wrong.append(f"reclaim {name} ended with status {child.returncode}: {out + said}")
-        side, start, later, base = reclaiming.side_that_counts(path)
+        side, start, later, base = cartridge_files.side_that_counts(path)
         if later not in ((epoch + 1,) if out else (epoch, epoch + 1)):
             self.wrong.append(f"{name}: of epoch {epoch} is reclaimed to epoch {later}, and {out} is written")
         found, damaged = plain_sides.frames(side, start)
@@ -154,7 +171,7 @@ def objects_of(answers):
 
 def read(path):
     """The bytes of a file; of a cartridge those of the one that counts."""
-    return reclaiming.side_that_counts(path)[0] if path.endswith(".tape") else reclaiming.content(path)
+    return cartridge_files.side_that_counts(path)[0] if path.endswith(".tape") else cartridge_files.content(path)
 
 
 def end_of(side):

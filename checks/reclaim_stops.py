@@ -6,7 +6,7 @@ import os
 import shutil
 import tempfile
 
-import reclaiming
+import cartridge_files
 from drive_model import MARK, check, good
 from fault_script import FIRST
 from faults import EACH_FILE, FILES, Room, brief, read_back
@@ -23,7 +23,7 @@ WRITTEN = [check(6, 0x2900), good(), good(), good()]
 
 
 def epoch_of(room):
-    return reclaiming.side_that_counts(os.path.join(room.path, FILES[FIRST]))[2]
+    return cartridge_files.side_that_counts(os.path.join(room.path, FILES[FIRST]))[2]
 
 
 def volumes(room, ways):
@@ -115,7 +115,7 @@ def all_of(tools, used, chance, images):
         for count in range(3):
             folder, held, epoch = written(tools, folder, top, f"written-{count}")
             # a second file of no byte, which a killed process had just made
-            unnamed = [] if epoch else [FILES[FIRST] + reclaiming.SECOND]
+            unnamed = [] if epoch else [FILES[FIRST] + cartridge_files.SECOND]
             wrong += stop(tools, folder, RECLAIM, after_reclaim(held, epoch), "", chance, images, unnamed=unnamed)
             wrong += behind_a_failed_sync(tools, folder, held, epoch, chance, 3)
             for at in range(3):

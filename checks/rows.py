@@ -2,9 +2,10 @@
 """Runs the rows of rows/ (all, or these folders and files), each in several ways with the same answers.
 
 The ways: as it stands; each line of a script a phase of its own; neighbouring phases of one host joined; over files
-where it is in memory. A way in which no script differs from the row is left out. --program PATH: another program than
-the proved one. --first: only as it stands. --show: prints what the program answers to each line; it writes no row.
---selftest: rows that are wrong on purpose, with a program that stands here, must be refused with their line."""
+where it is in memory; by frames, a script's lines as requests of `vtl serve`. A way in which no script differs from the
+row is left out. --program PATH: another program than the proved one. --first: only as it stands. --show: prints what
+the program answers to each line; it writes no row. --selftest: rows that are wrong on purpose, with a program that
+stands here, must be refused with their line."""
 import argparse
 import concurrent.futures
 import os
@@ -15,12 +16,13 @@ import sys
 import tempfile
 import time
 
-import frames
+import frames_owed
+import front_end
 import rowfile
 
 TOP = os.path.dirname(os.path.dirname(os.path.abspath(__file__)))
 PROVED = os.path.join(TOP, "crates", "vtl", "out", "vtl")
-WAYS = ("as it stands", "each line a phase", "phases joined", "over files")
+WAYS = ("as it stands", "each line a phase", "phases joined", "over files", "by frames")
 END = rowfile.Line(0, b"--")
 SECONDS = 300
 # the library that is built in, as a configuration
@@ -161,6 +163,9 @@ class Room:
         words, room = run.words, self.room
         if self.way == WAYS[3] and is_in_memory(run):
             words, room = self.over_files(run)
+        if self.way == WAYS[4] and front_end.is_served(run):
+            self.served(run)
+            return
         try:
             done = self.ended(words, room, script(lines))
         except subprocess.TimeoutExpired:
@@ -174,25 +179,40 @@ class Room:
             self.shown(lines, found)
         self.has_run |= words[:1] == [b"run"]
         self.compare(run, owed, found)
+        self.compare_end(run, done.returncode, done.stderr, refused)
+
+    def served(self, run):
+        """The run by frames, which has no script that could be refused."""
+        self.runs += 1
+        self.has_run = True
+        status, errors, answers, faults = front_end.serve(self.program, run.words, self.room, rowfile.phases(run.lines))
+        for fault in faults:
+            self.tell(run.number, fault)
+        owed = wanted(run.lines)
+        self.compare(run, [(line.answered_at, line.answer) for line in owed],
+                     [answers.get(id(line), b"(no answer)") for line in owed])
+        # the parser's text names the word
+        self.compare_end(run, status, errors.replace(b"Usage: vtl serve ", b"Usage: vtl run "), None)
+
+    def compare_end(self, run, status, errors, refused):
         error = b"" if run.error is None else run.error + b"\n"
         if refused is not None:
             error = b"vtl: script line %d refused\n" % refused
         error += b"".join(line + b"\n" for line in run.because)
         # what the answers mean names lines of the script as it stands
-        stderr = done.stderr
         if self.way == WAYS[0]:
             error = b"".join(line + b"\n" for line in run.means) + error
         else:
-            stderr = re.sub(rb"(?m)^line \d+: .*\n", b"", stderr)
-        if done.returncode != run.status:
-            self.tell(run.status_at, f"status {done.returncode} in the place of {run.status}")
-        if stderr != error:
-            self.tell(run.error_at, f"standard error {stderr!r} in the place of {error!r}")
+            errors = re.sub(rb"(?m)^line \d+: .*\n", b"", errors)
+        if status != run.status:
+            self.tell(run.status_at, f"status {status} in the place of {run.status}")
+        if errors != error:
+            self.tell(run.error_at, f"standard error {errors!r} in the place of {error!r}")
 
     def compare(self, run, owed, found):
         for (number, answer), line in zip(owed, found):
             if self.has_run:
-                line = frames.line_as_owed(line, answer)
+                line = frames_owed.line_as_owed(line, answer)
             if line != answer:
                 self.tell(number, f"{short(line)} in the place of {short(answer)}")
                 return
@@ -214,7 +234,8 @@ def ways_of(row):
     plain = [script(run.lines) for run in row.runs]
     ways = [WAYS[0]]
     ways += [way for way in WAYS[1:3] if [script(laid_out(run, way)[0]) for run in row.runs] != plain]
-    return ways + [WAYS[3]] if any(map(is_in_memory, row.runs)) else ways
+    ways += [WAYS[3]] if any(map(is_in_memory, row.runs)) else []
+    return ways + [WAYS[4]] if any(map(front_end.is_served, row.runs)) else ways
 
 
 def run_in(program, row, way, show=False):

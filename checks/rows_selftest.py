@@ -2,7 +2,7 @@
 
 That program answers each command `GOOD` and its command block, a phase's answers by rising host, and refuses a line
 `x`. Behind the word `counts` it answers a command `LAST` where it ends a phase of several; behind `swaps` it answers
-`LONG` where a phase has one command; with `--config` it answers the third drive `FILE`."""
+`LONG` where a phase has one command; with `--config` it answers the third drive `FILE`. SERVES does so by frames."""
 import os
 import subprocess
 import sys
@@ -51,6 +51,24 @@ def ended(self, words, room, given):
     return subprocess.CompletedProcess(words, status, "".join(f"{line}\n" for line in told).encode(), said.encode())
 
 
+# It answers each frame, and with a word more it errs: at the second frame, or at its end.
+SERVES = """#!{python}
+import struct, sys
+header, word = struct.Struct(">BBBBII4x"), sys.argv[-1]
+count, out = 0, sys.stdout.buffer
+while len(head := sys.stdin.buffer.read(16)) == 16:
+    kind, host, drive, length, more, tag = header.unpack(head)
+    block = sys.stdin.buffer.read(length)
+    count += 1
+    status, data = (8 if word == "busy" and count == 2 else 0), block if kind == 1 else b""
+    answer = header.pack(kind, host, status, 0, len(data), tag + (word == "tags" and count == 2)) + data
+    out.write(answer[:-1] if word == "cuts" and count == 2 else b"" if word == "mutes" and count == 2 else answer)
+    out.write(answer if word == "repeats" and count == 2 else b"")
+    out.flush()
+    if word in ("cuts", "mutes", "tags") and count == 2:
+        break
+sys.exit(word == "fails")
+"""
 GOOD = """# a row
 $ vtl run
   # a remark
@@ -138,6 +156,12 @@ WRONG = [
      "$ vtl run swaps\n  1 1 05\n  > LONG\n  --\n  1 1 05\n  > LONG\n$ vtl run\n  1 1 05",
      ":18: phases joined: GOOD 05 in the place of LONG"),
     ("a way over files, and only it", "  2 2 01", "  2 3 01", ":5: over files: FILE in the place of GOOD 01"),
+    ("a frame with another status", "row\n$ vtl run", "row\n$ vtl run busy", ":7: by frames: 08 020202 in the place"),
+    ("a frame with another tag", "row\n$ vtl run", "row\n$ vtl run tags", ":2: by frames: an answer of kind 1"),
+    ("a frame that is answered twice", "row\n$ vtl run", "row\n$ vtl run repeats", ":2: by frames: a second answer"),
+    ("a frame that is cut off", "row\n$ vtl run", "row\n$ vtl run cuts", ":7: by frames: GOOD 0202 in the place"),
+    ("a frame that is not answered", "row\n$ vtl run", "row\n$ vtl run mutes", ":7: by frames: (no answer) in the"),
+    ("another status behind frames", "row\n$ vtl run", "row\n$ vtl run fails", ":2: by frames: status 1 in the place"),
 ]
 
 
@@ -187,13 +211,16 @@ def said_of(room, text):
         row = rowfile.read(path)
     except rowfile.Bad as bad:
         return [str(bad)]
-    return rows.run_all("vtl", [row])[0]
+    return rows.run_all(os.path.join(room, "serves"), [row])[0]
 
 
 def main():
     wrong = 0
     with tempfile.TemporaryDirectory(prefix="vtl-rows-selftest-") as room:
         rows.Room.ended = ended
+        with open(os.path.join(room, "serves"), "w") as file:
+            file.write(SERVES.format(python=sys.executable))
+        os.chmod(file.name, 0o755)
         others = wrong_cells(room)
         wrong += len(others)
         print("\n".join(others), end="\n" if others else "")

@@ -14,8 +14,8 @@ that was told as created must be new.
 So too the opening and the check of files that hold something, with bytes behind their end gates; a run in which a
 sync fails, and the cartridge is unloaded and loaded again; a run behind one in which a sync failed, where later syncs
 pass over what was written before it; and random scripts of kill_script.py, with writing over, moves and reservations,
-three times behind each call. Of a program that has `vtl reclaim` also reclaims (reclaim_stops.py), and a script over
-cartridges that were reclaimed.
+three times behind each call, by frames too where the program has `vtl serve`. Of a program that has `vtl reclaim` also
+reclaims (reclaim_stops.py), and a script over cartridges that were reclaimed.
 
 --images N: files behind each call (30); --scripts N: such scripts (10); --seed S; --program PATH another program than
 the proved one; --selftest: syncs are forgotten, which must be found."""
@@ -28,13 +28,14 @@ import subprocess
 import sys
 import tempfile
 
+import front_end
+from cartridge_files import SECOND, reclaims
 from drive_model import MARK, good
 from fault_script import FIRST, MARKED, SCRIPT, write
 from faults import EACH_FILE, FILES, NEW, Room, brief, content, judged, made, read_back
 from kill_script import TAPES, Script
 from real_library import PROVED, TOP, RealLibrary, objects_of
 from lost_power import OPENED, Disk, World, noted
-from reclaiming import SECOND, reclaims
 
 # a cartridge is written to, unloaded, loaded, and written to
 BODIES = b"before a fault", b"behind a fault"
@@ -54,6 +55,20 @@ def calls_of(tools, folder, words, script):
         subprocess.run([tools[0], *words], cwd=folder, stdin=given, stdout=subprocess.PIPE, check=True,
                        env={**os.environ, "LD_PRELOAD": tools[1], "FAULTS_NOTES": notes})
         return noted(notes)
+
+
+def calls_by_frames(tools, folder, script):
+    """The calls of `vtl serve`, which is given a script of kill_script.py by frames, and what else is wrong."""
+    with tempfile.TemporaryDirectory(prefix="vtl-notes-") as room:
+        notes = os.path.join(room, "notes")
+        run = front_end.Served(tools[0], [b"run", b"--config", b"drive.toml"], folder,
+                               {**os.environ, "LD_PRELOAD": tools[1], "FAULTS_NOTES": notes})
+        for frames in front_end.in_turn(script.parted()):
+            run.phase(frames)
+        status, found = run.end(), [answer.decode() for _, answer in sorted(run.answers.items())]
+        wrong = [f"by frames: {it}" for it in (*run.faults, run.errors.decode()) if it]
+        return noted(notes), wrong + [f"by frames: status {status}"] * (status != 0) + [
+            f"by frames: {have} in the place of {want}" for have, want in zip(found, script.answers) if have != want]
 
 
 def put(folder, files, images):
@@ -188,7 +203,7 @@ def healed(tools, pristine, chance, images, again="W"):
     return wrong
 
 
-def random_stops(tools, chance, images, forgets=lambda: False, first=0):
+def random_stops(tools, chance, images, forgets=lambda: False, first=0, by_frames=False):
     """Stops a random script of kill_script.py, over a library that holds nothing yet, behind each call; or over one
     that has gone through other scripts, so many, and reclaims."""
     files = [*(f"{name}.tape{end}" for name in TAPES for end in ("", SECOND)), "drive1.pr", "drive2.pr"]
@@ -203,7 +218,11 @@ def random_stops(tools, chance, images, forgets=lambda: False, first=0):
         held = {number: copy.deepcopy(it) for number, it in lived.reservations.items()}
         script = Script(chance, lived.volumes, lived.reservations)
         before = {file: content(os.path.join(room, file)) for file in os.listdir(room)}
-        calls = calls_of(tools, room, ["run", "--config", "drive.toml"], "".join(script.text))
+        if by_frames:
+            calls, wrong = calls_by_frames(tools, room, script)
+            lived.wrong += wrong
+        else:
+            calls = calls_of(tools, room, ["run", "--config", "drive.toml"], "".join(script.text))
 
         def look(out, images_of):
             with tempfile.TemporaryDirectory(prefix="vtl-stops-") as folder:
@@ -212,7 +231,8 @@ def random_stops(tools, chance, images, forgets=lambda: False, first=0):
                 again = RealLibrary.__new__(RealLibrary)
                 again.program, again.room, again.wrong = tools[0], folder, []
                 again.volumes, again.reservations = dict(lived.volumes), copy.deepcopy(held)
-                again.judge(script, out.count("\n"), True)
+                count = front_end.answered(out.encode("latin-1")) if by_frames else out.count("\n")
+                again.judge(script, count, True)
                 return again.wrong
         sides = {file: before.get(file) for file in files}
         return lived.wrong + looked_at(f"a script of {len(script.answers)} answers", calls,
@@ -251,6 +271,8 @@ def main():
         wrong += openings(tools, used, chance, said.images) + healed(tools, new, chance, 3)
         for at in range(said.scripts):
             wrong += random_stops(tools, chance, 3, first=at % 3 if reclaims(tools[0]) else 0)
+            if front_end.serves(tools[0]):
+                wrong += random_stops(tools, chance, 3, first=at % 3, by_frames=True)
         if reclaims(tools[0]):
             import reclaim_stops
             wrong += reclaim_stops.all_of(tools, used, chance, said.images)

@@ -9,6 +9,7 @@ STORES = "what_is_pending_is_stored_first"
 UNLOADS = "an_unloading_meets_a_fault"
 OPENS = "a_fault_at_each_call_of_a_loading"
 SAVES = "a_fault_at_each_call_of_a_save"
+SERVED = "served_endings.py"
 FRAMES = ["each_request", "each_request_written", "each_answer", "refused_headers"]
 # by cell: the tests
 CELLS = {
@@ -27,7 +28,7 @@ CELLS = {
     "out | drive | a device fault in that": ["what_is_not_written_stays_in_its_drive", FAULTS],
     "out | drive | its medium failed already": ["what_is_not_written_stays_in_its_drive", FAULTS],
     "back | out of memory": ["what_is_not_loaded_goes_back", FAULTS],
-    "exit | run: a buffer could not be written out": ["a_line_that_can_not_be_written", FAULTS],
+    "exit | run, serve: a buffer could not be written out": ["a_line_that_can_not_be_written", FAULTS],
     "exit | a read or write of the streams failed": [ENDINGS],
     "exit | out of memory": [ENDINGS, FAULTS],
     "order of checks | a deferred error is reported, once": ["a_deferred_error_outlives_a_cartridge"],
@@ -50,15 +51,22 @@ CELLS = {
     "flush | WRITE FILEMARKS with IMMED 0, of any count, 0 too": [STORES, DRIVES],
     "flush | LOAD UNLOAD of a loaded cartridge whose medium has not failed": [STORES, UNLOADS],
     "flush | in unbuffered mode also WRITE of at least one byte, and ERASE": ["an_unbuffered_write_is_stored_at_once"],
-    "buffer | 64 changes, 4,194,304 bytes of blocks": ["a_change_too_many_is_preceded_by_a_settle",
-                                                      "a_turn_tells_how_many_waited", "what_waits_is_counted"],
+    "buffer | 256 changes, 4,194,304 bytes of blocks": ["a_change_too_many_is_preceded_by_a_settle",
+                                                       "a_turn_tells_how_many_waited", "what_waits_is_counted"],
     # the streams
     "stream | an interrupted read": ["reads_that_are_interrupted_many_times"],
     "stream | any other error of the reader, or a script that is too long": ["reads_that_fail", ENDINGS],
     "stream | an interrupted write": ["writes_that_are_interrupted_many_times"],
     "stream | any other error of the writer, and an interrupted flush": ["writes_that_fail", ENDINGS],
     "stream | after a fault, and where memory runs out": ["writes_that_fail", ENDINGS],
-    # frames, which no program reads or writes yet
+    # frames, which are no lines of a row
+    "exit | serve: a frame that is refused": [SERVED],
+    "serving | the input ends behind a frame": [SERVED],
+    "serving | a frame is refused, this is frame N": [SERVED, "what_stands_before_a_refused_frame_is_answered"],
+    "serving | a read fails": [SERVED, "streams_that_fail"],
+    "serving | a write fails: a beginning of the answers is written": [SERVED, "a_writer_fails_behind_each_byte"],
+    "serving | memory runs out: for more than 24 bytes of data, for an inventory, or before the first read": [
+        "nomemory_rows.py"],
     **{f"frame, byte | {at}": FRAMES for at in ("0", "1", "2", "3", "4 to 7", "8 to 11", "12 to 15", "16 on")},
     **{f"frame | {what}": [test] for test, those in (
         ("each_request", ["TEST UNIT READY of host 1 to drive 2, tag 7",

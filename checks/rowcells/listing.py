@@ -6,8 +6,9 @@ from .tables import ALWAYS, NAMES, NEEDS_MEDIUM, TYPES, flushing
 OF_TABLE = ("does | ", "action | ", "preempt | ", "when 2A/04 | ", "move | ", "out | ", "in | ", "back | ")
 LEVELS = ["29/00", "28/00", "2A/03", "2A/05", "2A/04", "2A/01"]
 CAUSES = ["done", "check: the file is neither", "reclaim: not reclaimed", "the words ask for nothing",
-          "the configuration's file is no UTF-8", "a bad line", "a file is missing",
-          "run: the file of a drive's reservations is refused", "run: a buffer could not be written out",
+          "the configuration's file is no UTF-8", "a bad line", "serve: a frame that is refused", "a file is missing",
+          "run, serve: the file of a drive's reservations is refused",
+          "run, serve: a buffer could not be written out",
           "a read or write of the streams failed", "out of memory"]
 
 
@@ -32,7 +33,8 @@ def of_tables(tables):
             ("When 2A/04 is established", 0, "when 2A/04", 1), ("Moves", 0, "move", 1), ("Moves", 1, "out", 2),
             ("Moves", 2, "in", 2), ("When a move puts the cartridge back", 0, "back", 1),
             ("Memory and device faults", 0, "fault", 1), ("Memory and device faults", 1, "memory", 1),
-            ("Scripts", 1, "stream", 1), ("Frames", 0, "frame, byte", 1), ("Frames", 1, "frame", 1),
+            ("Scripts", 1, "stream", 1), ("Frames", 0, "frame, byte", 1), ("Frames", 1, "serving", 1),
+            ("Frames", 2, "frame", 1),
             ("Sense data in words", 0, "words of", 1), ("Sense data in words", 1, "words where", 1)):
         cells += [" | ".join([prefix, *fields[:columns]]) for fields in lines(tables, heading, at)]
     found = [fields[2] for fields in lines(tables, "Exit status")]
@@ -118,7 +120,7 @@ def of_no_script():
     """What stands in words of FORMATS.md and no script reaches."""
     cells = [f"flush | {command}" for command in flushing()]
     cells += ["full file | WRITE", "full file | WRITE FILEMARKS", "codes | no byte",
-              "order of checks | a deferred error is reported, once", "buffer | 64 changes, 4,194,304 bytes of blocks",
+              "order of checks | a deferred error is reported, once", "buffer | 256 changes, 4,194,304 bytes of blocks",
               "limits | a script of 2,147,483,648 bytes, and one of a byte more",
               "limits | a script of 4,294,967,296 reads, and one more", "limits | PRGENERATION wraps at 2^32",
               "run | a file that is open in another process", "opening | what the first sync writes again",

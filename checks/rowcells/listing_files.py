@@ -54,9 +54,10 @@ def of_words():
         "reclaim --config FILE BARCODE", "reclaim --config=FILE", "reclaim -- BARCODE",
         "behind -- a word like an option is a file", "an empty name is a name", "--help", "-h", "--version",
         "-V",
-        "run --explain", "create --config FILE --explain", "check FILE --explain",
+        "serve", "serve --memory", "serve --config FILE", "serve --memory --config FILE", "serve --config=FILE",
+        "serve --explain", "run --explain", "create --config FILE --explain", "check FILE --explain",
         "reclaim --config FILE BARCODE --explain")]
-    cells += [f"words | {word} {option}" for word in ("run", "create", "check", "reclaim")
+    cells += [f"words | {word} {option}" for word in ("run", "serve", "create", "check", "reclaim")
               for option in ("--help", "-h")]
     cells += [f"words | refused: {why}" for why in (
         "no word", "help", "version", "another word", "another option in its place", "a shortened word",
@@ -65,9 +66,11 @@ def of_words():
         "create, a word too many", "check, a word too many", "check, a word too many behind --",
         "run, another option", "create, another option", "check, another option", "create, --memory", "check, --memory",
         "check, --config", "run, a shortened name", "create, a shortened name", "run, a flag with a value",
-        "run, --config without its file", "create, --config without its file", "create without --config",
-        "check without a file", "reclaim, a word too many", "reclaim, --memory", "reclaim without --config",
-        "reclaim without a barcode", "reclaim, what is no barcode")]
+        "run, --config without its file", "serve, a word too many",
+        "serve, --memory twice", "serve, --config without its file", "serve, a flag with a value",
+        "serve, a shortened name", "serve, another option", "create, --config without its file",
+        "create without --config", "check without a file", "reclaim, a word too many", "reclaim, --memory",
+        "reclaim without --config", "reclaim without a barcode", "reclaim, what is no barcode")]
     return cells + [f"faults | {pair}" for pair in ("1 before 2", "2 before 5", "3 before 5", "4 before 5")]
 
 

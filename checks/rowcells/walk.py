@@ -255,7 +255,7 @@ class Walk:
                 if bad:
                     self.see(f"faults | {3 if what == 'cartridge' else 4} before 5")
                 is_store = what == "drive" and why in ("not a side", "damaged", "bad record")
-                self.ends(run, 2, DEVICE, "run: the file of a drive's reservations is refused" if is_store else
+                self.ends(run, 2, DEVICE, "run, serve: the file of a drive's reservations is refused" if is_store else
                           "a file is missing", [])
                 if is_store:
                     self.see("damaged | run | a damaged store of reservations")

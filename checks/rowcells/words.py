@@ -3,6 +3,7 @@ import re
 import tomllib
 
 WORDS = {b"run": {b"--memory": False, b"--config": True, b"--explain": False},
+         b"serve": {b"--memory": False, b"--config": True, b"--explain": False},
          b"create": {b"--config": True, b"--explain": False}, b"check": {b"--explain": False},
          b"reclaim": {b"--config": True, b"--explain": False}}
 # what stands behind these words
@@ -13,8 +14,8 @@ BARCODE = re.compile(r"[A-Z0-9]{1,16}")
 
 
 class Words:
-    """What the words ask for: `help`, `run`, `create`, `check`, `reclaim`, or `refused` and why. What is the file in a
-    reclaim is the barcode."""
+    """What the words ask for: `help`, `run`, `serve`, `create`, `check`, `reclaim`, or `refused` and why. What is the
+    file in a reclaim is the barcode."""
 
     def __init__(self, kind, cells, config=None, memory=False, file=None):
         self.kind, self.cells, self.config, self.memory, self.file = kind, cells, config, memory, file

@@ -4,7 +4,9 @@ before the C library and notes each call of malloc and realloc (faults.c, which 
 
 A block of 1,048,576 bytes that is written to a file through a script: once for its data, once for its frame, and for
 the line. Later such blocks and frames ask for no more than that, and their lines for nothing. Lines without data, of
-which a phase has more: nothing for each. A library of 16 drives, each with a cartridge and a store, at rest.
+which a phase has more: nothing for each. A library of 16 drives, each with a cartridge and a store, at rest. The same
+block by a frame to `vtl serve`: its data and its frame in the file, once each; and a frame that is refused: nothing,
+whatever its header says.
 
 --program PATH: another program than the proved one; --tell: prints the figures alone."""
 import argparse
@@ -12,6 +14,8 @@ import os
 import subprocess
 import sys
 import tempfile
+
+from served import COMMAND, HEADER
 
 TOP = os.path.dirname(os.path.dirname(os.path.abspath(__file__)))
 PROVED = os.path.join(TOP, "crates", "vtl", "out", "vtl")
@@ -22,6 +26,12 @@ FRAME = BLOCK + 4 + 10 + 1
 LINE = 2_200_001
 WRITE = f"1 1 0a00{BLOCK:06x}00 " + "5a" * BLOCK + "\n1 1 100000000000\n--\n"
 READY = "1 1 000000000000\n"
+# the same as frames, and headers that are refused: for their length of data, their host and their kind
+READY_FRAME = HEADER.pack(COMMAND, 1, 1, 6, 0, 0) + bytes(6)
+WRITE_FRAMES = (HEADER.pack(COMMAND, 1, 1, 6, BLOCK, 1) + bytes.fromhex("0a0010000000") + b"\x5a" * BLOCK
+                + HEADER.pack(COMMAND, 1, 1, 6, 0, 2) + bytes.fromhex("100000000100"))
+REFUSED = [HEADER.pack(COMMAND, 1, 1, 6, 0xFFFF_FFFF, 1), HEADER.pack(COMMAND, 65, 1, 6, 1_100_000, 1),
+           HEADER.pack(9, 1, 1, 6, 1_100_000, 1)]
 # what is less than this is not looked at one by one: replies, names, words of the command line
 SMALL = 4_096
 
@@ -32,12 +42,12 @@ def config(drives):
     return cartridges + "".join(f'[[drive]]\nnumber = {i}\nreservations = "{i}.pr"\n' for i in range(1, drives + 1))
 
 
-def asked(program, shim, folder, words, script):
+def asked(program, shim, folder, words, given, status=0):
     """The bytes of each call of malloc and realloc."""
     notes = os.path.join(folder, "asked")
-    done = subprocess.run([program, *words], cwd=folder, input=script.encode(), stdout=subprocess.PIPE, check=False,
-                          env={**os.environ, "LD_PRELOAD": shim, "FAULTS_ASKED": notes})
-    if done.returncode:
+    done = subprocess.run([program, *words], cwd=folder, input=given, stdout=subprocess.PIPE, check=False,
+                          stderr=subprocess.PIPE, env={**os.environ, "LD_PRELOAD": shim, "FAULTS_ASKED": notes})
+    if done.returncode != status:
         sys.exit(f"vtl {' '.join(words)} ended with status {done.returncode}")
     with open(notes, encoding="ascii") as lines:
         return [int(line) for line in lines]
@@ -55,7 +65,8 @@ def more_than(sizes, others):
 
 def figures(program, shim, folder):
     """Names, figures and limits in bytes."""
-    run = lambda script, drives="one.toml": asked(program, shim, folder, ["run", "--config", drives], script)
+    run = lambda script, drives="one.toml": asked(program, shim, folder, ["run", "--config", drives], script.encode())
+    serve = lambda frames, status=0: asked(program, shim, folder, ["serve", "--config", "one.toml"], frames, status)
     for name, drives in (("one.toml", 1), ("all.toml", 16)):
         with open(os.path.join(folder, name), "w", encoding="utf-8") as file:
             file.write(config(drives))
@@ -68,6 +79,12 @@ def figures(program, shim, folder):
     yield "eight such WRITEs more, in all", sum(large(more_than(many, one))), 8 * (BLOCK + FRAME)
     few, lines = run(READY * 1_001), run(READY * 10_001)
     yield "growths of a phase's lines, 10,000 and not 1,000 of them, in calls", len(lines) - len(few), 20
+    rest = serve(READY_FRAME)
+    block = large(more_than(serve(READY_FRAME + WRITE_FRAMES), rest))
+    yield "such a WRITE by a frame, in all", sum(block), BLOCK + FRAME
+    for header in REFUSED:
+        found = large(more_than(serve(READY_FRAME + header, 1), rest))
+        yield f"a frame that begins with {header[:8].hex()}, and is refused, in all", sum(found), 0
 
 
 def main():

@@ -1,0 +1,161 @@
+#!/usr/bin/env python3
+"""Lets each call that the program makes for a file or a stream fail in turn (EIO, by faults.c), with --explain, and
+compares what stands behind the one line: where the program ends with a device fault, the call that failed, what it was
+for, and the answer. Without --explain there is the one line alone. Where memory is refused in turn, a line says what it
+was wanted for, or none does. Of `vtl create` the calls that fail have their names and files in the order in which they
+are made. A closed standard error changes neither the status nor the output.
+
+--program PATH another program than the proved one; --no-memory: memory is not refused; --selftest: of each call another
+name is asked for, and another order of the calls of `vtl create`, which must be found wrong."""
+import argparse
+import os
+import re
+import subprocess
+import sys
+import tempfile
+
+from cartridge_files import SECOND as BESIDE
+from faults import FILES, STORE, Room, made
+from fault_script import FIRST, SCRIPT, SECOND, STATUS
+from real_library import PROVED, TOP
+
+EIO = "answer: Input/output error (os error 5)\n"
+# the calls of an explanation, by the name that the system has for the one that failed
+NAMES = {"openat": ("open", "read", "make", "sync of the folder"), "read": ("read",), "write": ("write",),
+         "pread64": ("read at",), "pwrite64": ("write at",), "fsync": ("sync", "sync of the folder"),
+         "ftruncate": ("cut",), "flock": ("lock",), "statx": ("look at", "open", "make", "read")}
+FAILED = re.compile(r"failed: ([a-z ]+), of (the file [a-z0-9.]+|standard input|standard output)\n"
+                    r"(answer: .*\n)to do: .*\n")
+MEMORY = re.compile(r"memory ran out: as (it was opened or read, the file [a-z0-9.]+"
+                    r"|the script was read, behind [0-9]+ bytes of it)\nto do: .*\n")
+# as a file is made: it is opened, and of its folder the opening and the sync; as its first bytes are written
+MADE = ("open", "look at", "lock", "sync", "sync of the folder", "sync of the folder")
+WRITTEN = ("cut", "write at", "sync", "write at", "sync")
+MEANT = re.compile(r"(line [0-9]+: .*\n)*")
+
+
+def in_order():
+    """What fails in turn as `vtl create` makes the library: the call, and what it is for."""
+    said = [("read", "the file lib.toml")] * 2
+    for name in (FIRST, SECOND, STORE):
+        file = f"the file {FILES[name]}"
+        said += [(call, file) for call in MADE]
+        if name != STORE:
+            said += [(call, file + BESIDE) for call in ("look at", *MADE)]
+        said += [*((call, file) for call in WRITTEN), ("write", "standard output")]
+    return said
+
+
+def lines_behind(run, kind):
+    """What stands behind the one line; None where there is none."""
+    said = run.err[MEANT.match(run.err).end():]
+    line = STATUS[kind][1]
+    return said[len(line):] if run.status == STATUS[kind][0] and said.startswith(line) else None
+
+
+def misexplained(run):
+    """What is wrong with the explanation of a run in which one call failed."""
+    said = lines_behind(run, "fault")
+    if said is None:
+        return ["an explanation of no fault"] if "failed:" in run.err else []
+    found = FAILED.findall(said)
+    if "".join(FAILED.sub("", said)) or not found:
+        return [f"explained as {said!r}"]
+    named = [call for call, _, answer in found if answer == EIO]
+    if run.name in NAMES and not any(call in NAMES[run.name] for call in named):
+        return [f"explained as {said!r}"]
+    return []
+
+
+def misremembered(run):
+    said = lines_behind(run, "memory")
+    return [] if said is None or not said or MEMORY.fullmatch(said) else [f"explained as {said!r}"]
+
+
+def disordered(what, found, wanted):
+    pairs = zip([*found, None], [*wanted, None])
+    return [] if found == wanted else [f"{what}: {next(it for it in pairs if it[0] != it[1])}, found and wanted"]
+
+
+def tried(tools, pristine, what, words, script, kinds, wanted=None):
+    """Each call in turn, from 1 on; at 0 none fails."""
+    wrong, named = [], []
+    for kind, judge in kinds:
+        count, ended, at = 1, 0, 0
+        while at <= count:
+            room = Room(tools, pristine)
+            with room.room:
+                run = room.run([*words, "--explain"], script, kind, at)
+            count, at = max(count, run.calls if at == 0 else count), at + 1
+            ended += run.status > 1
+            named += [it[:2] for it in FAILED.findall(run.err)] if kind == "fault" else []
+            wrong += [f"{what}, {kind}, call {at - 1} ({run.name}): {it}" for it in judge(run)]
+        print(f"{what}, {kind}: of {count} calls {ended} ended the program", flush=True)
+    return wrong + (disordered(what, named, wanted) if wanted else [])
+
+
+def plain(tools, pristine):
+    """Without the option there is the one line; with a closed standard error the status and the output stay."""
+    wrong = []
+    for words in (["run", "--config", "none.toml"], ["frob"], ["check", "none.tape"]):
+        room = Room(tools, pristine)
+        with room.room:
+            one, all_lines = room.run(words), room.run([*words, "--explain"])
+            closed = subprocess.run([tools[0], *words, "--explain"], cwd=room.path, stdin=subprocess.DEVNULL,
+                                    stdout=subprocess.PIPE, preexec_fn=lambda: os.close(2))
+        if one.err.count("\n") != 1 or not all_lines.err.startswith(one.err) or all_lines.err == one.err:
+            wrong.append(f"{words}: {one.err!r}, {all_lines.err!r}")
+        ends = [(one.status, one.out), (all_lines.status, all_lines.out), (closed.returncode, closed.stdout.decode())]
+        if ends != ends[:1] * 3:
+            wrong.append(f"{words}: {ends}")
+    return wrong
+
+
+def selftest(tools, bare, used):
+    """Each name in turn is no more that of its calls."""
+    blind = []
+    for name, names in list(NAMES.items()):
+        NAMES[name] = ("another",)
+        kinds = [("fault", misexplained)]
+        found = tried(tools, bare, "vtl create", ["create", "--config", "lib.toml"], "", kinds)
+        found += tried(tools, used, "vtl check", ["check", FILES[FIRST]], "", kinds)
+        NAMES[name] = names
+        blind += [name] * (not found)
+    other = in_order()
+    other[5], other[6] = other[6], other[5]
+    words = ["create", "--config", "lib.toml"]
+    blind += ["order"] * (not tried(tools, bare, "vtl create", words, "", [("fault", misexplained)], other))
+    print(f"self-test: {len(NAMES)} names and an order, not missed: {blind}")
+    return 1 if blind else 0
+
+
+def main():
+    parser = argparse.ArgumentParser()
+    parser.add_argument("--program", default=PROVED)
+    parser.add_argument("--no-memory", action="store_true")
+    parser.add_argument("--selftest", action="store_true")
+    said = parser.parse_args()
+    kinds = [("fault", misexplained)] + [("memory", misremembered)] * (not said.no_memory)
+    whole = "".join(f"{line.text}\n" for line in SCRIPT)
+    with tempfile.TemporaryDirectory(prefix="vtl-explained-") as folder:
+        shim = os.path.join(folder, "faults.so")
+        more = ["-DNO_MEMORY"] * said.no_memory
+        subprocess.run(["cc", "-O1", "-shared", "-fPIC", *more, "-o", shim, os.path.join(TOP, "checks", "faults.c")],
+                       check=True)
+        tools = os.path.abspath(said.program), shim
+        bare, new, used = made(tools, folder)
+        if said.selftest:
+            return selftest(tools, bare, used)
+        wrong = plain(tools, bare)
+        wrong += tried(tools, bare, "vtl create", ["create", "--config", "lib.toml"], "", kinds, in_order())
+        for what, room, words, script in (
+                ("vtl check of a cartridge", used, ["check", FILES[FIRST]], ""),
+                ("vtl run", new, ["run", "--config", "lib.toml"], whole),
+                ("vtl reclaim", used, ["reclaim", "--config", "lib.toml", FIRST], "")):
+            wrong += tried(tools, room, what, words, script, kinds)
+    print("\n".join([*wrong, f"explained faults: {len(wrong)} wrong"]))
+    return 1 if wrong else 0
+
+
+if __name__ == "__main__":
+    sys.exit(main())
