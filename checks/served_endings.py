@@ -126,7 +126,7 @@ EXPLAINED = [
     (frame(MOVE, 1, 1, bytes(9), b"x", last=LAST), "host 1", 1, HOSTS),
     (frame(MOVE, 0, 1, bytes(9), b"x", last=LAST), "drive 1", 2, DRIVES),
     (frame(MOVE, 0, 0, bytes(9), b"x", last=LAST), "9 bytes before the data", 3, FRONTS),
-    (frame(MOVE, 0, 0, bytes(8), b"x", last=LAST), "1 bytes of data", 4, LENGTHS),
+    (frame(MOVE, 0, 0, bytes(8), b"x", last=LAST), "1 byte of data", 4, LENGTHS),
 ]
 
 
