@@ -66,7 +66,7 @@ def options(word, rest):
         elif has_value:
             found[option] = value
             cells.append(f"words | {name} --config=FILE")
-        elif not rest:
+        elif not rest or (rest[0].startswith(b"-") and rest[0] != b"-"):
             return refused(f"{name}, --config without its file")
         else:
             found[option], rest = rest[0], rest[1:]

@@ -99,60 +99,122 @@ fn lines_of(alloc: Global, line: &str) -> Result<Explanation, AllocError> {
 }
 
 // Lines that are refused, and what is said of each: which word, and the usage of which command.
-static REFUSED: &'static [(&'static str, &'static str, &'static str)] = &[
+static REFUSED: &'static [(&'static str, &'static str)] = &[
     (
         "vtl",
-        "refused: 'vtl' requires a subcommand",
-        "Usage: vtl <COMMAND>\n",
+        "\
+refused: 'vtl' requires a subcommand but one was not provided
+  [subcommands: run, serve, create, check, reclaim]
+Usage: vtl <COMMAND>
+For more information, try '--help'.
+",
     ),
     (
         "vtl frob",
-        "refused: unrecognized subcommand 'frob'\n",
-        "Usage: vtl <COMMAND>\n",
+        "\
+refused: unrecognized subcommand 'frob'
+Usage: vtl <COMMAND>
+For more information, try '--help'.
+",
     ),
     (
         "vtl run extra",
-        "refused: unexpected argument 'extra' found\n",
-        "Usage: vtl run [OPTIONS]\n",
+        "\
+refused: unexpected argument 'extra' found
+Usage: vtl run [OPTIONS]
+For more information, try '--help'.
+",
     ),
     (
         "vtl run --frob",
-        "refused: unexpected argument '--frob' found\n",
-        "Usage: vtl run [OPTIONS]\n",
+        "\
+refused: unexpected argument '--frob' found
+Usage: vtl run [OPTIONS]
+For more information, try '--help'.
+",
     ),
     (
         "vtl serve extra",
-        "refused: unexpected argument 'extra' found\n",
-        "Usage: vtl serve [OPTIONS]\n",
+        "\
+refused: unexpected argument 'extra' found
+Usage: vtl serve [OPTIONS]
+For more information, try '--help'.
+",
     ),
     (
         "vtl create",
-        "refused: the following required arguments were not provided:\n  --config <FILE>\n",
-        "Usage: vtl create --config <FILE>\n",
+        "\
+refused: the following required arguments were not provided:
+  --config <FILE>
+Usage: vtl create --config <FILE>
+For more information, try '--help'.
+",
     ),
     (
         "vtl check",
-        "refused: the following required arguments were not provided:\n  <FILE>\n",
-        "Usage: vtl check <FILE>\n",
+        "\
+refused: the following required arguments were not provided:
+  <FILE>
+Usage: vtl check <FILE>
+For more information, try '--help'.
+",
     ),
     (
         "vtl reclaim --config a",
-        "refused: the following required arguments were not provided:\n  <BARCODE>\n",
-        "Usage: vtl reclaim --config <FILE> <BARCODE>\n",
+        "\
+refused: the following required arguments were not provided:
+  <BARCODE>
+Usage: vtl reclaim --config <FILE> <BARCODE>
+For more information, try '--help'.
+",
     ),
     (
         "vtl reclaim --config a t1",
-        "refused: the barcode t1\n",
-        "allowed: 1 to 16 characters, A to Z and 0 to 9\n",
+        "\
+refused: the barcode t1
+allowed: 1 to 16 characters, A to Z and 0 to 9
+to do: take a barcode of the configuration
+",
+    ),
+];
+
+// An option without its value, of each command that has one, and the usage of the command as its help has it.
+static NO_VALUE: &'static [(&'static str, &'static str)] = &[
+    ("vtl run --config", "vtl run [OPTIONS]"),
+    ("vtl run --config --explain", "vtl run [OPTIONS]"),
+    ("vtl serve --memory --config", "vtl serve [OPTIONS]"),
+    (
+        "vtl create --config",
+        "vtl create [OPTIONS] --config <FILE>",
+    ),
+    (
+        "vtl reclaim B --explain --config",
+        "vtl reclaim [OPTIONS] --config <FILE> <BARCODE>",
     ),
 ];
 
 #[test]
 fn refused_words_are_named(rt: HostRuntime) -> Result<(), Fail> {
-    for &(line, first, other) in REFUSED {
+    for &(line, text) in REFUSED {
         let lines = lines_of(rt.alloc(), line)?;
-        assert_holds!(rt; lines.as_str().starts_with(first); line);
-        assert_holds!(rt; lines.as_str().contains(other); line);
+        assert_equal!(rt; lines.as_str(), text; line);
+    }
+    Ok(())
+}
+
+#[test]
+fn an_option_without_its_value_has_its_usage(rt: HostRuntime) -> Result<(), Fail> {
+    let alloc = rt.alloc();
+    for &(line, usage) in NO_VALUE {
+        let text = format!(in alloc;
+            "\
+refused: a value is required for '--config <FILE>' but none was supplied
+Usage: {usage}
+For more information, try '--help'.
+"
+        )?;
+        let lines = lines_of(alloc, line)?;
+        assert_equal!(rt; lines.as_str(), text.as_str(); line);
     }
     Ok(())
 }

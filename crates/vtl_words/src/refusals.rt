@@ -20,16 +20,57 @@ pub enum WordsReason {
     Barcode(String),
 }
 
-// Why the parser refuses the words, as it says.
-fn parser_reason(alloc: Global, words: &[String]) -> Option<WordsReason> {
+// What the parser says of words that give no matches.
+fn parser_text(alloc: Global, words: &[String]) -> Option<String> {
     let command = vtl_command(alloc).ok()?;
     match command.try_get_matches_from(words) {
         Ok(_) => None,
-        Err(error) => match format!(in alloc; "{error}") {
-            Ok(text) => Some(WordsReason::Parser(text)),
-            Err(_) => None,
-        },
+        Err(error) => format!(in alloc; "{error}").ok(),
     }
+}
+
+// Words that ask for the help of the command that these words name.
+fn help_words(alloc: Global, words: &[String]) -> Result<Vec<String>, AllocError> {
+    let mut asking = Vec::new(alloc);
+    for word in words.iter().take(2) {
+        asking.push(String::from_str(alloc, word.as_str())?)?;
+    }
+    asking.push(String::from_str(alloc, "--help")?)?;
+    Ok(asking)
+}
+
+// The line of a text that has a usage.
+fn usage_in(text: &str) -> Option<&str> {
+    for line in text.split('\n') {
+        if line.starts_with("Usage: ") {
+            return Some(line);
+        }
+    }
+    None
+}
+
+// The usage of the command that these words name, as its help has it.
+pub(crate) fn usage_of(alloc: Global, words: &[String]) -> Option<String> {
+    let asking = help_words(alloc, words).ok()?;
+    let help = parser_text(alloc, asking.as_slice())?;
+    String::from_str(alloc, usage_in(help.as_str())?).ok()
+}
+
+// The parser's text with the usage of the command.
+fn with_usage(alloc: Global, text: &str, words: &[String]) -> Option<String> {
+    let usage = usage_of(alloc, words)?;
+    let (what, rest) = text.split_once("\n\n")?;
+    format!(in alloc; "{what}\n\n{usage}\n\n{rest}").ok()
+}
+
+// Why the parser refuses the words, as it says. Of an option without its value it says no usage.
+fn parser_reason(alloc: Global, words: &[String]) -> Option<WordsReason> {
+    let text = parser_text(alloc, words)?;
+    if usage_in(text.as_str()).is_some() {
+        return Some(WordsReason::Parser(text));
+    }
+    let whole = with_usage(alloc, text.as_str(), words)?;
+    Some(WordsReason::Parser(whole))
 }
 
 // The word that stands for a barcode.
