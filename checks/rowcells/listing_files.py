@@ -61,6 +61,7 @@ def of_words():
               for option in ("--help", "-h")]
     cells += [f"words | refused: {why}" for why in (
         "no word", "help", "version", "another word", "another option in its place", "a shortened word",
+        "a word that is no UTF-8",
         "run, --memory twice", "run, --explain twice", "run, --config twice", "create, --config twice",
         "run, a word too many",
         "create, a word too many", "check, a word too many", "check, a word too many behind --",

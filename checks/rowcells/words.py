@@ -25,7 +25,17 @@ def refused(why):
     return Words("refused", [f"words | refused: {why}"])
 
 
+def is_text(word):
+    try:
+        word.decode()
+    except UnicodeDecodeError:
+        return False
+    return True
+
+
 def read(words):
+    if not all(is_text(word) for word in words):
+        return refused("a word that is no UTF-8")
     if words and words[0] in (b"--help", b"-h", b"--version", b"-V"):
         return Words("help", [f"words | {words[0].decode()}"])
     if not words:

@@ -14,4 +14,6 @@ mod files;
 #[cfg(test)]
 mod orders;
 #[cfg(test)]
+mod unread;
+#[cfg(test)]
 mod words;

@@ -13,6 +13,7 @@ use vtl_program::notes::Notes;
 use vtl_program::noting::NotingReader;
 use vtl_program::programs::VtlFault;
 use vtl_program::progress::GibLines;
+use vtl_words::UnreadWord;
 
 // The words of the command line.
 fn words_of(rt: &HostRuntime) -> Result<Vec<String>, VtlFault> {
@@ -31,6 +32,14 @@ fn words_of(rt: &HostRuntime) -> Result<Vec<String>, VtlFault> {
     }
 }
 
+// The word that the system does not give since it is no UTF-8, where an explanation is asked for.
+fn unread_of(rt: &HostRuntime, words: &Result<Vec<String>, VtlFault>) -> Option<UnreadWord> {
+    match words {
+        Err(VtlFault::Words) => UnreadWord::find(rt, rt.alloc()),
+        _ => None,
+    }
+}
+
 fn main(rt: HostRuntime) -> ExitCode {
     let (stdout, stderr) = (rt.stdout(), rt.stderr());
     let mut errors = io::writer(&stderr);
@@ -41,6 +50,7 @@ fn main(rt: HostRuntime) -> ExitCode {
             (bare.unwrap(), Err(VtlFault::NoMemory))
         }
     };
+    let unread = unread_of(&rt, &words);
     let progress = GibLines::new(&rt, &words);
     let notes = Notes::new(rt.alloc(), asks(&words));
     let answers = Answers::new(rt.alloc(), asks_of_lines(rt.alloc(), &words));
@@ -63,5 +73,9 @@ fn main(rt: HostRuntime) -> ExitCode {
         &mut writer,
         &mut errors,
     );
+    match unread {
+        Some(word) if ended.is_reported => word.tell(rt.alloc(), &mut errors),
+        _ => {}
+    }
     ExitCode::from(ended.status)
 }

@@ -1,0 +1,117 @@
+//! A word of the command line that is no UTF-8, which the system does not give among the words.
+use crate::refusals::usage_of;
+use explanations::Explanation;
+use std::alloc::{AllocError, Global};
+use std::env::{Env, FillError};
+use std::io::Write;
+
+// The bytes of a word that is looked at, at most.
+const WORD_BYTES: usize = 4_096;
+
+/// The first word of a command line that is no UTF-8.
+#[derive(Debug, Drop)]
+pub struct UnreadWord {
+    /// Its place behind the program's name, counted from 1 on.
+    pub place: usize,
+    /// The word, in which each byte that is no ASCII character is a question mark.
+    pub word: String,
+    /// The usage of the command that the words name.
+    pub usage: String,
+}
+
+// Whether an explanation is asked for: one word is `--explain`, and none before it is `--`.
+fn asks<R: Env>(rt: &R) -> bool {
+    for place in 1..usize::MAX {
+        let mut bytes = [0; WORD_BYTES];
+        match rt.arg(place, &mut bytes) {
+            Ok(count) if &bytes[..count] == b"--explain".as_slice() => return true,
+            Ok(count) if &bytes[..count] == b"--".as_slice() => return false,
+            Err(FillError::NotPresent) => return false,
+            _ => {}
+        }
+    }
+    false
+}
+
+// The bytes of a word as they can be shown.
+fn shown(alloc: Global, bytes: &[u8]) -> Result<String, AllocError> {
+    let mut word = String::new(alloc);
+    for byte in bytes {
+        word.push(if byte.is_ascii() { *byte as char } else { '?' })?;
+    }
+    Ok(word)
+}
+
+// The first word that is no UTF-8, with its place.
+fn first_unread<R: Env>(rt: &R, alloc: Global) -> Option<(usize, String)> {
+    for place in 1..usize::MAX {
+        let mut bytes = [0; WORD_BYTES];
+        match rt.arg(place, &mut bytes) {
+            Ok(count) if std::str::from_utf8(&bytes[..count]).is_err() => {
+                return Some((place, shown(alloc, &bytes[..count]).ok()?));
+            }
+            Err(FillError::NotPresent) => return None,
+            _ => {}
+        }
+    }
+    None
+}
+
+// A word as it is, where it is UTF-8.
+fn text_at<R: Env>(rt: &R, alloc: Global, place: usize) -> Option<String> {
+    let mut bytes = [0; WORD_BYTES];
+    let count = rt.arg(place, &mut bytes).ok()?;
+    let word = std::str::from_utf8(&bytes[..count]).ok()?;
+    String::from_str(alloc, word).ok()
+}
+
+// The program's name and the word behind it, as far as they are UTF-8.
+fn command_words<R: Env>(rt: &R, alloc: Global) -> Result<Vec<String>, AllocError> {
+    let mut words = Vec::new(alloc);
+    match text_at(rt, alloc, 0) {
+        Some(name) => words.push(name)?,
+        None => words.push(String::from_str(alloc, "vtl")?)?,
+    }
+    if let Some(command) = text_at(rt, alloc, 1) {
+        words.push(command)?;
+    }
+    Ok(words)
+}
+
+impl UnreadWord {
+    /// The first word that is no UTF-8, where the words ask for an explanation. None where there is no such word, and
+    /// where memory runs out. Words of more than 4,096 bytes are passed over.
+    pub fn find<R: Env>(rt: &R, alloc: Global) -> Option<UnreadWord> {
+        if !asks(rt) {
+            return None;
+        }
+        let (place, word) = first_unread(rt, alloc)?;
+        let words = command_words(rt, alloc).ok()?;
+        Some(UnreadWord {
+            place,
+            word,
+            usage: usage_of(alloc, words.as_slice())?,
+        })
+    }
+
+    /// Adds three lines: which word is refused, the usage of the command, and what to do. Where memory runs out, only
+    /// the first of them may be there.
+    pub fn add_to(&self, alloc: Global, lines: &mut Explanation) -> Result<(), AllocError> {
+        let (place, word) = (self.place, &self.word);
+        let refused = format!(in alloc; "refused: word {place}, {word}, is no UTF-8")?;
+        lines.add(alloc, refused.as_str())?;
+        lines.add(alloc, self.usage.as_str())?;
+        lines.add(
+            alloc,
+            "to do: write the word in UTF-8, and rename the file that it names",
+        )
+    }
+
+    /// Writes these lines. Where memory runs out, or where they cannot be written, they are left out.
+    pub fn tell<E: Write>(&self, alloc: Global, errors: &mut E) {
+        let mut lines = Explanation::new(alloc);
+        if self.add_to(alloc, &mut lines).is_ok() {
+            let _ = errors.write_all(lines.as_str().as_bytes());
+        }
+    }
+}
