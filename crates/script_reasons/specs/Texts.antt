@@ -1,6 +1,7 @@
 -- The words of a reason.
 use Rattle.std.specs.Prelude.{ℕ, List, [], ◌∷◌, ◌++◌, Option, Some, None, String, string_bytes, codes, decimal, filter, fold, if◌then◌else◌}
-use Rattle.std.specs.List.{range_with_len}
+use Rattle.std.specs.Char.{is_ascii_graphic}
+use Rattle.std.specs.List.{list_all, range_with_len}
 use Rattle.std.specs.declared.alloc.Global.{Global}
 use Rattle.vtl_base.specs.declared.limits.TheConstants.{LINE_BYTES, NEXUSES}
 use Rattle.explanations.specs.Lines.{line_of}
@@ -76,9 +77,16 @@ fault_allowed faults.TooMany drives = codes "allowed: HOST DRIVE CDB [DATA], mov
 fault_allowed faults.Address drives = codes "allowed: move FROM TO, each a number of 1 to 5 digits"
 fault_allowed faults.NoAddress drives = codes "allowed: move FROM TO, each a number of 1 to 5 digits"
 
+-- what is said behind a field with a byte that a line shows as a question mark; a field has no spaces (own)
+abbrev pub unprinted_note : Option (String Global) → List ℕ
+unprinted_note None = []
+unprinted_note (Some field) =
+    if list_all is_ascii_graphic (string_bytes field) then [] else codes " (? is no printable ASCII character)"
+
 -- what is refused, with the field (own)
 unfoldable pub fault_refused : Fault → Option (String Global) → List ℕ
-fault_refused fault field = codes "refused: " ++ (fault_subject fault ++ field_text fault field)
+fault_refused fault field =
+    codes "refused: " ++ (fault_subject fault ++ (field_text fault field ++ unprinted_note field))
 
 -- where the field begins (own)
 unfoldable pub column_text : ℕ → ℕ → List ℕ

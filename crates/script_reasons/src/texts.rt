@@ -1,6 +1,8 @@
 //! The lines that explain a refused line of a script.
 ghost use Rattle.std.specs.Prelude.{◌≡◌, ◌≤◌, ◌++◌, IfOk, OnOk, string_bytes};
-ghost use Rattle.script_reasons.specs.Texts.{with_number, with_configured, listed, configured_of, drives_text, fault_subject, no_field, field_text, fault_allowed, fault_refused, column_text, fix_text, reason_lines};
+ghost use Rattle.std.specs.Char.{is_ascii_graphic};
+ghost use Rattle.std.specs.List.{list_all};
+ghost use Rattle.script_reasons.specs.Texts.{with_number, with_configured, listed, configured_of, drives_text, fault_subject, no_field, field_text, unprinted_note, fault_allowed, fault_refused, column_text, fix_text, reason_lines};
 
 use crate::drives::Drives;
 use crate::reasons::{Fault, LineReason};
@@ -117,13 +119,31 @@ fn allowed(alloc: Global, fault: Fault, drives: &Drives) -> Result<String, Alloc
     }
 }
 
+// Whether a line shows each of these bytes.
+fn is_printed(field: &[u8]) -> bool
+    ensures { result ≡ list_all is_ascii_graphic field.now }
+{
+    field.iter().all(|byte| byte.is_ascii_graphic())
+}
+
+// What is said behind a field that has a byte which a line shows as a question mark. A field has no spaces.
+fn unprinted_note(field: &Option<String>) -> &'static str
+    ensures { result.now ≡ unprinted_note field.now }
+{
+    match field {
+        Some(field) if !is_printed(field.as_bytes()) => " (? is no printable ASCII character)",
+        _ => "",
+    }
+}
+
 // What is refused, with the field.
 #[tactic(auto, unfolding(crate::specs::Texts::fault_refused))]
 fn refused(alloc: Global, fault: Fault, field: &Option<String>) -> Result<String, AllocError>
     ensures { IfOk result (λ text. string_bytes text ≡ fault_refused fault field.now) }
 {
+    let note = unprinted_note(field);
     let (subject, field) = (subject_of(fault), text_of(fault, field));
-    format!(in alloc; "refused: {subject}{field}")
+    format!(in alloc; "refused: {subject}{field}{note}")
 }
 
 // Where the field begins.

@@ -67,7 +67,28 @@ static COMMANDS: &'static [Row] = &[
     ),
     (b"1 1 00 zz", "no hexadecimal digits, zz", 8, DIGITS),
     (b"1 1 00 00 00", "a field too many, 00", 11, LINE),
-    (b"1\t1 00", "HOST is 1?1", 1, HOSTS),
+    (
+        b"1\t1 00",
+        "HOST is 1?1 (? is no printable ASCII character)",
+        1,
+        HOSTS,
+    ),
+    // a byte order mark
+    (
+        &[0xef, 0xbb, 0xbf, b'1', b' ', b'1', b' ', b'0', b'0'],
+        "HOST is ???1 (? is no printable ASCII character)",
+        1,
+        HOSTS,
+    ),
+    // at the limits of what is printed
+    (b"1 ! 00", "DRIVE is !", 3, DRIVES),
+    (b"1 ~ 00", "DRIVE is ~", 3, DRIVES),
+    (
+        &[b'1', b' ', 0x7f, b' ', b'0', b'0'],
+        "DRIVE is ? (? is no printable ASCII character)",
+        3,
+        DRIVES,
+    ),
     // what is no UTF-8
     (&[0xff, 0xfe, b'1'], "HOST is no text", 1, HOSTS),
     (
