@@ -1,4 +1,4 @@
-//! The tests of explanations, config_reasons, file_reasons, script_reasons and answer_notes.
+//! The tests of explanations, config_reasons, file_reasons, script_reasons, frame_reasons and answer_notes.
 #![tactic(auto)]
 
 #[cfg(test)]
@@ -15,6 +15,8 @@ mod configs;
 mod damages;
 #[cfg(test)]
 mod files;
+#[cfg(test)]
+mod frames;
 #[cfg(test)]
 mod lines;
 #[cfg(test)]
