@@ -444,7 +444,7 @@ EDITS = [
      ["a_stop_at_each_call_of_both"]),
     ("the parser says nothing of what is no TOML", "config_reasons", "src/reading.rt",
      "    match String::from_str(alloc, error.message()) {\n", "    match String::from_str(alloc, \"\") {\n",
-     ["the_parser_has_a_message"]),
+     ["what_is_no_document"]),
     ("what is no TOML is shown from its beginning", "config_reasons", "src/reading.rt",
      "    refused_at(alloc, text, &error)\n",
      "    match refused_at(alloc, text, &error) {\n"

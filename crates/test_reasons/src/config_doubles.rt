@@ -4,6 +4,15 @@ use crate::configs::{Row, check_rows};
 use std::test::Fail;
 
 static DOUBLES: &'static [Row] = &[
+    // the first of two that have it
+    (
+        b"[[drive]]\nnumber = 1\nreservations = \"a.2\"\n[[drive]]\nnumber = 2\nreservations = \"a\"\n\
+        [[cartridge]]\nbarcode = \"A\"\nfile = \"a\"\ncapacities = [4096]\nhome = 1001\n",
+        "refused: file is 'a'\n\
+        where: a.toml, cartridge entry 1, A\n\
+        allowed: a name that no entry before has, also with .2 behind it; drive entry 1 has this one\n\
+        to do: change one of the two\n",
+    ),
     (
         b"[[drive]]\nnumber = 1\nreservations = \"r\"\n[[drive]]\nnumber = 2\nreservations = \"s.2\"\n\
         [[cartridge]]\nbarcode = \"A\"\nfile = \"s\"\ncapacities = [4096]\nhome = 1001\n",

@@ -46,45 +46,27 @@ fn what_is_no_text(rt: HostRuntime) -> Result<(), Fail> {
     check_rows(&rt, rt.alloc(), TEXTS)
 }
 
-// Whether the lines for a text begin so: the parser's message is its own.
-fn is_no_toml_at(rt: &impl Abort, alloc: Global, text: &[u8], place: &str) -> Result<(), Fail> {
-    let lines = lines_of(alloc, text)?;
-    let text = lines.as_str();
-    assert_equal!(*rt; text.starts_with("refused: the text is no TOML: "), true);
-    assert_equal!(*rt; text.contains(place), true);
-    let wanted = "\nallowed: TOML\nto do: correct the text there, or on the lines before\n";
-    assert_equal!(*rt; text.ends_with(wanted), true);
-    Ok(())
-}
+static DOCUMENTS: &'static [Row] = &[
+    (
+        b"[[drive]\nnumber = 1\n",
+        "refused: the text is no TOML: unclosed array table, expected `]]`\n\
+        where: a.toml, line 1, column 9\n\
+        allowed: TOML\n\
+        to do: correct the text there, or on the lines before\n",
+    ),
+    (
+        b"drive = []\nhome = 01",
+        "refused: the text is no TOML: \
+        invalid value, expected a string, number, boolean, date-time, array or inline table\n\
+        where: a.toml, line 2, column 8\n\
+        allowed: TOML\n\
+        to do: correct the text there, or on the lines before\n",
+    ),
+];
 
 #[test]
 fn what_is_no_document(rt: HostRuntime) -> Result<(), Fail> {
-    is_no_toml_at(
-        &rt,
-        rt.alloc(),
-        b"[[drive]\nnumber = 1\n",
-        "\nwhere: a.toml, line 1, column 9\n",
-    )?;
-    is_no_toml_at(
-        &rt,
-        rt.alloc(),
-        b"drive = []\nhome = 01",
-        "\nwhere: a.toml, line 2, column ",
-    )
-}
-
-// The parser says something.
-#[test]
-fn the_parser_has_a_message(rt: HostRuntime) -> Result<(), Fail> {
-    for text in [
-        b"[[drive]\nnumber = 1\n".as_slice(),
-        b"drive = []\nhome = 01",
-    ] {
-        let lines = lines_of(rt.alloc(), text)?;
-        let said = lines.as_str().split('\n').next().unwrap_or("");
-        assert_equal!(rt; said.len() > "refused: the text is no TOML: ".len(), true);
-    }
-    Ok(())
+    check_rows(&rt, rt.alloc(), DOCUMENTS)
 }
 
 static KEYS: &'static [Row] = &[
@@ -107,6 +89,14 @@ static KEYS: &'static [Row] = &[
         "refused: the key name\n\
         where: a.toml, cartridge entry 1, A\n\
         allowed: barcode, file, capacities and home\n\
+        to do: remove the key, or correct its name\n",
+    ),
+    // of two the first by name
+    (
+        b"homes = 1\n[[drive]]\nnumber = 1\nreservations = \"r\"\n[drives]\n",
+        "refused: the key drives\n\
+        where: a.toml, outside all entries\n\
+        allowed: cartridge and drive\n\
         to do: remove the key, or correct its name\n",
     ),
     (
