@@ -17,7 +17,7 @@ use Rattle.vtl_wire.specs.declared.requests.Request.{Request}
 use Rattle.vtl_wire.specs.declared.requests.Request.TheVariants.{Command}
 use Rattle.vtl_wire.specs.Frames.{IsHeader, spell_frame, spell_header}
 use Rattle.vtl_wire.specs.Requests.{BeginsWithRequest, IsRefusedAt, IsRequest, SpellsRequests, frame_of_request, spell_request, spell_requests}
-use Rattle.vtl_wire.specs.Reads.{BeginNoRequest, LacksData, MissesRequest, ReadsRequest, RefusesRequest, TakesSome}
+use Rattle.vtl_wire.specs.Reads.{BeginNoRequest, LacksData, MissesNext, MissesRequest, MissesRequests, ReadsRequest, RefusesRequest, TakesSome}
 use Rattle.vtl_wire.specs.Inner.Headers.{frame_with}
 use Rattle.vtl_wire.specs.Inner.Reading.{AreNoHeader, EndsWithin, MissesBytes, MissesFrame, MissesParts, TakesFewer}
 use Rattle.vtl_wire.specs.Inner.Requested.{request_head}
@@ -235,3 +235,44 @@ read_refused (Some bytes) (Some rest) (Some others) requests count turns number 
 -- an error that is one is not another
 pub one_error : {T E : Type 0} (r : Result T E) (a b : E) → r ≡ Err a → r ≡ Err b → a ≡ b
 one_error r a b h k = cc
+
+missed_more : (count : ℕ) (left left' : Option (List ℕ)) (fault : WireFault) → MissesRequest left left' count fault
+    → MissesNext count left left' fault
+missed_more count left left' (BadFrame number) misses = misses
+missed_more count left left' ReadFault misses = misses
+missed_more count left left' WriteFault misses = absurd misses
+missed_more count left left' NoMemory misses = inl misses
+
+-- why the next is missed, behind the requests so far
+pub missed_all : (left mid left' : Option (List ℕ)) (requests : List Request) (count turns : ℕ) (fault : WireFault)
+    → AreRead left mid requests count turns → MissesRequest mid left' count fault → MissesRequests left left' fault
+missed_all left mid left' requests count turns fault so misses = record {
+  requests = requests;
+  spelled = so.spelled;
+  behind = mid;
+  read = so.taken;
+  missed = subst (λ (n : ℕ). MissesNext n mid left' fault) so.count_is (missed_more count mid left' fault misses);
+}
+
+-- there is no memory for one more in the list
+pub missed_room : (left mid left' : Option (List ℕ)) (requests : List Request) (count turns : ℕ) (request : Request)
+    → AreRead left mid requests count turns → ReadsRequest mid left' (Some request)
+    → MissesRequests left left' NoMemory
+missed_room left mid left' requests count turns request so read = record {
+  requests = requests;
+  spelled = so.spelled;
+  behind = mid;
+  read = so.taken;
+  missed = inr (inl (request, read));
+}
+
+-- no more requests are counted
+pub missed_most : (left mid : Option (List ℕ)) (requests : List Request) (count turns : ℕ) → 2 ^ 64 - 1 ≤ turns
+    → AreRead left mid requests count turns → MissesRequests left mid NoMemory
+missed_most left mid requests count turns many so = record {
+  requests = requests;
+  spelled = so.spelled;
+  behind = mid;
+  read = so.taken;
+  missed = inr (inr (omega (arith, many, so.turns_are, so.count_is), refl));
+}

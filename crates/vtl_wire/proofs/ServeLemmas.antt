@@ -13,7 +13,7 @@ use Rattle.vtl_wire.specs.declared.faults.WireFault.{WireFault}
 use Rattle.vtl_wire.specs.declared.faults.WireFault.TheVariants.{BadFrame, ReadFault, WriteFault, NoMemory}
 use Rattle.vtl_wire.specs.declared.requests.Request.{Request}
 use Rattle.vtl_wire.specs.Answers.{FitsAnswer, spell_answer}
-use Rattle.vtl_wire.specs.Reads.{MissesRequest, ReadsRequest}
+use Rattle.vtl_wire.specs.Reads.{MissesRequest, NotesFault, ReadsRequest}
 use Rattle.vtl_wire.specs.Requests.{IsRequest, spell_request, spell_requests}
 use Rattle.vtl_wire.specs.Serving.{AnswersEach, ServesInput, ServingEnds, spell_answers}
 use Rattle.vtl_wire.specs.Writes.{AppendsFront}
@@ -78,6 +78,15 @@ module _ {S : Type 0} (takes : S → Request → Bool) (answers : S → Request 
   }
   served_next count mid left before count' new left' now request NoMemory read ok did =
       (inr (inl (request, read, ok, did.0)), did.1)
+
+  -- an answer that is missed is no read fault
+  pub noted_answer : (old new : S) (request : Request) (before now : Option (List ℕ)) (failed : Bool)
+      (fault : WireFault) → AnswersRequest answers lacks old request before new now (Err fault)
+      → NotesFault failed failed fault
+  noted_answer old new request before now failed (BadFrame number) did = absurd did
+  noted_answer old new request before now failed ReadFault did = absurd did
+  noted_answer old new request before now failed WriteFault did = refl
+  noted_answer old new request before now failed NoMemory did = refl
 
   pub served_well : (count : ℕ) (mid : S) (left before : Option (List ℕ)) (count' : ℕ) (new : S)
       (left' now : Option (List ℕ)) (request : Request)

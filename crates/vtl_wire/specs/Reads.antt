@@ -1,5 +1,6 @@
 -- What a reader of frames takes of an input, and what it makes of it (own).
-use Rattle.std.specs.Prelude.{◌≡◌, ◌≢◌, ◌⊎◌, ℕ, ◌≤◌, ◌<◌, List, [], ◌++◌, length, Option, None, Some}
+use Rattle.std.specs.Prelude.{◌≡◌, ◌≢◌, ◌⊎◌, ℕ, ◌+◌, ◌^◌, ◌≤◌, ◌<◌, Bool, true, List, [], ◌++◌, length, Option, None, Some}
+use Rattle.std.specs.List.{All}
 use Rattle.std.specs.Io.KnownBytes.{Consumes, IsAtEnd}
 use Rattle.vtl_base.specs.declared.bytes.TheConstants.{INLINE_BYTES}
 use Rattle.vtl_base.specs.Steps.{ticked}
@@ -7,12 +8,24 @@ use Rattle.vtl_wire.specs.declared.frames.TheConstants.{HEADER_BYTES, MOST_DATA}
 use Rattle.vtl_wire.specs.declared.faults.WireFault.{WireFault}
 use Rattle.vtl_wire.specs.declared.faults.WireFault.TheVariants.{BadFrame, ReadFault, WriteFault, NoMemory}
 use Rattle.vtl_wire.specs.declared.requests.Request.{Request}
-use Rattle.vtl_wire.specs.Requests.{BeginsWithRequest, IsRequest, spell_request}
+use Rattle.vtl_wire.specs.Requests.{BeginsWithRequest, IsRequest, spell_request, spell_requests}
 
 -- a request was read, just its spelling; or the input had ended, and nothing was read (own)
 abbrev pub ReadsRequest : Option (List ℕ) → Option (List ℕ) → Option Request → Type 0
 ReadsRequest left left' (Some request) = IsRequest request × Consumes left left' (spell_request request)
 ReadsRequest left left' None = Consumes left left' [] × IsAtEnd left'
+
+-- a reader of requests: how many it has read, and whether a read of its input failed (own)
+pub record ReaderOfFrames : Type 0 where
+  pub frames : ℕ
+  pub failed : Bool
+
+-- a read fault is reported only where a read failed, which is noted; no other fault is noted so (own)
+abbrev pub NotesFault : Bool → Bool → WireFault → Type 0
+NotesFault before now (BadFrame number) = now ≡ before
+NotesFault before now ReadFault = now ≡ true
+NotesFault before now WriteFault = now ≡ before
+NotesFault before now NoMemory = now ≡ before
 
 -- how many requests were read after one more, if there was one; the number stops at its greatest value (own)
 abbrev pub count_after : {T : Type 0} → ℕ → Option T → ℕ
@@ -56,3 +69,26 @@ MissesRequest left left' before (BadFrame number) = (number ≡ ticked before) �
 MissesRequest left left' before ReadFault = TakesSome left left'
 MissesRequest left left' before WriteFault = ⊥
 MissesRequest left left' before NoMemory = LacksData left left'
+
+-- why there was no memory for all requests: for the data of the next; or for one more in the list, which was read
+-- whole; or the number of requests is at its greatest value (own)
+abbrev pub LacksMore : ℕ → Option (List ℕ) → Option (List ℕ) → Type 0
+LacksMore count left left' =
+    LacksData left left'
+    ⊎ (((request : Request) × ReadsRequest left left' (Some request)) ⊎ ((2 ^ 64 ≤ count + 1) × (left' ≡ left)))
+
+-- why no more requests are read after this many: the next is refused; a read failed before its last byte; or memory ran
+-- out (own)
+abbrev pub MissesNext : ℕ → Option (List ℕ) → Option (List ℕ) → WireFault → Type 0
+MissesNext count left left' (BadFrame number) = (number ≡ ticked count) × RefusesRequest left left'
+MissesNext count left left' ReadFault = TakesSome left left'
+MissesNext count left left' WriteFault = ⊥
+MissesNext count left left' NoMemory = LacksMore count left left'
+
+-- some requests were read, and behind them no more (own)
+pub record MissesRequests (left left' : Option (List ℕ)) (fault : WireFault) : Type 0 where
+  pub requests : List Request
+  pub spelled : All IsRequest requests
+  pub behind : Option (List ℕ)
+  pub read : Consumes left behind (spell_requests requests)
+  pub missed : MissesNext (length requests) behind left' fault

@@ -10,6 +10,7 @@ mod interruptions;
 pub mod laws;
 mod parts;
 mod reading;
+mod reads;
 mod request_heads;
 pub mod request_readers;
 pub mod request_writers;

@@ -1,11 +1,13 @@
 //! The two parts of a frame after its header.
-ghost use Rattle.std.specs.Prelude.{◌≤◌, IfOk, IfErr};
+ghost use Rattle.std.specs.Prelude.{◌≡◌, ◌≤◌, IfOk, IfErr};
 ghost use Rattle.vtl_base.specs.declared.bytes.TheConstants.{INLINE_BYTES};
+ghost use Rattle.vtl_wire.specs.Reads.{NotesFault};
 ghost use Rattle.vtl_wire.specs.Inner.Reading.{ReadsParts, MissesParts};
 
 use crate::faults::WireFault;
 use crate::headers::Header;
 use crate::reading::read_bytes;
+use crate::reads::Reads;
 use std::alloc::Global;
 use std::io::Read;
 use vtl_base::Bytes;
@@ -20,6 +22,7 @@ pub(crate) struct Parts {
 // The parts that a header counts, or None where the input ends within them.
 pub(crate) fn read_parts<R: Read>(
     alloc: Global,
+    reads: &mut Reads,
     reader: &mut R,
     header: Header,
 ) -> Result<Option<Parts>, WireFault>
@@ -28,11 +31,13 @@ pub(crate) fn read_parts<R: Read>(
         (ReadsParts (R.remaining reader.old) (R.remaining reader.new) header.front header.payload) }
     ensures fault { IfErr result
         (MissesParts (R.remaining reader.old) (R.remaining reader.new) header.front header.payload) }
+    ensures same { IfOk result (λ _. reads.new ≡ reads.old) }
+    ensures noted { IfErr result (NotesFault reads.old reads.new) }
 {
-    let Some(front) = read_bytes(alloc, reader, header.front as usize)? else {
+    let Some(front) = read_bytes(alloc, reads, reader, header.front as usize)? else {
         return Ok(None);
     };
-    match read_bytes(alloc, reader, header.payload as usize)? {
+    match read_bytes(alloc, reads, reader, header.payload as usize)? {
         Some(payload) => Ok(Some(Parts { front, payload })),
         None => Ok(None),
     }

@@ -1,13 +1,14 @@
 //! Requests, read from an input frame by frame.
-ghost use Rattle.std.specs.Prelude.{◌≡◌, ◌≢◌, ℕ, IfOk, IfErr, IfSome, Err, OnErr, Some, None};
+ghost use Rattle.std.specs.Prelude.{◌≡◌, ℕ, false, IfOk, IfErr, IfSome, Err, OnErr, Some, None};
 ghost use Rattle.vtl_base.specs.Steps.{ticked};
 ghost use Rattle.vtl_wire.specs.Requests.{IsRefusedAt, SpellsRequests};
-ghost use Rattle.vtl_wire.specs.Reads.{MissesRequest, ReadsRequest, count_after};
+ghost use Rattle.vtl_wire.specs.Reads.{MissesRequest, MissesRequests, NotesFault, ReadsRequest, count_after};
 ghost use Rattle.vtl_wire.specs.Inner.Reading.{FindsRequest, MissesFrame};
 
 use crate::faults::WireFault;
 use crate::parts::read_parts;
 use crate::reading::{Found, read_header};
+use crate::reads::Reads;
 use crate::request_heads::{request_head, request_in};
 use crate::requests::Request;
 use std::alloc::Global;
@@ -15,26 +16,33 @@ use std::io::Read;
 use std::marker::Model;
 
 /// A reader of requests, which counts them. The count stops at its greatest value. To a contract it is the number of
-/// requests that were read.
+/// requests that were read, and whether a read failed.
 #[derive(Drop)]
 pub struct RequestReader {
     frames: u64,
+    reads: Reads,
 }
 
 impl Model for RequestReader {
-    ghost use Rattle.std.specs.Prelude.{ℕ};
+    ghost use Rattle.vtl_wire.specs.Reads.{ReaderOfFrames};
 
-    ghost Value = { ℕ };
+    ghost Value = { ReaderOfFrames };
 
-    ghost view = { λ reader. reader.frames };
+    ghost view = { λ reader. record { frames = reader.frames; failed = reader.reads } };
 }
 
 // What stands next in an input.
-fn find_request<R: Read>(alloc: Global, reader: &mut R) -> Result<Found<Request>, WireFault>
+fn find_request<R: Read>(
+    alloc: Global,
+    reads: &mut Reads,
+    reader: &mut R,
+) -> Result<Found<Request>, WireFault>
     ensures found { IfOk result (FindsRequest (R.remaining reader.old) (R.remaining reader.new)) }
     ensures fault { IfErr result (MissesFrame (R.remaining reader.old) (R.remaining reader.new)) }
+    ensures same { IfOk result (λ _. reads.new ≡ reads.old) }
+    ensures noted { IfErr result (NotesFault reads.old reads.new) }
 {
-    let header = match read_header(reader)? {
+    let header = match read_header(reads, reader)? {
         Found::Frame(header) => header,
         Found::Ended => return Ok(Found::Ended),
         Found::Refused => return Ok(Found::Refused),
@@ -42,7 +50,7 @@ fn find_request<R: Read>(alloc: Global, reader: &mut R) -> Result<Found<Request>
     let Some(head) = request_head(header) else {
         return Ok(Found::Refused);
     };
-    match read_parts(alloc, reader, header)? {
+    match read_parts(alloc, reads, reader, header)? {
         Some(parts) => Ok(Found::Frame(request_in(header, head, parts))),
         None => Ok(Found::Refused),
     }
@@ -51,16 +59,27 @@ fn find_request<R: Read>(alloc: Global, reader: &mut R) -> Result<Found<Request>
 impl RequestReader {
     /// A reader that has read nothing.
     pub fn new() -> Self
-        ensures { result ≡ 0 }
+        ensures frames { result.frames ≡ 0 }
+        ensures failed { result.failed ≡ false }
     {
-        RequestReader { frames: 0 }
+        RequestReader {
+            frames: 0,
+            reads: Reads::new(),
+        }
     }
 
     /// How many requests were read.
     pub fn frames(&self) -> u64
-        ensures { result ≡ self.now }
+        ensures { result ≡ self.now.frames }
     {
         self.frames
+    }
+
+    /// Whether a read failed: then the last call returned a `ReadFault`.
+    pub fn has_failed(&self) -> bool
+        ensures { result ≡ self.now.failed }
+    {
+        self.reads.have_failed()
     }
 
     /// The next request, or None where the input has ended. No byte after it is read, however the input is cut. Memory
@@ -72,11 +91,13 @@ impl RequestReader {
         reader: &mut R,
     ) -> Result<Option<Request>, WireFault>
         ensures ok { IfOk result (ReadsRequest (R.remaining reader.old) (R.remaining reader.new)) }
-        ensures count { IfOk result (λ found. self.new ≡ count_after self.old found) }
-        ensures err { IfErr result (MissesRequest (R.remaining reader.old) (R.remaining reader.new) self.old) }
-        ensures same { OnErr result (self.new ≡ self.old) }
+        ensures count { IfOk result (λ found. self.new.frames ≡ count_after self.old.frames found) }
+        ensures err { IfErr result (MissesRequest (R.remaining reader.old) (R.remaining reader.new) self.old.frames) }
+        ensures same { OnErr result (self.new.frames ≡ self.old.frames) }
+        ensures well { IfOk result (λ _. self.new.failed ≡ self.old.failed) }
+        ensures noted { IfErr result (NotesFault self.old.failed self.new.failed) }
     {
-        match find_request(alloc, reader)? {
+        match find_request(alloc, &mut self.reads, reader)? {
             Found::Frame(request) => {
                 self.frames = self.frames.saturating_add(1);
                 Ok(Some(request))
@@ -96,7 +117,7 @@ pub fn read_requests<R: Read>(alloc: Global, reader: &mut R) -> Result<Vec<Reque
         IfSome (R.remaining reader.old) (λ bytes. SpellsRequests bytes requests.items)) }
     ensures refused { (number : ℕ) → result ≡ Err (WireFault.BadFrame number) →
         IfSome (R.remaining reader.old) (λ bytes. IsRefusedAt bytes number) }
-    ensures fault { IfErr result (λ fault. fault ≢ WireFault.WriteFault) }
+    ensures missed { IfErr result (MissesRequests (R.remaining reader.old) (R.remaining reader.new)) }
 {
     let mut requests = Vec::new(alloc);
     let mut frames = RequestReader::new();

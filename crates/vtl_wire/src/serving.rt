@@ -1,7 +1,8 @@
 //! Requests that are read, served and answered.
-ghost use Rattle.std.specs.Prelude.{◌≡◌, true, IfErr, OnOk, OnErr};
+ghost use Rattle.std.specs.Prelude.{◌≡◌, true, IfOk, IfErr, OnOk, OnErr};
 ghost use Rattle.std.specs.Io.KnownBytes.{Appends};
 ghost use Rattle.vtl_wire.specs.Answers.{FitsAnswer, spell_answer};
+ghost use Rattle.vtl_wire.specs.Reads.{NotesFault};
 ghost use Rattle.vtl_wire.specs.Serving.{ServesInput};
 ghost use Rattle.vtl_wire.specs.Writes.{AppendsFront};
 ghost use Rattle.vtl_wire.specs.Inner.Served.{AnswersRequest, ServesNext};
@@ -54,8 +55,10 @@ fn serve_next<S: Server, R: Read, W: Write>(
     reader: &mut R,
     writer: &mut W,
 ) -> Result<bool, WireFault>
-    ensures { ServesNext S.is_taken S.answers S.lacks frames.old server.old (R.remaining reader.old)
-        (W.contents writer.old) frames.new server.new (R.remaining reader.new) (W.contents writer.new) result }
+    ensures serves { ServesNext S.is_taken S.answers S.lacks frames.old.frames server.old (R.remaining reader.old)
+        (W.contents writer.old) frames.new.frames server.new (R.remaining reader.new) (W.contents writer.new) result }
+    ensures same { IfOk result (λ _. frames.new.failed ≡ frames.old.failed) }
+    ensures noted { IfErr result (NotesFault frames.old.failed frames.new.failed) }
 {
     let Some(request) = frames.next(alloc, reader)? else {
         return Ok(false);

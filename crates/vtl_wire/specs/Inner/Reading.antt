@@ -19,6 +19,11 @@ count_read (Ok (Some count)) = count
 count_read (Ok None) = 0
 count_read (Err fault) = 0
 
+-- how many bytes reads gave, none where one failed (own)
+abbrev pub count_given : Result ℕ WireFault → ℕ
+count_given (Ok count) = count
+count_given (Err fault) = 0
+
 -- the input ended within this many bytes (own)
 pub record EndsWithin (left left' : Option (List ℕ)) (count : ℕ) : Type 0 where
   pub read : List ℕ

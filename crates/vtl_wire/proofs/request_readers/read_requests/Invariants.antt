@@ -4,4 +4,4 @@ use Rattle.vtl_wire.proofs.request_readers.read_requests.Given as goal
 -- the requests so far were read, and counted
 abbrev pub invariant-loop : goal.invariant-loop
 invariant-loop g l =
-    AreRead (g.R.Read.remaining l.fn.reader) (g.R.Read.remaining l.reader) l.requests.items l.frames l.counter
+    AreRead (g.R.Read.remaining l.fn.reader) (g.R.Read.remaining l.reader) l.requests.items l.frames.frames l.counter
