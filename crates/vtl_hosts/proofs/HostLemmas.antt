@@ -1,5 +1,5 @@
 -- What a host's thread has done.
-use Rattle.std.proofs.Common.{◌≡◌, List, [], ◌∷◌, ◌++◌, refl, sym, ap, ◌∙◌, subst, append_assoc}
+use Rattle.std.proofs.Common.{◌≡◌, length, arith, List, [], ◌∷◌, ◌++◌, refl, sym, ap, ◌∙◌, subst, append_assoc}
 use Rattle.std.proofs.lemmas.List.{append-nil}
 use Rattle.rtrb.specs.Ends.{SameRing}
 use Rattle.rtrb.specs.declared.consumer.Consumer.{Consumer}
@@ -45,6 +45,14 @@ module _ {S : Type 0} (answers : S → Request → Answer → S → Type 0) wher
   answers_on old mid new [] rs' (a ∷ others) as' one two = absurd one
   answers_on old mid new (r ∷ rs) rs' [] as' one two = absurd one
 
+  -- there are as many answers as requests
+  pub as_many : (old new : S) (rs : List Request) (as_ : List Answer) → AnswersAll answers old rs as_ new
+      → length rs ≡ length as_
+  as_many old new [] [] all = refl
+  as_many old new (r ∷ rs) (a ∷ others) all = omega (arith, as_many all.0 new rs others all.2)
+  as_many old new [] (a ∷ others) all = absurd all
+  as_many old new (r ∷ rs) [] all = absurd all
+
   pub served_none : (host : HostEnd S) → IsHostServed answers host host
   served_none host = record {
     requests = [];
@@ -54,6 +62,7 @@ module _ {S : Type 0} (answers : S → Request → Answer → S → Type 0) wher
     received = sym (append-nil (received host.requests));
     sent = sym (append-nil (sent host.answers));
     answered = refl;
+    strayed = refl;
   }
 
   pub served_on : (old mid new : HostEnd S) → IsHostServed answers old mid → IsHostServed answers mid new
@@ -68,6 +77,7 @@ module _ {S : Type 0} (answers : S → Request → Answer → S → Type 0) wher
     answered =
         answers_on old.server mid.server new.server one.requests two.requests one.given two.given one.answered
         two.answered;
+    strayed = two.strayed ∙ one.strayed;
   }
 
   pub done_on : (old mid new : HostEnd S) → IsHostServed answers old mid → IsHostDone answers mid new
@@ -87,6 +97,7 @@ module _ {S : Type 0} (answers : S → Request → Answer → S → Type 0) wher
         answers_on old.server mid.server new.server one.requests two.requests one.given two.given one.answered
         two.answered;
     strays = two.strays;
+    noted = λ none. two.noted none ∙ one.strayed;
   }
 
   pub done_of : (old new : HostEnd S) → IsHostServed answers old new → IsHostDone answers old new
@@ -101,4 +112,5 @@ module _ {S : Type 0} (answers : S → Request → Answer → S → Type 0) wher
     sent = one.sent;
     answered = one.answered;
     strays = λ same. refl;
+    noted = λ none. one.strayed;
   }

@@ -3,7 +3,7 @@ use Rattle.std.proofs.Common.{◌≡◌, ◌⊎◌, inl, inr, ◌<◌, ◌≤◌
 use Rattle.std.proofs.lemmas.Bool.{cases_eq}
 use Rattle.std.proofs.lemmas.List.{get_or-set_other, get_or-set_same, get_or_default, length-set}
 use Rattle.vtl_hosts.specs.declared.hosts.HostEnd.{HostEnd}
-use Rattle.vtl_hosts.specs.Inner.Looks.{ArePairs, ArePairsAt, LooksAll, LooksAt}
+use Rattle.vtl_hosts.specs.Inner.Looks.{ArePairs, ArePairsAt, LeavesAt, LeavesSome, LooksAll, LooksAt}
 use Rattle.vtl_hosts.specs.Inner.Rings.{Answers, Requests}
 
 first_is : (a b : Bool) → (a && b) ≡ true → a ≡ true
@@ -158,3 +158,42 @@ module _ {S : Type 0} where
           (sym (here_is answers answers' at z a (omega (arith, within, so.as_many_answers))
           (so.left_answers at z (omega arith))))
           (looks_weaker _ _ _ _ _ _ here both (λ so_is. second_is empty here (sym is ∙ so_is)) one)))))))
+
+  -- something is left at a host before this place
+  pub record LeavesBefore (hosts : List (HostEnd S)) (answers : List Answers) (at : ℕ) : Type 0 where
+    pub leaves : LeavesAt hosts answers
+    pub before : leaves.place < at
+
+  pub leaves_more : (hosts : List (HostEnd S)) (answers : List Answers) (at : ℕ) (h : HostEnd S) (a : Answers)
+      (empty here both : Bool)
+      → at < length hosts → at < length answers → both ≡ (empty && here)
+      → (empty ≡ false → LeavesBefore hosts answers at) → (here ≡ false → LeavesSome h a)
+      → both ≡ false → LeavesBefore (set hosts at h) (set answers at a) (at + 1)
+  leaves_more hosts answers at h a true here both within inside is old one so = record {
+    leaves = record {
+      place = at;
+      within = omega (arith, within, length-set hosts at h);
+      some = λ x y.
+          subst (λ (l : HostEnd S). LeavesSome l (get_or (set answers at a) at y))
+          (sym (get_or-set_same hosts at h x within))
+          (subst (λ (l : Answers). LeavesSome h l) (sym (get_or-set_same answers at a y inside))
+          (one (sym is ∙ so)));
+    };
+    before = omega arith;
+  }
+  leaves_more hosts answers at h a false here both within inside is old one so =
+      let was = old refl in
+      let k = was.leaves.place in
+      let other : k ≡ at → ⊥ = λ same. omega (arith, same, was.before) in
+      record {
+        leaves = record {
+          place = k;
+          within = omega (arith, was.leaves.within, length-set hosts at h);
+          some = λ x y.
+              subst (λ (l : HostEnd S). LeavesSome l (get_or (set answers at a) k y))
+              (sym (get_or-set_other hosts at k h x other))
+              (subst (λ (l : Answers). LeavesSome (get_or hosts k x) l) (sym (get_or-set_other answers at k a y other))
+              (was.leaves.some x y));
+        };
+        before = omega (arith, was.before);
+      }

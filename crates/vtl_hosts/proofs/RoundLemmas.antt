@@ -1,5 +1,5 @@
 -- A round, from what each of its threads has done.
-use Rattle.std.proofs.Common.{zero, suc, ◌≡◌, ◌<◌, ◌+◌, ◌&&◌, ◌⊎◌, inl, inr, not, ℕ, Bool, true, false, List, [], ◌∷◌, ◌++◌, Option, Result, Ok, Err, length, get_or, take, drop, refl, sym, ap, ◌∙◌, subst, arith, append_assoc}
+use Rattle.std.proofs.Common.{zero, suc, ◌≡◌, ◌<◌, ◌+◌, ◌&&◌, ◌⊎◌, inl, inr, not, ℕ, Bool, true, false, List, [], ◌∷◌, ◌++◌, Option, Result, Ok, Err, length, get_or, take, drop, refl, sym, ap, ◌∙◌, subst, arith, append_assoc, length-append}
 use Rattle.std.proofs.lemmas.List.{append-nil, append_cancel_left, get_or-map, length-map}
 use Rattle.std.proofs.Math.Seq.{take-append_seam}
 use Rattle.std.specs.List.{All}
@@ -12,15 +12,16 @@ use Rattle.vtl_wire.specs.declared.faults.WireFault.TheVariants.{BadFrame, ReadF
 use Rattle.vtl_wire.specs.declared.requests.Request.{Request}
 use Rattle.vtl_hosts.specs.declared.hosts.HostEnd.{HostEnd}
 use Rattle.vtl_hosts.specs.declared.reading.Break.{Break}
-use Rattle.vtl_hosts.specs.declared.reading.Break.TheVariants.{Ended, Stopped, Again, Next}
-use Rattle.vtl_hosts.specs.Rounds.{AnswersAll, AnswersBegun, AnswersHosts, AnswersUpTo, Given, WritesCut, WritesWhole, of_host, of_place}
+use Rattle.vtl_hosts.specs.declared.reading.Break.TheVariants.{Ended, Again, Next}
+use Rattle.vtl_hosts.specs.Rounds.{AnswersAll, AnswersBegun, AnswersHosts, AnswersUpTo, Given, OwesAnswer, WritesCut, WritesWhole, of_host, of_place}
 use Rattle.vtl_hosts.specs.Turns.{ReadsNoCommand}
 use Rattle.vtl_hosts.specs.Inner.Hosts.{AreHostsDone, IsHostDone}
 use Rattle.vtl_hosts.specs.Inner.Idle.{AreIdle, RunsRound, servers_of}
-use Rattle.vtl_hosts.specs.Inner.Looks.{ArePairs, LooksAll, LooksAt}
+use Rattle.vtl_hosts.specs.Inner.Looks.{ArePairs, LeavesAt, LeavesSome, LooksAll, LooksAt}
 use Rattle.vtl_hosts.specs.Inner.Reading.{ReadingEnds, ReadsRound}
 use Rattle.vtl_hosts.specs.Inner.Rings.{Answers, Deals, Requests, Takes}
 use Rattle.vtl_hosts.specs.Inner.Writing.{WritesAll, WritesGiven}
+use Rattle.vtl_hosts.proofs.HostLemmas.{as_many}
 
 -- what is at a place of a row
 record HasAt {T : Type 0} (xs : List T) (k : ℕ) : Type 0 where
@@ -54,6 +55,12 @@ rest_of : {X : Type 0} (start all out_ rest put : List X) → out_ ++ rest ≡ a
 rest_of start all out_ rest put whole was made is =
     append_cancel_left start put (made ++ rest)
     (sym was ∙ sym whole ∙ ap (λ (l : List _). l ++ rest) is ∙ append_assoc start made rest)
+
+-- a request was dropped where that is noted now
+some_stray : (stray : List Request) (old new : Bool) → old ≡ false → new ≡ true → (stray ≡ [] → new ≡ old)
+    → 0 < length stray
+some_stray [] old new before now noted = let same = noted refl in absurd (cc)
+some_stray (x ∷ xs) old new before now noted = omega arith
 
 module _ {S : Type 0} (serves : S → Request → Answer → S → Type 0) where
   module _ (h h' h'' : HostEnd S) (r r' r'' : Requests) (a a' a'' : Answers) (commands : List Request)
@@ -89,6 +96,31 @@ module _ {S : Type 0} (serves : S → Request → Answer → S → Type 0) where
       made_are = made_are;
       answered = answered;
     }
+
+    -- where something is left there are fewer answers
+    pub owed_at : h.strayed ≡ false → LeavesSome h'' a'' → length given < length commands
+    owed_at before leaves = by leaves
+      where
+        counts : length commands ≡ length done.requests + (length done.stray + length (known_items h''.requests))
+        counts =
+            ap length commands_are ∙ length-append done.requests (done.stray ++ known_items h''.requests)
+            ∙ ap (λ (n : ℕ). length done.requests + n) (length-append done.stray (known_items h''.requests))
+
+        gave : length done.requests ≡ length given + length (known_items a'')
+        gave =
+            as_many serves h.server h''.server done.requests done.given answered
+            ∙ ap length made_are ∙ length-append given (known_items a'')
+
+        by : LeavesSome h'' a'' → length given < length commands
+        by (inl request) = omega (arith, counts, gave, request)
+        by (inr (inl answer)) = omega (arith, counts, gave, answer)
+        by (inr (inr strayed)) =
+            omega (
+              arith,
+              counts,
+              gave,
+              some_stray done.stray h.strayed h'.strayed before (sym looks.strayed ∙ strayed) done.noted,
+            )
 
     pub whole_at : empty ≡ true → AnswersAll serves h.server commands given h''.server
     whole_at is =
@@ -166,6 +198,26 @@ module _ {S : Type 0} (serves : S → Request → Answer → S → Type 0) where
       others = others_in;
     }
 
+    -- where something is left some host has fewer answers
+    pub owes : LeavesAt hosts'' answers'' → OwesAnswer (length (servers_of hosts)) commands given
+    owes leaves =
+        let k = leaves.place in
+        let within : k < length hosts = omega (arith, leaves.within, looks.long, done.long) in
+        let h = (item_at hosts k within).item in
+        let r = (item_at requests k (omega (arith, within, idle.pairs.as_many_requests))).item in
+        let a = (item_at answers k (omega (arith, within, idle.pairs.as_many_answers))).item in
+        record {
+          place = k;
+          within = omega (arith, within, length-map hosts (λ (h : HostEnd S). h.server));
+          fewer = owed_at (get_or hosts k h) (get_or hosts' k h) (get_or hosts'' k h) (get_or requests k r)
+              (get_or requests' k r) (get_or requests'' k r) (get_or answers k a) (get_or answers' k a)
+              (get_or answers'' k a) (of_host (k + 1) commands) (of_place k given) empty (done.each k h within)
+              (dealt.each k r (omega (arith, within, idle.pairs.as_many_requests)))
+              (taken.each k a (omega (arith, within, idle.pairs.as_many_answers))) (idle.no_request k h r within)
+              (idle.no_answer k h a within) (looks.each k h r a (omega (arith, within, done.long)))
+              (idle.no_stray k h within) (leaves.some h a);
+        }
+
     pub idle_again : empty ≡ true → AreIdle hosts'' requests'' answers''
     idle_again is = record {
       pairs = record {
@@ -187,6 +239,11 @@ module _ {S : Type 0} (serves : S → Request → Answer → S → Type 0) where
           sym (append-nil (received (get_or answers'' k a)))
           ∙ ap (λ (l : List Answer). received (get_or answers'' k a) ++ l) (sym (one.no_answer is))
           ∙ one.all_answers;
+      no_stray = λ k h less.
+          let within : k < length hosts' = omega (arith, less, looks.long) in
+          let r = (item_at requests k (omega (arith, within, done.long, idle.pairs.as_many_requests))).item in
+          let a = (item_at answers k (omega (arith, within, done.long, idle.pairs.as_many_answers))).item in
+          (looks.each k h r a within).no_stray is;
     }
 
   -- the ends are pairs still
@@ -211,11 +268,13 @@ module _ {S : Type 0} (serves : S → Request → Answer → S → Type 0) where
         };
   }
 
--- all answers were written, or a write failed
-part_of : (before now : Option (List ℕ)) (failed : Bool) (given : List Given)
-    → WritesGiven before false now failed given → WritesWhole before now given ⊎ WritesCut before now given
-part_of before now false given wrote = inl wrote
-part_of before now true given wrote = inr wrote
+-- a write failed, or all answers that were given on were written and some host is owed one
+part_of : (before now : Option (List ℕ)) (failed empty : Bool) (given : List Given) (Owed : Type 0)
+    → false ≡ (not failed && empty) → WritesGiven before false now failed given → (empty ≡ false → Owed)
+    → WritesCut before now given ⊎ (WritesWhole before now given × Owed)
+part_of before now true empty given Owed is wrote owed = inl wrote
+part_of before now false false given Owed is wrote owed = inr (wrote, owed refl)
+part_of before now false true given Owed is wrote owed = absurd (cc)
 
 both_so : (failed empty : Bool) → true ≡ (not failed && empty) → (failed ≡ false) × (empty ≡ true)
 both_so false empty is = (refl, sym is)
@@ -227,7 +286,6 @@ module _ {S G : Type 0} (serves : S → Request → Answer → S → Type 0) (ta
   no_command : (desk : G) (count count' : ℕ) (left left' : Option (List ℕ)) (read : Result Break WireFault)
       → ReadingEnds (takes desk) count left count' left' read → ReadsNoCommand serves takes answers_so desk left left'
   no_command desk count count' left left' (Ok Ended) ends = inr (inl ends)
-  no_command desk count count' left left' (Ok Stopped) ends = inl ends
   no_command desk count count' left left' (Ok Again) ends = inl ends.0
   no_command desk count count' left left' (Ok (Next request)) ends =
       inr (inr (inr (inr (inr (record {
@@ -247,11 +305,12 @@ module _ {S G : Type 0} (serves : S → Request → Answer → S → Type 0) (ta
       → WritesAll answers before false answers' now failed
       → ReadsRound (takes desk) count requests left count' requests' left' read
       → LooksAll hosts' requests' answers' hosts'' requests'' answers'' empty
+      → (empty ≡ false → LeavesAt hosts'' answers'')
       → whole ≡ (not failed && empty)
       → RunsRound serves takes answers_so count (record { hosts = servers_of hosts; desk = desk }) left before count'
       (record { hosts = servers_of hosts''; desk = desk }) left' now read whole
   round_runs hosts hosts' hosts'' requests requests' requests'' answers answers' answers'' desk count count' left left'
-      before now read failed empty true idle done wrote reads looks is =
+      before now read failed empty true idle done wrote reads looks leaves is =
       let so = both_so failed empty is in (
         reads.behind,
         record {
@@ -269,7 +328,7 @@ module _ {S G : Type 0} (serves : S → Request → Answer → S → Type 0) (ta
         subst (λ (n : ℕ). ReadingEnds (takes desk) n reads.behind count' left' read) reads.read.counted reads.ended,
       )
   round_runs hosts hosts' hosts'' requests requests' requests'' answers answers' answers'' desk count count' left left'
-      before now read failed empty false idle done wrote reads looks is = (
+      before now read failed empty false idle done wrote reads looks leaves is = (
         reads.behind,
         record {
           commands = reads.read.commands;
@@ -280,7 +339,9 @@ module _ {S G : Type 0} (serves : S → Request → Answer → S → Type 0) (ta
           hosts =
               some_answered serves hosts hosts' hosts'' requests requests' requests'' answers answers' answers''
               reads.read.commands wrote.given empty idle done reads.read.dealt wrote.taken looks;
-          written = part_of before now failed wrote.given wrote.written;
+          written = part_of before now failed empty wrote.given _ is wrote.written
+              (λ some. owes serves hosts hosts' hosts'' requests requests' requests'' answers answers' answers''
+              reads.read.commands wrote.given empty idle done reads.read.dealt wrote.taken looks (leaves some));
         },
         no_command desk reads.counted count' reads.behind left' read reads.ended,
       )

@@ -10,11 +10,12 @@ use Rattle.vtl_wire.specs.declared.faults.WireFault.{WireFault}
 use Rattle.vtl_wire.specs.declared.faults.WireFault.TheVariants.{BadFrame, ReadFault, WriteFault, NoMemory}
 use Rattle.vtl_wire.specs.declared.requests.Request.{Request}
 use Rattle.vtl_wire.specs.Answers.{spell_answer}
+use Rattle.vtl_wire.specs.Reads.{NotesFault}
 use Rattle.vtl_wire.specs.Requests.{IsRequest, spell_request, spell_requests}
 use Rattle.vtl_hosts.specs.declared.reading.Break.{Break}
-use Rattle.vtl_hosts.specs.declared.reading.Break.TheVariants.{Ended, Stopped, Again, Next}
-use Rattle.vtl_hosts.specs.Rounds.{AnswersHosts, AnswersUpTo, Given, of_host, of_place, spell_given}
-use Rattle.vtl_hosts.specs.Turns.{AnswersTurns, FitsTurn, HostsState, ServesHosts, ServesPart, ServesWhole, Turn, count_on, request_in, requests_of, spell_alone, spell_turns}
+use Rattle.vtl_hosts.specs.declared.reading.Break.TheVariants.{Ended, Again, Next}
+use Rattle.vtl_hosts.specs.Rounds.{spell_given}
+use Rattle.vtl_hosts.specs.Turns.{AnswersTurns, FitsTurn, HostsState, ServesHosts, Turn, count_on, request_in, requests_of, spell_alone, spell_turns}
 use Rattle.vtl_hosts.specs.Inner.Idle.{RunsRound}
 use Rattle.vtl_hosts.specs.Inner.Serving.{AnswersAlone, EndsServing, ServesTurns}
 use Rattle.vtl_hosts.proofs.ReadLemmas.{count_append, spelled_append}
@@ -22,6 +23,20 @@ use Rattle.vtl_hosts.proofs.ReadLemmas.{count_append, spelled_append}
 pub is_so : (b : Bool) → not b ≡ false → b ≡ true
 is_so true is = refl
 is_so false is = absurd (cc)
+
+pub is_not : (b : Bool) → not b ≡ true → b ≡ false
+is_not true is = absurd (cc)
+is_not false is = refl
+
+-- a read fault of a round is noted
+pub noted_read : (before now : Bool) (fault : WireFault) → NotesFault before now fault → fault ≡ ReadFault → now ≡ true
+noted_read before now fault noted is = rw is at noted
+
+-- an answer that is missed is no read fault
+pub noted_alone : {G : Type 0} (answers : G → Request → Answer → G → Type 0) (lacks : G → Request → Type 0)
+    (old new : G) (request : Request) (before now : Option (List ℕ)) (fault : WireFault)
+    → AnswersAlone answers lacks old request before new now (Err fault) → fault ≡ ReadFault → ⊥
+noted_alone answers lacks old new request before now fault alone is = rw is at alone
 
 requests_append : (xs ys : List Turn) → requests_of (xs ++ ys) ≡ requests_of xs ++ requests_of ys
 requests_append [] ys = refl
@@ -39,39 +54,8 @@ turns_append (x ∷ xs) ys =
     (sym (append_assoc (spell_alone x.alone) (spell_turns xs) (spell_turns ys)))
     ∙ sym (append_assoc (spell_given x.given) (spell_alone x.alone ++ spell_turns xs) (spell_turns ys))
 
-module _ {S : Type 0} (serves : S → Request → Answer → S → Type 0) where
-  -- all were answered, so some were
-  some_of_all : (old new : List S) (commands : List Request) (given : List Given)
-      → AnswersHosts serves old commands given new → AnswersUpTo serves old commands given new
-  some_of_all old new commands given all = record {
-    long = all.long;
-    each = λ k d less. record {
-      done = of_host (k + 1) commands;
-      left = [];
-      commands_are = sym (append-nil (of_host (k + 1) commands));
-      made = of_place k given;
-      kept = [];
-      made_are = sym (append-nil (of_place k given));
-      answered = all.each k d less;
-    };
-    others = all.others;
-  }
-
 module _ {S G : Type 0} (serves : S → Request → Answer → S → Type 0) (takes : G → Request → Bool)
     (answers : G → Request → Answer → G → Type 0) (lacks : G → Request → Type 0) where
-  part_of_whole : (old new : HostsState S G) (left before left' now : Option (List ℕ))
-      → ServesWhole serves takes answers old left before new left' now
-      → ServesPart serves takes answers old left before new left' now
-  part_of_whole old new left before left' now whole = record {
-    commands = whole.commands;
-    given = whole.given;
-    read = whole.read;
-    spelled = whole.spelled;
-    taken = whole.taken;
-    hosts = some_of_all serves old.hosts new.hosts whole.commands whole.given whole.hosts;
-    written = inl whole.written;
-  }
-
   turns_on_from : (old mid new : HostsState S G) (xs ys : List Turn) → AnswersTurns serves takes answers old xs mid
       → AnswersTurns serves takes answers mid ys new → AnswersTurns serves takes answers old (xs ++ ys) new
   turns_on_from old mid new [] ys same two =
@@ -128,21 +112,6 @@ module _ {S G : Type 0} (serves : S → Request → Answer → S → Type 0) (ta
     turn_failed count' left' now read runs =
         inr (record { behind = runs.0; desk = refl; part = runs.1; ended = runs.2; result_is = refl })
 
-    pub turn_stopped : (count' : ℕ) (left' now : Option (List ℕ))
-        → RunsRound serves takes answers count old left before count' (record { hosts = hosts; desk = old.desk }) left'
-        now (Ok Stopped) true
-        → EndsServing serves takes answers lacks count old left before (record { hosts = hosts; desk = old.desk })
-        left' now
-        (Err WriteFault)
-    turn_stopped count' left' now runs =
-        inr (record {
-          behind = runs.0;
-          desk = refl;
-          part = part_of_whole old (record { hosts = hosts; desk = old.desk }) left before runs.0 now runs.1;
-          ended = inl runs.2;
-          result_is = refl;
-        })
-
     pub turn_ended : (count' : ℕ) (left' now : Option (List ℕ))
         → RunsRound serves takes answers count old left before count' (record { hosts = hosts; desk = old.desk }) left'
         now (Ok Ended) true
@@ -159,7 +128,7 @@ module _ {S G : Type 0} (serves : S → Request → Answer → S → Type 0) (ta
           ended = (runs.2, refl, refl);
         })
 
-    -- threads are missing, and the next turn begins
+    -- no more is read in this round, and the next turn begins
     pub turn_again : (count' : ℕ) (left' now : Option (List ℕ))
         → RunsRound serves takes answers count old left before count' (record { hosts = hosts; desk = old.desk }) left'
         now (Ok Again) true

@@ -60,6 +60,13 @@ pub record WritesCut (before now : Option (List ℕ)) (given : List Given) : Typ
   pub written : WritesWhole before between whole
   pub part : WritesFront between now cut.answer
 
+-- some host of so many, whose place is its number less one, has fewer answers than commands: one was not answered, or
+-- its answer was not given on (own)
+pub record OwesAnswer (hosts : ℕ) (commands : List Request) (given : List Given) : Type 0 where
+  pub place : ℕ
+  pub within : place < hosts
+  pub fewer : length (of_place place given) < length (of_host (place + 1) commands)
+
 -- The commands of a host were answered up to some place, each once and in their order, and a beginning of these answers
 -- was given on (own).
 pub record AnswersBegun {S : Type 0} (answers : S → Request → Answer → S → Type 0)

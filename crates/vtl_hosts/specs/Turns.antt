@@ -1,5 +1,5 @@
 -- Hosts that are served over one pipe, with moves and inventories between their commands (own).
-use Rattle.std.specs.Prelude.{◌≡◌, ◌⊎◌, ℕ, ◌+◌, ◌<◌, Bool, true, List, [], ◌∷◌, ◌++◌, Option, None, Some, IfSome, Result, Ok, Err}
+use Rattle.std.specs.Prelude.{◌≡◌, ◌⊎◌, ℕ, ◌+◌, ◌<◌, Bool, true, List, [], ◌∷◌, ◌++◌, length, Option, None, Some, IfSome, Result, Ok, Err}
 use Rattle.std.specs.List.{All}
 use Rattle.std.specs.Io.KnownBytes.{Appends, Consumes}
 use Rattle.vtl_base.specs.Steps.{ticked}
@@ -12,7 +12,7 @@ use Rattle.vtl_wire.specs.Answers.{FitsAnswer, spell_answer}
 use Rattle.vtl_wire.specs.Reads.{LacksData, ReadsRequest, TakesSome}
 use Rattle.vtl_wire.specs.Requests.{IsRequest, spell_requests}
 use Rattle.vtl_wire.specs.Serving.{RefusesNext, WritesFront}
-use Rattle.vtl_hosts.specs.Rounds.{AnswersHosts, AnswersUpTo, FitGiven, Given, WritesCut, WritesWhole, host_in, spell_given}
+use Rattle.vtl_hosts.specs.Rounds.{AnswersHosts, AnswersUpTo, FitGiven, Given, OwesAnswer, WritesCut, WritesWhole, host_in, spell_given}
 
 -- how many frames there are after `count` and these; the number stops at its greatest value (own)
 abbrev pub count_on : ℕ → List Request → ℕ
@@ -94,7 +94,7 @@ module _ {S G : Type 0} (serves : S → Request → Answer → S → Type 0) (ta
 
   -- The commands behind the last turn: they were read, and of each host some were answered, from the first on; and some
   -- of these answers were given on (own).
-  pub record ServesLast (Writes : List Given → Type 0)
+  pub record ServesLast (Writes : List Request → List Given → Type 0)
       (Answered : List S → List Request → List Given → List S → Type 0)
       (old : HostsState S G) (left : Option (List ℕ)) (new : HostsState S G) (left' : Option (List ℕ)) : Type 0 where
     pub commands : List Request
@@ -103,21 +103,25 @@ module _ {S G : Type 0} (serves : S → Request → Answer → S → Type 0) (ta
     pub spelled : All IsRequest commands
     pub taken : All (IsCommand (takes old.desk)) commands
     pub hosts : Answered old.hosts commands given new.hosts
-    pub written : Writes given
+    pub written : Writes commands given
 
   -- all were answered, and the answers written (own)
   abbrev pub ServesWhole : HostsState S G → Option (List ℕ) → Option (List ℕ) → HostsState S G → Option (List ℕ)
       → Option (List ℕ) → Type 0
   ServesWhole old left before new left' now =
-      ServesLast (WritesWhole before now) (AnswersHosts serves) old left new left'
+      ServesLast (λ commands given. WritesWhole before now given) (AnswersHosts serves) old left new left'
 
-  -- of each host some were answered, from the first on; and all of the answers that were given on were written, or a
-  -- write failed (own)
+  -- Not all answers were written: a write failed, or all that were given on were written, and some host is owed one
+  -- (own).
+  abbrev pub WritesNotAll : Option (List ℕ) → Option (List ℕ) → List S → List Request → List Given → Type 0
+  WritesNotAll before now hosts commands given =
+      WritesCut before now given ⊎ (WritesWhole before now given × OwesAnswer (length hosts) commands given)
+
+  -- of each host some were answered, from the first on; and not all answers were written (own)
   abbrev pub ServesPart : HostsState S G → Option (List ℕ) → Option (List ℕ) → HostsState S G → Option (List ℕ)
       → Option (List ℕ) → Type 0
   ServesPart old left before new left' now =
-      ServesLast (λ given. WritesWhole before now given ⊎ WritesCut before now given) (AnswersUpTo serves) old left new
-      left'
+      ServesLast (WritesNotAll before now old.hosts) (AnswersUpTo serves) old left new left'
 
   -- a move or an inventory was read, and is taken (own)
   pub record ReadsAlone (desk : G) (left left' : Option (List ℕ)) : Type 0 where
@@ -142,7 +146,7 @@ module _ {S G : Type 0} (serves : S → Request → Answer → S → Type 0) (ta
       ⊎ (RefusesNext (takes desk) left left'
       ⊎ (TakesSome left left' ⊎ (LacksData left left' ⊎ ReadsAlone desk left left'))))
 
-  -- A write failed: after the commands that were answered in part no other was read (own).
+  -- A write fault: not all answers were written, and after the commands no other was read (own).
   pub record EndsPart (old : HostsState S G) (left before : Option (List ℕ)) (new : HostsState S G)
       (left' now : Option (List ℕ)) (result : Result (Unit {0}) WireFault) : Type 0 where
     pub behind : Option (List ℕ)

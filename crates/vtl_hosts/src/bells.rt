@@ -159,8 +159,9 @@ impl Bells {
         }
     }
 
-    /// Begins a round: something may come, and no thread has begun.
+    /// Begins a round: something may come, no thread has begun, and no write failed.
     pub(crate) fn reopen<R: Wait>(&self, rt: &R) {
+        self.stopped.store(false, Ordering::SeqCst);
         *self.begun.lock(rt) = 0;
         self.writer.reopen(rt);
         for bells in &self.hosts {

@@ -1,7 +1,7 @@
 //! What is left in the rings once all threads are joined.
-ghost use Rattle.std.specs.Prelude.{◌≡◌, ◌&&◌, length};
+ghost use Rattle.std.specs.Prelude.{◌≡◌, ◌&&◌, length, false};
 ghost use Rattle.rtrb.specs.Ring.{IsPair};
-ghost use Rattle.vtl_hosts.specs.Inner.Looks.{ArePairs, LooksAll, LooksAt};
+ghost use Rattle.vtl_hosts.specs.Inner.Looks.{ArePairs, LeavesAt, LeavesSome, LooksAll, LooksAt};
 
 use crate::hosts::HostEnd;
 use crate::servers::Host;
@@ -16,7 +16,8 @@ fn is_empty_at<S: Host>(
 ) -> bool
     requires requests { IsPair requests.old host.old.requests }
     requires answers { IsPair host.old.answers answers.old }
-    ensures { LooksAt host.old requests.old answers.old host.new requests.new answers.new result }
+    ensures looks { LooksAt host.old requests.old answers.old host.new requests.new answers.new result }
+    ensures some { result ≡ false → LeavesSome host.new answers.new }
 {
     let waiting = host.requests.slots_beside(requests);
     let unwritten = answers.slots_beside(&mut host.answers);
@@ -38,7 +39,8 @@ pub(crate) fn are_empty<S: Host>(
     answers: &mut [Consumer<Answer>],
 ) -> bool
     requires { ArePairs hosts.old requests.old answers.old }
-    ensures { LooksAll hosts.old requests.old answers.old hosts.new requests.new answers.new result }
+    ensures looks { LooksAll hosts.old requests.old answers.old hosts.new requests.new answers.new result }
+    ensures some { result ≡ false → LeavesAt hosts.new answers.new }
 {
     let mut empty = true;
     for place in 0..hosts.len() {

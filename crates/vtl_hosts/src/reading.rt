@@ -1,6 +1,7 @@
 //! The thread that reads: each command goes to its host's ring.
-ghost use Rattle.std.specs.Prelude.{◌≡◌, ◌<◌, ◌+◌, IfSome, IfNone, length};
+ghost use Rattle.std.specs.Prelude.{◌≡◌, ◌<◌, ◌+◌, IfOk, IfErr, IfSome, IfNone, length};
 ghost use Rattle.vtl_base.specs.declared.limits.TheConstants.{NEXUSES};
+ghost use Rattle.vtl_wire.specs.Reads.{NotesFault};
 ghost use Rattle.vtl_hosts.specs.Rounds.{host_in};
 ghost use Rattle.vtl_hosts.specs.Inner.Reading.{ReadsNext, ReadsRound};
 
@@ -19,9 +20,8 @@ use vtl_wire::{Request, RequestReader, WireFault};
 pub(crate) enum Break {
     /// The input has ended.
     Ended,
-    /// A write failed.
-    Stopped,
-    /// Not all threads have begun: one command was read, and the next is read once that is answered.
+    /// No more is read in this round: a write failed; or not all threads have begun, one command was read, and the next
+    /// is read once that is answered.
     Again,
     /// A move or an inventory came.
     Next(Request),
@@ -49,11 +49,13 @@ fn read_next<G: Desk, I: Read, R: Wait>(
     rings: &mut [Producer<Request>],
 ) -> Result<Option<Break>, WireFault>
     requires { length rings.old ≡ NEXUSES }
-    ensures { ReadsNext (G.is_taken desk.now) frames.old rings.old (I.remaining reader.old) frames.new rings.new
-        (I.remaining reader.new) result }
+    ensures reads { ReadsNext (G.is_taken desk.now) frames.old.frames rings.old (I.remaining reader.old)
+        frames.new.frames rings.new (I.remaining reader.new) result }
+    ensures same { IfOk result (λ _. frames.new.failed ≡ frames.old.failed) }
+    ensures noted { IfErr result (NotesFault frames.old.failed frames.new.failed) }
 {
     if bells.is_stopped() {
-        return Ok(Some(Break::Stopped));
+        return Ok(Some(Break::Again));
     }
     let Some(request) = frames.next(alloc, reader)? else {
         return Ok(Some(Break::Ended));
@@ -83,8 +85,10 @@ pub(crate) fn read_round<G: Desk, I: Read, R: Wait + Clock>(
     rings: &mut [Producer<Request>],
 ) -> Result<Break, WireFault>
     requires { length rings.old ≡ NEXUSES }
-    ensures { ReadsRound (G.is_taken desk.now) frames.old rings.old (I.remaining reader.old) frames.new rings.new
-        (I.remaining reader.new) result }
+    ensures reads { ReadsRound (G.is_taken desk.now) frames.old.frames rings.old (I.remaining reader.old)
+        frames.new.frames rings.new (I.remaining reader.new) result }
+    ensures same { IfOk result (λ _. frames.new.failed ≡ frames.old.failed) }
+    ensures noted { IfErr result (NotesFault frames.old.failed frames.new.failed) }
 {
     let are_all = bells.have_begun(rt);
     for _ in rt.forever() {

@@ -1,6 +1,7 @@
 //! A round: commands are read, carried out and answered at once, up to a move, an inventory or the end.
-ghost use Rattle.std.specs.Prelude.{◌≡◌, ◌&&◌, not, length, false, true};
+ghost use Rattle.std.specs.Prelude.{◌≡◌, ◌&&◌, not, length, false, true, IfOk, IfErr};
 ghost use Rattle.vtl_base.specs.declared.limits.TheConstants.{NEXUSES};
+ghost use Rattle.vtl_wire.specs.Reads.{NotesFault};
 ghost use Rattle.vtl_hosts.specs.Inner.Hosts.{AreHostsDone, IsHostDone};
 ghost use Rattle.vtl_hosts.specs.Inner.Reading.{ReadsRound};
 ghost use Rattle.vtl_hosts.specs.Inner.Writing.{WritesAll};
@@ -56,8 +57,10 @@ fn read_and_close<G: Desk, I: Read, R: Wait + Clock>(
     rings: &mut [Producer<Request>],
 ) -> Result<Break, WireFault>
     requires { length rings.old ≡ NEXUSES }
-    ensures { ReadsRound (G.is_taken desk.now) frames.old rings.old (I.remaining reader.old) frames.new rings.new
-        (I.remaining reader.new) result }
+    ensures reads { ReadsRound (G.is_taken desk.now) frames.old.frames rings.old (I.remaining reader.old)
+        frames.new.frames rings.new (I.remaining reader.new) result }
+    ensures same { IfOk result (λ _. frames.new.failed ≡ frames.old.failed) }
+    ensures noted { IfErr result (NotesFault frames.old.failed frames.new.failed) }
 {
     let read = read_round(rt, alloc, desk, bells, frames, reader, rings);
     bells.close_hosts(rt);
@@ -108,8 +111,10 @@ fn run_threads<S: Host + Send, G: Desk, R: Threads + Wait + Clock + Sync, I: Rea
     hosts: &mut [HostEnd<S>],
 ) -> Said
     requires { length requests.old ≡ NEXUSES }
-    ensures read { ReadsRound (G.is_taken desk.now) frames.old requests.old (I.remaining reader.old) frames.new
-        requests.new (I.remaining reader.new) result.read }
+    ensures read { ReadsRound (G.is_taken desk.now) frames.old.frames requests.old (I.remaining reader.old)
+        frames.new.frames requests.new (I.remaining reader.new) result.read }
+    ensures same { IfOk result.read (λ _. frames.new.failed ≡ frames.old.failed) }
+    ensures noted { IfErr result.read (NotesFault frames.old.failed frames.new.failed) }
     ensures hosts { AreHostsDone S.answers hosts.old hosts.new }
     ensures written { WritesAll answers.old (W.contents writer.old) false answers.new (W.contents writer.new)
         result.failed }
@@ -121,8 +126,11 @@ fn run_threads<S: Host + Send, G: Desk, R: Threads + Wait + Clock + Sync, I: Rea
     { answer_and_write(rt, bells, writer, answers, hosts) };
     let mut read = || -> Result<Break, WireFault>
         requires { length requests.now ≡ NEXUSES }
-        ensures { ReadsRound (G.is_taken desk.entry.now) frames.entry.now requests.entry.now
-            (I.remaining reader.entry.now) frames.exit.now requests.exit.now (I.remaining reader.exit.now) result }
+        ensures reads { ReadsRound (G.is_taken desk.entry.now) frames.entry.now.frames requests.entry.now
+            (I.remaining reader.entry.now) frames.exit.now.frames requests.exit.now (I.remaining reader.exit.now)
+            result }
+        ensures same { IfOk result (λ _. frames.exit.now.failed ≡ frames.entry.now.failed) }
+        ensures noted { IfErr result (NotesFault frames.entry.now.failed frames.exit.now.failed) }
     { read_and_close(rt, alloc, desk, bells, frames, reader, requests) };
     let (failed, read) = thread::join_mut(rt, &mut serve, &mut read);
     Said { read, failed }
@@ -143,11 +151,13 @@ fn run_round<S: Host + Send, G: Desk, R: Threads + Wait + Clock + Sync, I: Read,
 ) -> Round
     requires idle { AreIdle hosts.old requests.old answers.old }
     requires all { length hosts.old ≡ NEXUSES }
-    ensures runs { RunsRound S.answers G.is_taken G.answers frames.old
+    ensures runs { RunsRound S.answers G.is_taken G.answers frames.old.frames
         (record { hosts = servers_of hosts.old; desk = desk.now }) (I.remaining reader.old) (W.contents writer.old)
-        frames.new (record { hosts = servers_of hosts.new; desk = desk.now }) (I.remaining reader.new)
+        frames.new.frames (record { hosts = servers_of hosts.new; desk = desk.now }) (I.remaining reader.new)
         (W.contents writer.new) result.read result.whole }
     ensures idle { result.whole ≡ true → AreIdle hosts.new requests.new answers.new }
+    ensures same { IfOk result.read (λ _. frames.new.failed ≡ frames.old.failed) }
+    ensures noted { IfErr result.read (NotesFault frames.old.failed frames.new.failed) }
 {
     let said = run_threads(
         rt, alloc, desk, bells, frames, reader, writer, answers, requests, hosts,
@@ -185,13 +195,15 @@ pub(crate) fn serve_round<
 ) -> Round
     requires idle { AreIdle ends.old.hosts.items ends.old.requests.items ends.old.answers.items }
     requires all { length ends.old.hosts.items ≡ NEXUSES }
-    ensures runs { RunsRound S.answers G.is_taken G.answers frames.old
+    ensures runs { RunsRound S.answers G.is_taken G.answers frames.old.frames
         (record { hosts = servers_of ends.old.hosts.items; desk = desk.now }) (I.remaining reader.old)
-        (W.contents writer.old) frames.new (record { hosts = servers_of ends.new.hosts.items; desk = desk.now })
+        (W.contents writer.old) frames.new.frames (record { hosts = servers_of ends.new.hosts.items; desk = desk.now })
         (I.remaining reader.new) (W.contents writer.new) result.read result.whole }
     ensures idle { result.whole ≡ true
         → AreIdle ends.new.hosts.items ends.new.requests.items ends.new.answers.items }
     ensures all { length ends.new.hosts.items ≡ NEXUSES }
+    ensures same { IfOk result.read (λ _. frames.new.failed ≡ frames.old.failed) }
+    ensures noted { IfErr result.read (NotesFault frames.old.failed frames.new.failed) }
 {
     let Ends {
         hosts,

@@ -56,13 +56,15 @@ fn serve_turn<S: Host + Send, G: Desk, R: Threads + Wait + Clock + Sync, I: Read
 ) -> Result<bool, WireFault>
     requires idle { AreIdle ends.old.hosts.items ends.old.requests.items ends.old.answers.items }
     requires all { length ends.old.hosts.items ≡ NEXUSES }
-    ensures serves { ServesNext S.answers G.is_taken G.answers G.lacks frames.old
+    ensures serves { ServesNext S.answers G.is_taken G.answers G.lacks frames.old.frames
         (record { hosts = servers_of ends.old.hosts.items; desk = desk.old }) (I.remaining reader.old)
-        (W.contents writer.old) frames.new (record { hosts = servers_of ends.new.hosts.items; desk = desk.new })
+        (W.contents writer.old) frames.new.frames (record { hosts = servers_of ends.new.hosts.items; desk = desk.new })
         (I.remaining reader.new) (W.contents writer.new) result }
     ensures idle { IfOk result (λ more. more ≡ true
         → AreIdle ends.new.hosts.items ends.new.requests.items ends.new.answers.items) }
     ensures all { length ends.new.hosts.items ≡ NEXUSES }
+    ensures same { IfOk result (λ _. frames.new.failed ≡ frames.old.failed) }
+    ensures noted { IfErr result (λ fault. fault ≡ WireFault.ReadFault → frames.new.failed ≡ true) }
 {
     let round = serve_round(rt, alloc, desk, ends, frames, reader, writer);
     if !round.whole {
@@ -70,7 +72,6 @@ fn serve_turn<S: Host + Send, G: Desk, R: Threads + Wait + Clock + Sync, I: Read
     }
     match round.read? {
         Break::Ended => Ok(false),
-        Break::Stopped => Err(WireFault::WriteFault),
         Break::Again => Ok(true),
         Break::Next(request) => {
             serve_alone(alloc, desk, request, writer)?;

@@ -18,6 +18,7 @@ module _ {S : Type 0} (answers : S → Request → Answer → S → Type 0) wher
     pub received : received new.requests ≡ received old.requests ++ requests
     pub sent : sent new.answers ≡ sent old.answers ++ given
     pub answered : AnswersAll answers old.server requests given new.server
+    pub strayed : new.strayed ≡ old.strayed
 
   -- the same, but for some requests that were taken last, of which it is noted that they were dropped (own)
   pub record IsHostDone (old new : HostEnd S) : Type 0 where
@@ -30,6 +31,7 @@ module _ {S : Type 0} (answers : S → Request → Answer → S → Type 0) wher
     pub sent : sent new.answers ≡ sent old.answers ++ given
     pub answered : AnswersAll answers old.server requests given new.server
     pub strays : new.strayed ≡ false → stray ≡ []
+    pub noted : stray ≡ [] → new.strayed ≡ old.strayed
 
   -- one request was answered, or there was none; or one was dropped (own)
   abbrev pub IsHostTurn : HostEnd S → Turn → HostEnd S → Type 0

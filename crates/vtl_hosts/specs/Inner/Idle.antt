@@ -16,7 +16,7 @@ module _ {S : Type 0} where
   abbrev pub servers_of : List (HostEnd S) → List S
   servers_of hosts = map (λ host. host.server) hosts
 
-  -- each host has its rings, and nothing is in them (own)
+  -- each host has its rings, and nothing is in them, and none has dropped a request (own)
   pub record AreIdle (hosts : List (HostEnd S)) (requests : List Requests) (answers : List Answers) : Type 0 where
     pub pairs : ArePairs hosts requests answers
     pub no_request :
@@ -25,11 +25,12 @@ module _ {S : Type 0} where
     pub no_answer :
         (k : ℕ) (h : HostEnd S) (a : Answers) → k < length hosts
         → received (slice_index_or answers k a) ≡ sent (slice_index_or hosts k h).answers
+    pub no_stray : (k : ℕ) (h : HostEnd S) → k < length hosts → (slice_index_or hosts k h).strayed ≡ false
 
 module _ {S G : Type 0} (serves : S → Request → Answer → S → Type 0) (takes : G → Request → Bool)
     (answers : G → Request → Answer → G → Type 0) where
   -- A round after this many frames: commands were read, and then why no more were. At `true` all were answered, and all
-  -- answers written; else a write failed (own).
+  -- answers written; else not all were (own).
   abbrev pub RunsRound : ℕ → HostsState S G → Option (List ℕ) → Option (List ℕ) → ℕ → HostsState S G
       → Option (List ℕ) → Option (List ℕ) → Result Break WireFault → Bool → Type 0
   RunsRound count old left before count' new left' now read true =

@@ -1,5 +1,5 @@
 -- What is left in the rings once all threads are joined.
-use Rattle.std.specs.Prelude.{◌≡◌, ℕ, ◌<◌, Bool, true, false, List, [], ◌++◌, length, slice_index_or}
+use Rattle.std.specs.Prelude.{◌≡◌, ◌⊎◌, ℕ, ◌<◌, Bool, true, false, List, [], ◌++◌, length, slice_index_or}
 use Rattle.rtrb.specs.Ring.{IsPair, known_items, received, sent}
 use Rattle.vtl_hosts.specs.declared.hosts.HostEnd.{HostEnd}
 use Rattle.vtl_hosts.specs.Inner.Rings.{Answers, Requests}
@@ -46,3 +46,16 @@ module _ {S : Type 0} where
         (k : ℕ) (h : HostEnd S) (r : Requests) (a : Answers) → k < length hosts
         → LooksAt (slice_index_or hosts k h) (slice_index_or requests k r) (slice_index_or answers k a)
         (slice_index_or hosts' k h) (slice_index_or requests' k r) (slice_index_or answers' k a) empty
+
+  -- a request or an answer is left in a host's rings, or a request was dropped (own)
+  abbrev pub LeavesSome : HostEnd S → Answers → Type 0
+  LeavesSome host answers =
+      (0 < length (known_items host.requests)) ⊎ ((0 < length (known_items answers)) ⊎ (host.strayed ≡ true))
+
+  -- so it is at some host (own)
+  pub record LeavesAt (hosts : List (HostEnd S)) (answers : List Answers) : Type 0 where
+    pub place : ℕ
+    pub within : place < length hosts
+    pub some :
+        (h : HostEnd S) (a : Answers)
+        → LeavesSome (slice_index_or hosts place h) (slice_index_or answers place a)

@@ -10,17 +10,16 @@ use Rattle.vtl_wire.specs.Reads.{LacksData, ReadsRequest, TakesSome}
 use Rattle.vtl_wire.specs.Requests.{IsRequest, spell_requests}
 use Rattle.vtl_wire.specs.Serving.{RefusesNext}
 use Rattle.vtl_hosts.specs.declared.reading.Break.{Break}
-use Rattle.vtl_hosts.specs.declared.reading.Break.TheVariants.{Ended, Stopped, Again, Next}
+use Rattle.vtl_hosts.specs.declared.reading.Break.TheVariants.{Ended, Again, Next}
 use Rattle.vtl_hosts.specs.Rounds.{host_in}
 use Rattle.vtl_hosts.specs.Turns.{count_on, IsCommand}
 use Rattle.vtl_hosts.specs.Inner.Rings.{Deals, Requests}
 
--- How the reading of commands ends, after this many frames: the input has ended; a write failed; threads are missing; a
+-- How the reading of commands ends, after this many frames: the input has ended; no more is read in this round; a
 -- move or an inventory was read; the next frame is refused, and this is its number; a read failed; or there is no
 -- memory for the data of the next (own).
 abbrev pub ReadingEnds : (Request → Bool) → ℕ → Option (List ℕ) → ℕ → Option (List ℕ) → Result Break WireFault → Type 0
 ReadingEnds takes count left count' left' (Ok Ended) = ReadsRequest left left' None
-ReadingEnds takes count left count' left' (Ok Stopped) = left' ≡ left
 ReadingEnds takes count left count' left' (Ok Again) = (left' ≡ left) × (count' ≡ count)
 ReadingEnds takes count left count' left' (Ok (Next request)) =
     ReadsRequest left left' (Some request) × (takes request ≡ true) × (host_in request ≡ 0) × (count' ≡ ticked count)

@@ -1,4 +1,4 @@
-use Rattle.std.proofs.Common.{false, List, ◌∷◌, [], ◌++◌, ◌∙◌, sym, subst}
+use Rattle.std.proofs.Common.{false, List, ◌∷◌, [], ◌++◌, ◌∙◌, refl, sym, subst}
 use Rattle.vtl_hosts.specs.declared.hosts.HostEnd.{HostEnd}
 use Rattle.vtl_hosts.specs.Inner.Idle.{AreIdle}
 use Rattle.vtl_hosts.specs.Inner.Rings.{Answers, Requests}
@@ -27,4 +27,5 @@ returns-clause-idle g c =
       pairs = record { requests_pair = rings.requests_pair; answers_pair = rings.answers_pair };
       no_request = rings.no_request.1 ∙ sym rings.no_request.0;
       no_answer = rings.no_answer.1 ∙ sym rings.no_answer.0;
+      no_stray = refl;
     }))))

@@ -16,4 +16,5 @@ returns-then-not-takes g c =
       sent = sym (append-nil (sent c.args.host.now.answers));
       answered = refl;
       strays = λ same. absurd (cc);
+      noted = λ none. absurd (cc);
     }

@@ -1,23 +1,29 @@
-use Rattle.std.proofs.Common.{refl}
+use Rattle.std.proofs.Common.{refl, ◌∙◌}
 use Rattle.vtl_hosts.proofs.ReadLemmas.{reads_none, reads_on}
 use Rattle.vtl_hosts.proofs.reading.read_round.Goals as goal
 
 pub loop-init : goal.loop-init
-loop-init g c = reads_none (g.G.Desk.is_taken c.args.desk.now) c.args.frames.now c.args.rings.now _
+loop-init g c = record {
+  reads = reads_none (g.G.Desk.is_taken c.args.desk.now) c.args.frames.now.frames c.args.rings.now _;
+  same = refl;
+}
 
 pub loop-preserved : goal.loop-preserved
-loop-preserved g c =
-    reads_on (g.G.Desk.is_taken c.args.desk.now) c.args.frames.now c.loop.frames c.read_next.new.frames
-    c.args.rings.now c.loop.rings c.read_next.new.rings _ _ _ c.loop.invariant
-    (rw c.in-None-2.is at c.in_ok-found.ensures)
+loop-preserved g c = record {
+  reads =
+      reads_on (g.G.Desk.is_taken c.args.desk.now) c.args.frames.now.frames c.loop.frames.frames
+      c.read_next.new.frames.frames c.args.rings.now c.loop.rings c.read_next.new.rings _ _ _
+      c.loop.invariant.reads (rw c.in-None-2.is at c.in_ok-found.ensures.reads);
+  same = c.in_ok-found.ensures.same ∙ c.loop.invariant.same;
+}
 
-pub returns-then-not-are_all : goal.returns-then-not-are_all
-returns-then-not-are_all g c = record {
-  counted = c.read_next.new.frames;
+pub returns-then-not-are_all-clause-reads : goal.returns-then-not-are_all-clause-reads
+returns-then-not-are_all-clause-reads g c = record {
+  counted = c.read_next.new.frames.frames;
   behind = g.I.Read.remaining c.read_next.new.reader;
   read =
-      reads_on (g.G.Desk.is_taken c.args.desk.now) c.args.frames.now c.loop.frames c.read_next.new.frames
-      c.args.rings.now c.loop.rings c.read_next.new.rings _ _ _ c.loop.invariant
-      (rw c.in-None-2.is at c.in_ok-found.ensures);
+      reads_on (g.G.Desk.is_taken c.args.desk.now) c.args.frames.now.frames c.loop.frames.frames
+      c.read_next.new.frames.frames c.args.rings.now c.loop.rings c.read_next.new.rings _ _ _
+      c.loop.invariant.reads (rw c.in-None-2.is at c.in_ok-found.ensures.reads);
   ended = (refl, refl);
 }

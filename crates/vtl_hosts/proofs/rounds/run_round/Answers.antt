@@ -14,17 +14,17 @@ returns-clause-runs g c =
     round_runs g.S.Host.answers g.G.Desk.is_taken g.G.Desk.answers c.args.hosts.now c.run_threads-said.new.hosts
     c.are_empty-empty.new.hosts c.args.requests.now c.run_threads-said.new.requests c.are_empty-empty.new.requests
     c.args.answers.now c.run_threads-said.new.answers c.are_empty-empty.new.answers c.args.desk.now
-    c.args.frames.now c.run_threads-said.new.frames _ _ _ _ c.run_threads-said.result.read
+    c.args.frames.now.frames c.run_threads-said.new.frames.frames _ _ _ _ c.run_threads-said.result.read
     c.run_threads-said.result.failed c.are_empty-empty.result c.is_whole.result c.requires.idle
     c.run_threads-said.ensures.hosts c.run_threads-said.ensures.written c.run_threads-said.ensures.read
-    c.are_empty-empty.ensures c.is_whole.ensures
+    c.are_empty-empty.ensures.looks c.are_empty-empty.ensures.some c.is_whole.ensures
 
 pub returns-clause-idle : goal.returns-clause-idle
 returns-clause-idle g c =
     round_idle g.S.Host.answers g.G.Desk.is_taken g.G.Desk.answers c.args.hosts.now c.run_threads-said.new.hosts
     c.are_empty-empty.new.hosts c.args.requests.now c.run_threads-said.new.requests c.are_empty-empty.new.requests
     c.args.answers.now c.run_threads-said.new.answers c.are_empty-empty.new.answers c.args.desk.now
-    c.args.frames.now c.run_threads-said.new.frames _ _ _ _ c.run_threads-said.result.read
+    c.args.frames.now.frames c.run_threads-said.new.frames.frames _ _ _ _ c.run_threads-said.result.read
     c.run_threads-said.result.failed c.are_empty-empty.result c.is_whole.result c.requires.idle
     c.run_threads-said.ensures.hosts c.run_threads-said.ensures.written c.run_threads-said.ensures.read
-    c.are_empty-empty.ensures c.is_whole.ensures
+    c.are_empty-empty.ensures.looks c.is_whole.ensures

@@ -12,17 +12,17 @@ returns-clause-runs g c =
     refilled c.args.ends.now.hosts.len new old (search rules) in
     subst
     (λ (l : List (HostEnd g.row.S.Denot)). RunsRound g.S.Host.answers g.G.Desk.is_taken g.G.Desk.answers
-    c.args.frames.now
+    c.args.frames.now.frames
     (record { hosts = servers_of old; desk = c.args.desk.now }) (g.I.Read.remaining c.args.reader.now)
-    (g.W.Write.contents c.args.writer.now) c.run_round.new.frames
+    (g.W.Write.contents c.args.writer.now) c.run_round.new.frames.frames
     (record { hosts = servers_of l; desk = c.args.desk.now }) (g.I.Read.remaining c.run_round.new.reader)
     (g.W.Write.contents c.run_round.new.writer) c.run_round.result.read c.run_round.result.whole)
     (sym back)
     (subst
     (λ (l : List (HostEnd g.row.S.Denot)). RunsRound g.S.Host.answers g.G.Desk.is_taken g.G.Desk.answers
-    c.args.frames.now
+    c.args.frames.now.frames
     (record { hosts = servers_of l; desk = c.args.desk.now }) (g.I.Read.remaining c.args.reader.now)
-    (g.W.Write.contents c.args.writer.now) c.run_round.new.frames
+    (g.W.Write.contents c.args.writer.now) c.run_round.new.frames.frames
     (record { hosts = servers_of new; desk = c.args.desk.now }) (g.I.Read.remaining c.run_round.new.reader)
     (g.W.Write.contents c.run_round.new.writer) c.run_round.result.read c.run_round.result.whole)
     c.as_mut_slice-3.ensures.value c.run_round.ensures.runs)

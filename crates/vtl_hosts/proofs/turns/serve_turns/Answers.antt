@@ -8,7 +8,7 @@ pub returns-in_err-serve_turn-clause-serves : goal.returns-in_err-serve_turn-cla
 returns-in_err-serve_turn-clause-serves g c =
     let exit = err_from_is_err_and c.from_residual.result c.from_residual.ensures.1 in
     rw (exit.1, exit.2)
-    (serves_all g.S.Host.answers g.G.Desk.is_taken g.G.Desk.answers g.G.Desk.lacks c.loop.frames
+    (serves_all g.S.Host.answers g.G.Desk.is_taken g.G.Desk.answers g.G.Desk.lacks c.loop.frames.frames
     (record { hosts = servers_of c.args.ends.now.hosts.items; desk = c.args.desk.now })
     (record { hosts = servers_of c.loop.ends.hosts.items; desk = c.loop.desk })
     (record { hosts = servers_of c.serve_turn.new.ends.hosts.items; desk = c.serve_turn.new.desk }) _ _ _ _ _ _
@@ -16,7 +16,7 @@ returns-in_err-serve_turn-clause-serves g c =
 
 pub returns-then-not-branch-clause-serves : goal.returns-then-not-branch-clause-serves
 returns-then-not-branch-clause-serves g c =
-    serves_all g.S.Host.answers g.G.Desk.is_taken g.G.Desk.answers g.G.Desk.lacks c.loop.frames
+    serves_all g.S.Host.answers g.G.Desk.is_taken g.G.Desk.answers g.G.Desk.lacks c.loop.frames.frames
     (record { hosts = servers_of c.args.ends.now.hosts.items; desk = c.args.desk.now })
     (record { hosts = servers_of c.loop.ends.hosts.items; desk = c.loop.desk })
     (record { hosts = servers_of c.serve_turn.new.ends.hosts.items; desk = c.serve_turn.new.desk }) _ _ _ _ _ _
@@ -25,7 +25,7 @@ returns-then-not-branch-clause-serves g c =
 pub loop-init : goal.loop-init
 loop-init g c = record {
   serves =
-      rw c.new-frames.ensures (turns_none g.S.Host.answers g.G.Desk.is_taken g.G.Desk.answers g.G.Desk.lacks 0
+      rw c.new-frames.ensures.frames (turns_none g.S.Host.answers g.G.Desk.is_taken g.G.Desk.answers g.G.Desk.lacks 0
       (record { hosts = servers_of c.args.ends.now.hosts.items; desk = c.args.desk.now }) _ _);
   idle = c.requires.idle;
   all = c.requires.all;
@@ -34,8 +34,8 @@ loop-init g c = record {
 pub loop-preserved : goal.loop-preserved
 loop-preserved g c = record {
   serves =
-      turns_on g.S.Host.answers g.G.Desk.is_taken g.G.Desk.answers g.G.Desk.lacks 0 c.loop.frames
-      c.serve_turn.new.frames
+      turns_on g.S.Host.answers g.G.Desk.is_taken g.G.Desk.answers g.G.Desk.lacks 0 c.loop.frames.frames
+      c.serve_turn.new.frames.frames
       (record { hosts = servers_of c.args.ends.now.hosts.items; desk = c.args.desk.now })
       (record { hosts = servers_of c.loop.ends.hosts.items; desk = c.loop.desk })
       (record { hosts = servers_of c.serve_turn.new.ends.hosts.items; desk = c.serve_turn.new.desk }) _ _ _ _ _ _

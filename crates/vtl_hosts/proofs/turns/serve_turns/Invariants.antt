@@ -9,7 +9,7 @@ invariant-loop g l = record {
   serves :
       ServesTurns g.S.Host.answers g.G.Desk.is_taken g.G.Desk.answers g.G.Desk.lacks 0
       (record { hosts = servers_of l.fn.ends.hosts.items; desk = l.fn.desk }) (g.I.Read.remaining l.fn.reader)
-      (g.W.Write.contents l.fn.writer) l.frames (record { hosts = servers_of l.ends.hosts.items; desk = l.desk })
+      (g.W.Write.contents l.fn.writer) l.frames.frames (record { hosts = servers_of l.ends.hosts.items; desk = l.desk })
       (g.I.Read.remaining l.reader) (g.W.Write.contents l.writer);
   idle : AreIdle l.ends.hosts.items l.ends.requests.items l.ends.answers.items;
   all : length l.ends.hosts.items ≡ 64;
