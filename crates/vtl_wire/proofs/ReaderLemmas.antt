@@ -26,14 +26,10 @@ use Rattle.vtl_wire.proofs.FrameLemmas.{length-header, spelled_with}
 use Rattle.vtl_wire.proofs.HeadLemmas.{counts_data}
 use Rattle.vtl_wire.proofs.RequestLemmas.{cut_begins, no_head_begins, none_begin, short_begins}
 
--- why the first part is missed
-pub missed_first : (left left' : Option (List ℕ)) (front payload : ℕ) (fault : WireFault) → front ≤ INLINE_BYTES
-    → MissesBytes left left' front fault → MissesParts left left' front payload fault
-missed_first left left' front payload (BadFrame number) few misses = absurd misses
-missed_first left left' front payload ReadFault few misses =
-    (misses.0, omega (arith, misses.1), misses.2)
-missed_first left left' front payload WriteFault few misses = absurd misses
-missed_first left left' front payload NoMemory few misses = absurd (omega (arith, few, misses.0))
+-- a read failed within the first part
+pub missed_few : (left left' : Option (List ℕ)) (front payload : ℕ) (fault : WireFault) → fault ≡ ReadFault
+    → TakesFewer left left' front → MissesParts left left' front payload fault
+missed_few left left' front payload fault is few = rw is (few.0, omega (arith, few.1), few.2)
 
 -- why the second is, behind the first
 pub missed_second : (left mid left' : Option (List ℕ)) (bytes : List ℕ) (front payload : ℕ) (fault : WireFault)

@@ -8,6 +8,7 @@ pub mod frames;
 mod headers;
 mod interruptions;
 pub mod laws;
+mod memory;
 mod parts;
 mod reading;
 mod reads;

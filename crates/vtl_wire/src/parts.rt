@@ -2,13 +2,14 @@
 ghost use Rattle.std.specs.Prelude.{◌≡◌, ◌≤◌, IfOk, IfErr};
 ghost use Rattle.vtl_base.specs.declared.bytes.TheConstants.{INLINE_BYTES};
 ghost use Rattle.vtl_wire.specs.Reads.{NotesFault};
+ghost use Rattle.vtl_wire.specs.Inner.Requested.{MayStand};
 ghost use Rattle.vtl_wire.specs.Inner.Reading.{ReadsParts, MissesParts};
 
 use crate::faults::WireFault;
 use crate::headers::Header;
-use crate::reading::read_bytes;
+use crate::memory::Memory;
+use crate::reading::{read_data, read_few};
 use crate::reads::Reads;
-use std::alloc::Global;
 use std::io::Read;
 use vtl_base::Bytes;
 
@@ -21,12 +22,13 @@ pub(crate) struct Parts {
 
 // The parts that a header counts, or None where the input ends within them.
 pub(crate) fn read_parts<R: Read>(
-    alloc: Global,
+    memory: &Memory,
     reads: &mut Reads,
     reader: &mut R,
     header: Header,
 ) -> Result<Option<Parts>, WireFault>
-    requires { header.front ≤ INLINE_BYTES }
+    requires front { header.front ≤ INLINE_BYTES }
+    requires head { MayStand header }
     ensures parts { IfOk result
         (ReadsParts (R.remaining reader.old) (R.remaining reader.new) header.front header.payload) }
     ensures fault { IfErr result
@@ -34,10 +36,10 @@ pub(crate) fn read_parts<R: Read>(
     ensures same { IfOk result (λ _. reads.new ≡ reads.old) }
     ensures noted { IfErr result (NotesFault reads.old reads.new) }
 {
-    let Some(front) = read_bytes(alloc, reads, reader, header.front as usize)? else {
+    let Some(front) = read_few(memory, reads, reader, header.front as usize)? else {
         return Ok(None);
     };
-    match read_bytes(alloc, reads, reader, header.payload as usize)? {
+    match read_data(memory, reads, reader, header)? {
         Some(payload) => Ok(Some(Parts { front, payload })),
         None => Ok(None),
     }

@@ -4,13 +4,14 @@ ghost use Rattle.std.specs.Io.KnownBytes.{Consumes, IsAtEnd};
 ghost use Rattle.vtl_base.specs.declared.bytes.TheConstants.{INLINE_BYTES};
 ghost use Rattle.vtl_wire.specs.declared.frames.TheConstants.{HEADER_BYTES};
 ghost use Rattle.vtl_wire.specs.Reads.{NotesFault};
+ghost use Rattle.vtl_wire.specs.Inner.Requested.{MayStand};
 ghost use Rattle.vtl_wire.specs.Inner.Reading.{count_given, ReadsWhole, ReadsBytes, MissesBytes, ReadsHeader, TakesFewer};
 
 use crate::faults::WireFault;
 use crate::frames::HEADER_BYTES;
 use crate::headers::Header;
+use crate::memory::Memory;
 use crate::reads::Reads;
-use std::alloc::Global;
 use std::io::Read;
 use vtl_base::Bytes;
 use vtl_base::bytes::INLINE_BYTES;
@@ -91,8 +92,8 @@ pub(crate) fn fill_whole<R: Read>(
 }
 
 // Reads at most 24 bytes, which take no memory.
-fn read_few<R: Read>(
-    alloc: Global,
+pub(crate) fn read_few<R: Read>(
+    memory: &Memory,
     reads: &mut Reads,
     reader: &mut R,
     count: usize,
@@ -109,49 +110,50 @@ fn read_few<R: Read>(
     if !fill_whole(reads, reader, slice)? {
         return Ok(None);
     }
-    match Bytes::from_slice(alloc, slice) {
-        Ok(bytes) => Ok(Some(bytes)),
-        Err(_) => unreachable!(),
-    }
+    Ok(Some(memory.few(slice)))
 }
 
-// Reads more than 24 bytes. The memory for all of them is taken before the first is read.
+// Reads the data that a header counts, where they are more than 24 bytes. The memory for all of them is taken before
+// the first is read.
 fn read_many<R: Read>(
-    alloc: Global,
+    memory: &Memory,
     reads: &mut Reads,
     reader: &mut R,
-    count: usize,
+    header: Header,
 ) -> Result<Option<Bytes>, WireFault>
-    requires { INLINE_BYTES < count }
-    ensures bytes { IfOk result (ReadsBytes (R.remaining reader.old) (R.remaining reader.new) count) }
-    ensures fault { IfErr result (MissesBytes (R.remaining reader.old) (R.remaining reader.new) count) }
+    requires head { MayStand header }
+    requires many { INLINE_BYTES < header.payload }
+    ensures bytes { IfOk result (ReadsBytes (R.remaining reader.old) (R.remaining reader.new) header.payload) }
+    ensures fault { IfErr result (MissesBytes (R.remaining reader.old) (R.remaining reader.new) header.payload) }
     ensures same { IfOk result (λ _. reads.new ≡ reads.old) }
     ensures noted { IfErr result (NotesFault reads.old reads.new) }
 {
-    let mut room = Vec::with_capacity(alloc, count)?;
-    room.resize(count, 0)?;
+    let mut room = memory.room(header)?;
     if !fill_whole(reads, reader, room.as_mut_slice())? {
         return Ok(None);
     }
     Ok(Some(Bytes::from_vec(room)))
 }
 
-// Reads `count` bytes; None where the input ends before. More than 24 take memory, for all of them and no more.
-pub(crate) fn read_bytes<R: Read>(
-    alloc: Global,
+// Reads the data that a header counts; None where the input ends before. More than 24 take memory, for all of them and
+// no more.
+pub(crate) fn read_data<R: Read>(
+    memory: &Memory,
     reads: &mut Reads,
     reader: &mut R,
-    count: usize,
+    header: Header,
 ) -> Result<Option<Bytes>, WireFault>
-    ensures bytes { IfOk result (ReadsBytes (R.remaining reader.old) (R.remaining reader.new) count) }
-    ensures fault { IfErr result (MissesBytes (R.remaining reader.old) (R.remaining reader.new) count) }
+    requires { MayStand header }
+    ensures bytes { IfOk result (ReadsBytes (R.remaining reader.old) (R.remaining reader.new) header.payload) }
+    ensures fault { IfErr result (MissesBytes (R.remaining reader.old) (R.remaining reader.new) header.payload) }
     ensures same { IfOk result (λ _. reads.new ≡ reads.old) }
     ensures noted { IfErr result (NotesFault reads.old reads.new) }
 {
+    let count = header.payload as usize;
     if count <= INLINE_BYTES {
-        return read_few(alloc, reads, reader, count);
+        return read_few(memory, reads, reader, count);
     }
-    read_many(alloc, reads, reader, count)
+    read_many(memory, reads, reader, header)
 }
 
 // The header of a frame.

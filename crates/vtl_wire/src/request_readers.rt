@@ -6,6 +6,7 @@ ghost use Rattle.vtl_wire.specs.Reads.{MissesRequest, MissesRequests, NotesFault
 ghost use Rattle.vtl_wire.specs.Inner.Reading.{FindsRequest, MissesFrame};
 
 use crate::faults::WireFault;
+use crate::memory::Memory;
 use crate::parts::read_parts;
 use crate::reading::{Found, read_header};
 use crate::reads::Reads;
@@ -21,6 +22,7 @@ use std::marker::Model;
 pub struct RequestReader {
     frames: u64,
     reads: Reads,
+    memory: Memory,
 }
 
 impl Model for RequestReader {
@@ -33,7 +35,7 @@ impl Model for RequestReader {
 
 // What stands next in an input.
 fn find_request<R: Read>(
-    alloc: Global,
+    memory: &Memory,
     reads: &mut Reads,
     reader: &mut R,
 ) -> Result<Found<Request>, WireFault>
@@ -50,21 +52,22 @@ fn find_request<R: Read>(
     let Some(head) = request_head(header) else {
         return Ok(Found::Refused);
     };
-    match read_parts(alloc, reads, reader, header)? {
+    match read_parts(memory, reads, reader, header)? {
         Some(parts) => Ok(Found::Frame(request_in(header, head, parts))),
         None => Ok(Found::Refused),
     }
 }
 
 impl RequestReader {
-    /// A reader that has read nothing.
-    pub fn new() -> Self
+    /// A reader that has read nothing. The data of requests get their memory from here.
+    pub fn new(alloc: Global) -> Self
         ensures frames { result.frames ≡ 0 }
         ensures failed { result.failed ≡ false }
     {
         RequestReader {
             frames: 0,
             reads: Reads::new(),
+            memory: Memory::new(alloc),
         }
     }
 
@@ -85,11 +88,7 @@ impl RequestReader {
     /// The next request, or None where the input has ended. No byte after it is read, however the input is cut. Memory
     /// is taken only where its header and its command block were read and may stand there, and only for its data. After
     /// an `Err` the input is inside a frame, or after a header that is refused, so that no other request can be read.
-    pub fn next<R: Read>(
-        &mut self,
-        alloc: Global,
-        reader: &mut R,
-    ) -> Result<Option<Request>, WireFault>
+    pub fn next<R: Read>(&mut self, reader: &mut R) -> Result<Option<Request>, WireFault>
         ensures ok { IfOk result (ReadsRequest (R.remaining reader.old) (R.remaining reader.new)) }
         ensures count { IfOk result (λ found. self.new.frames ≡ count_after self.old.frames found) }
         ensures err { IfErr result (MissesRequest (R.remaining reader.old) (R.remaining reader.new) self.old.frames) }
@@ -97,7 +96,7 @@ impl RequestReader {
         ensures well { IfOk result (λ _. self.new.failed ≡ self.old.failed) }
         ensures noted { IfErr result (NotesFault self.old.failed self.new.failed) }
     {
-        match find_request(alloc, &mut self.reads, reader)? {
+        match find_request(&self.memory, &mut self.reads, reader)? {
             Found::Frame(request) => {
                 self.frames = self.frames.saturating_add(1);
                 Ok(Some(request))
@@ -120,9 +119,9 @@ pub fn read_requests<R: Read>(alloc: Global, reader: &mut R) -> Result<Vec<Reque
     ensures missed { IfErr result (MissesRequests (R.remaining reader.old) (R.remaining reader.new)) }
 {
     let mut requests = Vec::new(alloc);
-    let mut frames = RequestReader::new();
+    let mut frames = RequestReader::new(alloc);
     for _ in 0..u64::MAX {
-        match frames.next(alloc, reader)? {
+        match frames.next(reader)? {
             Some(request) => requests.push(request)?,
             None => return Ok(requests),
         }

@@ -60,7 +60,7 @@ fn serve_next<S: Server, R: Read, W: Write>(
     ensures same { IfOk result (λ _. frames.new.failed ≡ frames.old.failed) }
     ensures noted { IfErr result (NotesFault frames.old.failed frames.new.failed) }
 {
-    let Some(request) = frames.next(alloc, reader)? else {
+    let Some(request) = frames.next(reader)? else {
         return Ok(false);
     };
     if !server.takes(&request) {
@@ -83,7 +83,7 @@ pub fn serve_requests<S: Server, R: Read, W: Write>(
     ensures { ServesInput S.is_taken S.answers S.lacks server.old (R.remaining reader.old) (W.contents writer.old)
         server.new (R.remaining reader.new) (W.contents writer.new) result }
 {
-    let mut frames = RequestReader::new();
+    let mut frames = RequestReader::new(alloc);
     for _ in 0..u64::MAX {
         if !serve_next(alloc, server, &mut frames, reader, writer)? {
             return Ok(());

@@ -1,5 +1,5 @@
 -- What a header says of a request (own).
-use Rattle.std.specs.Prelude.{ℕ, ◌==◌, ◌&&◌, nat_le, Bool, if◌then◌else◌, Option, None, Some}
+use Rattle.std.specs.Prelude.{◌≡◌, ℕ, ◌==◌, ◌&&◌, nat_le, Bool, if◌then◌else◌, Option, None, Some}
 use Rattle.vtl_base.specs.declared.limits.TheConstants.{NEXUSES, DRIVES}
 use Rattle.vtl_wire.specs.declared.frames.TheConstants.{MOST_CDB, MOST_DATA, MOVE_BYTES}
 use Rattle.vtl_wire.specs.declared.frames.FrameKind.{FrameKind}
@@ -30,3 +30,7 @@ request_head_by kinds.Inventory header = if is_plain header 0 then Some (Invento
 -- the request of a header, where one may have it (own)
 abbrev pub request_head : Header → Option RequestHead
 request_head header = request_head_by header.kind header
+
+-- some request may have this header (own)
+abbrev pub MayStand : Header → Type 0
+MayStand header = (head : RequestHead) × (request_head header ≡ Some head)

@@ -17,5 +17,5 @@ returns-in-None-clause-parts g c =
     let first = rw c.in-Some.is at c.in_ok-front.ensures.bytes in
     let second = rw c.in-None.is at c.in_ok-payload.ensures.bytes in
     subst (λ (n : ℕ). EndsWithin (g.R.Read.remaining c.args.reader.now)
-    (g.R.Read.remaining c.read_bytes-2.new.reader) (n + c.args.header.payload)) first.0
+    (g.R.Read.remaining c.read_data.new.reader) (n + c.args.header.payload)) first.0
     (ends_later _ _ _ c.in-Some.front c.args.header.payload first.1 second)
