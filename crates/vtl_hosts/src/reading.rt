@@ -9,7 +9,6 @@ use crate::bells::Bells;
 use crate::pushing::push_waiting;
 use crate::servers::Desk;
 use rtrb::Producer;
-use std::alloc::Global;
 use std::io::Read;
 use std::sync::Wait;
 use std::time::Clock;
@@ -41,7 +40,6 @@ fn place_of(request: &Request) -> Option<usize>
 // Reads a request. A command goes to its host, and then there is no break.
 fn read_next<G: Desk, I: Read, R: Wait>(
     rt: &R,
-    alloc: Global,
     desk: &G,
     bells: &Bells,
     frames: &mut RequestReader,
@@ -57,7 +55,7 @@ fn read_next<G: Desk, I: Read, R: Wait>(
     if bells.is_stopped() {
         return Ok(Some(Break::Again));
     }
-    let Some(request) = frames.next(alloc, reader)? else {
+    let Some(request) = frames.next(reader)? else {
         return Ok(Some(Break::Ended));
     };
     if !desk.takes(&request) {
@@ -77,7 +75,6 @@ fn read_next<G: Desk, I: Read, R: Wait>(
 /// for which the rings have room: so no thread waits for one that begins only once it has ended.
 pub(crate) fn read_round<G: Desk, I: Read, R: Wait + Clock>(
     rt: &R,
-    alloc: Global,
     desk: &G,
     bells: &Bells,
     frames: &mut RequestReader,
@@ -92,7 +89,7 @@ pub(crate) fn read_round<G: Desk, I: Read, R: Wait + Clock>(
 {
     let are_all = bells.have_begun(rt);
     for _ in rt.forever() {
-        match read_next(rt, alloc, desk, bells, frames, reader, rings)? {
+        match read_next(rt, desk, bells, frames, reader, rings)? {
             Some(found) => return Ok(found),
             None => {}
         }

@@ -15,7 +15,6 @@ use crate::reading::{Break, read_round};
 use crate::servers::{Desk, Host};
 use crate::writing::write_round;
 use rtrb::{Consumer, Producer};
-use std::alloc::Global;
 use std::io::{Read, Write};
 use std::marker::{Send, Sync};
 use std::sync::Wait;
@@ -49,7 +48,6 @@ fn answer_hosts<S: Host + Send, R: Threads + Wait + Sync>(
 // Reads, and then lets the hosts end.
 fn read_and_close<G: Desk, I: Read, R: Wait + Clock>(
     rt: &R,
-    alloc: Global,
     desk: &G,
     bells: &Bells,
     frames: &mut RequestReader,
@@ -62,7 +60,7 @@ fn read_and_close<G: Desk, I: Read, R: Wait + Clock>(
     ensures same { IfOk result (λ _. frames.new.failed ≡ frames.old.failed) }
     ensures noted { IfErr result (NotesFault frames.old.failed frames.new.failed) }
 {
-    let read = read_round(rt, alloc, desk, bells, frames, reader, rings);
+    let read = read_round(rt, desk, bells, frames, reader, rings);
     bells.close_hosts(rt);
     read
 }
@@ -100,7 +98,6 @@ struct Said {
 // Reads, answers and writes at once.
 fn run_threads<S: Host + Send, G: Desk, R: Threads + Wait + Clock + Sync, I: Read, W: Write + Send>(
     rt: &R,
-    alloc: Global,
     desk: &G,
     bells: &Bells,
     frames: &mut RequestReader,
@@ -131,7 +128,7 @@ fn run_threads<S: Host + Send, G: Desk, R: Threads + Wait + Clock + Sync, I: Rea
             result }
         ensures same { IfOk result (λ _. frames.exit.now.failed ≡ frames.entry.now.failed) }
         ensures noted { IfErr result (NotesFault frames.entry.now.failed frames.exit.now.failed) }
-    { read_and_close(rt, alloc, desk, bells, frames, reader, requests) };
+    { read_and_close(rt, desk, bells, frames, reader, requests) };
     let (failed, read) = thread::join_mut(rt, &mut serve, &mut read);
     Said { read, failed }
 }
@@ -139,7 +136,6 @@ fn run_threads<S: Host + Send, G: Desk, R: Threads + Wait + Clock + Sync, I: Rea
 // Reads, answers and writes at once, and looks at what is left.
 fn run_round<S: Host + Send, G: Desk, R: Threads + Wait + Clock + Sync, I: Read, W: Write + Send>(
     rt: &R,
-    alloc: Global,
     desk: &G,
     bells: &Bells,
     frames: &mut RequestReader,
@@ -160,7 +156,7 @@ fn run_round<S: Host + Send, G: Desk, R: Threads + Wait + Clock + Sync, I: Read,
     ensures noted { IfErr result.read (NotesFault frames.old.failed frames.new.failed) }
 {
     let said = run_threads(
-        rt, alloc, desk, bells, frames, reader, writer, answers, requests, hosts,
+        rt, desk, bells, frames, reader, writer, answers, requests, hosts,
     );
     let empty = are_empty(hosts, requests, answers);
     Round {
@@ -186,7 +182,6 @@ pub(crate) fn serve_round<
     W: Write + Send,
 >(
     rt: &R,
-    alloc: Global,
     desk: &G,
     ends: &mut Ends<S>,
     frames: &mut RequestReader,
@@ -214,7 +209,6 @@ pub(crate) fn serve_round<
     bells.reopen(rt);
     run_round(
         rt,
-        alloc,
         desk,
         bells,
         frames,

@@ -66,7 +66,7 @@ fn serve_turn<S: Host + Send, G: Desk, R: Threads + Wait + Clock + Sync, I: Read
     ensures same { IfOk result (λ _. frames.new.failed ≡ frames.old.failed) }
     ensures noted { IfErr result (λ fault. fault ≡ WireFault.ReadFault → frames.new.failed ≡ true) }
 {
-    let round = serve_round(rt, alloc, desk, ends, frames, reader, writer);
+    let round = serve_round(rt, desk, ends, frames, reader, writer);
     if !round.whole {
         return Err(WireFault::WriteFault);
     }
@@ -97,7 +97,7 @@ fn serve_turns<S: Host + Send, G: Desk, R: Threads + Wait + Clock + Sync, I: Rea
         (I.remaining reader.new) (W.contents writer.new) result }
     ensures all { length ends.new.hosts.items ≡ NEXUSES }
 {
-    let mut frames = RequestReader::new();
+    let mut frames = RequestReader::new(alloc);
     for _ in rt.forever() {
         if !serve_turn(rt, alloc, desk, ends, &mut frames, reader, writer)? {
             return Ok(());
