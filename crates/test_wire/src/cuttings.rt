@@ -31,6 +31,7 @@ fn each_frame_cut_off(rt: HostRuntime) -> Result<(), Fail> {
             };
             assert_equal!(rt; outcome.end, end; (frame, length));
             assert_equal!(rt; outcome.text.len(), 0; (frame, length));
+            assert_equal!(rt; outcome.has_failed, false; (frame, length));
         }
         let whole = reading(rt.alloc(), input.as_slice(), Plan::pieces(5));
         assert_equal!(rt; whole.end, DONE; frame);

@@ -27,6 +27,7 @@ fn reads_that_fail(rt: HostRuntime) -> Result<(), Fail> {
             let failed = reading(rt.alloc(), input.as_slice(), plan);
             assert_equal!(rt; failed.end, Err(WireFault::ReadFault); call);
             assert_equal!(rt; failed.calls, call; call);
+            assert_equal!(rt; failed.has_failed, true; call);
             assert_holds!(rt; text.as_slice().starts_with(failed.text.as_slice()); call);
         }
     }
@@ -44,6 +45,7 @@ fn reads_that_are_interrupted(rt: HostRuntime) -> Result<(), Fail> {
         };
         let interrupted = reading(rt.alloc(), input.as_slice(), plan);
         assert_equal!(rt; interrupted.end, DONE; call);
+        assert_equal!(rt; interrupted.has_failed, false; call);
         assert_equal!(rt; interrupted.calls, reads.saturating_add(1); call);
         assert_equal!(rt; interrupted.text.as_slice(), text.as_slice(); call);
     }

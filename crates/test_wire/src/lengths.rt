@@ -10,9 +10,9 @@ use vtl_wire::{Request, RequestReader, WireFault};
 fn the_longest_data(rt: HostRuntime) -> Result<(), Fail> {
     let mut input = bytes(rt.alloc(), "01 01 01 00 0010c8e0 00000001 00000000")?;
     input.resize(1_100_016, 0x5a)?;
-    let mut frames = RequestReader::new();
+    let mut frames = RequestReader::new(rt.alloc());
     let mut reader = PipeReader::new(input.as_slice(), Plan::pieces(65_536));
-    let found = frames.next(rt.alloc(), &mut reader)?;
+    let found = frames.next(&mut reader)?;
     match &found {
         Some(Request::Command { sent, .. }) => {
             assert_equal!(rt; sent.len(), 1_100_000);
@@ -21,15 +21,15 @@ fn the_longest_data(rt: HostRuntime) -> Result<(), Fail> {
         _ => assert_holds!(rt; false, "a command"),
     }
     assert_equal!(rt; frames.frames(), 1);
-    assert_holds!(rt; frames.next(rt.alloc(), &mut reader)?.is_none());
+    assert_holds!(rt; frames.next(&mut reader)?.is_none());
     assert_equal!(rt; frames.frames(), 1);
 
     // Its last byte is waited for.
     let whole = input.as_slice();
     let cut = &whole[..whole.len().saturating_sub(1)];
     let mut reader = PipeReader::new(cut, Plan::pieces(65_536));
-    let mut frames = RequestReader::new();
-    match frames.next(rt.alloc(), &mut reader) {
+    let mut frames = RequestReader::new(rt.alloc());
+    match frames.next(&mut reader) {
         Err(fault) => assert_equal!(rt; fault, WireFault::BadFrame { frame: 1 }),
         Ok(_) => assert_holds!(rt; false, "refused"),
     }

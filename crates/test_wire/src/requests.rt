@@ -5,14 +5,15 @@ use std::test::Fail;
 use test_assertions::assert_equal;
 use vtl_wire::{Request, RequestReader, WireFault, read_requests, write_request};
 
-/// What an input comes to: the texts of its requests, how it ends, how many reads were asked for, and how many bytes
-/// were not read.
+/// What an input comes to: the texts of its requests, how it ends, how many reads were asked for, how many bytes were
+/// not read, and whether a read failed.
 #[derive(Drop)]
 pub struct Outcome {
     pub text: Vec<u8>,
     pub end: Result<(), WireFault>,
     pub calls: u32,
     pub left: usize,
+    pub has_failed: bool,
 }
 
 pub const DONE: Result<(), WireFault> = Ok(());
@@ -62,7 +63,7 @@ fn add_texts(
     reader: &mut PipeReader,
 ) -> Result<(), WireFault> {
     for _ in 0..1_000 {
-        match frames.next(alloc, reader)? {
+        match frames.next(reader)? {
             Some(request) => add_text(alloc, text, &request)?,
             None => return Ok(()),
         }
@@ -73,7 +74,7 @@ fn add_texts(
 /// What an input comes to that is read as this plan says.
 pub fn reading(alloc: Global, input: &[u8], plan: Plan) -> Outcome {
     let mut text = Vec::new(alloc);
-    let mut frames = RequestReader::new();
+    let mut frames = RequestReader::new(alloc);
     let mut reader = PipeReader::new(input, plan);
     let end = add_texts(alloc, &mut text, &mut frames, &mut reader);
     Outcome {
@@ -81,6 +82,7 @@ pub fn reading(alloc: Global, input: &[u8], plan: Plan) -> Outcome {
         end,
         calls: reader.calls(),
         left: reader.left(),
+        has_failed: frames.has_failed(),
     }
 }
 
