@@ -1,10 +1,10 @@
 -- The two halves of a medium.
 use Rattle.std.proofs.Common.{◌≡◌, ◌≤◌, ◌+◌, ◌++◌, ℕ, List, [], ◌∷◌, length, map, true, false, not, Bool, Option, None, Some, refl, sym, ◌∙◌, ap, subst, arith, inl, inr, ◌⊎◌, ⊎_elim}
-use Rattle.std.specs.Prelude.{◌&&◌}
+use Rattle.std.specs.Prelude.{◌&&◌, sum_by}
 use Rattle.std.proofs.lemmas.List.{append-nil}
-use Rattle.vtl_base.specs.declared.limits.TheConstants.{BUFFER_RECORDS}
+use Rattle.vtl_base.specs.declared.limits.TheConstants.{BUFFER_BYTES, BUFFER_RECORDS}
 use Rattle.tape_disk.specs.Disk.{DiskState, IsDisk}
-use Rattle.volume_core.specs.Medium.{MediumState, volume_of}
+use Rattle.volume_core.specs.Medium.{MediumState, block_bytes, volume_of}
 use Rattle.record_index.specs.Places.{PlacedPart, blank, filled, outline}
 use Rattle.record_index.specs.Shapes.{IsIndexOf}
 use Rattle.cartridge.specs.Inner.Growing.{IsGrown}
@@ -92,6 +92,7 @@ module _ {D : Type 0} (state : D → DiskState) where
     pub rests : old.awake ≡ false → left.records ≡ 0
     pub failed : old.failed ≡ true → left.records ≡ 0
     pub exact : (left.records + length old.pending ≡ BUFFER_RECORDS) ⊎ (left.records ≡ 0)
+    pub bytes : old.awake ≡ true → left.bytes + sum_by block_bytes old.pending ≡ BUFFER_BYTES
     pub room : old.awake ≡ true → IsRoomSeen old.room left.room old.pending
 
   pub lend_facts : (old : BufferState D) (new : LentState D) → LendsFrom old new
@@ -105,6 +106,7 @@ module _ {D : Type 0} (state : D → DiskState) where
             rests = λ asleep. absurd (cc);
             failed = λ failed. ⊎_elim (λ works. not_both c.failed works.0 failed) (λ none. none) lent.records;
             exact = ⊎_elim (λ works. inl works.1) (λ none. inr none) lent.records;
+            bytes = λ awake. lent.bytes;
             room = λ awake. omega (arith, lent.room);
           }
       by (Closed c) (Closed c') lent =
@@ -112,6 +114,7 @@ module _ {D : Type 0} (state : D → DiskState) where
             rests = λ asleep. lent.1;
             failed = λ failed. lent.1;
             exact = inr lent.1;
+            bytes = λ awake. absurd (cc);
             room = λ awake. absurd (cc);
           }
       by (Open c) (Closed c') lent = absurd lent
@@ -245,11 +248,15 @@ module _ {D : Type 0} (state : D → DiskState) where
             )
 
     -- as many records may be sent as the buffer takes, or none
-    pub allowed_lent : IsAllowed (medium_seen span) cut.records
+    pub allowed_lent : IsAllowed (medium_seen span) (lent_begins lent cut)
     allowed_lent =
-        subst (λ (m : MediumState). IsAllowed m cut.records) (sym (seen_lent lent cut ∙ same))
+        subst (λ (m : MediumState). IsAllowed m (lent_begins lent cut)) (sym (seen_lent lent cut ∙ same))
         (record {
           most = cut_exact lent.left cut (length (state_of state old).pending) is facts.exact;
+          bytes = λ awake. omega (arith, cut_bytes lent.left cut is, facts.bytes awake);
+          room =
+              λ awake. subst (λ (n : ℕ). IsRoomSeen (state_of state old).room n (state_of state old).pending)
+              (sym (cut_room lent.left cut is)) (facts.room awake);
           works = λ failed. omega (arith, cut_less lent.left cut is, facts.failed failed);
           rests = λ asleep. omega (arith, cut_less lent.left cut is, facts.rests asleep);
         })

@@ -1,4 +1,7 @@
+pub mod FrontLemmas
+pub mod HalvesLemmas
 pub mod HalvingLemmas
+pub mod HostsLemmas
 pub mod JoinedLemmas
 pub mod LookLemmas
 pub mod NearLemmas
@@ -6,3 +9,4 @@ pub mod RingLemmas
 pub mod SpanLemmas
 pub mod TakenLemmas
 pub mod UntoldLemmas
+pub mod TellLemmas

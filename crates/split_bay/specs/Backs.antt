@@ -1,5 +1,5 @@
 -- What contracts see of the disk's half of a bay, and what its calls do.
-use Rattle.std.specs.Prelude.{◌≡◌, ◌≤◌, ◌+◌, ◌++◌, ℕ, List, [], length, map, sum_by, Bool, true, false, not, ◌&&◌, Option, None, Some, is_some}
+use Rattle.std.specs.Prelude.{◌≡◌, ◌≤◌, ◌+◌, ◌++◌, ℕ, List, [], length, map, sum_by, Bool, true, false, not, ◌&&◌, Option, None, Some, is_some, option_map}
 use mathlib.Core.List.{IsPrefix}
 use Rattle.vtl_base.specs.Below.{Advances}
 use Rattle.tape_disk.specs.Disk.{DiskState}
@@ -13,10 +13,11 @@ use Rattle.tape_buffer.specs.Frames.{IsOneFrameIn, frames_in}
 use Rattle.tape_buffer.specs.Moves.{buffer_below}
 use Rattle.tape_buffer.specs.State.{BufferState, state_of}
 use Rattle.tape_buffer.specs.Taking.{LentState}
+use Rattle.bays.specs.Bays.{KeepsCartridgeIn}
 use Rattle.split_bay.specs.declared.items.Item.{Item}
 use Rattle.split_bay.specs.declared.items.Item.TheVariants.{Sent}
 use Rattle.split_bay.specs.Looks.{Looked, is_broken}
-use Rattle.split_bay.specs.Spans.{NoChangeFirst, Span, medium_begun, medium_seen}
+use Rattle.split_bay.specs.Spans.{KeepsLimits, NoChangeFirst, Span, medium_begun, medium_seen, span_of}
 
 -- The disk's half of a bay: its drive's number, all items that it ever received, those that are known to wait, and the
 -- medium that is in the drive, if one is (own).
@@ -49,6 +50,14 @@ module _ {D : Type 0} (state : D → DiskState) where
   abbrev pub FollowsIn : Option (LentState D) → Span → Type 0
   FollowsIn None span = span.begin.seen ≡ None
   FollowsIn (Some medium) span = FollowsSpan medium span
+
+  -- What the type of a disk's half keeps: over honest disks each pair of images that a crash now may leave gives what
+  -- is safe, or what is stored; the medium is what hosts see, as far as it was received and stored; and no more was
+  -- received than the span allows (own).
+  pub record KeepsDiskHalf (back : BackState D) : Type 0 where
+    pub cartridge : KeepsCartridgeIn state (option_map (λ m. m.buffer) back.medium)
+    pub follows : FollowsIn back.medium (span_of back.received)
+    pub within : KeepsLimits (span_of back.received)
 
   -- a medium is there, awake, and its device has not failed (own)
   abbrev pub works_in : Option (LentState D) → Bool

@@ -1,10 +1,10 @@
 -- How the two halves of a medium are put together, and part again.
-use Rattle.std.specs.Prelude.{◌≡◌, ◌⊎◌, ◌++◌, ◌+◌, ℕ, List, [], ◌∷◌, length, map, true, false, Some}
+use Rattle.std.specs.Prelude.{◌≡◌, ◌⊎◌, ◌++◌, ◌+◌, List, [], ◌∷◌, length, map, sum_by, true, false, Some}
 use Rattle.vtl_base.specs.Below.{Advances}
-use Rattle.vtl_base.specs.declared.limits.TheConstants.{BUFFER_RECORDS}
+use Rattle.vtl_base.specs.declared.limits.TheConstants.{BUFFER_BYTES, BUFFER_RECORDS}
 use Rattle.tape_disk.specs.Disk.{DiskState}
 use Rattle.volume_core.specs.declared.changes.Change.{Change}
-use Rattle.volume_core.specs.Medium.{MediumState}
+use Rattle.volume_core.specs.Medium.{MediumState, block_bytes}
 use Rattle.tape_buffer.specs.Moves.{buffer_below}
 use Rattle.tape_buffer.specs.State.{BufferState, state_of}
 use Rattle.tape_buffer.specs.Taking.{LendsFrom, LentState}
@@ -12,8 +12,9 @@ use Rattle.split_bay.specs.declared.items.Item.{Item}
 use Rattle.split_bay.specs.declared.items.Item.TheVariants.{Begins, Sent}
 use Rattle.split_bay.specs.declared.noted.NotedBeginning.{NotedBeginning}
 use Rattle.split_bay.specs.Backs.{BackState, with_changes}
+use Rattle.split_bay.specs.Beginnings.{Beginning}
 use Rattle.split_bay.specs.Looks.{Looked}
-use Rattle.split_bay.specs.Nears.{IsThere, state_near}
+use Rattle.split_bay.specs.Nears.{IsRoomSeen, IsThere, state_near}
 use Rattle.split_bay.specs.Rings.{SendingState}
 use Rattle.split_bay.specs.Spans.{span_of}
 use Rattle.split_bay.specs.Untold.{AcceptsUntold}
@@ -25,11 +26,14 @@ pub record BeginsNext (old new : SendingState) : Type 0 where
   pub sent : new.sent ≡ old.sent ++ Begins noted ∷ []
 
 -- As many records may be sent as the buffer may still take, or none, where memory runs out; none where the medium has
--- failed, or is not awake (own).
-pub record IsAllowed (medium : MediumState) (left : ℕ) : Type 0 where
-  pub most : (left + length medium.pending ≡ BUFFER_RECORDS) ⊎ (left ≡ 0)
-  pub works : medium.failed ≡ true → left ≡ 0
-  pub rests : medium.awake ≡ false → left ≡ 0
+-- failed, or is not awake. As many bytes of blocks may be as the buffer may still take, and as much room is left as the
+-- side has beside what is pending (own).
+pub record IsAllowed (medium : MediumState) (begin : Beginning) : Type 0 where
+  pub most : (begin.left + length medium.pending ≡ BUFFER_RECORDS) ⊎ (begin.left ≡ 0)
+  pub bytes : medium.awake ≡ true → begin.bytes + sum_by block_bytes medium.pending ≡ BUFFER_BYTES
+  pub room : medium.awake ≡ true → IsRoomSeen medium.room begin.room medium.pending
+  pub works : medium.failed ≡ true → begin.left ≡ 0
+  pub rests : medium.awake ≡ false → begin.left ≡ 0
 
 module _ {D : Type 0} (state : D → DiskState) where
   -- What was received begins what was sent, and what was not is pending now. The medium is what hosts see of it, as far
@@ -63,4 +67,4 @@ module _ {D : Type 0} (state : D → DiskState) where
     pub medium : back.medium ≡ Some new
     pub lent : IsLent old new
     pub seen : state_near near ≡ state_of state old
-    pub allowed : IsAllowed (state_near near) (span_of near.sent).begin.left
+    pub allowed : IsAllowed (state_near near) (span_of near.sent).begin

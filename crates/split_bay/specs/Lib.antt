@@ -7,3 +7,6 @@ pub mod Backs
 pub mod Taken
 pub mod Untold
 pub mod Halving
+pub mod Hosts
+pub mod Fronts
+pub mod Halves

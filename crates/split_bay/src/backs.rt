@@ -78,7 +78,7 @@ impl<D: Disk, R: Rings> Back<D, R> {
     /// What the type keeps: over honest disks each pair of images that a crash now may leave gives what is safe, or
     /// what is stored; and the medium is what hosts see, as far as it was received and stored.
     pub fn known(&self)
-        ensures kept { KeepsCartridgeIn D.state (option_map (λ m. m.buffer) self.now.medium) }
+        ensures cartridge { KeepsCartridgeIn D.state (option_map (λ m. m.buffer) self.now.medium) }
         ensures follows { FollowsIn D.state self.now.medium (span_of self.now.received) }
         ensures within { KeepsLimits (span_of self.now.received) }
     {

@@ -55,17 +55,17 @@ impl<R: Rings> Ends<R> {
 }
 
 /// A medium, once its halves are put together.
-pub struct Joined<D: Disk, R: Rings> {
+pub(crate) struct Joined<D: Disk, R: Rings> {
     /// The medium.
-    pub medium: Cataloged<D>,
+    pub(crate) medium: Cataloged<D>,
     /// Both ends of its ring.
-    pub ends: Ends<R>,
+    pub(crate) ends: Ends<R>,
     /// Whether its device has failed, and that was not reported.
-    pub fails: bool,
+    pub(crate) fails: bool,
 }
 
 /// The halves of a medium are put together. It takes no memory, and calls no device.
-pub fn join_medium<D: Disk, R: Rings>(
+pub(crate) fn join_medium<D: Disk, R: Rings>(
     near: Near<R>,
     receiving: Receiving<R>,
     medium: Lent<D>,
@@ -101,7 +101,7 @@ pub fn join_medium<D: Disk, R: Rings>(
 }
 
 /// The ends of the ring of a drive with nothing in it.
-pub fn join_ends<R: Rings>(sending: Sending<R>, receiving: Receiving<R>) -> Ends<R>
+pub(crate) fn join_ends<R: Rings>(sending: Sending<R>, receiving: Receiving<R>) -> Ends<R>
     requires ends { AreEnds sending receiving.number receiving.received }
     requires none { (span_of sending.sent).begin.left ≡ 0 }
     ensures same { result ≡ sending }
@@ -115,7 +115,10 @@ pub fn join_ends<R: Rings>(sending: Sending<R>, receiving: Receiving<R>) -> Ends
 }
 
 /// A medium parts into its halves, and a span begins.
-pub fn part_medium<D: Disk, R: Rings>(medium: Cataloged<D>, ends: Ends<R>) -> (Near<R>, Back<D, R>)
+pub(crate) fn part_medium<D: Disk, R: Rings>(
+    medium: Cataloged<D>,
+    ends: Ends<R>,
+) -> (Near<R>, Back<D, R>)
     ensures { PartsMedium D.state ends medium result.0 result.1 }
 {
     let (buffered, catalog) = medium.into_halves();
@@ -146,7 +149,7 @@ pub fn part_medium<D: Disk, R: Rings>(medium: Cataloged<D>, ends: Ends<R>) -> (N
 }
 
 /// The ends of the ring part, with nothing in the drive.
-pub fn part_ends<D: Disk, R: Rings>(ends: Ends<R>) -> (Sending<R>, Back<D, R>)
+pub(crate) fn part_ends<D: Disk, R: Rings>(ends: Ends<R>) -> (Sending<R>, Back<D, R>)
     ensures begins { BeginsNext ends result.0 }
     ensures none { span_of result.0.sent ≡ no_span }
     ensures back { (result.1.number ≡ result.0.number) × (result.1.received ≡ result.0.sent)

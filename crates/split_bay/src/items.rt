@@ -10,6 +10,6 @@ pub const RING_RECORDS: usize = 256;
 pub enum Item {
     /// A change that was accepted.
     Sent(Change),
-    /// A span begins: both halves are held, and all that was sent before is stored.
+    /// A span begins: both halves are held, and all that was sent before is received.
     Begins(NotedBeginning),
 }

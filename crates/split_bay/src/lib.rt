@@ -3,9 +3,13 @@
 
 pub mod backs;
 pub mod ends;
+pub mod fronts;
+pub mod halves;
 pub mod halving;
+pub mod hosts;
 pub mod items;
 mod joined;
+pub mod laws;
 mod media;
 pub mod near;
 pub mod new_rings;
@@ -15,7 +19,11 @@ mod taking;
 
 pub use backs::Back;
 pub use ends::{Receiving, Rings, Sending};
-pub use halving::{Ends, Joined, join_ends, join_medium, part_ends, part_medium};
+pub use fronts::Front;
+pub use halves::{execute_both, join, part, tell};
+pub use halving::Ends;
+pub use hosts::Hosts;
 pub use items::{Item, RING_RECORDS};
+pub use laws::replies_tell_changes_alone;
 pub use near::Near;
 pub use new_rings::NewRing;

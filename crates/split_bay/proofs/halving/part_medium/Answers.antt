@@ -83,6 +83,6 @@ returns g c =
           ap medium_seen next ∙ seen_lent state lent cut ∙ told.state
           ∙ ap (λ (b : BufferState g.row.D.Denot). state_of state b) c.into_halves-buffered.ensures.same;
       allowed =
-          subst (λ (s : Span). IsAllowed (medium_seen s) s.begin.left) (sym next)
+          subst (λ (s : Span). IsAllowed (medium_seen s) s.begin) (sym next)
           (allowed_lent state old lent cut (lend_facts state old lent told.lends) told.state is);
     }

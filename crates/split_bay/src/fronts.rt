@@ -1,0 +1,137 @@
+//! The hosts' half of a bay.
+ghost use Rattle.std.specs.Prelude.{◌≡◌, ◌↔◌, [], IfSome, IsTrue, None, Some, is_some};
+ghost use Rattle.aptpl_store.specs.Kept.{store_below, store_kept};
+ghost use Rattle.drive_core.specs.declared.bays.Bay.TheVariants as Bays;
+ghost use Rattle.drive_core.specs.Alone.{AnswersAlone};
+ghost use Rattle.drive_core.specs.Execute.{asked};
+ghost use Rattle.drive_core.specs.State.{has_failed_in, machine_of};
+ghost use Rattle.drive_core.specs.Synchronize.{Acknowledges, IsSynchronizing};
+ghost use Rattle.split_bay.specs.Fronts.{GivesOrders, KeepsHostsHalf, LeavesOrders, end_of};
+ghost use Rattle.split_bay.specs.Nears.{alone_near, near_below, state_near};
+ghost use Rattle.split_bay.specs.Rings.{AreEnds};
+ghost use Rattle.split_bay.specs.Spans.{KeepsLimits, span_of};
+
+use crate::backs::Back;
+use crate::ends::{Rings, Sending};
+use crate::hosts::Hosts;
+use crate::joined::are_ends;
+use crate::near::Near;
+use aptpl_store::AptplStore;
+use bays::laws::reservations::reservations_outlive_each_stop;
+use drive_core::Drive;
+use scsi_sense::Reply;
+use std::marker::Model;
+use tape_buffer::Cataloged;
+use tape_disk::Disk;
+use vtl_base::{Bytes, Nexus};
+
+/// The hosts' half of a bay: the drive, over the hosts' half of its medium, with its store of reservations. Where
+/// nothing is in the drive its end of the ring stands beside it.
+#[derive(Drop)]
+pub struct Front<D: Disk, R: Rings> {
+    pub(crate) drive: Drive<Hosts<Near<R>, Cataloged<D>>, AptplStore<D>>,
+    pub(crate) end: Option<Sending<R>>,
+}
+
+impl<D: Disk, R: Rings> Model for Front<D, R> {
+    ghost use Rattle.split_bay.specs.Fronts.{FrontState, HasEnd, KeepsOrders};
+    ghost use Rattle.split_bay.specs.Hosts.{IsApartIn, drive_near};
+
+    ghost Value = { FrontState D };
+
+    ghost view = { λ f. record { drive = drive_near f.drive; end = f.end } };
+
+    ghost invariant = { λ f. IsApartIn f.drive.bay × HasEnd (drive_near f.drive).bay f.end
+        × KeepsOrders D.state (drive_near f.drive) };
+}
+
+impl<D: Disk, R: Rings> Front<D, R> {
+    /// Answers a command of a host whose data are lent, where it needs no disk. Where both halves are needed there is
+    /// no answer, and nothing has changed: the data are there still.
+    pub fn execute_lent(&mut self, nexus: Nexus, cdb: &[u8], sent: &mut Bytes) -> Option<Reply>
+        ensures step { AnswersAlone state_near store_kept alone_near near_below (store_below D.state)
+            self.old.drive (asked nexus cdb.now sent.old) result self.new.drive sent.new }
+        ensures end { self.new.end ≡ self.old.end }
+
+        // A synchronizing command is never acknowledged so.
+        ensures waits { IsSynchronizing (machine_of state_near store_kept self.old.drive) cdb.now
+            → IfSome result (λ reply. Acknowledges reply → ⊥) }
+
+        // At every moment inside the call a crash leaves these of the reservations.
+        ensures moments { LeavesOrders D.state self.old.drive (asked nexus cdb.now sent.old) result self.new.drive }
+    {
+        // The law, for the proof alone.
+        reservations_outlive_each_stop::<Hosts<Near<R>, Cataloged<D>>, D>();
+        self.drive.execute_alone(nexus, cdb, sent)
+    }
+
+    /// Whether the two are halves of one bay, in each of which as many spans began.
+    pub fn fits(&self, back: &Back<D, R>) -> bool
+        ensures { IsTrue result ↔ AreEnds (end_of self.now) back.now.number back.now.received }
+    {
+        match (self.drive.medium(), &self.end) {
+            (Some(Hosts::Apart(near)), _) => near.fits(back),
+            (None, Some(sending)) => are_ends(sending, &back.receiving),
+            _ => unreachable!(),
+        }
+    }
+
+    /// Whether there is no cartridge in the drive, loaded or not.
+    pub fn is_empty(&self) -> bool
+        ensures { IsTrue result ↔ (self.now.drive.bay ≡ Bays.Empty) }
+    {
+        self.drive.is_empty()
+    }
+
+    /// Whether a reservation is held at the drive.
+    pub fn held(&self) -> bool
+        ensures { result ≡ is_some self.now.drive.reservations.reservation }
+    {
+        self.drive.held()
+    }
+
+    /// How many changes were accepted since it was switched on, as `Drive::accepted` says.
+    pub fn accepted(&self) -> u64
+        ensures { result ≡ self.now.drive.accepted }
+    {
+        self.drive.accepted()
+    }
+
+    /// Whether hosts see what is loaded as failed.
+    pub fn has_failed(&self) -> bool
+        ensures { result ≡ has_failed_in state_near self.now.drive.bay }
+    {
+        self.drive.has_failed()
+    }
+
+    /// What keeps its reservations, to be looked at.
+    pub fn keeper(&self) -> &AptplStore<D>
+        ensures { result.now ≡ self.now.drive.keeper }
+    {
+        self.drive.keeper()
+    }
+
+    // What was sent keeps the limits of its span.
+    fn known_end(&self)
+        ensures { KeepsLimits (span_of (end_of self.now).sent) }
+    {
+        match (self.drive.medium(), &self.end) {
+            (Some(Hosts::Apart(near)), _) => near.sending.known(),
+            (None, Some(sending)) => sending.known(),
+            _ => unreachable!(),
+        }
+    }
+
+    /// What the type keeps: over an honest disk each image that a crash now may leave of the store gives the
+    /// reservations as a loss of power leaves them, or those of the order whose save failed; no more was sent than may
+    /// be; and the position is on what hosts see.
+    pub fn known(&self)
+        ensures kept { KeepsHostsHalf D.state self.now }
+        ensures opens { GivesOrders D.state self.now.drive }
+    {
+        reservations_outlive_each_stop::<Hosts<Near<R>, Cataloged<D>>, D>();
+        self.known_end();
+        // Read for the proof: the facts are the type's invariant.
+        let _ = self.drive.medium();
+    }
+}

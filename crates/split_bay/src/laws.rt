@@ -1,0 +1,20 @@
+//! A law of the hosts' half of a bay.
+ghost use Rattle.aptpl_store.specs.Kept.{store_below, store_kept};
+ghost use Rattle.drive_core.specs.Told.{RepliesTellChanges};
+ghost use Rattle.split_bay.specs.Nears.{near_below, state_near};
+
+use crate::ends::Rings;
+use crate::hosts::Hosts;
+use crate::near::Near;
+use aptpl_store::AptplStore;
+use drive_laws::replies_tell_changes;
+use tape_buffer::Cataloged;
+use tape_disk::Disk;
+
+/// How many changes the hosts' half accepted with a command, by its reply, as `drive_laws::replies_tell_changes` says
+/// of a drive.
+pub fn replies_tell_changes_alone<D: Disk, R: Rings>()
+    ensures { RepliesTellChanges state_near near_below store_kept (store_below D.state) }
+{
+    replies_tell_changes::<Hosts<Near<R>, Cataloged<D>>, AptplStore<D>>();
+}
