@@ -1,7 +1,7 @@
 -- The count of changes that were made, and the growth of a seat.
 use Rattle.std.proofs.Common.{zero, suc, ◌≡◌, ◌≢◌, ◌≤◌, ◌<◌, ◌+◌, ◌^◌, ◌⊎◌, inl, inr, ℕ, List, [], ◌∷◌, length, ◌∙◌, ap, arith}
 use Rattle.std.proofs.Math.Nat.{min-eq_left}
-use Rattle.tape_disk.specs.Disk.{DiskState}
+use Rattle.vtl_base.specs.Below.{Below}
 use Rattle.scsi_sense.specs.declared.replies.Reply.{Reply}
 use Rattle.volume_core.specs.declared.changes.Change.{Change}
 use Rattle.ledgers.specs.Ledgers.{SeatState}
@@ -9,11 +9,11 @@ use Rattle.drive_core.specs.Counted.{counted_up}
 use Rattle.drive_core.specs.Execute.{Answers}
 use Rattle.drive_core.specs.Told.{TellsChanges}
 use Rattle.drive_core.specs.Work.{Request}
-use Rattle.tape_buffer.specs.Moves.{buffer_below}
-use Rattle.tape_buffer.specs.State.{state_of}
-use Rattle.aptpl_store.specs.Kept.{store_below, store_kept}
-use Rattle.bays.specs.Elements.{BayState}
-use Rattle.library.specs.Served.{GrowsAsTold}
+use Rattle.drive_core.specs.State.{DriveState}
+use Rattle.pr_core.specs.declared.states.PrState.{PrState}
+use Rattle.pr_core.specs.Keepers.{KeeperState}
+use Rattle.volume_core.specs.Medium.{MediumState}
+use Rattle.library.specs.Served.{GrowsAsTold, SeatGrows}
 
 -- below the limit a count rises by the one change that is made, if one is
 pub count_rises : (old new : ℕ) (changes : List Change) → length changes ≤ 1 → new ≡ counted_up old changes
@@ -55,17 +55,17 @@ grows_as_told cdb reply changes before after told grown =
       other = λ plain. omega (arith, grown, nothing changes (told.other plain));
     }
 
-module _ {D : Type 0} (state : D → DiskState) where
+module _ {M K : Type 0} (state : M → MediumState) (below : Below M Change) (kept : K → KeeperState)
+    (keeps : Below K PrState) where
   -- A drive has answered, its count has gone from one number to another, and that was entered for the seat.
-  pub seat_grows : (old : BayState D) (request : Request) (before : SeatState) (reply : Reply) (new : BayState D)
-      (after : SeatState) (low high : ℕ)
-      → (step : Answers (state_of state) (buffer_below state) store_kept (store_below state) old request reply new)
-      → TellsChanges request.cdb reply step.taken.made.changes
+  pub seat_grows : (old : DriveState M K) (request : Request) (before : SeatState) (reply : Reply)
+      (new : DriveState M K) (after : SeatState) (low high : ℕ)
+      → (step : Answers state below kept keeps old request reply new)
+      → TellsChanges request.cdb reply step.taken.made.changes → request.nexus ≡ before.nexus
       → low ≡ old.accepted → high ≡ new.accepted → low + 1 < 2 ^ 64
       → (low ≡ high → after ≡ before) → (low ≢ high → after ≡ record before { amount = before.amount + 1 })
-      → (after.nexus ≡ before.nexus) × (after.amount ≡ before.amount + length step.taken.made.changes)
-      × GrowsAsTold request.cdb reply before.amount after.amount
-  seat_grows old request before reply new after low high step told is was below same risen =
+      → SeatGrows request before reply step.taken.made.changes after
+  seat_grows old request before reply new after low high step told host is was below_limit same risen =
       let changes = step.taken.made.changes in
       let rose : high ≡ low + length changes =
       omega (
@@ -73,26 +73,30 @@ module _ {D : Type 0} (state : D → DiskState) where
         is,
         was,
         count_rises old.accepted new.accepted changes told.few step.taken.counted
-            (omega (arith, is, below)),
+            (omega (arith, is, below_limit)),
       ) in
       let grown : after.amount ≡ before.amount + length changes =
       rises_by low high before.amount after.amount (length changes) rose told.few
       (λ alike. ap (λ (s : SeatState). s.amount) (same alike))
-      (λ apart. ap (λ (s : SeatState). s.amount) (risen apart)) in (
-        stays_by low high before.nexus after.nexus (length changes) rose told.few
+      (λ apart. ap (λ (s : SeatState). s.amount) (risen apart)) in
+      record {
+        host = host;
+        nexus =
+            stays_by low high before.nexus after.nexus (length changes) rose told.few
             (λ alike. ap (λ (s : SeatState). s.nexus) (same alike))
-            (λ apart. ap (λ (s : SeatState). s.nexus) (risen apart)),
-        grown,
-        grows_as_told request.cdb reply changes before.amount after.amount told grown,
-      )
+            (λ apart. ap (λ (s : SeatState). s.nexus) (risen apart));
+        grown = grown;
+        told = grows_as_told request.cdb reply changes before.amount after.amount told grown;
+      }
 
   -- the share of the drive then
-  pub share_stands : (old : BayState D) (request : Request) (reply : Reply) (new : BayState D) (low high held held' : ℕ)
-      → (step : Answers (state_of state) (buffer_below state) store_kept (store_below state) old request reply new)
+  pub share_stands : (old : DriveState M K) (request : Request) (reply : Reply) (new : DriveState M K)
+      (low high held held' : ℕ)
+      → (step : Answers state below kept keeps old request reply new)
       → TellsChanges request.cdb reply step.taken.made.changes
       → low ≡ old.accepted → high ≡ new.accepted → low + 1 < 2 ^ 64 → held ≡ old.accepted
       → (low ≡ high → held' ≡ held) → (low ≢ high → held' ≡ held + 1) → held' ≡ new.accepted
-  share_stands old request reply new low high held held' step told was is below stood same risen =
+  share_stands old request reply new low high held held' step told was is below_limit stood same risen =
       let changes = step.taken.made.changes in
       let rose : high ≡ low + length changes =
       omega (
@@ -100,6 +104,6 @@ module _ {D : Type 0} (state : D → DiskState) where
         is,
         was,
         count_rises old.accepted new.accepted changes told.few step.taken.counted
-            (omega (arith, was, below)),
+            (omega (arith, was, below_limit)),
       ) in
       omega (arith, rises_by low high held held' (length changes) rose told.few same risen, rose, is, was, stood)

@@ -103,7 +103,7 @@ module _ {D : Type 0} (state : D → DiskState) where
           (get_or-set_same old one.place one.after d within) in
           let was : get_or old i d ≡ one.before =
           subst (λ (k : ℕ). get_or old k d ≡ one.before) (sym here) (found old one.place d one.before one.seat) in
-          ap (λ (s : SeatState). s.nexus) put ∙ one.served.answers.nexus
+          ap (λ (s : SeatState). s.nexus) put ∙ one.served.grows.nexus
           ∙ sym (ap (λ (s : SeatState). s.nexus) was) ∙ places.each i d less
       by i d less (inr other) =
           ap (λ (s : SeatState). s.nexus) (get_or-set_other old one.place i one.after d other)

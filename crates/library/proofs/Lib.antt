@@ -2,6 +2,7 @@ pub mod CountLemmas
 pub mod CrewLemmas
 pub mod DoneLemmas
 pub mod EndLemmas
+pub mod HalfLemmas
 pub mod HostLemmas
 pub mod JobLemmas
 pub mod LentLemmas
@@ -9,5 +10,6 @@ pub mod LoopLemmas
 pub mod OutcomeLemmas
 pub mod RowLemmas
 pub mod SeenLemmas
+pub mod ServedLemmas
 pub mod SessionLemmas
 pub mod ThreadLemmas

@@ -97,3 +97,13 @@ module _ {X : Type 0} where
   nowhere_there row number long (inr beyond) =
       said_nowhere (which_are_there row) number
       (inr (omega (arith, length-map row (is_some {T = X}), long, beyond)))
+
+-- where the same places of two lists are filled, a place of one is filled where that of the other is
+pub alike_at : {X Y : Type 0} (row : List (Option X)) (other : List (Option Y)) (place : ℕ)
+    → place < length row → which_are_there row ≡ which_are_there other
+    → is_some (get_or row place None) ≡ is_some (get_or other place None)
+alike_at {X = X} {Y = Y} row other place within same =
+    let long : length row ≡ length other = same_length row other same in
+    sym (get_or-map (is_some {T = X}) row place None false within)
+    ∙ ap (λ (l : List Bool). get_or l place false) same
+    ∙ get_or-map (is_some {T = Y}) other place None false (omega (arith, within, long))

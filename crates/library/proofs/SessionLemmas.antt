@@ -43,6 +43,6 @@ module _ {D : Type 0} (state : D → DiskState) where
       → AnswersSession state before lines replies after → after.nexus ≡ before.nexus
   session_host before after [] [] done = ap (λ (s : SeatState). s.nexus) done
   session_host before after (line ∷ lines) (reply ∷ replies) done =
-      session_host done.0 after lines replies done.2 ∙ done.1.answers.nexus
+      session_host done.0 after lines replies done.2 ∙ done.1.grows.nexus
   session_host before after [] (reply ∷ replies) done = absurd done
   session_host before after (line ∷ lines) [] done = absurd done

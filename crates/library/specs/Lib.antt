@@ -1,10 +1,12 @@
 pub mod Counts
 pub mod Crews
 pub mod Ends
+pub mod Halves
 pub mod Inner
 pub mod Kept
 pub mod MovesAt
 pub mod Ran
+pub mod RingRows
 pub mod Seen
 pub mod Served
 pub mod Sessions

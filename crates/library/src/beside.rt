@@ -6,6 +6,7 @@ ghost use denote.Param.Send.{IsSend, IsSync};
 use crate::flushers::Gate;
 use crate::libraries::Library;
 use ledgers::Parties;
+use split_bay::Rings;
 use std::marker::{Send, Sync};
 use std::sync::Wait;
 use std::thread;
@@ -18,7 +19,7 @@ use vtl_base::DriveNo;
 /// thread can be made is called after the work, and so ends at once (own).
 pub fn beside_flushers<
     D: Disk + Drop + Send,
-    B: Parties + Send + Sync,
+    B: Parties + Rings + Send + Sync,
     H: Parties + Send + Sync,
     R: Threads + Wait + Sync,
     G: Gate + Sync,

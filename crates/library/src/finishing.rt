@@ -1,5 +1,5 @@
 //! The end of a library: every buffer is written out, and the drives' counts are compared with the seats.
-ghost use Rattle.std.specs.Prelude.{◌≡◌, ◌≢◌, ◌+◌, ℕ, Err, IfOk, IfErr, OnOk, OnErr, is_some, length, vec_len};
+ghost use Rattle.std.specs.Prelude.{◌≡◌, ◌≢◌, ◌+◌, ℕ, Err, Some, IfOk, IfErr, OnOk, OnErr, is_some, length, vec_len};
 ghost use Rattle.vtl_base.specs.declared.limits.TheConstants.{DRIVES};
 ghost use Rattle.ledgers.specs.Ledgers.{no_share};
 ghost use Rattle.bays.specs.Elements.{bay_at};
@@ -7,7 +7,7 @@ ghost use Rattle.bays.specs.Finish.{HasFailedAt, IsWrittenAt};
 ghost use Rattle.library.specs.Counts.{count_of_drive, one_if_there, or_none, which_are_there};
 ghost use Rattle.library.specs.Ends.{Balances, IsShort, counts_of, sum_of_counts, sum_of_seats};
 ghost use Rattle.library.specs.Inner.Ending.{HaveEnded, outcome_of, worse_of};
-ghost use Rattle.library.specs.Kept.{AreLeft, IsLeftAt};
+ghost use Rattle.library.specs.Kept.{AreLeft, IsLeftAt, IsLeftByTurn};
 
 use crate::inventories::known_slots;
 use crate::libraries::Library;
@@ -17,6 +17,7 @@ use crate::shared::SharedBay;
 use bays::{Bay, Parked, Unwritten};
 use changer::Slots;
 use ledgers::{Gathering, Parties, Seat, SeatsMissing};
+use split_bay::Rings;
 use std::fmt::Debug;
 use std::sync::Wait;
 use tape_disk::Disk;
@@ -45,11 +46,11 @@ pub struct Finished<D: Disk> {
     pub counts: Result<[Option<u64>; 16], FinishError>,
 }
 
-impl<D: Disk + Drop, B: Parties, H: Parties> Library<D, B, H> {
+impl<D: Disk + Drop, B: Parties + Rings, H: Parties> Library<D, B, H> {
     /// Writes every buffer out, by a turn of each drive, and compares the drives' counts with the seats. It
     /// is for the end, when nobody else shares the library, and takes no memory. A failed medium is reported
     /// before missing seats.
-    pub fn finish<R: Wait>(self, _rt: &R, seats: Vec<Seat<H>>) -> Finished<D>
+    pub fn finish<R: Wait>(self, rt: &R, seats: Vec<Seat<H>>) -> Finished<D>
         ensures drives { which_are_there result.bays.items ≡ self }
         ensures counts { IfOk result.counts (λ counts. (counts ≡ counts_of result.bays.items)
             × (sum_of_counts counts ≡ sum_of_seats seats.items)) }
@@ -77,7 +78,7 @@ impl<D: Disk + Drop, B: Parties, H: Parties> Library<D, B, H> {
         } = self;
         let mut row = row.into_inner();
         let mut gathering = tally.into_inner().gather();
-        let written = end_drives(bays, &mut row, &mut gathering);
+        let written = end_drives(rt, bays, &mut row, &mut gathering);
         take_seats(seats, &mut gathering);
         let counts = outcome(written, counts_in(&row), gathering.compare());
         let slots = slots.into_inner();
@@ -107,8 +108,9 @@ fn outcome(
     }
 }
 
-// Takes each drive out from behind its lock, has it take a turn, puts it into the row, and gathers its share.
-fn end_drives<D: Disk + Drop, B: Parties, H: Parties>(
+// Takes each drive out from behind its locks, has it take a turn, puts it into the row, and gathers its share.
+fn end_drives<D: Disk + Drop, B: Parties + Rings, H: Parties, R: Wait>(
+    rt: &R,
     bays: Vec<Option<SharedBay<D, B>>>,
     row: &mut Row<D>,
     gathering: &mut Gathering<B, H>,
@@ -122,7 +124,7 @@ fn end_drives<D: Disk + Drop, B: Parties, H: Parties>(
     let mut bays = bays;
     let mut written = Ok(());
     while let Some(bay) = bays.pop() {
-        let DriveEnd { bay, written: one } = end_drive(bay, gathering);
+        let DriveEnd { bay, written: one } = end_drive(rt, bay, gathering);
         row.put(bays.len(), bay);
         written = worse(written, one);
     }
@@ -143,8 +145,9 @@ fn worse(first: Result<(), Unwritten>, second: Result<(), Unwritten>) -> Result<
     if first.is_err() { first } else { second }
 }
 
-// Takes a drive, if there is one, out from behind its lock, has it take a turn, and gathers its share.
-fn end_drive<D: Disk + Drop, B: Parties, H: Parties>(
+// Takes a drive, if there is one, out from behind its locks, has it take a turn, and gathers its share.
+fn end_drive<D: Disk + Drop, B: Parties + Rings, H: Parties, R: Wait>(
+    rt: &R,
     bay: Option<SharedBay<D, B>>,
     gathering: &mut Gathering<B, H>,
 ) -> DriveEnd<D>
@@ -166,12 +169,26 @@ fn end_drive<D: Disk + Drop, B: Parties, H: Parties>(
         bay,
         share,
         written,
-    } = shared.into_place().end();
+    } = end_shared(rt, shared);
     gathering.take_bay(share);
     DriveEnd {
         bay: Some(bay),
         written,
     }
+}
+
+// Takes both halves of a drive out from behind their locks; together they take a turn.
+fn end_shared<D: Disk + Drop, B: Parties + Rings, R: Wait>(
+    rt: &R,
+    shared: SharedBay<D, B>,
+) -> EndedPlace<D, B>
+    ensures left { IsLeftByTurn D.state result.bay }
+    ensures share { result.share ≡ result.bay.accepted }
+    ensures ok { OnOk result.written (IsWrittenAt D.state (Some result.bay)) }
+    ensures err { OnErr result.written (HasFailedAt D.state (Some result.bay)) }
+{
+    let (front, back) = shared.into_places();
+    front.end(back, rt)
 }
 
 // The count of each drive of a row.

@@ -9,6 +9,7 @@ use crate::libraries::Library;
 use bays::Parked;
 use changer::Slots;
 use ledgers::Parties;
+use split_bay::Rings;
 use std::fmt::Debug;
 use std::sync::Wait;
 use tape_disk::Disk;
@@ -69,7 +70,7 @@ pub fn seen_in_slots<D: Disk + Drop>(slots: &Slots<Parked<D>>) -> [Element; 256]
     seen
 }
 
-impl<D: Disk + Drop, B: Parties, H: Parties> Library<D, B, H> {
+impl<D: Disk + Drop, B: Parties + Rings, H: Parties> Library<D, B, H> {
     /// The content of each element address. The drives are looked at one after another, while the slots' lock
     /// is held. Nothing is moved meanwhile, so no cartridge is seen twice, and none is missed. It takes no
     /// memory.
@@ -96,7 +97,7 @@ impl<D: Disk + Drop, B: Parties, H: Parties> Library<D, B, H> {
         ensures { is_place_seen result ≡ has_drive self.now (place + 1) }
     {
         match &self.bays[place] {
-            Some(bay) => bay.lock.lock(rt).seen(),
+            Some(bay) => bay.front.lock(rt).seen(),
             None => Element::Missing,
         }
     }

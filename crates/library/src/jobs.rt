@@ -9,6 +9,7 @@ use crate::libraries::Library;
 use crate::threads::Idle;
 use ledgers::{Parties, Seat};
 use scsi_sense::Reply;
+use split_bay::Rings;
 use std::alloc::Global;
 use std::marker::Model;
 use std::sync::Wait;
@@ -81,7 +82,7 @@ impl<H: Parties> Job<H> {
     }
 
     /// Carries out its lines, in order.
-    pub(crate) fn serve<D: Disk + Drop, B: Parties, R: Wait>(
+    pub(crate) fn serve<D: Disk + Drop, B: Parties + Rings, R: Wait>(
         &mut self,
         rt: &R,
         library: &Library<D, B, H>,
@@ -98,7 +99,7 @@ impl<H: Parties> Job<H> {
     }
 
     /// Carries out one line at once. A block takes its data without copying.
-    pub(crate) fn serve_line<D: Disk + Drop, B: Parties, R: Wait>(
+    pub(crate) fn serve_line<D: Disk + Drop, B: Parties + Rings, R: Wait>(
         &mut self,
         rt: &R,
         library: &Library<D, B, H>,

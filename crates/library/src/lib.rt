@@ -1,4 +1,5 @@
-//! A library that threads share: each drive behind a lock of its own, the slots behind one, and two ledgers of changes.
+//! A library that threads share: each half of a drive behind a lock of its own, the slots behind one, and two ledgers
+//! of changes behind one.
 #![tactic(auto)]
 
 pub mod beside;
@@ -13,6 +14,7 @@ mod moving;
 pub mod opening;
 mod phases;
 pub mod places;
+pub mod ring_rows;
 mod rows;
 pub mod runs;
 mod serving;
@@ -29,6 +31,8 @@ pub use inventories::{Element, Inventory};
 pub use ledgers::{Parties, Seat};
 pub use libraries::Library;
 pub use opening::NotOpened;
-pub use places::Place;
+pub use places::{BackPlace, FrontPlace};
+pub use ring_rows::RingRow;
 pub use runs::{Ran, run_library};
+pub use split_bay::Rings;
 pub use vtl_script::{Line, run_script};

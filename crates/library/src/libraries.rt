@@ -12,6 +12,7 @@ use bays::{Parked, drive_of};
 use changer::Slots;
 use ledgers::{Parties, Seat, Tally};
 use scsi_sense::Reply;
+use split_bay::Rings;
 use std::alloc::Global;
 use std::marker::Model;
 use std::sync::atomic::{AtomicBool, Ordering};
@@ -19,12 +20,12 @@ use std::sync::{Mutex, Wait};
 use tape_disk::Disk;
 use vtl_base::{Bytes, DriveNo};
 
-/// Slots and drives, and two ledgers of the changes that the drives accepted. Each drive is behind a lock of
-/// its own, the slots are behind one, and the ledgers behind one. The last is taken inside a drive's lock,
-/// for one entry. The number of drives is `B::all`, that of hosts `H::all`. A contract sees for each drive
+/// Slots and drives, and two ledgers of the changes that the drives accepted. Each half of a drive is behind a lock
+/// of its own, the slots are behind one, and the ledgers behind one. The last is taken inside the lock of a drive's
+/// hosts' half, for one entry. The number of drives is `B::all`, that of hosts `H::all`. A contract sees for each drive
 /// number whether there is a drive.
 #[derive(Drop)]
-pub struct Library<D: Disk, B: Parties, H: Parties> {
+pub struct Library<D: Disk, B: Parties + Rings, H: Parties> {
     pub(crate) alloc: Global,
     pub(crate) bays: Vec<Option<SharedBay<D, B>>>,
     pub(crate) slots: Mutex<Slots<Parked<D>>>,
@@ -34,7 +35,7 @@ pub struct Library<D: Disk, B: Parties, H: Parties> {
     pub(crate) closed: AtomicBool,
 }
 
-impl<D: Disk, B: Parties, H: Parties> Model for Library<D, B, H> {
+impl<D: Disk, B: Parties + Rings, H: Parties> Model for Library<D, B, H> {
     ghost use Rattle.std.specs.Prelude.{◌≡◌, Bool, List, length};
     ghost use Rattle.vtl_base.specs.declared.limits.TheConstants.{DRIVES};
     ghost use Rattle.library.specs.Counts.{places_filled, which_are_there};
@@ -46,7 +47,7 @@ impl<D: Disk, B: Parties, H: Parties> Model for Library<D, B, H> {
     ghost invariant = { λ l. (length l.bays.items ≡ DRIVES) × (places_filled l.bays.items ≡ B.all) };
 }
 
-impl<D: Disk + Drop, B: Parties, H: Parties> Library<D, B, H> {
+impl<D: Disk + Drop, B: Parties + Rings, H: Parties> Library<D, B, H> {
     /// Whether there is a drive of this number.
     pub fn configured(&self, drive: DriveNo) -> bool
         ensures { result ≡ has_drive self.now drive }
@@ -54,28 +55,10 @@ impl<D: Disk + Drop, B: Parties, H: Parties> Library<D, B, H> {
         self.bays[drive.place()].is_some()
     }
 
-    /// Answers a command of a seat's host to a configured drive. The change that the command made, if any, is
-    /// entered for the drive and for the seat.
+    /// Answers a command of a seat's host to a configured drive. Its data are lent: a block takes them without
+    /// copying; else they stay. The change that the command made, if any, is entered for the drive and for the
+    /// seat.
     pub fn command<R: Wait>(
-        &self,
-        rt: &R,
-        seat: &mut Seat<H>,
-        drive: DriveNo,
-        cdb: &[u8],
-        sent: &[u8],
-    ) -> Reply
-        requires { has_drive self.now drive ≡ true }
-        ensures { IsServed D.state (asked seat.old.nexus cdb.now sent.now) seat.old result seat.new }
-    {
-        match &self.bays[drive.place()] {
-            Some(bay) => bay.serve(rt, &self.tally, seat, cdb, sent),
-            None => unreachable!(),
-        }
-    }
-
-    /// Answers a command of a seat's host to a configured drive, as `command` does. Its data are lent: a
-    /// block takes them without copying; else they stay.
-    pub fn command_lent<R: Wait>(
         &self,
         rt: &R,
         seat: &mut Seat<H>,
@@ -85,10 +68,10 @@ impl<D: Disk + Drop, B: Parties, H: Parties> Library<D, B, H> {
     ) -> Reply
         requires { has_drive self.now drive ≡ true }
         ensures { (served : IsServed D.state (asked seat.old.nexus cdb.now sent.old) seat.old result seat.new)
-            × (sent.new ≡ data_left served.answers.event.step.taken.made.changes sent.old) }
+            × (sent.new ≡ data_left served.made sent.old) }
     {
         match &self.bays[drive.place()] {
-            Some(bay) => bay.serve_lent(rt, &self.tally, seat, cdb, sent),
+            Some(bay) => bay.serve(rt, &self.tally, seat, cdb, sent),
             None => unreachable!(),
         }
     }

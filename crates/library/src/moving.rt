@@ -12,6 +12,7 @@ use bays::{Parked, move_lent};
 use changer::Slots;
 use ledgers::Parties;
 use scsi_sense::Reply;
+use split_bay::Rings;
 use std::alloc::Global;
 use std::sync::Wait;
 use tape_disk::Disk;
@@ -36,9 +37,9 @@ fn between_slots<D: Disk + Drop>(
     reply
 }
 
-impl<D: Disk + Drop, B: Parties, H: Parties> Library<D, B, H> {
+impl<D: Disk + Drop, B: Parties + Rings, H: Parties> Library<D, B, H> {
     /// Moves a cartridge from one element address to another, as `move_lent` does. It takes the slots' lock,
-    /// and inside it the locks of the drives at the two addresses, that of the lower number first.
+    /// and inside it both locks of each drive at the two addresses, those of the lower number first.
     pub fn move_medium<R: Wait>(&self, rt: &R, from: u32, to: u32) -> Reply
         ensures { IsMovedAmong D.state self.now from to result }
     {
@@ -49,15 +50,15 @@ impl<D: Disk + Drop, B: Parties, H: Parties> Library<D, B, H> {
             (Some(source), Some(destination)) => {
                 self.move_between(rt, &mut slots, source, destination, from, to)
             }
-            (Some(source), None) => source
-                .lock
-                .lock(rt)
-                .move_out(self.alloc, &mut slots, from, to),
+            (Some(source), None) => {
+                let mut front = source.front.lock(rt);
+                let mut back = source.back.lock(rt);
+                front.move_out(&mut back, rt, self.alloc, &mut slots, from, to)
+            }
             (None, Some(destination)) => {
-                destination
-                    .lock
-                    .lock(rt)
-                    .move_in(self.alloc, &mut slots, from, to)
+                let mut front = destination.front.lock(rt);
+                let mut back = destination.back.lock(rt);
+                front.move_in(&mut back, rt, self.alloc, &mut slots, from, to)
             }
             (None, None) => between_slots(self.alloc, &mut slots, from, to),
         }
@@ -71,7 +72,7 @@ impl<D: Disk + Drop, B: Parties, H: Parties> Library<D, B, H> {
         if from == to { None } else { self.drive_at(to) }
     }
 
-    // A move between two drives, under both locks.
+    // A move between two drives, under the locks of both.
     fn move_between<R: Wait>(
         &self,
         rt: &R,
@@ -89,13 +90,35 @@ impl<D: Disk + Drop, B: Parties, H: Parties> Library<D, B, H> {
             slots.new (Some source') (Some destination') }
     {
         if from < to {
-            let mut first = source.lock.lock(rt);
-            let mut second = destination.lock.lock(rt);
-            first.move_across(&mut second, self.alloc, slots, from, to)
+            let mut front = source.front.lock(rt);
+            let mut back = source.back.lock(rt);
+            let mut other = destination.front.lock(rt);
+            let mut behind = destination.back.lock(rt);
+            front.move_across(
+                &mut back,
+                &mut other,
+                &mut behind,
+                rt,
+                self.alloc,
+                slots,
+                from,
+                to,
+            )
         } else {
-            let mut first = destination.lock.lock(rt);
-            let mut second = source.lock.lock(rt);
-            second.move_across(&mut first, self.alloc, slots, from, to)
+            let mut other = destination.front.lock(rt);
+            let mut behind = destination.back.lock(rt);
+            let mut front = source.front.lock(rt);
+            let mut back = source.back.lock(rt);
+            front.move_across(
+                &mut back,
+                &mut other,
+                &mut behind,
+                rt,
+                self.alloc,
+                slots,
+                from,
+                to,
+            )
         }
     }
 }

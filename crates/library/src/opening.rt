@@ -1,24 +1,27 @@
 //! Opening a library: its drives go behind their locks, and its hosts get their seats.
-ghost use Rattle.std.specs.Prelude.{◌≡◌, ◌+◌, ◌≤◌, [], is_some, nat_eq, length, map, All, IfOk, IfErr, vec_capacity};
+ghost use Rattle.std.specs.Prelude.{◌≡◌, ◌+◌, ◌<◌, ◌≤◌, [], is_some, nat_eq, length, map, All, IfOk, IfErr, vec_capacity};
 ghost use Rattle.std.specs.List.{IsDistinct};
 ghost use Rattle.vtl_base.specs.declared.limits.TheConstants.{DRIVES};
 ghost use Rattle.ledgers.specs.Ledgers.{IsBlankOf};
 ghost use Rattle.library.specs.Counts.{AcceptedNone, new_seat, one_if_there, places_filled, which_are_there};
+ghost use Rattle.library.specs.RingRows.{AreRings};
 
 use crate::libraries::Library;
-use crate::places::Place;
+use crate::places::{BackPlace, FrontPlace};
+use crate::ring_rows::RingRow;
 use crate::rows::Row;
 use crate::shared::SharedBay;
 use bays::{Bay, Parked};
 use changer::Slots;
-use ledgers::{Parties, Seat, Tally};
+use ledgers::{Parties, PartyShare, Seat, Tally};
+use split_bay::{Ends, NewRing, Rings, part};
 use std::alloc::Global;
 use std::sync::Mutex;
 use std::sync::atomic::AtomicBool;
 use std::sync::ledger::Blank;
 use tape_disk::Disk;
-use vtl_base::Nexus;
 use vtl_base::limits::DRIVES;
+use vtl_base::{DriveNo, Nexus};
 
 /// The parts of a library that was not opened, since memory ran out.
 #[derive(Drop)]
@@ -33,13 +36,15 @@ pub struct NotOpened<D: Disk> {
     pub host_ledger: Blank,
 }
 
-impl<D: Disk + Drop, B: Parties, H: Parties> Library<D, B, H> {
+impl<D: Disk + Drop, B: Parties + Rings, H: Parties> Library<D, B, H> {
     /// A library with these slots, and these drives, each in the place of its number, and with a seat for
     /// each host. The drives have accepted no change yet, and the hosts differ; either may be empty. Each
-    /// ledger has a party for each of them. Where memory runs out, all parts are returned.
+    /// ledger has a party for each of them, and each drive a ring. Where memory runs out, all parts but the
+    /// rings are returned.
     pub fn new(
         alloc: Global,
         bays: Vec<Option<Bay<D>>>,
+        rings: RingRow,
         slots: Slots<Parked<D>>,
         hosts: &[Nexus],
         bay_ledger: Blank,
@@ -47,6 +52,7 @@ impl<D: Disk + Drop, B: Parties, H: Parties> Library<D, B, H> {
     ) -> Result<(Library<D, B, H>, Vec<Seat<H>>), NotOpened<D>>
         requires places { length bays.items ≡ DRIVES }
         requires fresh { All (λ bay. AcceptedNone bay) bays.items }
+        requires rings { (which_are_there rings ≡ which_are_there bays.items) × AreRings B.ring rings }
         requires hosts { IsDistinct nat_eq hosts.now }
         requires bay_ledger { IsBlankOf bay_ledger B.name B.parts B.all × (B.all ≡ places_filled bays.items) }
         requires host_ledger { IsBlankOf host_ledger H.name H.parts H.all × (H.all ≡ length hosts.now) }
@@ -73,7 +79,7 @@ impl<D: Disk + Drop, B: Parties, H: Parties> Library<D, B, H> {
         };
         let mut tally = Tally::open(bay_ledger, host_ledger);
         let mut row = Row::of(bays);
-        let shared = share_all(shared, &mut row, &mut tally);
+        let shared = share_all(shared, &mut row, rings, &mut tally);
         let seats = seat_all(seats, hosts, &mut tally);
         let library = Library {
             alloc,
@@ -87,14 +93,16 @@ impl<D: Disk + Drop, B: Parties, H: Parties> Library<D, B, H> {
     }
 }
 
-// Puts each drive of a row behind a lock, with its share.
-fn share_all<D: Disk + Drop, B: Parties, H: Parties>(
+// Puts the halves of each drive of a row behind locks, with its share.
+fn share_all<D: Disk + Drop, B: Parties + Rings, H: Parties>(
     room: Vec<Option<SharedBay<D, B>>>,
     row: &mut Row<D>,
+    rings: RingRow,
     tally: &mut Tally<B, H>,
 ) -> Vec<Option<SharedBay<D, B>>>
     requires room { (room.items ≡ []) × (DRIVES ≤ vec_capacity room) }
     requires fresh { All (λ bay. AcceptedNone bay) row.old }
+    requires rings { (which_are_there rings ≡ which_are_there row.old) × AreRings B.ring rings }
     requires shares { places_filled row.old ≡ tally.old.bays_left }
     ensures drives { which_are_there result.items ≡ which_are_there row.old }
     ensures all { (length result.items ≡ DRIVES) × (places_filled result.items ≡ places_filled row.old) }
@@ -102,19 +110,33 @@ fn share_all<D: Disk + Drop, B: Parties, H: Parties>(
 {
     row.known();
     let mut shared = room;
-    for place in 0..DRIVES as usize {
-        let bay = share_one(row.take(place), tally);
+    let mut rings = rings;
+    for place in 0..DRIVES {
+        let at = place as usize;
+        let number = number_at(place);
+        let bay = share_one(row.take(at), number, rings.take(at), tally);
         shared.push(bay).unwrap();
     }
     shared
 }
 
-// Puts a drive, if there is one, behind a lock, with its share.
-fn share_one<D: Disk + Drop, B: Parties, H: Parties>(
+// The number of the drive in this place.
+fn number_at(place: u8) -> DriveNo
+    requires { place < DRIVES }
+    ensures { result ≡ place + 1 }
+{
+    DriveNo::new(place + 1).unwrap()
+}
+
+// Puts the halves of a drive, if there is one, behind locks, with its share.
+fn share_one<D: Disk + Drop, B: Parties + Rings, H: Parties>(
     bay: Option<Bay<D>>,
+    number: DriveNo,
+    ring: Option<NewRing>,
     tally: &mut Tally<B, H>,
 ) -> Option<SharedBay<D, B>>
     requires fresh { AcceptedNone bay }
+    requires ring { (is_some ring ≡ is_some bay) × (B.ring number ≡ ring) }
     requires share { one_if_there bay ≤ tally.old.bays_left }
     ensures there { is_some result ≡ is_some bay }
     ensures left { tally.new.bays_left + one_if_there bay ≡ tally.old.bays_left }
@@ -122,11 +144,24 @@ fn share_one<D: Disk + Drop, B: Parties, H: Parties>(
 {
     match bay {
         Some(bay) => {
+            let Some(ring) = ring else { unreachable!() };
             let share = tally.add_bay();
-            Some(SharedBay::new(Place::new(bay, share)))
+            Some(share_drive(bay, ring.into_ends(number), share))
         }
         None => None,
     }
+}
+
+// Puts the halves of a drive behind locks, with its share.
+fn share_drive<D: Disk + Drop, B: Parties + Rings>(
+    bay: Bay<D>,
+    ends: Ends<B>,
+    share: PartyShare<B>,
+) -> SharedBay<D, B>
+    requires { share ≡ bay.accepted }
+{
+    let (front, back) = part(bay, ends);
+    SharedBay::new(FrontPlace::new(front, share), BackPlace::new(back))
 }
 
 // Gives each host a seat.

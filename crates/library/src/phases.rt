@@ -13,6 +13,7 @@ use crate::jobs::Job;
 use crate::libraries::Library;
 use ledgers::Parties;
 use scsi_sense::Reply;
+use split_bay::Rings;
 use std::alloc::Global;
 use std::sync::Wait;
 use tape_disk::Disk;
@@ -43,7 +44,7 @@ fn job_place(line: &Line) -> usize
 }
 
 /// Carries out the lines one after another. Where memory runs out, no line is carried out.
-pub(crate) fn serve_in_turn<D: Disk + Drop, B: Parties, H: Parties, R: Wait>(
+pub(crate) fn serve_in_turn<D: Disk + Drop, B: Parties + Rings, H: Parties, R: Wait>(
     rt: &R,
     alloc: Global,
     library: &Library<D, B, H>,

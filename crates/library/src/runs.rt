@@ -10,6 +10,7 @@ ghost use Rattle.library.specs.Inner.InPlace.{AreInPlace};
 ghost use Rattle.library.specs.Inner.Jobs.{IsServedStage};
 ghost use Rattle.library.specs.Inner.Staged.{AreReady};
 ghost use Rattle.library.specs.Ran.{EndsShared, RunsShared};
+ghost use Rattle.library.specs.RingRows.{AreRings};
 
 use crate::beside::beside_flushers;
 use crate::crews::Crew;
@@ -18,11 +19,13 @@ use crate::flushers::Gate;
 use crate::jobs::Job;
 use crate::libraries::Library;
 use crate::opening::NotOpened;
+use crate::ring_rows::RingRow;
 use crate::serving::serve_all;
 use crate::stages::Stage;
 use bays::{Bay, Parked};
 use changer::Slots;
 use ledgers::{Parties, Seat};
+use split_bay::Rings;
 use std::alloc::Global;
 use std::io::{Read, Write};
 use std::marker::{Send, Sync};
@@ -44,7 +47,15 @@ pub struct Ran<D: Disk> {
 }
 
 // Runs the script, and then ends every flusher.
-fn run_and_close<D: Disk + Drop, B: Parties, H: Parties, R: Wait, P: Runner, I: Read, O: Write>(
+fn run_and_close<
+    D: Disk + Drop,
+    B: Parties + Rings,
+    H: Parties,
+    R: Wait,
+    P: Runner,
+    I: Read,
+    O: Write,
+>(
     rt: &R,
     alloc: Global,
     library: &Library<D, B, H>,
@@ -66,7 +77,7 @@ fn run_and_close<D: Disk + Drop, B: Parties, H: Parties, R: Wait, P: Runner, I: 
 // Runs the script with a flusher of each drive beside it.
 fn run_beside<
     D: Disk + Drop + Send,
-    B: Parties + Send + Sync,
+    B: Parties + Rings + Send + Sync,
     H: Parties + Send + Sync,
     R: Threads + Wait + Sync,
     G: Gate + Sync,
@@ -128,7 +139,7 @@ fn make_rooms<H: Parties>(alloc: Global) -> Result<Rooms<H>, NoMemory>
 fn run_opened<
     'a,
     D: Disk + Drop + Send,
-    B: Parties + Send + Sync,
+    B: Parties + Rings + Send + Sync,
     H: Parties + Send + Sync,
     R: Threads + Wait + Sync,
     G: Gate + Sync,
@@ -173,11 +184,11 @@ fn run_opened<
 /// numbers 1 to 64. A line is written for each reply. The items run one after another. In a phase of several
 /// hosts the lines of each host run in order in a thread of its own; those of a single host run in the
 /// caller's thread. Each drive has a flusher beside them, in a thread of its own. At the end all threads are
-/// joined, and every buffer is written out. Where memory runs out before the script begins, all parts are
-/// returned, and nothing is read or written.
+/// joined, and every buffer is written out. Where memory runs out before the script begins, all parts but the
+/// rings are returned, and nothing is read or written.
 pub fn run_library<
     D: Disk + Drop + Send,
-    B: Parties + Send + Sync,
+    B: Parties + Rings + Send + Sync,
     H: Parties + Send + Sync,
     R: Threads + Wait + Sync,
     G: Gate + Sync,
@@ -187,6 +198,7 @@ pub fn run_library<
     rt: &R,
     alloc: Global,
     bays: Vec<Option<Bay<D>>>,
+    rings: RingRow,
     slots: Slots<Parked<D>>,
     hosts: &[Nexus],
     bay_ledger: Blank,
@@ -197,6 +209,7 @@ pub fn run_library<
 ) -> Result<Ran<D>, NotOpened<D>>
     requires places { length bays.items ≡ DRIVES }
     requires fresh { All (λ bay. AcceptedNone bay) bays.items }
+    requires rings { (which_are_there rings ≡ which_are_there bays.items) × AreRings B.ring rings }
     requires hosts { hosts.now ≡ range_with_len 1 NEXUSES }
     requires bay_ledger { IsBlankOf bay_ledger B.name B.parts B.all × (B.all ≡ places_filled bays.items) }
     requires host_ledger { IsBlankOf host_ledger H.name H.parts H.all × (H.all ≡ NEXUSES) }
@@ -221,6 +234,7 @@ pub fn run_library<
     let (library, seats) = Library::<D, B, H>::new(
         alloc,
         bays,
+        rings,
         slots,
         hosts,
         bay_ledger,

@@ -8,6 +8,7 @@ use crate::libraries::Library;
 use crate::stages::Stage;
 use crate::threads::each_beside;
 use ledgers::Parties;
+use split_bay::Rings;
 use std::marker::{Send, Sync};
 use std::sync::Wait;
 use std::thread::Threads;
@@ -18,7 +19,7 @@ use tape_disk::Disk;
 pub(crate) fn serve_all<
     'a,
     D: Disk + Drop + Send,
-    B: Parties + Send + Sync,
+    B: Parties + Rings + Send + Sync,
     H: Parties + Send + Sync,
     R: Threads + Wait + Sync,
 >(stage: &mut Stage<'a, D, B, H, R>)
@@ -33,7 +34,7 @@ pub(crate) fn serve_all<
 // Carries out the lines of each job.
 fn serve_jobs<
     D: Disk + Drop + Send,
-    B: Parties + Send + Sync,
+    B: Parties + Rings + Send + Sync,
     H: Parties + Send + Sync,
     R: Threads + Wait + Sync,
 >(rt: &R, library: &Library<D, B, H>, jobs: &mut [Job<H>])

@@ -9,13 +9,14 @@ ghost use Rattle.library.specs.Sessions.{AnswersSession};
 use crate::libraries::Library;
 use ledgers::{Parties, Seat};
 use scsi_sense::Reply;
+use split_bay::Rings;
 use std::alloc::Global;
 use std::sync::Wait;
 use tape_disk::Disk;
 use vtl_base::NoMemory;
 use vtl_script::Line;
 
-impl<D: Disk + Drop, B: Parties, H: Parties> Library<D, B, H> {
+impl<D: Disk + Drop, B: Parties + Rings, H: Parties> Library<D, B, H> {
     /// Carries out the commands of these lines for the host of a seat, in order, each on the drive that it
     /// names, and returns their replies. A block takes its data without copying. Where memory runs out, no
     /// line is carried out.
@@ -62,6 +63,6 @@ impl<D: Disk + Drop, B: Parties, H: Parties> Library<D, B, H> {
         requires configured { has_drive self.now line.old.drive ≡ true }
         ensures { IsServed D.state (line_request line.old) seat.old result seat.new }
     {
-        self.command_lent(rt, seat, line.drive, line.cdb.as_slice(), &mut line.sent)
+        self.command(rt, seat, line.drive, line.cdb.as_slice(), &mut line.sent)
     }
 }

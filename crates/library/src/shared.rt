@@ -5,55 +5,42 @@ ghost use Rattle.drive_core.specs.Execute.{asked};
 ghost use Rattle.library.specs.Served.{IsServed};
 
 use crate::flushers::Gate;
-use crate::places::Place;
+use crate::places::{BackPlace, FrontPlace};
 use ledgers::{Parties, Seat, Tally};
 use scsi_sense::Reply;
+use split_bay::Rings;
 use std::sync::atomic::{AtomicBool, Ordering};
 use std::sync::{Condvar, Mutex, Wait};
 use tape_disk::Disk;
 use volume_core::Turn;
 use vtl_base::Bytes;
 
-/// A drive behind its lock, and the condition variable that wakes its flusher after a change.
+/// A drive in two halves, each behind a lock, and the condition variable that wakes its flusher after a change. Who
+/// takes both locks takes that of the hosts' half first.
 #[derive(Drop)]
-pub struct SharedBay<D: Disk, B: Parties> {
-    pub(crate) lock: Mutex<Place<D, B>>,
+pub struct SharedBay<D: Disk, B: Parties + Rings> {
+    pub(crate) front: Mutex<FrontPlace<D, B>>,
+    pub(crate) back: Mutex<BackPlace<D, B>>,
     bell: Condvar,
 }
 
-impl<D: Disk, B: Parties> SharedBay<D, B> {
-    pub(crate) fn new(place: Place<D, B>) -> SharedBay<D, B> {
+impl<D: Disk + Drop, B: Parties + Rings> SharedBay<D, B> {
+    pub(crate) fn new(front: FrontPlace<D, B>, back: BackPlace<D, B>) -> SharedBay<D, B> {
         SharedBay {
-            lock: Mutex::new(place),
+            front: Mutex::new(front),
+            back: Mutex::new(back),
             bell: Condvar::new(),
         }
     }
 
-    // The drive behind the lock, when nobody else shares it.
-    pub(crate) fn into_place(self) -> Place<D, B> {
-        self.lock.into_inner()
+    // The halves behind the locks, when nobody else shares them.
+    pub(crate) fn into_places(self) -> (FrontPlace<D, B>, BackPlace<D, B>) {
+        (self.front.into_inner(), self.back.into_inner())
     }
 
-    // Carries out a command of a seat's host, under the lock.
+    // Carries out a command of a seat's host, whose data are lent. The disk's half is locked only where the command
+    // needs it.
     pub(crate) fn serve<H: Parties, R: Wait>(
-        &self,
-        rt: &R,
-        tally: &Mutex<Tally<B, H>>,
-        seat: &mut Seat<H>,
-        cdb: &[u8],
-        sent: &[u8],
-    ) -> Reply
-        ensures { IsServed D.state (asked seat.old.nexus cdb.now sent.now) seat.old result seat.new }
-    {
-        let before = seat.amount();
-        let mut place = self.lock.lock(rt);
-        let reply = place.execute(rt, tally, seat, cdb, sent);
-        self.ring_if_risen(before, seat.amount());
-        reply
-    }
-
-    // The same with data that are lent.
-    pub(crate) fn serve_lent<H: Parties, R: Wait>(
         &self,
         rt: &R,
         tally: &Mutex<Tally<B, H>>,
@@ -62,28 +49,75 @@ impl<D: Disk, B: Parties> SharedBay<D, B> {
         sent: &mut Bytes,
     ) -> Reply
         ensures { (served : IsServed D.state (asked seat.old.nexus cdb.now sent.old) seat.old result seat.new)
-            × (sent.new ≡ data_left served.answers.event.step.taken.made.changes sent.old) }
+            × (sent.new ≡ data_left served.made sent.old) }
     {
         let before = seat.amount();
-        let mut place = self.lock.lock(rt);
-        let reply = place.execute_lent(rt, tally, seat, cdb, sent);
+        let mut front = self.front.lock(rt);
+        let reply = self.serve_locked(&mut front, rt, tally, seat, cdb, sent);
         self.ring_if_risen(before, seat.amount());
         reply
     }
 
-    // Takes a flusher's turn under the lock. The count of changes is that before the turn, so a change that
-    // comes meanwhile is one more.
+    // The same, with the hosts' half locked.
+    fn serve_locked<H: Parties, R: Wait>(
+        &self,
+        front: &mut FrontPlace<D, B>,
+        rt: &R,
+        tally: &Mutex<Tally<B, H>>,
+        seat: &mut Seat<H>,
+        cdb: &[u8],
+        sent: &mut Bytes,
+    ) -> Reply
+        ensures { (served : IsServed D.state (asked seat.old.nexus cdb.now sent.old) seat.old result seat.new)
+            × (sent.new ≡ data_left served.made sent.old) }
+    {
+        match front.execute_alone(rt, tally, seat, cdb, sent) {
+            Some(reply) => reply,
+            None => {
+                let mut back = self.back.lock(rt);
+                front.execute_both(&mut back, rt, tally, seat, cdb, sent)
+            }
+        }
+    }
+
+    // Takes a flusher's turn, with the disk's half alone locked. The count of changes is that before the turn, so a
+    // change that comes meanwhile is one more.
     pub(crate) fn take_turn<R: Wait, G: Gate>(&self, rt: &R, gate: &G) -> (Turn, u64) {
-        let mut place = self.lock.lock(rt);
-        gate.in_turn();
-        let count = place.accepted();
-        let turn = place.turn();
+        let count = self.front.lock(rt).accepted();
+        let turn = self.turn(rt, gate);
+        match turn {
+            Turn::Idle => {}
+            Turn::Stored(_) => self.renew(rt),
+            Turn::Device => self.tell(rt),
+        }
         (turn, count)
+    }
+
+    // A turn under the lock of the disk's half.
+    fn turn<R: Wait, G: Gate>(&self, rt: &R, gate: &G) -> Turn {
+        let mut back = self.back.lock(rt);
+        gate.in_turn();
+        back.turn()
+    }
+
+    // Lets hosts send as much again as the buffer takes, under both locks. No turn is under way then, so that a host
+    // which sends less than that during a turn never waits for one.
+    fn renew<R: Wait>(&self, rt: &R) {
+        let mut front = self.front.lock(rt);
+        let mut back = self.back.lock(rt);
+        front.renew(&mut back, rt);
+    }
+
+    // Reports a fault of the disk's half to hosts, under both locks.
+    fn tell<R: Wait>(&self, rt: &R) {
+        let mut front = self.front.lock(rt);
+        let mut back = self.back.lock(rt);
+        front.tell(&mut back, rt);
     }
 
     // Waits until a command has accepted a change that is not in this count, or the library is closed.
     pub(crate) fn wait<R: Wait>(&self, rt: &R, count: u64, closed: &AtomicBool) {
-        let held = self.lock.lock(rt);
+        let held = self.front.lock(rt);
         let _ = self.bell.wait_while(rt, held, |place| {
             place.accepted() == count && !closed.load(Ordering::SeqCst)
         });
@@ -92,7 +126,7 @@ impl<D: Disk, B: Parties> SharedBay<D, B> {
     // Wakes the thread that waits for a change. The lock is taken first, so that no thread is between look
     // and sleep.
     pub(crate) fn ring<R: Wait>(&self, rt: &R) {
-        let _held = self.lock.lock(rt);
+        let _held = self.front.lock(rt);
         self.bell.notify_all();
     }
 

@@ -14,6 +14,7 @@ use crate::libraries::Library;
 use crate::phases::{begin_all, deal_all, give_all, serve_in_turn};
 use ledgers::{Parties, Seat};
 use scsi_sense::Reply;
+use split_bay::Rings;
 use std::alloc::Global;
 use std::marker::Model;
 use std::sync::Wait;
@@ -24,13 +25,13 @@ use vtl_script::Line;
 /// The hosts of a library, from number 1 on. A contract sees which drives there are, and the job of each
 /// host.
 #[derive(Drop)]
-pub(crate) struct Stage<'a, D: Disk, B: Parties, H: Parties, R> {
+pub(crate) struct Stage<'a, D: Disk, B: Parties + Rings, H: Parties, R> {
     pub(crate) rt: &'a R,
     pub(crate) library: &'a Library<D, B, H>,
     pub(crate) jobs: Vec<Job<H>>,
 }
 
-impl<'a, D: Disk, B: Parties, H: Parties, R> Model for Stage<'a, D, B, H, R> {
+impl<'a, D: Disk, B: Parties + Rings, H: Parties, R> Model for Stage<'a, D, B, H, R> {
     ghost use Rattle.library.specs.Inner.InPlace.{AreInPlace};
     ghost use Rattle.library.specs.Inner.Jobs.{StageState, seats_of};
 
@@ -65,7 +66,7 @@ fn seats_in<H: Parties>(room: Vec<Seat<H>>, jobs: Vec<Job<H>>) -> Vec<Seat<H>>
     seats
 }
 
-impl<'a, D: Disk + Drop, B: Parties, H: Parties, R> Stage<'a, D, B, H, R> {
+impl<'a, D: Disk + Drop, B: Parties + Rings, H: Parties, R> Stage<'a, D, B, H, R> {
     /// The hosts of these seats, with room for their jobs. It takes no memory.
     pub(crate) fn of(
         rt: &'a R,
@@ -96,7 +97,7 @@ impl<'a, D: Disk + Drop, B: Parties, H: Parties, R> Stage<'a, D, B, H, R> {
     }
 }
 
-impl<'a, D: Disk + Drop, B: Parties, H: Parties, R: Wait> Hosts for Stage<'a, D, B, H, R> {
+impl<'a, D: Disk + Drop, B: Parties + Rings, H: Parties, R: Wait> Hosts for Stage<'a, D, B, H, R> {
     ghost crew = { crew_of };
 
     ghost answers = { AnswersCrew D.state };

@@ -1,0 +1,180 @@
+-- What the halves of a drive answer, and the share of the drive then.
+use Rattle.std.proofs.Common.{◌≡◌, ◌≢◌, ◌+◌, ◌^◌, ◌<◌, ◌∙◌, ℕ, List, Option, None, Some, is_some, true, false, Bool, refl, sym, ap, subst}
+use Rattle.std.specs.Prelude.{IfSome}
+use Rattle.tape_disk.specs.Disk.{DiskState}
+use Rattle.ledgers.specs.Ledgers.{SeatState}
+use Rattle.scsi_sense.specs.declared.replies.Reply.{Reply}
+use Rattle.tape_buffer.specs.Moves.{buffer_below}
+use Rattle.tape_buffer.specs.State.{state_of}
+use Rattle.aptpl_store.specs.Kept.{store_below, store_kept}
+use Rattle.bays.specs.Elements.{BayState}
+use Rattle.drive_core.specs.Alone.{AnswersAlone}
+use Rattle.drive_core.specs.Execute.{Answers}
+use Rattle.drive_core.specs.State.{machine_of}
+use Rattle.drive_core.specs.Synchronize.{Acknowledges, IsSynchronizing}
+use Rattle.drive_core.specs.Told.{TellsChanges}
+use Rattle.drive_core.specs.Work.{Request}
+use Rattle.split_bay.specs.Backs.{BackState}
+use Rattle.split_bay.specs.Fronts.{FrontState, KeepsHostsHalf, LeavesOrders}
+use Rattle.split_bay.specs.Halves.{ExecutesBoth, TellsBoth}
+use Rattle.split_bay.specs.Nears.{alone_near, near_below, state_near}
+use Rattle.split_bay.specs.Rings.{SendingState}
+use Rattle.library.specs.Halves.{EndsHeld, HasShare, HoldsBoth, JoinsHeld, PartsHeld}
+use Rattle.library.specs.Kept.{IsLeftBy}
+use Rattle.library.specs.Served.{ServesFront, ServesHalves}
+use Rattle.library.proofs.CountLemmas.{seat_grows, share_stands}
+
+module _ {D : Type 0} (state : D → DiskState) where
+  -- the hosts' half has answered, or not, and the change that it accepted was entered for the seat
+  pub front_serves : (old new : FrontState D) (request : Request) (before after : SeatState) (reply : Option Reply)
+      (left : List ℕ) (low high : ℕ)
+      → AnswersAlone state_near store_kept alone_near near_below (store_below state) old.drive request reply new.drive
+      left
+      → new.end ≡ old.end
+      → (IsSynchronizing (machine_of state_near store_kept old.drive) request.cdb
+      → IfSome reply (λ reply. Acknowledges reply → ⊥))
+      → LeavesOrders state old.drive request reply new.drive
+      → KeepsHostsHalf state old → KeepsHostsHalf state new → request.nexus ≡ before.nexus
+      → ((reply : Reply)
+      → (step : Answers state_near near_below store_kept (store_below state) old.drive request reply new.drive)
+      → TellsChanges request.cdb reply step.taken.made.changes)
+      → low ≡ old.drive.accepted → high ≡ new.drive.accepted → low + 1 < 2 ^ 64
+      → (low ≡ high → after ≡ before) → (low ≢ high → after ≡ record before { amount = before.amount + 1 })
+      → ServesFront state old request before reply new left after
+  front_serves old new request before after (Some reply) left low high step end waits moments kept keeps host law was is
+      below same risen = (
+        step.1.step.taken.made.changes,
+        record {
+          step = step;
+          made_is = refl;
+          end = end;
+          waits = waits;
+          moments = moments;
+          kept = kept;
+          keeps = keeps;
+        },
+        seat_grows state_near near_below store_kept (store_below state) old.drive request before reply new.drive after
+            low high step.1.step (law reply step.1.step) host was is below same risen,
+      )
+  front_serves old new request before after None left low high step end waits moments kept keeps host law was is below
+      same risen =
+      (step, end, same (was ∙ sym (ap (λ drive. drive.accepted) step.1) ∙ sym is))
+
+  -- the share of the drive then
+  pub front_share : (old new : FrontState D) (request : Request) (reply : Option Reply) (left : List ℕ)
+      (low high held held' : ℕ)
+      → AnswersAlone state_near store_kept alone_near near_below (store_below state) old.drive request reply new.drive
+      left
+      → ((reply : Reply)
+      → (step : Answers state_near near_below store_kept (store_below state) old.drive request reply new.drive)
+      → TellsChanges request.cdb reply step.taken.made.changes)
+      → low ≡ old.drive.accepted → high ≡ new.drive.accepted → low + 1 < 2 ^ 64 → held ≡ old.drive.accepted
+      → (low ≡ high → held' ≡ held) → (low ≢ high → held' ≡ held + 1) → held' ≡ new.drive.accepted
+  front_share old new request (Some reply) left low high held held' step law was is below stood same risen =
+      share_stands state_near near_below store_kept (store_below state) old.drive request reply new.drive low high held
+      held' step.1.step (law reply step.1.step) was is below stood same risen
+  front_share old new request None left low high held held' step law was is below stood same risen =
+      let still : new.drive.accepted ≡ old.drive.accepted = ap (λ drive. drive.accepted) step.1 in
+      same (was ∙ sym still ∙ sym is) ∙ stood ∙ sym still
+
+  -- both halves have answered, and the change that they accepted was entered for the seat
+  pub halves_serve : (front front' : FrontState D) (back back' : BackState D) (request : Request)
+      (before after : SeatState) (reply : Reply) (left : List ℕ) (low high : ℕ)
+      → (both : ExecutesBoth state front back request reply left front' back')
+      → request.nexus ≡ before.nexus
+      → ((old new : BayState D)
+      → (step : Answers (state_of state) (buffer_below state) store_kept (store_below state) old request reply new)
+      → TellsChanges request.cdb reply step.taken.made.changes)
+      → low ≡ front.drive.accepted → high ≡ front'.drive.accepted → low + 1 < 2 ^ 64
+      → (low ≡ high → after ≡ before) → (low ≢ high → after ≡ record before { amount = before.amount + 1 })
+      → ServesHalves state front back request before reply front' back' left after
+  halves_serve front front' back back' request before after reply left low high both host law was is below same risen =
+      let step = both.answers.step.step in
+      record {
+        made = step.taken.made.changes;
+        answers = record { both = both; made_is = refl };
+        grows =
+            seat_grows (state_of state) (buffer_below state) store_kept (store_below state) both.joined request before
+            reply both.answered after low high step (law both.joined both.answered step) host
+            (was ∙ sym both.joins.accepted) (is ∙ both.parts.accepted) below same risen;
+      }
+
+  -- the share of the drive then
+  pub halves_share : (front front' : FrontState D) (back back' : BackState D) (request : Request) (reply : Reply)
+      (left : List ℕ) (low high held held' : ℕ)
+      → (both : ExecutesBoth state front back request reply left front' back')
+      → ((old new : BayState D)
+      → (step : Answers (state_of state) (buffer_below state) store_kept (store_below state) old request reply new)
+      → TellsChanges request.cdb reply step.taken.made.changes)
+      → low ≡ front.drive.accepted → high ≡ front'.drive.accepted → low + 1 < 2 ^ 64 → held ≡ front.drive.accepted
+      → (low ≡ high → held' ≡ held) → (low ≢ high → held' ≡ held + 1) → held' ≡ front'.drive.accepted
+  halves_share front front' back back' request reply left low high held held' both law was is below stood same risen =
+      let step = both.answers.step.step in
+      share_stands (state_of state) (buffer_below state) store_kept (store_below state) both.joined request reply
+      both.answered low high held held' step (law both.joined both.answered step) (was ∙ sym both.joins.accepted)
+      (is ∙ both.parts.accepted) below (stood ∙ sym both.joins.accepted) same risen
+      ∙ sym both.parts.accepted
+
+  -- a drive that was put together and parts again, with its count as it was, has its share
+  pub share_after : (front : Option (FrontState D)) (back : Option (BackState D)) (bay bay' : BayState D)
+      (ends : SendingState) (front' : Option (FrontState D)) (back' : Option (BackState D)) (share : ℕ)
+      → HasShare front share → JoinsHeld state front back bay ends → bay'.accepted ≡ bay.accepted
+      → PartsHeld state bay' ends front' back' → HasShare front' share
+  share_after (Some front) (Some back) bay bay' ends (Some front') (Some back') share has joins same parts =
+      has ∙ sym joins.accepted ∙ sym same ∙ sym parts.accepted
+  share_after (Some front) (Some back) bay bay' ends (Some front') None share has joins same parts = absurd parts
+  share_after (Some front) (Some back) bay bay' ends None back' share has joins same parts = absurd parts
+  share_after (Some front) None bay bay' ends front' back' share has joins same parts = absurd joins
+  share_after None back bay bay' ends front' back' share has joins same parts = absurd has
+
+  -- both halves are there again
+  pub back_there : (bay : BayState D) (ends : SendingState) (front : Option (FrontState D))
+      (back : Option (BackState D)) → PartsHeld state bay ends front back → is_some back ≡ true
+  back_there bay ends (Some front) (Some back) parts = refl
+  back_there bay ends (Some front) None parts = absurd parts
+  back_there bay ends None back parts = absurd parts
+
+  -- the hosts' half is there where its share is
+  pub front_there : (front : Option (FrontState D)) (share : ℕ) → HasShare front share → is_some front ≡ true
+  front_there (Some front) share has = refl
+  front_there None share has = absurd has
+
+  -- a fault that is reported leaves the count
+  pub told_share : (fault : Bool) (front front' : FrontState D) (back back' : BackState D)
+      → TellsBoth state fault front back front' back' → front'.drive.accepted ≡ front.drive.accepted
+  told_share true front front' back back' tells = tells.parts.accepted ∙ tells.joins.accepted
+  told_share false front front' back back' tells = ap (λ front. front.drive.accepted) tells.0
+
+  -- both halves were held, by what their places are seen as
+  pub holds_both : (front seen : Option (FrontState D)) (back other : Option (BackState D)) (bay bay' : BayState D)
+      (ends : SendingState) (front' : Option (FrontState D)) (back' : Option (BackState D))
+      → front ≡ seen → back ≡ other → JoinsHeld state front back bay ends → PartsHeld state bay' ends front' back'
+      → HoldsBoth state seen other bay bay' front' back'
+  holds_both front seen back other bay bay' ends front' back' same alike joins parts = record {
+    ends = ends;
+    joins =
+        subst (λ (f : Option (FrontState D)). JoinsHeld state f other bay ends) same
+        (subst (λ (b : Option (BackState D)). JoinsHeld state front b bay ends) alike joins);
+    parts = parts;
+  }
+
+  -- the share of a drive that was put together at the end
+  pub end_share : (front : Option (FrontState D)) (back : Option (BackState D)) (bay bay' : BayState D)
+      (ends : SendingState) (share : ℕ) → HasShare front share → JoinsHeld state front back bay ends
+      → bay'.accepted ≡ bay.accepted → share ≡ bay'.accepted
+  end_share (Some front) (Some back) bay bay' ends share has joins same = has ∙ sym joins.accepted ∙ sym same
+  end_share (Some front) None bay bay' ends share has joins same = absurd joins
+  end_share None back bay bay' ends share has joins same = absurd has
+
+  -- the halves at the end, by what their places are seen as
+  pub ends_held : (front seen : Option (FrontState D)) (back other : Option (BackState D)) (joined bay : BayState D)
+      (ends : SendingState) → front ≡ seen → back ≡ other → JoinsHeld state front back joined ends
+      → IsLeftBy state joined bay → EndsHeld state seen other bay
+  ends_held front seen back other joined bay ends same alike joins left = record {
+    joined = joined;
+    ends = ends;
+    joins =
+        subst (λ (f : Option (FrontState D)). JoinsHeld state f other joined ends) same
+        (subst (λ (b : Option (BackState D)). JoinsHeld state front b joined ends) alike joins);
+    left = left;
+  }

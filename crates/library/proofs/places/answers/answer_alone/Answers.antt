@@ -1,0 +1,28 @@
+use Rattle.std.proofs.Common.{ℕ, subst}
+use Rattle.drive_core.specs.Execute.{asked}
+use Rattle.library.specs.Served.{ServesFront}
+use Rattle.library.proofs.HalfLemmas.{front_serves, front_share}
+use Rattle.library.proofs.places.answers.answer_alone.Goals as goal
+
+pub returns-clause-share : goal.returns-clause-share
+returns-clause-share g c =
+    front_share g.D.Disk.state c.args.half.now c.execute_lent-reply.new.self
+    (asked c.nexus.result c.args.cdb.now c.args.sent.now) c.execute_lent-reply.result c.execute_lent-reply.new.sent
+    c.count_below_limit-before.result c.accepted-after.result c.args.share.now c.enter_if_risen.new.share
+    c.execute_lent-reply.ensures.step (λ reply step. c.replies_tell_changes_alone.ensures _ _ _ _ step)
+    c.count_below_limit-before.ensures.count c.accepted-after.ensures c.count_below_limit-before.ensures.below
+    c.requires (λ same. (c.enter_if_risen.ensures.same same).0) (λ risen. (c.enter_if_risen.ensures.risen risen).0)
+
+pub returns-clause-serves : goal.returns-clause-serves
+returns-clause-serves g c =
+    subst (λ (n : ℕ). ServesFront g.D.Disk.state c.args.half.now (asked n c.args.cdb.now c.args.sent.now)
+    c.args.seat.now c.execute_lent-reply.result c.execute_lent-reply.new.self c.execute_lent-reply.new.sent
+    c.enter_if_risen.new.seat) c.nexus.ensures
+    (front_serves g.D.Disk.state c.args.half.now c.execute_lent-reply.new.self
+    (asked c.nexus.result c.args.cdb.now c.args.sent.now) c.args.seat.now c.enter_if_risen.new.seat
+    c.execute_lent-reply.result c.execute_lent-reply.new.sent c.count_below_limit-before.result c.accepted-after.result
+    c.execute_lent-reply.ensures.step c.execute_lent-reply.ensures.end c.execute_lent-reply.ensures.waits
+    c.execute_lent-reply.ensures.moments c.known.ensures.kept c.known-2.ensures.kept c.nexus.ensures
+    (λ reply step. c.replies_tell_changes_alone.ensures _ _ _ _ step) c.count_below_limit-before.ensures.count
+    c.accepted-after.ensures c.count_below_limit-before.ensures.below
+    (λ same. (c.enter_if_risen.ensures.same same).1) (λ risen. (c.enter_if_risen.ensures.risen risen).1))

@@ -1,0 +1,60 @@
+-- The two halves of a drive, each behind a lock of its own.
+use Rattle.std.specs.Prelude.{◌≡◌, ℕ, Option, None, Some}
+use Rattle.tape_disk.specs.Disk.{DiskState}
+use Rattle.volume_core.specs.declared.media.Turn.{Turn}
+use Rattle.bays.specs.Elements.{BayState}
+use Rattle.split_bay.specs.Backs.{BackState, TurnsBack, works_in}
+use Rattle.split_bay.specs.Fronts.{FrontState}
+use Rattle.split_bay.specs.Halves.{Joins, Parts, TellsBoth, is_untold}
+use Rattle.split_bay.specs.Rings.{SendingState}
+use Rattle.library.specs.Kept.{IsLeftBy}
+
+module _ {D : Type 0} where
+  -- the hosts' half is there, and the share of its drive is the count of what the drive accepted (own)
+  abbrev pub HasShare : Option (FrontState D) → ℕ → Type 0
+  HasShare None share = ⊥
+  HasShare (Some front) share = share ≡ front.drive.accepted
+
+  -- how many changes the drive accepted of which this is the hosts' half (own)
+  abbrev pub IsAccepted : Option (FrontState D) → ℕ → Type 0
+  IsAccepted None count = ⊥
+  IsAccepted (Some front) count = count ≡ front.drive.accepted
+
+module _ {D : Type 0} (state : D → DiskState) where
+  -- the halves behind two locks are put together so (own)
+  abbrev pub JoinsHeld : Option (FrontState D) → Option (BackState D) → BayState D → SendingState → Type 0
+  JoinsHeld (Some front) (Some back) bay ends = Joins state front back bay ends
+  JoinsHeld _ _ bay ends = ⊥
+
+  -- a drive parts into the halves behind two locks (own)
+  abbrev pub PartsHeld : BayState D → SendingState → Option (FrontState D) → Option (BackState D) → Type 0
+  PartsHeld bay ends (Some front) (Some back) = Parts state bay ends front back
+  PartsHeld bay ends _ _ = ⊥
+
+  -- The halves behind two locks are put together, something is done with the drive, and it parts again (own).
+  pub record HoldsBoth
+      (front : Option (FrontState D)) (back : Option (BackState D)) (bay bay' : BayState D)
+      (front' : Option (FrontState D)) (back' : Option (BackState D)) : Type 0 where
+    pub ends : SendingState
+    pub joins : JoinsHeld front back bay ends
+    pub parts : PartsHeld bay' ends front' back'
+
+  -- the disk's half behind a lock takes a flusher's turn (own)
+  abbrev pub TurnsHeld : Option (BackState D) → Turn → Option (BackState D) → Type 0
+  TurnsHeld (Some old) turn (Some new) = TurnsBack state (works_in state old.medium) old turn new
+  TurnsHeld _ turn _ = ⊥
+
+  -- a fault of the disk's half behind a lock is reported to hosts, if there is one that was not (own)
+  abbrev pub TellsHeld :
+      Option (FrontState D) → Option (BackState D) → Option (FrontState D) → Option (BackState D) → Type 0
+  TellsHeld (Some front) (Some back) (Some front') (Some back') =
+      TellsBoth state (is_untold state front back) front back front' back'
+  TellsHeld _ _ _ _ = ⊥
+
+  -- The halves behind two locks are put together at the end, and the drive takes a turn (own).
+  pub record EndsHeld
+      (front : Option (FrontState D)) (back : Option (BackState D)) (bay : BayState D) : Type 0 where
+    pub joined : BayState D
+    pub ends : SendingState
+    pub joins : JoinsHeld front back joined ends
+    pub left : IsLeftBy state joined bay

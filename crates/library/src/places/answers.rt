@@ -1,0 +1,190 @@
+//! A host's command is answered by the hosts' half of a drive alone, or by both halves.
+ghost use Rattle.std.specs.Prelude.{◌≡◌, ◌≢◌, ◌+◌, ◌^◌, ◌<◌};
+ghost use Rattle.bays.specs.Elements.{BayState};
+ghost use Rattle.drive_core.specs.Execute.{asked};
+ghost use Rattle.split_bay.specs.Fronts.{end_of};
+ghost use Rattle.split_bay.specs.Halves.{TellsBoth, is_untold};
+ghost use Rattle.split_bay.specs.Rings.{AreEnds};
+ghost use Rattle.library.specs.Halves.{HoldsBoth, TellsHeld};
+ghost use Rattle.library.specs.Served.{ServesAlone, ServesBoth, ServesFront, ServesHalves};
+
+use super::held::{fit, join_held, part_held};
+use super::{BackPlace, FrontPlace};
+use aptpl_store::AptplStore;
+use drive_laws::replies_tell_changes;
+use ledgers::{Parties, PartyShare, Seat, Tally};
+use scsi_sense::Reply;
+use split_bay::{Back, Front, Rings, execute_both, replies_tell_changes_alone, tell};
+use std::sync::{Mutex, Wait};
+use tape_buffer::Cataloged;
+use tape_disk::Disk;
+use vtl_base::Bytes;
+
+// Enters a change in both ledgers if a drive's count has risen from one number to another.
+fn enter_if_risen<B: Parties + Rings, H: Parties, R: Wait>(
+    rt: &R,
+    tally: &Mutex<Tally<B, H>>,
+    share: &mut PartyShare<B>,
+    seat: &mut Seat<H>,
+    before: u64,
+    after: u64,
+)
+    ensures same { before ≡ after → (share.new ≡ share.old) × (seat.new ≡ seat.old) }
+    ensures risen { before ≢ after → (share.new ≡ share.old + 1)
+        × (seat.new ≡ record seat.old { amount = seat.old.amount + 1 }) }
+{
+    if before != after {
+        tally.lock(rt).enter(rt, share, seat);
+    }
+}
+
+// How many changes a drive accepted, below 2^64 - 1. At the limit the share could not follow the count, and the call
+// waits for good.
+fn count_below_limit<D: Disk, B: Rings, R: Wait>(rt: &R, half: &Front<D, B>) -> u64
+    ensures count { result ≡ half.now.drive.accepted }
+    ensures below { result + 1 < 2 ^ 64 }
+{
+    let count = half.accepted();
+    if count == u64::MAX {
+        for _ in rt.forever() {}
+        unreachable!()
+    }
+    count
+}
+
+// The hosts' half answers, where it needs no disk; the change that it accepted, if any, is entered in both ledgers.
+fn answer_alone<D: Disk, B: Parties + Rings, H: Parties, R: Wait>(
+    rt: &R,
+    tally: &Mutex<Tally<B, H>>,
+    half: &mut Front<D, B>,
+    share: &mut PartyShare<B>,
+    seat: &mut Seat<H>,
+    cdb: &[u8],
+    sent: &mut Bytes,
+) -> Option<Reply>
+    requires { share.old ≡ half.old.drive.accepted }
+    ensures share { share.new ≡ half.new.drive.accepted }
+    ensures serves { ServesFront D.state half.old (asked seat.old.nexus cdb.now sent.old) seat.old
+        result half.new sent.new seat.new }
+{
+    // The law, and what the half keeps before and after, for the proof alone.
+    replies_tell_changes_alone::<D, B>();
+    let before = count_below_limit(rt, half);
+    half.known();
+    let reply = half.execute_lent(seat.nexus(), cdb, sent);
+    half.known();
+    let after = half.accepted();
+    enter_if_risen(rt, tally, share, seat, before, after);
+    reply
+}
+
+// Both halves answer; the change that they accepted, if any, is entered in both ledgers.
+fn answer_both<D: Disk + Drop, B: Parties + Rings, H: Parties, R: Wait>(
+    rt: &R,
+    tally: &Mutex<Tally<B, H>>,
+    front: Front<D, B>,
+    back: Back<D, B>,
+    share: &mut PartyShare<B>,
+    seat: &mut Seat<H>,
+    cdb: &[u8],
+    sent: &mut Bytes,
+) -> (Reply, Front<D, B>, Back<D, B>)
+    requires share { share.old ≡ front.drive.accepted }
+    requires ends { AreEnds (end_of front) back.number back.received }
+    ensures share { share.new ≡ result.1.drive.accepted }
+    ensures serves { ServesHalves D.state front back (asked seat.old.nexus cdb.now sent.old) seat.old
+        result.0 result.1 result.2 sent.new seat.new }
+{
+    replies_tell_changes::<Cataloged<D>, AptplStore<D>>();
+    let before = count_below_limit(rt, &front);
+    let (reply, front, back) = execute_both(front, back, seat.nexus(), cdb, sent);
+    let after = front.accepted();
+    enter_if_risen(rt, tally, share, seat, before, after);
+    (reply, front, back)
+}
+
+// Reports a fault of the disk's half to hosts, if there is one that was not reported. The count of changes stays.
+fn tell_hosts<D: Disk + Drop, B: Rings>(
+    front: Front<D, B>,
+    back: Back<D, B>,
+) -> (Front<D, B>, Back<D, B>)
+    requires { AreEnds (end_of front) back.number back.received }
+    ensures tells { TellsBoth D.state (is_untold D.state front back) front back result.0 result.1 }
+    ensures count { result.0.drive.accepted ≡ front.drive.accepted }
+{
+    tell(front, back)
+}
+
+impl<D: Disk + Drop, B: Parties + Rings> FrontPlace<D, B> {
+    /// Answers a command of a seat's host, where it needs no disk, and enters the change that the drive accepted with
+    /// it, if any, in both ledgers. Its data are lent: a block takes them without copying. Where it needs the disk's
+    /// half too, there is no answer, and nothing has changed. Where 2^64 - 1 changes were accepted or entered before,
+    /// it waits for good.
+    pub fn execute_alone<H: Parties, R: Wait>(
+        &mut self,
+        rt: &R,
+        tally: &Mutex<Tally<B, H>>,
+        seat: &mut Seat<H>,
+        cdb: &[u8],
+        sent: &mut Bytes,
+    ) -> Option<Reply>
+        ensures { ServesAlone D.state self.old (asked seat.old.nexus cdb.now sent.old) seat.old
+            result self.new sent.new seat.new }
+    {
+        match &mut self.half {
+            Some(half) => answer_alone(rt, tally, half, &mut self.share, seat, cdb, sent),
+            None => unreachable!(),
+        }
+    }
+
+    /// The same with both halves, whatever the command needs.
+    pub fn execute_both<H: Parties, R: Wait>(
+        &mut self,
+        back: &mut BackPlace<D, B>,
+        rt: &R,
+        tally: &Mutex<Tally<B, H>>,
+        seat: &mut Seat<H>,
+        cdb: &[u8],
+        sent: &mut Bytes,
+    ) -> Reply
+        ensures { ServesBoth D.state self.old back.old (asked seat.old.nexus cdb.now sent.old) seat.old
+            result self.new back.new sent.new seat.new }
+    {
+        let Some(hosts) = self.half.take() else {
+            unreachable!()
+        };
+        let Some(disks) = back.half.take() else {
+            unreachable!()
+        };
+        fit(rt, &hosts, &disks);
+        let share = &mut self.share;
+        let (reply, hosts, disks) = answer_both(rt, tally, hosts, disks, share, seat, cdb, sent);
+        self.half = Some(hosts);
+        back.half = Some(disks);
+        reply
+    }
+
+    /// Reports a fault of the disk's half to hosts, if there is one that was not reported.
+    pub fn tell<R: Wait>(&mut self, back: &mut BackPlace<D, B>, rt: &R)
+        ensures { TellsHeld D.state self.old back.old self.new back.new }
+    {
+        let Some(hosts) = self.half.take() else {
+            unreachable!()
+        };
+        let Some(disks) = back.half.take() else {
+            unreachable!()
+        };
+        fit(rt, &hosts, &disks);
+        let (hosts, disks) = tell_hosts(hosts, disks);
+        self.half = Some(hosts);
+        back.half = Some(disks);
+    }
+
+    /// Lets the hosts' half send as much again as the buffer takes: the halves are put together, and part.
+    pub fn renew<R: Wait>(&mut self, back: &mut BackPlace<D, B>, rt: &R)
+        ensures { (bay : BayState D) × HoldsBoth D.state self.old back.old bay bay self.new back.new }
+    {
+        let (bay, ends) = join_held(rt, &mut self.half, &mut back.half);
+        part_held(bay, ends, &mut self.half, &mut back.half);
+    }
+}

@@ -1,0 +1,46 @@
+//! The end of a drive: its halves are put together, and it takes a turn.
+ghost use Rattle.std.specs.Prelude.{◌≡◌, Some, OnErr, OnOk};
+ghost use Rattle.bays.specs.Finish.{HasFailedAt, IsWrittenAt};
+ghost use Rattle.library.specs.Halves.{EndsHeld};
+
+use super::held::{join_held, known_drive};
+use super::{BackPlace, FrontPlace};
+use bays::{Bay, Unwritten};
+use ledgers::{Parties, PartyShare};
+use split_bay::Rings;
+use std::sync::Wait;
+use tape_disk::Disk;
+
+/// A drive and its share at the end of a library, without the locks.
+#[derive(Drop)]
+pub struct EndedPlace<D: Disk, B: Parties + Rings> {
+    /// The drive.
+    pub bay: Bay<D>,
+    /// Its share of the ledger of drives.
+    pub share: PartyShare<B>,
+    /// Whether all that the drive accepted is written out.
+    pub written: Result<(), Unwritten>,
+}
+
+impl<D: Disk + Drop, B: Parties + Rings> FrontPlace<D, B> {
+    /// The drive after a turn, with its share, and whether all is written out. It takes no memory.
+    pub fn end<R: Wait>(self, back: BackPlace<D, B>, rt: &R) -> EndedPlace<D, B>
+        ensures left { EndsHeld D.state self back result.bay }
+        ensures share { result.share ≡ result.bay.accepted }
+        ensures ok { OnOk result.written (IsWrittenAt D.state (Some result.bay)) }
+        ensures err { OnErr result.written (HasFailedAt D.state (Some result.bay)) }
+    {
+        let FrontPlace { mut half, share } = self;
+        let BackPlace { half: mut other } = back;
+        let (mut bay, _ends) = join_held(rt, &mut half, &mut other);
+        // The facts of the drive before its turn and after, for the proof alone.
+        known_drive(&bay);
+        let written = bay.write_out();
+        known_drive(&bay);
+        EndedPlace {
+            bay,
+            share,
+            written,
+        }
+    }
+}
