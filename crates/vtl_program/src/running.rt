@@ -1,12 +1,15 @@
 //! Running a script over a library whose drives threads share.
-ghost use Rattle.std.specs.Prelude.{◌≡◌};
+ghost use Rattle.std.specs.Prelude.{◌≡◌, Err, length};
+ghost use Rattle.vtl_base.specs.declared.limits.TheConstants.{DRIVES};
 ghost use Rattle.library.specs.Counts.{places_filled};
+ghost use Rattle.vtl_program.specs.declared.programs.VtlFault.TheVariants as Faults;
 ghost use Rattle.vtl_program.specs.Program.{HaveAcceptedNone, RunsHeld, every_nexus, outcome_of};
 
 use crate::pace::Pace;
 use crate::programs::VtlFault;
-use bays::{Bay, Held};
-use library::{FinishError, Finished, Ran, run_library};
+use bays::{Bay, Held, Parked};
+use changer::Slots;
+use library::{FinishError, Finished, Ran, RingRow, run_library};
 use std::alloc::Global;
 use std::io::{Read, Write};
 use std::marker::Brand;
@@ -66,6 +69,23 @@ pub(crate) fn count_drives<D: Disk>(bays: &[Option<Bay<D>>]) -> u64
     count
 }
 
+/// What is left where memory runs out before the first line or frame.
+pub(crate) fn not_begun<D: Disk + Drop>(
+    alloc: Global,
+    bays: Vec<Option<Bay<D>>>,
+    slots: Slots<Parked<D>>,
+) -> Left<D>
+    requires { length bays.items ≡ DRIVES }
+    ensures held { result.held ≡ record { slots = slots; bays = bays.items } }
+    ensures outcome { result.outcome ≡ Err Faults.NoMemory }
+{
+    let held = Held::from_parts(alloc, bays, slots);
+    Left {
+        held,
+        outcome: Err(VtlFault::NoMemory),
+    }
+}
+
 /// Runs a script over a library, and beside it a thread for each drive that stores what waits. Then every buffer is
 /// written out, whatever the script's end was. The first fault is returned: one of the script before one of the
 /// buffers. Where memory runs out before the script, nothing is read, and the library is as it was.
@@ -81,12 +101,16 @@ pub fn run_shared<D: Disk + Drop + Send, R: Threads + Wait + Clock + Sync, I: Re
         (W.contents writer.old) (W.contents writer.new) result.held result.outcome }
 {
     let (bays, slots) = held.into_parts();
+    let Ok(rings) = RingRow::of_drives(alloc, bays.as_slice()) else {
+        return not_begun(alloc, bays, slots);
+    };
     let drives = Blank::new(count_drives(bays.as_slice()));
     let hosts = Blank::new(NEXUSES as u64);
     let ran = run_library::<D, Brand, Brand, R, Pace<'_, R>, I, W>(
         rt,
         alloc,
         bays,
+        rings,
         slots,
         &every_host(),
         drives,
@@ -107,9 +131,6 @@ pub fn run_shared<D: Disk + Drop + Send, R: Threads + Wait + Clock + Sync, I: Re
                 outcome: outcome_of(outcome, counts),
             }
         }
-        Err(back) => Left {
-            held: Held::from_parts(alloc, back.bays, back.slots),
-            outcome: Err(VtlFault::NoMemory),
-        },
+        Err(back) => not_begun(alloc, back.bays, back.slots),
     }
 }

@@ -10,11 +10,11 @@ use crate::files::{ChangeFiles, SecondFiles, TakesBack, TextFiles};
 use crate::labels::{built_in_labels, labels_of};
 use crate::pace::Pace;
 use crate::programs::VtlFault;
-use crate::running::{Left, count_drives, every_host};
+use crate::running::{Left, count_drives, every_host, not_begun};
 use crate::sides::{FileSides, NewSides, Sides};
 use crate::starting::{NotStarted, Starting, built_in, start};
 use bays::Held;
-use library::{FinishError, Finished};
+use library::{FinishError, Finished, RingRow};
 use std::alloc::Global;
 use std::io::{Read, Write};
 use std::marker::Brand;
@@ -57,12 +57,16 @@ pub fn serve_shared<
         (W.contents writer.old) (W.contents writer.new) result.held result.outcome }
 {
     let (bays, slots) = held.into_parts();
+    let Ok(rings) = RingRow::of_drives(alloc, bays.as_slice()) else {
+        return not_begun(alloc, bays, slots);
+    };
     let drives = Blank::new(count_drives(bays.as_slice()));
     let hosts = Blank::new(NEXUSES as u64);
     let served = serve_library::<D, Brand, Brand, R, Pace<'_, R>, I, W>(
         rt,
         alloc,
         bays,
+        rings,
         slots,
         &every_host(),
         drives,
@@ -84,10 +88,7 @@ pub fn serve_shared<
                 outcome: served_outcome(outcome, counts),
             }
         }
-        Err(back) => Left {
-            held: Held::from_parts(alloc, back.bays, back.slots),
-            outcome: Err(VtlFault::NoMemory),
-        },
+        Err(back) => not_begun(alloc, back.bays, back.slots),
     }
 }
 

@@ -69,7 +69,7 @@ module _ {D : Type 0} (state : D → DiskState) where
   -- a seat stays its host's
   same_host : (before after : SeatState) (request : Request) (one : Answer)
       → AnswersCommand state before request one after → after.nexus ≡ before.nexus
-  same_host before after (Command host drive cdb sent tag) one answered = answered.2.answers.nexus
+  same_host before after (Command host drive cdb sent tag) one answered = answered.2.grows.nexus
   same_host before after (Move from to tag) one answered = absurd answered
   same_host before after (Inventory tag) one answered = absurd answered
 

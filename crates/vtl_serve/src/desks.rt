@@ -7,7 +7,7 @@ ghost use Rattle.vtl_serve.specs.Labels.{drive_entry, inventory_of, entry_at};
 
 use crate::labels::Labels;
 use ledgers::Parties;
-use library::Library;
+use library::{Library, Rings};
 use scsi_sense::Status;
 use std::alloc::Global;
 use std::marker::Model;
@@ -20,13 +20,13 @@ use vtl_wire::{Answer, Entries, Entry, Request};
 
 /// The desk of a library. To a contract it is which drives there are, and where each cartridge is.
 #[derive(Drop)]
-pub struct LibraryDesk<'a, D: Disk, B: Parties, H: Parties, R> {
+pub struct LibraryDesk<'a, D: Disk, B: Parties + Rings, H: Parties, R> {
     rt: &'a R,
     library: &'a Library<D, B, H>,
     labels: Labels,
 }
 
-impl<'a, D: Disk, B: Parties, H: Parties, R> Model for LibraryDesk<'a, D, B, H, R> {
+impl<'a, D: Disk, B: Parties + Rings, H: Parties, R> Model for LibraryDesk<'a, D, B, H, R> {
     ghost use Rattle.vtl_serve.specs.Desks.{DeskState};
 
     ghost Value = { DeskState };
@@ -46,7 +46,7 @@ fn add_entry(labels: &Labels, address: u32, entries: &mut Vec<Entry>) -> Result<
 }
 
 // Adds what is at the drive with this place, counted from 0, if it is configured.
-fn add_drive<D: Disk + Drop, B: Parties, H: Parties>(
+fn add_drive<D: Disk + Drop, B: Parties + Rings, H: Parties>(
     library: &Library<D, B, H>,
     labels: &Labels,
     place: u8,
@@ -64,7 +64,7 @@ fn add_drive<D: Disk + Drop, B: Parties, H: Parties>(
 }
 
 // Adds what is at each configured drive.
-fn add_drives<D: Disk + Drop, B: Parties, H: Parties>(
+fn add_drives<D: Disk + Drop, B: Parties + Rings, H: Parties>(
     library: &Library<D, B, H>,
     labels: &Labels,
     entries: &mut Vec<Entry>,
@@ -90,7 +90,7 @@ fn add_slots(labels: &Labels, entries: &mut Vec<Entry>) -> Result<(), NoMemory>
 }
 
 // What is at each configured drive, and at each slot.
-fn inventory_of<D: Disk + Drop, B: Parties, H: Parties>(
+fn inventory_of<D: Disk + Drop, B: Parties + Rings, H: Parties>(
     alloc: Global,
     library: &Library<D, B, H>,
     labels: &Labels,
@@ -103,7 +103,7 @@ fn inventory_of<D: Disk + Drop, B: Parties, H: Parties>(
     Ok(Entries::from_vec(entries))
 }
 
-impl<'a, D: Disk + Drop, B: Parties, H: Parties, R> LibraryDesk<'a, D, B, H, R> {
+impl<'a, D: Disk + Drop, B: Parties + Rings, H: Parties, R> LibraryDesk<'a, D, B, H, R> {
     /// The desk of a library whose cartridges are where these labels say.
     pub fn new(
         rt: &'a R,
@@ -120,7 +120,8 @@ impl<'a, D: Disk + Drop, B: Parties, H: Parties, R> LibraryDesk<'a, D, B, H, R> 
     }
 }
 
-impl<'a, D: Disk + Drop, B: Parties, H: Parties, R: Wait> Desk for LibraryDesk<'a, D, B, H, R> {
+impl<'a, D: Disk + Drop, B: Parties + Rings, H: Parties, R: Wait> Desk
+    for LibraryDesk<'a, D, B, H, R> {
     ghost is_taken = { λ desk request. is_served desk.drives request };
 
     ghost answers = { AnswersDesk D.state };

@@ -3,8 +3,9 @@ ghost use Rattle.std.specs.Prelude.{◌≡◌, ◌≤◌, [], IfOk, IfErr, lengt
 ghost use Rattle.std.specs.List.{range_with_len};
 ghost use Rattle.vtl_base.specs.declared.limits.TheConstants.{DRIVES, NEXUSES};
 ghost use Rattle.ledgers.specs.Ledgers.{IsBlankOf};
-ghost use Rattle.library.specs.Counts.{AcceptedNone, places_filled};
+ghost use Rattle.library.specs.Counts.{AcceptedNone, places_filled, which_are_there};
 ghost use Rattle.library.specs.Ran.{EndsShared};
+ghost use Rattle.library.specs.RingRows.{AreRings};
 ghost use Rattle.vtl_hosts.specs.Turns.{ServesHosts};
 ghost use Rattle.vtl_serve.specs.Desks.{AnswersDesk, TakesMemory, is_served};
 ghost use Rattle.vtl_serve.specs.OneHost.{AnswersHost};
@@ -16,7 +17,7 @@ use crate::one_host::OneHost;
 use bays::{Bay, Parked};
 use changer::Slots;
 use ledgers::{Parties, Seat};
-use library::{Finished, Gate, Library, NotOpened, beside_flushers};
+use library::{Finished, Gate, Library, NotOpened, RingRow, Rings, beside_flushers};
 use std::alloc::Global;
 use std::io::{Read, Write};
 use std::marker::{Send, Sync};
@@ -48,7 +49,7 @@ struct ServedFor<H: Parties> {
 }
 
 // The hosts of these seats, for which there is room.
-fn hosts_of<'a, D: Disk + Drop, B: Parties, H: Parties, R>(
+fn hosts_of<'a, D: Disk + Drop, B: Parties + Rings, H: Parties, R>(
     rt: &'a R,
     library: &'a Library<D, B, H>,
     room: Vec<OneHost<'a, D, B, H, R>>,
@@ -65,7 +66,7 @@ fn hosts_of<'a, D: Disk + Drop, B: Parties, H: Parties, R>(
 }
 
 // The seats of these hosts, for which there is room.
-fn seats_in<'a, D: Disk + Drop, B: Parties, H: Parties, R>(
+fn seats_in<'a, D: Disk + Drop, B: Parties + Rings, H: Parties, R>(
     room: Vec<Seat<H>>,
     hosts: Vec<OneHost<'a, D, B, H, R>>,
 ) -> Vec<Seat<H>>
@@ -83,7 +84,7 @@ fn seats_in<'a, D: Disk + Drop, B: Parties, H: Parties, R>(
 fn serve_and_close<
     'a,
     D: Disk + Drop + Send,
-    B: Parties + Send + Sync,
+    B: Parties + Rings + Send + Sync,
     H: Parties + Send + Sync,
     R: Threads + Wait + Clock + Sync,
     I: Read,
@@ -118,7 +119,7 @@ fn serve_and_close<
 fn serve_beside<
     'a,
     D: Disk + Drop + Send,
-    B: Parties + Send + Sync,
+    B: Parties + Rings + Send + Sync,
     H: Parties + Send + Sync,
     R: Threads + Wait + Clock + Sync,
     G: Gate + Sync,
@@ -165,7 +166,7 @@ fn serve_beside<
 fn serve_opened<
     'a,
     D: Disk + Drop + Send,
-    B: Parties + Send + Sync,
+    B: Parties + Rings + Send + Sync,
     H: Parties + Send + Sync,
     R: Threads + Wait + Clock + Sync,
     G: Gate + Sync,
@@ -217,11 +218,11 @@ fn serve_opened<
 /// Serves hosts that have the numbers from 1 to 64, over one pipe, at a library of these drives, each in the place of
 /// its number, and these slots, whose cartridges are where the labels say. Each host's commands are carried out in a
 /// thread of its own, and each drive has a flusher beside them. At the end all threads are joined, and every buffer is
-/// written out. Where memory runs out before the library is opened, everything is returned, and nothing is read or
-/// written.
+/// written out. Where memory runs out before the library is opened, everything but the rings is returned, and nothing
+/// is read or written.
 pub fn serve_library<
     D: Disk + Drop + Send,
-    B: Parties + Send + Sync,
+    B: Parties + Rings + Send + Sync,
     H: Parties + Send + Sync,
     R: Threads + Wait + Clock + Sync,
     G: Gate + Sync,
@@ -231,6 +232,7 @@ pub fn serve_library<
     rt: &R,
     alloc: Global,
     bays: Vec<Option<Bay<D>>>,
+    rings: RingRow,
     slots: Slots<Parked<D>>,
     hosts: &[Nexus],
     bay_ledger: Blank,
@@ -242,6 +244,7 @@ pub fn serve_library<
 ) -> Result<ServedLibrary<D>, NotOpened<D>>
     requires places { length bays.items ≡ DRIVES }
     requires fresh { All (λ bay. AcceptedNone bay) bays.items }
+    requires rings { (which_are_there rings ≡ which_are_there bays.items) × AreRings B.ring rings }
     requires hosts { hosts.now ≡ range_with_len 1 NEXUSES }
     requires bay_ledger { IsBlankOf bay_ledger B.name B.parts B.all × (B.all ≡ places_filled bays.items) }
     requires host_ledger { IsBlankOf host_ledger H.name H.parts H.all × (H.all ≡ NEXUSES) }
@@ -257,6 +260,7 @@ pub fn serve_library<
     let (library, seats) = Library::<D, B, H>::new(
         alloc,
         bays,
+        rings,
         slots,
         hosts,
         bay_ledger,

@@ -4,7 +4,7 @@ ghost use Rattle.vtl_wire.specs.Serving.{ServesInput};
 ghost use Rattle.vtl_serve.specs.OneHost.{AnswersHost, HostAnswers, is_from};
 
 use ledgers::{Parties, Seat};
-use library::Library;
+use library::{Library, Rings};
 use std::alloc::Global;
 use std::io::{Read, Write};
 use std::marker::Model;
@@ -16,13 +16,13 @@ use vtl_wire::{Answer, Request, Server, WireFault, serve_requests};
 
 /// A host's seat at a library that threads share. To a contract it is which drives there are, and the seat.
 #[derive(Drop)]
-pub struct OneHost<'a, D: Disk, B: Parties, H: Parties, R> {
+pub struct OneHost<'a, D: Disk, B: Parties + Rings, H: Parties, R> {
     rt: &'a R,
     library: &'a Library<D, B, H>,
     seat: Seat<H>,
 }
 
-impl<'a, D: Disk, B: Parties, H: Parties, R> Model for OneHost<'a, D, B, H, R> {
+impl<'a, D: Disk, B: Parties + Rings, H: Parties, R> Model for OneHost<'a, D, B, H, R> {
     ghost use Rattle.vtl_serve.specs.OneHost.{OneHostState};
 
     ghost Value = { OneHostState };
@@ -30,7 +30,7 @@ impl<'a, D: Disk, B: Parties, H: Parties, R> Model for OneHost<'a, D, B, H, R> {
     ghost view = { λ h. record { drives = h.library.now; seat = h.seat } };
 }
 
-impl<'a, D: Disk + Drop, B: Parties, H: Parties, R> OneHost<'a, D, B, H, R> {
+impl<'a, D: Disk + Drop, B: Parties + Rings, H: Parties, R> OneHost<'a, D, B, H, R> {
     /// The host of this seat.
     pub fn new(rt: &'a R, library: &'a Library<D, B, H>, seat: Seat<H>) -> OneHost<'a, D, B, H, R>
         ensures { result ≡ record { drives = library.now; seat = seat } }
@@ -46,7 +46,7 @@ impl<'a, D: Disk + Drop, B: Parties, H: Parties, R> OneHost<'a, D, B, H, R> {
     }
 }
 
-impl<'a, D: Disk + Drop, B: Parties, H: Parties, R: Wait> OneHost<'a, D, B, H, R> {
+impl<'a, D: Disk + Drop, B: Parties + Rings, H: Parties, R: Wait> OneHost<'a, D, B, H, R> {
     // Whether a request is a command of the host to a configured drive.
     fn takes_request(&self, request: &Request) -> bool
         ensures { result ≡ is_from self.now.drives self.now.seat.nexus request.now }
@@ -75,7 +75,7 @@ impl<'a, D: Disk + Drop, B: Parties, H: Parties, R: Wait> OneHost<'a, D, B, H, R
                 let rt = self.rt;
                 let library = self.library;
                 let seat = &mut self.seat;
-                let reply = library.command_lent(rt, seat, drive, cdb.as_slice(), &mut sent);
+                let reply = library.command(rt, seat, drive, cdb.as_slice(), &mut sent);
                 Answer::Command { host, reply, tag }
             }
             Request::Move { .. } | Request::Inventory { .. } => unreachable!(),
@@ -83,7 +83,8 @@ impl<'a, D: Disk + Drop, B: Parties, H: Parties, R: Wait> OneHost<'a, D, B, H, R
     }
 }
 
-impl<'a, D: Disk + Drop, B: Parties, H: Parties, R: Wait> Server for OneHost<'a, D, B, H, R> {
+impl<'a, D: Disk + Drop, B: Parties + Rings, H: Parties, R: Wait> Server
+    for OneHost<'a, D, B, H, R> {
     ghost is_taken = { λ served request. is_from served.drives served.seat.nexus request };
 
     ghost answers = { AnswersHost D.state };
@@ -99,7 +100,7 @@ impl<'a, D: Disk + Drop, B: Parties, H: Parties, R: Wait> Server for OneHost<'a,
     }
 }
 
-impl<'a, D: Disk + Drop, B: Parties, H: Parties, R: Wait> Host for OneHost<'a, D, B, H, R> {
+impl<'a, D: Disk + Drop, B: Parties + Rings, H: Parties, R: Wait> Host for OneHost<'a, D, B, H, R> {
     ghost is_taken = { λ served request. is_from served.drives served.seat.nexus request };
 
     ghost answers = { AnswersHost D.state };
@@ -116,7 +117,7 @@ impl<'a, D: Disk + Drop, B: Parties, H: Parties, R: Wait> Host for OneHost<'a, D
 /// Serves one host of a library: reads its commands up to the end of the input, or to the first frame that is refused,
 /// carries each out before the next is read, and writes its answer. A frame of another host or of a drive that is not
 /// configured is refused, and so is a move and an inventory. Other threads may serve other hosts meanwhile.
-pub fn serve_host<'a, D: Disk + Drop, B: Parties, H: Parties, R: Wait, I: Read, O: Write>(
+pub fn serve_host<'a, D: Disk + Drop, B: Parties + Rings, H: Parties, R: Wait, I: Read, O: Write>(
     alloc: Global,
     served: &mut OneHost<'a, D, B, H, R>,
     reader: &mut I,

@@ -9,16 +9,16 @@ returns g c =
     elim c.match-cdb.branch [
       | in-Heap-2 w ↦
           host_answered_by g.D.Disk.state c.args.self.now c.match-cdb.self c.self.inside.seat
-          c.command_lent-reply.new.seat c.in-Command.host c.in-Command.drive c.in-Command.tag c.in-Command.cdb _
-          c.in-Command.sent c.args.request c.command_lent-reply.result c.in-Command.is c.requires
+          c.command-reply.new.seat c.in-Command.host c.in-Command.drive c.in-Command.tag c.in-Command.cdb _
+          c.in-Command.sent c.args.request c.command-reply.result c.in-Command.is c.requires
           (ap (λ (h : OneHostState). h.drives) w.self-is ∙ ap (λ (h : OneHostState). h.drives) c.self.view_is)
           (ap (λ (h : OneHostState). h.seat) c.self.view_is) (ap (λ (h : OneHostState). h.seat) w.self-is)
-          c.as_slice.ensures c.command_lent-reply.ensures.0
+          c.as_slice.ensures c.command-reply.ensures.0
       | in-Inline-2 w ↦
           host_answered_by g.D.Disk.state c.args.self.now c.match-cdb.self c.self.inside.seat
-          c.command_lent-reply.new.seat c.in-Command.host c.in-Command.drive c.in-Command.tag c.in-Command.cdb _
-          c.in-Command.sent c.args.request c.command_lent-reply.result c.in-Command.is c.requires
+          c.command-reply.new.seat c.in-Command.host c.in-Command.drive c.in-Command.tag c.in-Command.cdb _
+          c.in-Command.sent c.args.request c.command-reply.result c.in-Command.is c.requires
           (ap (λ (h : OneHostState). h.drives) w.self-is ∙ ap (λ (h : OneHostState). h.drives) c.self.view_is)
           (ap (λ (h : OneHostState). h.seat) c.self.view_is) (ap (λ (h : OneHostState). h.seat) w.self-is)
-          c.as_slice.ensures c.command_lent-reply.ensures.0
+          c.as_slice.ensures c.command-reply.ensures.0
     ]
