@@ -6,7 +6,7 @@ use crate::moving::{has_seen, moves, moves_about, writes_about};
 use crate::replies::{Answer, Step};
 use crate::samples::drive;
 use crate::stages::{Sign, Stage};
-use library::{Library, Parties, Seat};
+use library::{Library, Parties, Rings, Seat};
 use std::alloc::Global;
 use std::process::Abort;
 use std::sync::Wait;
@@ -19,6 +19,8 @@ use test_assertions::{assert_equal, assert_holds};
 pub enum Act {
     /// Its commands have these answers, one after another.
     Asks(&'static [Step]),
+    /// The same a number of times.
+    Times(u32, &'static [Step]),
     /// The same a number of times, each time followed by a pause.
     Repeats(u32, &'static [Step]),
     /// The same in one session.
@@ -53,7 +55,7 @@ pub enum Act {
 }
 
 // Runs as the flusher of a drive until that ends.
-fn flushes<D: Disk + Drop, B: Parties, H: Parties, R: Wait + Abort + Clock>(
+fn flushes<D: Disk + Drop, B: Parties + Rings, H: Parties, R: Wait + Abort + Clock>(
     rt: &R,
     library: &Library<D, B, H>,
     stage: &Stage,
@@ -71,16 +73,31 @@ fn flushes<D: Disk + Drop, B: Parties, H: Parties, R: Wait + Abort + Clock>(
 }
 
 // The same commands have the same answers, many times.
-fn repeats<D: Disk + Drop, B: Parties, H: Parties, R: Wait + Abort + Clock>(
+fn repeats<D: Disk + Drop, B: Parties + Rings, H: Parties, R: Wait + Abort + Clock>(
     rt: &R,
+    alloc: Global,
     library: &Library<D, B, H>,
     seat: &mut Seat<H>,
     times: u32,
     steps: &[Step],
 ) {
     for _ in 0..times {
-        asks(rt, library, seat, steps);
+        asks(rt, alloc, library, seat, steps);
         pause(rt);
+    }
+}
+
+// The same commands have the same answers, some times.
+fn asks_often<D: Disk + Drop, B: Parties + Rings, H: Parties, R: Wait + Abort>(
+    rt: &R,
+    alloc: Global,
+    library: &Library<D, B, H>,
+    seat: &mut Seat<H>,
+    times: u32,
+    steps: &[Step],
+) {
+    for _ in 0..times {
+        asks(rt, alloc, library, seat, steps);
     }
 }
 
@@ -100,7 +117,7 @@ fn signals<R: Abort + Clock>(rt: &R, stage: &Stage, act: Act) {
 }
 
 // The acts with a library and without the seat of a host, and those with signs.
-fn does<D: Disk + Drop, B: Parties, H: Parties, R: Wait + Abort + Clock>(
+fn does<D: Disk + Drop, B: Parties + Rings, H: Parties, R: Wait + Abort + Clock>(
     rt: &R,
     library: &Library<D, B, H>,
     stage: &Stage,
@@ -117,7 +134,7 @@ fn does<D: Disk + Drop, B: Parties, H: Parties, R: Wait + Abort + Clock>(
 }
 
 // One act.
-fn plays_one<D: Disk + Drop, B: Parties, H: Parties, R: Wait + Abort + Clock>(
+fn plays_one<D: Disk + Drop, B: Parties + Rings, H: Parties, R: Wait + Abort + Clock>(
     rt: &R,
     alloc: Global,
     library: &Library<D, B, H>,
@@ -126,18 +143,19 @@ fn plays_one<D: Disk + Drop, B: Parties, H: Parties, R: Wait + Abort + Clock>(
     act: Act,
 ) {
     match act {
-        Act::Asks(steps) => asks(rt, library, seat, steps),
-        Act::Repeats(times, steps) => repeats(rt, library, seat, times, steps),
+        Act::Asks(steps) => asks(rt, alloc, library, seat, steps),
+        Act::Times(times, steps) => asks_often(rt, alloc, library, seat, times, steps),
+        Act::Repeats(times, steps) => repeats(rt, alloc, library, seat, times, steps),
         Act::Session(steps) => session(rt, alloc, library, seat, steps),
-        Act::Either(step, other) => asks_either(rt, library, seat, step, other),
+        Act::Either(step, other) => asks_either(rt, alloc, library, seat, step, other),
         Act::Lends(step, left) => lends(rt, alloc, library, seat, step, left),
-        Act::Writes(number) => writes_about(rt, library, seat, number),
+        Act::Writes(number) => writes_about(rt, alloc, library, seat, number),
         _ => does(rt, library, stage, act),
     }
 }
 
 /// Plays these acts, one after another.
-pub fn plays<D: Disk + Drop, B: Parties, H: Parties, R: Wait + Abort + Clock>(
+pub fn plays<D: Disk + Drop, B: Parties + Rings, H: Parties, R: Wait + Abort + Clock>(
     rt: &R,
     alloc: Global,
     library: &Library<D, B, H>,

@@ -5,7 +5,7 @@ ghost use Rattle.library.specs.Counts.{has_drive};
 
 use crate::replies::{Answer, Step, is_answer};
 use crate::samples::drive;
-use library::{Library, Parties, Seat};
+use library::{Library, Parties, Rings, Seat};
 use scsi_sense::Reply;
 use std::alloc::Global;
 use std::process::Abort;
@@ -16,8 +16,9 @@ use vtl_base::{Bytes, Nexus};
 use vtl_script::Line;
 
 /// The reply to a command of a seat's host to a drive that is there.
-pub fn reply_to<D: Disk + Drop, B: Parties, H: Parties, R: Wait + Abort>(
+pub fn reply_to<D: Disk + Drop, B: Parties + Rings, H: Parties, R: Wait + Abort>(
     rt: &R,
+    alloc: Global,
     library: &Library<D, B, H>,
     seat: &mut Seat<H>,
     number: u8,
@@ -27,32 +28,35 @@ pub fn reply_to<D: Disk + Drop, B: Parties, H: Parties, R: Wait + Abort>(
     let number = drive(rt, number);
     // The `assert!` of `std`, since `command` requires this.
     assert!(rt; library.configured(number));
-    library.command(rt, seat, number, cdb, sent)
+    let mut lent = Bytes::from_slice(alloc, sent).expect(rt, "memory");
+    library.command(rt, seat, number, cdb, &mut lent)
 }
 
 /// The commands of a seat's host have these answers, one after another.
-pub fn asks<D: Disk + Drop, B: Parties, H: Parties, R: Wait + Abort>(
+pub fn asks<D: Disk + Drop, B: Parties + Rings, H: Parties, R: Wait + Abort>(
     rt: &R,
+    alloc: Global,
     library: &Library<D, B, H>,
     seat: &mut Seat<H>,
     steps: &[Step],
 ) {
     for (at, &(number, cdb, sent, wanted)) in steps.iter().enumerate() {
-        let reply = reply_to(rt, library, seat, number, cdb, sent);
+        let reply = reply_to(rt, alloc, library, seat, number, cdb, sent);
         is_answer(rt, &reply, wanted, at);
     }
 }
 
 /// A command of a seat's host has one of two answers.
-pub fn asks_either<D: Disk + Drop, B: Parties, H: Parties, R: Wait + Abort>(
+pub fn asks_either<D: Disk + Drop, B: Parties + Rings, H: Parties, R: Wait + Abort>(
     rt: &R,
+    alloc: Global,
     library: &Library<D, B, H>,
     seat: &mut Seat<H>,
     step: Step,
     other: Answer,
 ) {
     let (number, cdb, sent, wanted) = step;
-    let reply = reply_to(rt, library, seat, number, cdb, sent);
+    let reply = reply_to(rt, alloc, library, seat, number, cdb, sent);
     let wanted = if reply.status == wanted.0 {
         wanted
     } else {
@@ -63,7 +67,7 @@ pub fn asks_either<D: Disk + Drop, B: Parties, H: Parties, R: Wait + Abort>(
 
 /// The data of a command of a seat's host are lent to a drive that is there. It has this answer, and this
 /// many bytes of the data are left.
-pub fn lends<D: Disk + Drop, B: Parties, H: Parties, R: Wait + Abort>(
+pub fn lends<D: Disk + Drop, B: Parties + Rings, H: Parties, R: Wait + Abort>(
     rt: &R,
     alloc: Global,
     library: &Library<D, B, H>,
@@ -74,9 +78,9 @@ pub fn lends<D: Disk + Drop, B: Parties, H: Parties, R: Wait + Abort>(
     let (number, cdb, sent, wanted) = step;
     let number = drive(rt, number);
     let mut lent = Bytes::from_slice(alloc, sent).expect(rt, "memory");
-    // The `assert!` of `std`, since `command_lent` requires this.
+    // The `assert!` of `std`, since `command` requires this.
     assert!(rt; library.configured(number));
-    let reply = library.command_lent(rt, seat, number, cdb, &mut lent);
+    let reply = library.command(rt, seat, number, cdb, &mut lent);
     is_answer(rt, &reply, wanted, 0);
     assert_equal!(rt; lent.len(), left);
 }
@@ -110,7 +114,7 @@ fn are_of(lines: &[Line], host: Nexus) -> bool
 }
 
 // Whether all lines are to drives that are there.
-fn are_configured<D: Disk + Drop, B: Parties, H: Parties>(
+fn are_configured<D: Disk + Drop, B: Parties + Rings, H: Parties>(
     library: &Library<D, B, H>,
     lines: &[Line],
 ) -> bool
@@ -120,7 +124,7 @@ fn are_configured<D: Disk + Drop, B: Parties, H: Parties>(
 }
 
 // The replies to lines of a seat's host to drives that are there.
-fn replies_to<D: Disk + Drop, B: Parties, H: Parties, R: Wait + Abort>(
+fn replies_to<D: Disk + Drop, B: Parties + Rings, H: Parties, R: Wait + Abort>(
     rt: &R,
     alloc: Global,
     library: &Library<D, B, H>,
@@ -137,7 +141,7 @@ fn replies_to<D: Disk + Drop, B: Parties, H: Parties, R: Wait + Abort>(
 }
 
 /// The lines of a seat's host have these answers.
-pub fn session<D: Disk + Drop, B: Parties, H: Parties, R: Wait + Abort>(
+pub fn session<D: Disk + Drop, B: Parties + Rings, H: Parties, R: Wait + Abort>(
     rt: &R,
     alloc: Global,
     library: &Library<D, B, H>,

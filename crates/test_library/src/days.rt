@@ -3,7 +3,8 @@ ghost use Rattle.std.specs.Prelude.{◌≡◌, ◌<◌, length, nat_eq, All};
 ghost use Rattle.std.specs.List.{IsDistinct};
 ghost use Rattle.vtl_base.specs.declared.limits.TheConstants.{DRIVES};
 ghost use Rattle.ledgers.specs.Ledgers.{IsBlankOf};
-ghost use Rattle.library.specs.Counts.{AcceptedNone, places_filled};
+ghost use Rattle.library.specs.Counts.{AcceptedNone, places_filled, which_are_there};
+ghost use Rattle.library.specs.RingRows.{AreRings};
 
 use crate::acts::{Act, plays};
 use crate::ends::{are_back, are_counts};
@@ -12,7 +13,7 @@ use crate::samples::{Sample, loaded};
 use crate::stages::Stage;
 use bays::{Bay, Parked};
 use changer::Slots;
-use library::{FinishError, Finished, Library, Parties, Seat};
+use library::{FinishError, Finished, Library, Parties, RingRow, Rings, Seat};
 use std::alloc::Global;
 use std::marker::Brand;
 use std::process::Abort;
@@ -40,7 +41,7 @@ pub struct Day {
 }
 
 // A host plays its part, if it has one.
-fn plays_at<D: Disk + Drop, B: Parties, H: Parties, R: Wait + Abort + Clock>(
+fn plays_at<D: Disk + Drop, B: Parties + Rings, H: Parties, R: Wait + Abort + Clock>(
     rt: &R,
     alloc: Global,
     library: &Library<D, B, H>,
@@ -57,7 +58,7 @@ fn plays_at<D: Disk + Drop, B: Parties, H: Parties, R: Wait + Abort + Clock>(
 // All hosts play their parts, each in a thread of its own.
 fn all_play<
     D: Disk + Drop + Send,
-    B: Parties + Send + Sync,
+    B: Parties + Rings + Send + Sync,
     H: Parties + Send + Sync,
     R: Threads + Wait + Abort + Clock + Sync,
 >(
@@ -98,13 +99,14 @@ fn handed_in<H: Parties>(seats: Vec<Seat<H>>, kept: Option<usize>) -> Vec<Seat<H
 // The same over ledgers that the call picks.
 fn spend_over<
     D: Disk + Drop + Send,
-    B: Parties + Send + Sync,
+    B: Parties + Rings + Send + Sync,
     H: Parties + Send + Sync,
     R: Threads + Wait + Abort + Clock + Sync,
 >(
     rt: &R,
     alloc: Global,
     bays: Vec<Option<Bay<D>>>,
+    rings: RingRow,
     slots: Slots<Parked<D>>,
     hosts: &[Nexus],
     bay_ledger: Blank,
@@ -114,11 +116,12 @@ fn spend_over<
 ) -> Result<Finished<D>, Fail>
     requires places { length bays.items ≡ DRIVES }
     requires fresh { All (λ bay. AcceptedNone bay) bays.items }
+    requires rings { (which_are_there rings ≡ which_are_there bays.items) × AreRings B.ring rings }
     requires hosts { IsDistinct nat_eq hosts.now }
     requires bay_ledger { IsBlankOf bay_ledger B.name B.parts B.all × (B.all ≡ places_filled bays.items) }
     requires host_ledger { IsBlankOf host_ledger H.name H.parts H.all × (H.all ≡ length hosts.now) }
 {
-    match Library::<D, B, H>::new(alloc, bays, slots, hosts, bay_ledger, host_ledger) {
+    match Library::<D, B, H>::new(alloc, bays, rings, slots, hosts, bay_ledger, host_ledger) {
         Ok((library, seats)) => {
             let mut seats = seats;
             all_play(rt, alloc, &library, stage, day.hosts, seats.as_mut_slice());
@@ -139,11 +142,13 @@ pub fn spend<D: Disk + Drop + Send, R: Threads + Wait + Abort + Clock + Sync>(
 ) -> Result<Finished<D>, Fail> {
     let Sample { bays, slots } = sample;
     let drives = count_fresh(bays.as_slice())?;
+    let rings = RingRow::of_drives(alloc, bays.as_slice())?;
     let hosts = hosts(rt, alloc, day.hosts.len().min(64) as u8)?;
     spend_over::<D, Brand, Brand, R>(
         rt,
         alloc,
         bays,
+        rings,
         slots,
         hosts.as_slice(),
         Blank::new(drives),

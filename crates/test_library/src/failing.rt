@@ -8,15 +8,15 @@ use library::FinishError;
 use scsi_sense::Status;
 use std::test::Fail;
 
-// 3, 0C/00, deferred
-const DEFERRED: Answer = (
+/// 3, 0C/00, deferred
+pub const DEFERRED: Answer = (
     Status::Check,
     b"\x71\x00\x03\x00\x00\x00\x00\x0a\x00\x00\x00\x00\x0c\x00\x00\x00\x00\x00",
     b"",
 );
 
-// 4, 44/00
-const FAILED: Answer = (
+/// 4, 44/00
+pub const FAILED: Answer = (
     Status::Check,
     b"\x70\x00\x04\x00\x00\x00\x00\x0a\x00\x00\x00\x00\x44\x00\x00\x00\x00\x00",
     b"",
@@ -32,16 +32,18 @@ const IS_TOLD: Act = Act::Asks(&[
     (1, WRITE_1, b"y", FAILED),
 ]);
 
-// The cartridge is unloaded, and loaded again.
-const LOADS_AGAIN: Act = Act::Asks(&[
+/// The cartridge is unloaded, and loaded again.
+pub const LOADS_AGAIN: Act = Act::Asks(&[
     (1, &[0x1b, 0, 0, 0, 0, 0], b"", GOOD),
     (1, &[0x1b, 0, 0, 0, 1, 0], b"", GOOD),
     (1, READY, b"", GOOD),
 ]);
 
-const READ_BACK: Step = (1, READ_1, b"", (Status::Good, b"", b"x"));
+/// The block is read.
+pub const READ_BACK: Step = (1, READ_1, b"", (Status::Good, b"", b"x"));
 
-const FLUSHES: &'static [Act] = &[Act::Flushes(1, Stands::Nowhere)];
+/// A flusher of drive 1.
+pub const FLUSHES: &'static [Act] = &[Act::Flushes(1, Stands::Nowhere)];
 
 // No call of a turn fails.
 static STORES: Day = Day {

@@ -12,8 +12,10 @@ pub enum Stands {
     Nowhere,
     /// Before each turn, where no lock is held.
     Before(Sign, u64),
-    /// In each turn, where the drive's lock is held.
+    /// In each turn, where the lock of the drive's disk's half is held.
     Inside(Sign, u64),
+    /// Behind each turn in which the device failed, where no lock is held.
+    Behind(Sign, u64),
     /// It takes no turn.
     Shut,
 }
@@ -39,7 +41,7 @@ impl<'a, R: Clock + Abort> Gate for StageGate<'a, R> {
         match self.stands {
             Stands::Shut => return false,
             Stands::Before(sign, until) => self.stand(sign, until),
-            Stands::Nowhere | Stands::Inside(_, _) => {}
+            Stands::Nowhere | Stands::Inside(_, _) | Stands::Behind(_, _) => {}
         }
         true
     }
@@ -53,6 +55,9 @@ impl<'a, R: Clock + Abort> Gate for StageGate<'a, R> {
 
     fn after_turn(&self, turn: Turn) {
         self.stage.turns(self.number).end(turn);
+        if let (Turn::Device, Stands::Behind(sign, until)) = (turn, self.stands) {
+            self.stand(sign, until);
+        }
     }
 }
 

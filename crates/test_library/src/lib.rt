@@ -26,6 +26,8 @@ mod flushers;
 #[cfg(test)]
 mod gates;
 #[cfg(test)]
+mod halves;
+#[cfg(test)]
 mod moving;
 #[cfg(test)]
 mod numbers;

@@ -9,8 +9,9 @@ use crate::replies::{
 };
 use crate::samples::shelved;
 use crate::stages::Stage;
-use library::{Element, Inventory, Library, Parties, Seat};
+use library::{Element, Inventory, Library, Parties, Rings, Seat};
 use scsi_sense::Status;
+use std::alloc::Global;
 use std::process::Abort;
 use std::sync::Wait;
 use std::test::Fail;
@@ -35,7 +36,7 @@ fn seen(inventory: &Inventory) -> (usize, usize) {
 }
 
 /// This many cartridges are seen, and fourteen drives are missing.
-pub fn has_seen<D: Disk + Drop, B: Parties, H: Parties, R: Wait + Abort>(
+pub fn has_seen<D: Disk + Drop, B: Parties + Rings, H: Parties, R: Wait + Abort>(
     rt: &R,
     library: &Library<D, B, H>,
     full: usize,
@@ -44,7 +45,7 @@ pub fn has_seen<D: Disk + Drop, B: Parties, H: Parties, R: Wait + Abort>(
 }
 
 /// Cartridges are moved, with these answers.
-pub fn moves<D: Disk + Drop, B: Parties, H: Parties, R: Wait + Abort>(
+pub fn moves<D: Disk + Drop, B: Parties + Rings, H: Parties, R: Wait + Abort>(
     rt: &R,
     library: &Library<D, B, H>,
     rows: &[(u32, u32, Answer)],
@@ -76,7 +77,7 @@ static OF_A_MOVE: &'static [Told] = &[
 ];
 
 // All moves once.
-fn moves_around<D: Disk + Drop, B: Parties, H: Parties, R: Wait + Abort>(
+fn moves_around<D: Disk + Drop, B: Parties + Rings, H: Parties, R: Wait + Abort>(
     rt: &R,
     library: &Library<D, B, H>,
 ) {
@@ -86,7 +87,7 @@ fn moves_around<D: Disk + Drop, B: Parties, H: Parties, R: Wait + Abort>(
 }
 
 /// Three cartridges are moved about, and each is always seen once.
-pub fn moves_about<D: Disk + Drop, B: Parties, H: Parties, R: Wait + Abort>(
+pub fn moves_about<D: Disk + Drop, B: Parties + Rings, H: Parties, R: Wait + Abort>(
     rt: &R,
     library: &Library<D, B, H>,
 ) {
@@ -105,16 +106,17 @@ static OF_A_WRITE: &'static [Told] = &[
 ];
 
 /// Blocks are written at a drive while cartridges are moved about.
-pub fn writes_about<D: Disk + Drop, B: Parties, H: Parties, R: Wait + Abort>(
+pub fn writes_about<D: Disk + Drop, B: Parties + Rings, H: Parties, R: Wait + Abort>(
     rt: &R,
+    alloc: Global,
     library: &Library<D, B, H>,
     seat: &mut Seat<H>,
     number: u8,
 ) {
     for _ in 0..ROUNDS {
-        let reply = reply_to(rt, library, seat, number, WRITE_1, b"x");
+        let reply = reply_to(rt, alloc, library, seat, number, WRITE_1, b"x");
         is_one_of(rt, &reply, OF_A_WRITE);
-        let _ = reply_to(rt, library, seat, number, READY, b"");
+        let _ = reply_to(rt, alloc, library, seat, number, READY, b"");
     }
 }
 

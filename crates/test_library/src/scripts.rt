@@ -4,7 +4,7 @@ ghost use Rattle.std.specs.Prelude.{◌≡◌};
 use crate::opening::{count_fresh, hosts};
 use crate::samples::Sample;
 use bays::{Held, run_held};
-use library::{Gate, Ran, run_library};
+use library::{Gate, Ran, RingRow, run_library};
 use std::alloc::Global;
 use std::marker::Brand;
 use std::process::Abort;
@@ -35,6 +35,7 @@ pub fn runs<D: Disk + Drop + Send, R: Threads + Wait + Abort + Sync, G: Gate + S
 ) -> Result<Written<D>, Fail> {
     let Sample { bays, slots } = sample;
     let drives = count_fresh(bays.as_slice())?;
+    let rings = RingRow::of_drives(alloc, bays.as_slice())?;
     let hosts = hosts(rt, alloc, 64)?;
     let mut reader = script.as_bytes();
     let mut text = Vec::new(alloc);
@@ -42,6 +43,7 @@ pub fn runs<D: Disk + Drop + Send, R: Threads + Wait + Abort + Sync, G: Gate + S
         rt,
         alloc,
         bays,
+        rings,
         slots,
         hosts.as_slice(),
         Blank::new(drives),

@@ -18,6 +18,8 @@ pub enum Sign {
     Ended,
     /// What threads signal to each other, in order.
     Said,
+    /// Syncs, once one is to last.
+    Synced,
     /// Syncs that are to last.
     Armed,
     /// Syncs that began to last.
@@ -90,6 +92,7 @@ pub struct Stage {
     stood: Count,
     ended: Count,
     said: Count,
+    synced: Count,
     armed: Count,
     held: Count,
     freed: Count,
@@ -118,6 +121,7 @@ impl Stage {
             stood: Count::new(),
             ended: Count::new(),
             said: Count::new(),
+            synced: Count::new(),
             armed: Count::new(),
             held: Count::new(),
             freed: Count::new(),
@@ -141,6 +145,7 @@ impl Stage {
             Sign::Stood => &self.stood,
             Sign::Ended => &self.ended,
             Sign::Said => &self.said,
+            Sign::Synced => &self.synced,
             Sign::Armed => &self.armed,
             Sign::Held => &self.held,
             Sign::Freed => &self.freed,
@@ -158,6 +163,9 @@ impl Stage {
     /// A sync. If it is to last, it lasts until enough is freed, or for five million looks, or until another
     /// one was late.
     pub fn sync(&self) {
+        if self.armed.value() > 0 {
+            self.synced.raise();
+        }
         if self.armed.value() <= self.held.value() {
             return;
         }

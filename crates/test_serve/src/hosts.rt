@@ -3,7 +3,8 @@ ghost use Rattle.std.specs.Prelude.{◌≡◌, length, nat_eq, All};
 ghost use Rattle.std.specs.List.{IsDistinct};
 ghost use Rattle.vtl_base.specs.declared.limits.TheConstants.{DRIVES};
 ghost use Rattle.ledgers.specs.Ledgers.{IsBlankOf};
-ghost use Rattle.library.specs.Counts.{AcceptedNone, places_filled};
+ghost use Rattle.library.specs.Counts.{AcceptedNone, places_filled, which_are_there};
+ghost use Rattle.library.specs.RingRows.{AreRings};
 
 use crate::frames::{add_bytes, exchange};
 use crate::opening::{count_fresh, hosts};
@@ -11,7 +12,7 @@ use crate::samples::row;
 use bays::{Bay, Parked};
 use changer::Slots;
 use ledgers::{Parties, Seat};
-use library::Library;
+use library::{Library, RingRow, Rings};
 use std::alloc::Global;
 use std::marker::Brand;
 use std::process::Abort;
@@ -71,7 +72,7 @@ struct Served<'a> {
 }
 
 // Serves the host of the second seat. It is answered so, and its seat grows by one change.
-fn serve_second<D: Disk + Drop, B: Parties, H: Parties, R: Wait + Abort>(
+fn serve_second<D: Disk + Drop, B: Parties + Rings, H: Parties, R: Wait + Abort>(
     rt: &R,
     alloc: Global,
     library: &Library<D, B, H>,
@@ -98,10 +99,11 @@ fn serve_second<D: Disk + Drop, B: Parties, H: Parties, R: Wait + Abort>(
 }
 
 // The same over ledgers that the call picks; then the library ends well, and drive 2 has counted one change.
-fn serve_over<D: Disk + Drop, B: Parties, H: Parties, R: Wait + Abort>(
+fn serve_over<D: Disk + Drop, B: Parties + Rings, H: Parties, R: Wait + Abort>(
     rt: &R,
     alloc: Global,
     bays: Vec<Option<Bay<D>>>,
+    rings: RingRow,
     slots: Slots<Parked<D>>,
     hosts: &[Nexus],
     bay_ledger: Blank,
@@ -110,11 +112,12 @@ fn serve_over<D: Disk + Drop, B: Parties, H: Parties, R: Wait + Abort>(
 ) -> Result<(), Fail>
     requires places { length bays.items ≡ DRIVES }
     requires fresh { All (λ bay. AcceptedNone bay) bays.items }
+    requires rings { (which_are_there rings ≡ which_are_there bays.items) × AreRings B.ring rings }
     requires hosts { IsDistinct nat_eq hosts.now }
     requires bay_ledger { IsBlankOf bay_ledger B.name B.parts B.all × (B.all ≡ places_filled bays.items) }
     requires host_ledger { IsBlankOf host_ledger H.name H.parts H.all × (H.all ≡ length hosts.now) }
 {
-    match Library::<D, B, H>::new(alloc, bays, slots, hosts, bay_ledger, host_ledger) {
+    match Library::<D, B, H>::new(alloc, bays, rings, slots, hosts, bay_ledger, host_ledger) {
         Ok((library, seats)) => {
             let seats = serve_second(rt, alloc, &library, seats, served)?;
             let finished = library.finish(rt, seats);
@@ -132,11 +135,13 @@ fn serve_over<D: Disk + Drop, B: Parties, H: Parties, R: Wait + Abort>(
 fn serving_host<R: Wait + Abort>(rt: &R, alloc: Global, served: &Served<'_>) -> Result<(), Fail> {
     let bays = row(alloc, 2)?;
     let drives = count_fresh(bays.as_slice())?;
+    let rings = RingRow::of_drives(alloc, bays.as_slice())?;
     let hosts = hosts(rt, alloc, 3)?;
     serve_over::<MemDisk, Brand, Brand, R>(
         rt,
         alloc,
         bays,
+        rings,
         Slots::new(alloc)?,
         hosts.as_slice(),
         Blank::new(drives),

@@ -4,7 +4,7 @@ use crate::opening::{count_fresh, hosts};
 use crate::samples::row;
 use crate::turns::{Turns, Watching};
 use changer::Slots;
-use library::Gate;
+use library::{Gate, RingRow};
 use std::alloc::Global;
 use std::io::{Read, Write};
 use std::marker::{Brand, Send, Sync};
@@ -108,11 +108,13 @@ pub fn serving_to<
 ) -> Result<Result<(), WireFault>, Fail> {
     let bays = row(alloc, count)?;
     let drives = count_fresh(bays.as_slice())?;
+    let rings = RingRow::of_drives(alloc, bays.as_slice())?;
     let hosts = hosts(rt, alloc, 64)?;
     let served = serve_library::<MemDisk, Brand, Brand, R, G, I, W>(
         rt,
         alloc,
         bays,
+        rings,
         Slots::new(alloc)?,
         hosts.as_slice(),
         Blank::new(drives),

@@ -1,8 +1,9 @@
 //! What crashes leave of a drive.
-use crate::drives::{Disks, NEVER, TestDisk, TestDrive};
+use crate::drives::{Disks, NEVER, TestDisk, TestDrive, switched_on};
 use crate::samples::{
     HELD_BY_A, KEY_A, NOBODY, NONE, POWERED_ON, READ_KEYS, READ_RESERVATION, READY, answers, reads,
 };
+use bays::Bay;
 use std::alloc::Global;
 use std::fmt::Debug;
 use std::process::Abort;
@@ -45,34 +46,26 @@ fn shows<D: TestDisk, S: TestDrive<D>>(drive: &mut S, left: Left) -> bool {
 }
 
 /// A drive over these disks, of which no call fails.
-pub fn restarted<D: TestDisk, S: TestDrive<D>>(alloc: Global, disks: Disks) -> Result<S, Fail> {
+pub fn restarted<D: TestDisk>(alloc: Global, disks: Disks) -> Result<Bay<D>, Fail> {
     let Disks { tape, store } = disks;
     let second = D::over(MemDisk::new(alloc), NEVER);
-    match S::switched_on(alloc, D::over(tape, NEVER), second, D::over(store, NEVER)) {
+    match switched_on(alloc, D::over(tape, NEVER), second, D::over(store, NEVER)) {
         Ok(drive) => Ok(drive),
         Err(_) => Err(Fail::from("not switched on")),
     }
 }
 
 /// Whether this is found on the disks.
-pub fn has<D: TestDisk, S: TestDrive<D>>(
-    alloc: Global,
-    disks: Disks,
-    left: Left,
-) -> Result<bool, Fail> {
-    let mut drive = restarted::<D, S>(alloc, disks)?;
+pub fn has<D: TestDisk>(alloc: Global, disks: Disks, left: Left) -> Result<bool, Fail> {
+    let mut drive = restarted::<D>(alloc, disks)?;
     Ok(shows(&mut drive, left))
 }
 
 // How many of nine crashes leave this.
-fn crashes_with<D: TestDisk, S: TestDrive<D>>(
-    alloc: Global,
-    reached: &Disks,
-    left: Left,
-) -> Result<u32, Fail> {
+fn crashes_with<D: TestDisk>(alloc: Global, reached: &Disks, left: Left) -> Result<u32, Fail> {
     let mut count = 0u32;
     for (keep, fill) in CRASHES {
-        if has::<D, S>(alloc, reached.copy()?.crash(*keep, *fill)?, left)? {
+        if has::<D>(alloc, reached.copy()?.crash(*keep, *fill)?, left)? {
             count = count.saturating_add(1);
         }
     }
@@ -80,7 +73,7 @@ fn crashes_with<D: TestDisk, S: TestDrive<D>>(
 }
 
 /// Each of nine crashes leaves one of these, and each of these is left by one.
-pub fn are_left<D: TestDisk, S: TestDrive<D>>(
+pub fn are_left<D: TestDisk>(
     rt: &impl Abort,
     alloc: Global,
     reached: &Disks,
@@ -89,7 +82,7 @@ pub fn are_left<D: TestDisk, S: TestDrive<D>>(
 ) -> Result<(), Fail> {
     let mut all = 0u32;
     for left in lefts {
-        let count = crashes_with::<D, S>(alloc, reached, *left)?;
+        let count = crashes_with::<D>(alloc, reached, *left)?;
         assert_holds!(rt; count > 0; (at, left));
         all = all.saturating_add(count);
     }

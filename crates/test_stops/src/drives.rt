@@ -47,23 +47,22 @@ impl TestDisk for OnceDisk<MemDisk> {
 }
 
 /// A drive over a cartridge on two disks, with a store of its reservations on a third. The tests know nothing
-/// else of it.
+/// else of it. Where it is not whole, it gives nothing, which no test expects.
 pub trait TestDrive<D: Disk>: Drop {
-    /// One that was just switched on, with the contents of its disks: the cartridge's two and the store's.
-    /// Where it is not switched on, the cartridge's first disk and the store's are returned.
-    fn switched_on(alloc: Global, tape: D, second: D, store: D) -> Result<Self, (Option<D>, D)>;
-
     /// Answers a command of a host.
-    fn answer(&mut self, host: Nexus, cdb: &[u8], sent: &[u8]) -> Reply;
+    fn answer(&mut self, host: Nexus, cdb: &[u8], sent: &[u8]) -> Option<Reply>;
 
-    /// A flusher's turn.
-    fn take_turn(&mut self) -> Turn;
+    /// A flusher's turn, before hosts are concerned by its result.
+    fn take_turn(&mut self) -> Option<Turn>;
+
+    /// What a flusher does after a turn of this result, for the hosts' sake. Whether it could be done.
+    fn follow_turn(&mut self, turn: Turn) -> bool;
 
     /// The disk of its cartridge that counts.
     fn tape(&self) -> Option<&D>;
 
     /// The disk of its store.
-    fn store(&self) -> &D;
+    fn store(&self) -> Option<&D>;
 }
 
 // The first disk of a closed cartridge, if there is one.
@@ -94,20 +93,31 @@ fn bay_over<D: Disk + Drop>(
     }
 }
 
+/// A drive that was just switched on, with the contents of its disks: the cartridge's two and the store's.
+/// Where it is not switched on, the cartridge's first disk and the store's are returned.
+pub fn switched_on<D: Disk + Drop>(
+    alloc: Global,
+    tape: D,
+    second: D,
+    store: D,
+) -> Result<Bay<D>, (Option<D>, D)> {
+    match AptplStore::open(alloc, store) {
+        Ok((store, left)) => bay_over(alloc, tape, second, store, left),
+        Err(refused) => Err((Some(tape), refused.disk)),
+    }
+}
+
 impl<D: Disk + Drop> TestDrive<D> for Bay<D> {
-    fn switched_on(alloc: Global, tape: D, second: D, store: D) -> Result<Bay<D>, (Option<D>, D)> {
-        match AptplStore::open(alloc, store) {
-            Ok((store, left)) => bay_over(alloc, tape, second, store, left),
-            Err(refused) => Err((Some(tape), refused.disk)),
-        }
+    fn answer(&mut self, host: Nexus, cdb: &[u8], sent: &[u8]) -> Option<Reply> {
+        Some(self.execute(host, cdb, sent))
     }
 
-    fn answer(&mut self, host: Nexus, cdb: &[u8], sent: &[u8]) -> Reply {
-        self.execute(host, cdb, sent)
+    fn take_turn(&mut self) -> Option<Turn> {
+        Some(self.turn())
     }
 
-    fn take_turn(&mut self) -> Turn {
-        self.turn()
+    fn follow_turn(&mut self, _turn: Turn) -> bool {
+        true
     }
 
     fn tape(&self) -> Option<&D> {
@@ -117,8 +127,8 @@ impl<D: Disk + Drop> TestDrive<D> for Bay<D> {
         }
     }
 
-    fn store(&self) -> &D {
-        self.drive().keeper().disk()
+    fn store(&self) -> Option<&D> {
+        Some(self.drive().keeper().disk())
     }
 }
 
@@ -150,13 +160,13 @@ impl Disks {
 }
 
 /// The disks in memory below two disks.
-pub fn below<D: TestDisk>(tape: Option<&D>, store: &D) -> Result<Disks, Fail> {
-    match tape {
-        Some(tape) => Ok(Disks {
+pub fn below<D: TestDisk>(tape: Option<&D>, store: Option<&D>) -> Result<Disks, Fail> {
+    match (tape, store) {
+        (Some(tape), Some(store)) => Ok(Disks {
             tape: tape.memory().copy()?,
             store: store.memory().copy()?,
         }),
-        None => Err(Fail::from("no cartridge")),
+        _ => Err(Fail::from("no cartridge, or no store")),
     }
 }
 

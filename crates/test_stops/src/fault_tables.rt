@@ -81,6 +81,20 @@ const HELD: Left = (b"", RESERVED);
 
 const FREE: Left = (b"", NOTHING);
 
+/// A turn whose fault is reported late. Hosts were answered by it before the commands afterwards.
+pub static LATE: Fault = Fault {
+    what: "a turn whose fault is reported late",
+    tape: NEW_TAPE,
+    store: NEW_STORE,
+    which: Which::Tape,
+    before: WAITING,
+    first: 10,
+    deed: Deed::Turn,
+    then: TAKES_NOTHING,
+    again: Again::Asked(LOADED),
+    failed: STORING,
+};
+
 /// What is stored to the tape.
 pub static STORINGS: &'static [Fault] = &[
     Fault {

@@ -1,38 +1,30 @@
 //! A fault at each call of each disk.
 use crate::crashes::{Left, are_left, has, restarted};
-use crate::drives::{Disks, TestDisk, TestDrive, reached};
+use crate::drives::{Disks, TestDisk, TestDrive, reached, switched_on};
 use crate::fault_tables::{Again, Deed, Failed, Fault, READINGS, SAVES, STORINGS};
-use crate::samples::{NONE, POWERED_ON, READY, Wanted, ask, asks, reads};
+use crate::samples::{NONE, POWERED_ON, READY, Wanted, ask, asks, reads, turns};
+use crate::ways::{Deeds, Way, does};
 use bays::Bay;
 use std::alloc::Global;
 use std::process::Abort;
 use std::test::Fail;
 use tape_disk::{MemDisk, OnceDisk};
-use test_assertions::{assert_equal, assert_holds};
+use test_assertions::assert_holds;
 use volume_core::Turn;
 
-// A fault, by its name, and how many calls passed before the failed one.
-type At = (&'static str, u64);
+/// A fault, by its name, the way in which its drive stands, and how many calls passed before the failed one.
+pub type At = (&'static str, Way, u64);
 
-// A drive over the disks of a fault, one of which fails at the call after this many.
-fn failing<D: TestDisk, S: TestDrive<D>>(
-    alloc: Global,
-    fault: &Fault,
-    calls: u64,
-) -> Result<S, Fail> {
+/// A drive over the disks of a fault, one of which fails at the call after this many.
+pub fn failing<D: TestDisk>(alloc: Global, fault: &Fault, calls: u64) -> Result<Bay<D>, Fail> {
     let (of_tape, of_second, of_store) = fault.which.calls(calls);
     let tape = D::over(MemDisk::from_bytes(alloc, fault.tape)?, of_tape);
     let second = D::over(MemDisk::new(alloc), of_second);
     let store = D::over(MemDisk::from_bytes(alloc, fault.store)?, of_store);
-    match S::switched_on(alloc, tape, second, store) {
+    match switched_on(alloc, tape, second, store) {
         Ok(drive) => Ok(drive),
         Err(_) => Err(Fail::from("not switched on")),
     }
-}
-
-fn takes_turn<D: TestDisk, S: TestDrive<D>>(rt: &impl Abort, drive: &mut S, wanted: Turn, at: At) {
-    let turn = drive.take_turn();
-    assert_equal!(rt; turn, wanted; at);
 }
 
 fn is_asked<D: TestDisk, S: TestDrive<D>>(
@@ -49,7 +41,7 @@ fn is_asked<D: TestDisk, S: TestDrive<D>>(
 // The deed meets no fault.
 fn passes<D: TestDisk, S: TestDrive<D>>(rt: &impl Abort, drive: &mut S, deed: Deed, at: At) {
     match deed {
-        Deed::Turn => takes_turn(rt, drive, Turn::Stored(1), at),
+        Deed::Turn => turns(rt, drive, Turn::Stored(1), &at),
         Deed::Asked(cdb, sent, wanted, _) => is_asked(rt, drive, cdb, sent, wanted, at),
     }
 }
@@ -57,7 +49,7 @@ fn passes<D: TestDisk, S: TestDrive<D>>(rt: &impl Abort, drive: &mut S, deed: De
 // It meets one.
 fn fails<D: TestDisk, S: TestDrive<D>>(rt: &impl Abort, drive: &mut S, deed: Deed, at: At) {
     match deed {
-        Deed::Turn => takes_turn(rt, drive, Turn::Device, at),
+        Deed::Turn => turns(rt, drive, Turn::Device, &at),
         Deed::Asked(cdb, sent, _, wanted) => is_asked(rt, drive, cdb, sent, wanted, at),
     }
 }
@@ -72,19 +64,19 @@ fn is_found<D: TestDisk, S: TestDrive<D>>(
 ) -> Result<(), Fail> {
     assert_holds!(rt; reads(drive, left.0); at);
     let disks = reached(drive)?;
-    are_left::<D, S>(rt, alloc, &disks, &[left], &at)
+    are_left::<D>(rt, alloc, &disks, &[left], &at)
 }
 
 // This is found by another drive, and survives each crash.
-fn is_found_by_another<D: TestDisk, S: TestDrive<D>>(
+fn is_found_by_another<D: TestDisk>(
     rt: &impl Abort,
     alloc: Global,
     disks: Disks,
     left: Left,
     at: At,
 ) -> Result<(), Fail> {
-    assert_holds!(rt; has::<D, S>(alloc, disks.copy()?, left)?; at);
-    let mut drive = restarted::<D, S>(alloc, disks)?;
+    assert_holds!(rt; has::<D>(alloc, disks.copy()?, left)?; at);
+    let mut drive = restarted::<D>(alloc, disks)?;
     ask(
         rt,
         &mut drive,
@@ -92,11 +84,11 @@ fn is_found_by_another<D: TestDisk, S: TestDrive<D>>(
         POWERED_ON,
         &at,
     );
-    is_found::<D, S>(rt, alloc, &mut drive, left, at)
+    is_found(rt, alloc, &mut drive, left, at)
 }
 
-// The deed fails, and nothing is accepted; what crashes leave, and what is found again.
-fn is_met<D: TestDisk, S: TestDrive<D>>(
+/// After the deed has failed nothing is accepted; what crashes leave, and what is found again.
+pub fn is_over<D: TestDisk, S: TestDrive<D>>(
     rt: &impl Abort,
     alloc: Global,
     drive: &mut S,
@@ -105,90 +97,115 @@ fn is_met<D: TestDisk, S: TestDrive<D>>(
     at: At,
 ) -> Result<(), Fail> {
     let (lefts, left) = failed;
-    fails(rt, drive, fault.deed, at);
-    takes_turn(rt, drive, Turn::Idle, at);
+    turns(rt, drive, Turn::Idle, &at);
     asks(rt, drive, fault.then, &at);
-    takes_turn(rt, drive, Turn::Idle, at);
+    turns(rt, drive, Turn::Idle, &at);
     let disks = reached(drive)?;
-    are_left::<D, S>(rt, alloc, &disks, lefts, &at)?;
+    are_left::<D>(rt, alloc, &disks, lefts, &at)?;
     match fault.again {
         Again::Asked(rows) => {
             asks(rt, drive, rows, &at);
-            is_found::<D, S>(rt, alloc, drive, left, at)
+            is_found(rt, alloc, drive, left, at)
         }
-        Again::Restarted => is_found_by_another::<D, S>(rt, alloc, disks, left, at),
+        Again::Restarted => is_found_by_another::<D>(rt, alloc, disks, left, at),
     }
 }
 
-// The deed with a fault at one call of the disk, or at the one after all of its own, which it does not reach.
-fn is_tried<D: TestDisk, S: TestDrive<D>>(
+// A deed of which one call of the disk fails, or the call after all of its own, which it does not reach.
+#[derive(Drop)]
+struct Tried {
+    alloc: Global,
+    fault: &'static Fault,
+    failed: Option<Failed>,
+    at: At,
+}
+
+impl<D: TestDisk> Deeds<D> for Tried {
+    fn done<S: TestDrive<D>, A: Abort>(&self, rt: &A, drive: &mut S) -> Result<(), Fail> {
+        asks(rt, drive, self.fault.before, &self.at);
+        match self.failed {
+            Some(failed) => {
+                fails(rt, drive, self.fault.deed, self.at);
+                is_over(rt, self.alloc, drive, self.fault, failed, self.at)
+            }
+            None => {
+                passes(rt, drive, self.fault.deed, self.at);
+                Ok(())
+            }
+        }
+    }
+}
+
+// The deed with a fault after this many calls.
+fn is_tried<D: TestDisk>(
     rt: &impl Abort,
     alloc: Global,
-    fault: &Fault,
+    way: Way,
+    fault: &'static Fault,
     calls: u64,
     failed: Option<Failed>,
 ) -> Result<(), Fail> {
-    let at = (fault.what, calls);
-    let mut drive = failing::<D, S>(alloc, fault, calls)?;
-    asks(rt, &mut drive, fault.before, &at);
-    match failed {
-        Some(failed) => is_met::<D, S>(rt, alloc, &mut drive, fault, failed, at),
-        None => {
-            passes(rt, &mut drive, fault.deed, at);
-            Ok(())
-        }
-    }
+    let tried = Tried {
+        alloc,
+        fault,
+        failed,
+        at: (fault.what, way, calls),
+    };
+    let bay = failing::<D>(alloc, fault, calls)?;
+    does(rt, alloc, way, bay, &tried)
 }
 
 // Each call of the deed fails, one at a time.
-fn is_failed<D: TestDisk, S: TestDrive<D>>(
+fn is_failed<D: TestDisk>(
     rt: &impl Abort,
     alloc: Global,
-    fault: &Fault,
+    way: Way,
+    fault: &'static Fault,
 ) -> Result<(), Fail> {
     let mut calls = fault.first;
     for failed in fault.failed {
-        is_tried::<D, S>(rt, alloc, fault, calls, Some(*failed))?;
+        is_tried::<D>(rt, alloc, way, fault, calls, Some(*failed))?;
         calls = calls.saturating_add(1);
     }
-    is_tried::<D, S>(rt, alloc, fault, calls, None)
+    is_tried::<D>(rt, alloc, way, fault, calls, None)
 }
 
-fn are_failed<D: TestDisk, S: TestDrive<D>>(
+fn are_failed<D: TestDisk>(
     rt: &impl Abort,
     alloc: Global,
-    faults: &[Fault],
+    way: Way,
+    faults: &'static [Fault],
 ) -> Result<(), Fail> {
     for fault in faults {
-        is_failed::<D, S>(rt, alloc, fault)?;
+        is_failed::<D>(rt, alloc, way, fault)?;
     }
     Ok(())
 }
 
-fn storings_are_failed<D: TestDisk, S: TestDrive<D>>(
-    rt: &impl Abort,
-    alloc: Global,
-) -> Result<(), Fail> {
-    are_failed::<D, S>(rt, alloc, STORINGS)
+fn storings_are_failed<D: TestDisk>(rt: &impl Abort, alloc: Global, way: Way) -> Result<(), Fail> {
+    are_failed::<D>(rt, alloc, way, STORINGS)
 }
 
-fn readings_are_failed<D: TestDisk, S: TestDrive<D>>(
-    rt: &impl Abort,
-    alloc: Global,
-) -> Result<(), Fail> {
-    are_failed::<D, S>(rt, alloc, READINGS)
+fn readings_are_failed<D: TestDisk>(rt: &impl Abort, alloc: Global, way: Way) -> Result<(), Fail> {
+    are_failed::<D>(rt, alloc, way, READINGS)
 }
 
-fn saves_are_failed<D: TestDisk, S: TestDrive<D>>(
-    rt: &impl Abort,
-    alloc: Global,
-) -> Result<(), Fail> {
-    are_failed::<D, S>(rt, alloc, SAVES)
+fn saves_are_failed<D: TestDisk>(rt: &impl Abort, alloc: Global, way: Way) -> Result<(), Fail> {
+    are_failed::<D>(rt, alloc, way, SAVES)
+}
+
+fn all_are_failed<D: TestDisk>(rt: &impl Abort, alloc: Global, way: Way) -> Result<(), Fail> {
+    storings_are_failed::<D>(rt, alloc, way)?;
+    readings_are_failed::<D>(rt, alloc, way)?;
+    saves_are_failed::<D>(rt, alloc, way)
 }
 
 #[test]
 fn a_fault_at_each_call_of_a_drive(rt: HostRuntime) -> Result<(), Fail> {
-    storings_are_failed::<OnceDisk<MemDisk>, Bay<OnceDisk<MemDisk>>>(&rt, rt.alloc())?;
-    readings_are_failed::<OnceDisk<MemDisk>, Bay<OnceDisk<MemDisk>>>(&rt, rt.alloc())?;
-    saves_are_failed::<OnceDisk<MemDisk>, Bay<OnceDisk<MemDisk>>>(&rt, rt.alloc())
+    all_are_failed::<OnceDisk<MemDisk>>(&rt, rt.alloc(), Way::Whole)
+}
+
+#[test]
+fn a_fault_at_each_call_of_a_drive_in_halves(rt: HostRuntime) -> Result<(), Fail> {
+    all_are_failed::<OnceDisk<MemDisk>>(&rt, rt.alloc(), Way::Halves)
 }

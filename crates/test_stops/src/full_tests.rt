@@ -1,10 +1,11 @@
 //! A drive over a side that is nearly full: what fits is accepted, to the byte.
-use crate::drives::TestDrive;
+use crate::drives::{TestDrive, switched_on};
 use crate::long_disks::LongDisk;
 use crate::samples::{
     GOOD, LOAD, MARK, NEW_STORE, NONE, POWERED_ON, READY, REWIND, SELECT_4, UNLOAD, WRITE_1,
-    Wanted, ask,
+    Wanted, ask, turns,
 };
+use crate::ways::{Deeds, Way, does};
 use bays::Bay;
 use std::alloc::Global;
 use std::process::Abort;
@@ -150,70 +151,107 @@ static FULL: &'static [Step] = &[
     (POSITION, 0, Answer::Is(ELEVEN)),
 ];
 
-fn switched_on<S: TestDrive<LongDisk>>(alloc: Global) -> Result<S, Fail> {
+fn nearly_full(alloc: Global) -> Result<Bay<LongDisk>, Fail> {
     let tape = LongDisk::tape(alloc)?;
     let second = LongDisk::of(alloc, NONE)?;
     let store = LongDisk::of(alloc, NEW_STORE)?;
-    match S::switched_on(alloc, tape, second, store) {
+    match switched_on(alloc, tape, second, store) {
         Ok(drive) => Ok(drive),
         Err(_) => Err(Fail::from("not switched on")),
     }
 }
 
 // The drive has these answers.
-fn fills<S: TestDrive<LongDisk>>(rt: &impl Abort, drive: &mut S, zeros: &[u8], steps: &[Step]) {
+fn fills<S: TestDrive<LongDisk>>(
+    rt: &impl Abort,
+    drive: &mut S,
+    zeros: &[u8],
+    steps: &[Step],
+    way: Way,
+) {
     for (place, (cdb, sent, answer)) in steps.iter().enumerate() {
         let wanted = wanted_of(answer);
         let size = zeros.len().min(*sent);
         let row = (1, *cdb, &zeros[..size], wanted);
-        ask(rt, drive, row, wanted, &place);
+        ask(rt, drive, row, wanted, &(place, way));
     }
 }
 
-// The flusher's turn has this result.
-fn turns<S: TestDrive<LongDisk>>(rt: &impl Abort, drive: &mut S, wanted: Turn) {
-    let turn = drive.take_turn();
-    assert_equal!(rt; turn, wanted);
-}
-
 // The last gate is at the last place that there is.
-fn is_full<S: TestDrive<LongDisk>>(rt: &impl Abort, drive: &S) {
+fn is_full<S: TestDrive<LongDisk>>(rt: &impl Abort, drive: &S, way: Way) {
     let len = match drive.tape() {
         Some(tape) => tape.len(),
         None => 0,
     };
-    assert_equal!(rt; len, SIDE);
+    assert_equal!(rt; len, SIDE; way);
 }
 
-fn is_filled<S: TestDrive<LongDisk>>(rt: &impl Abort, alloc: Global) -> Result<(), Fail> {
-    let zeros = vec![in alloc; 0u8; 1_048_576]?;
-    let mut drive = switched_on::<S>(alloc)?;
-    fills(rt, &mut drive, zeros.as_slice(), ROWS);
-    is_full(rt, &drive);
-    Ok(())
-}
-
-fn is_filled_by_what_waits<S: TestDrive<LongDisk>>(
-    rt: &impl Abort,
+// A side is filled by what does not wait.
+#[derive(Drop)]
+struct Filled {
     alloc: Global,
-) -> Result<(), Fail> {
-    let zeros = vec![in alloc; 0u8; 1_048_576]?;
-    let mut drive = switched_on::<S>(alloc)?;
-    fills(rt, &mut drive, zeros.as_slice(), WAITING);
-    turns(rt, &mut drive, Turn::Stored(4));
-    fills(rt, &mut drive, zeros.as_slice(), STORED);
-    turns(rt, &mut drive, Turn::Idle);
-    is_full(rt, &drive);
-    fills(rt, &mut drive, zeros.as_slice(), FULL);
-    Ok(())
+    way: Way,
+}
+
+impl Deeds<LongDisk> for Filled {
+    fn done<S: TestDrive<LongDisk>, A: Abort>(&self, rt: &A, drive: &mut S) -> Result<(), Fail> {
+        let zeros = vec![in self.alloc; 0u8; 1_048_576]?;
+        fills(rt, drive, zeros.as_slice(), ROWS, self.way);
+        is_full(rt, drive, self.way);
+        Ok(())
+    }
+}
+
+// A side is filled by what waits.
+#[derive(Drop)]
+struct FilledLater {
+    alloc: Global,
+    way: Way,
+}
+
+impl Deeds<LongDisk> for FilledLater {
+    fn done<S: TestDrive<LongDisk>, A: Abort>(&self, rt: &A, drive: &mut S) -> Result<(), Fail> {
+        let zeros = vec![in self.alloc; 0u8; 1_048_576]?;
+        fills(rt, drive, zeros.as_slice(), WAITING, self.way);
+        turns(rt, drive, Turn::Stored(4), &self.way);
+        fills(rt, drive, zeros.as_slice(), STORED, self.way);
+        turns(rt, drive, Turn::Idle, &self.way);
+        is_full(rt, drive, self.way);
+        fills(rt, drive, zeros.as_slice(), FULL, self.way);
+        Ok(())
+    }
+}
+
+fn is_filled(rt: &impl Abort, alloc: Global, way: Way) -> Result<(), Fail> {
+    does(rt, alloc, way, nearly_full(alloc)?, &Filled { alloc, way })
+}
+
+fn is_filled_by_what_waits(rt: &impl Abort, alloc: Global, way: Way) -> Result<(), Fail> {
+    does(
+        rt,
+        alloc,
+        way,
+        nearly_full(alloc)?,
+        &FilledLater { alloc, way },
+    )
 }
 
 #[test]
 fn a_drive_fills_a_side(rt: HostRuntime) -> Result<(), Fail> {
-    is_filled::<Bay<LongDisk>>(&rt, rt.alloc())
+    is_filled(&rt, rt.alloc(), Way::Whole)
+}
+
+#[test]
+fn a_drive_in_halves_fills_a_side(rt: HostRuntime) -> Result<(), Fail> {
+    is_filled(&rt, rt.alloc(), Way::Halves)
 }
 
 #[test]
 fn what_waits_fills_a_side(rt: HostRuntime) -> Result<(), Fail> {
-    is_filled_by_what_waits::<Bay<LongDisk>>(&rt, rt.alloc())
+    is_filled_by_what_waits(&rt, rt.alloc(), Way::Whole)
+}
+
+#[test]
+fn what_waits_fills_a_side_of_a_drive_in_halves(rt: HostRuntime) -> Result<(), Fail> {
+    is_filled_by_what_waits(&rt, rt.alloc(), Way::Halves)
 }

@@ -16,6 +16,10 @@ mod fault_tests;
 #[cfg(test)]
 mod full_tests;
 #[cfg(test)]
+mod halves;
+#[cfg(test)]
+mod late_tests;
+#[cfg(test)]
 mod long_disks;
 #[cfg(test)]
 mod samples;
@@ -23,3 +27,5 @@ mod samples;
 mod stop_tables;
 #[cfg(test)]
 mod stop_tests;
+#[cfg(test)]
+mod ways;

@@ -1,10 +1,11 @@
-//! Commands of hosts to a drive, and their answers.
+//! Commands of hosts to a drive, and their answers; and a flusher's turns.
 use crate::drives::TestDrive;
 use scsi_sense::{Reply, Status};
 use std::fmt::Debug;
 use std::process::Abort;
 use tape_disk::Disk;
-use test_assertions::assert_equal;
+use test_assertions::{assert_equal, assert_holds};
+use volume_core::Turn;
 use vtl_base::Nexus;
 
 /// The expected reply: its sense data, if any, by bytes 0 and 2, INFORMATION, additional code and qualifier;
@@ -132,13 +133,16 @@ fn told(wanted: Wanted) -> Told {
     (Status::Check, Some(sense), bytes)
 }
 
-// The status, sense data and bytes of a reply.
-fn heard(reply: &Reply) -> Told<'_> {
+// The status, sense data and bytes of a reply, if there is one.
+fn heard(reply: &Option<Reply>) -> Option<Told<'_>> {
+    let Some(reply) = reply else {
+        return None;
+    };
     let sense = match &reply.sense {
         Some(sense) => Some(sense.bytes()),
         None => None,
     };
-    (reply.status, sense, reply.bytes.as_slice())
+    Some((reply.status, sense, reply.bytes.as_slice()))
 }
 
 /// A command has the expected reply.
@@ -152,7 +156,7 @@ pub fn ask<D: Disk, S: TestDrive<D>>(
     let (host, cdb, sent, _) = row;
     let nexus = Nexus::new(host).expect(rt, "a nexus");
     let reply = drive.answer(nexus, cdb, sent);
-    assert_equal!(rt; heard(&reply), told(wanted); at);
+    assert_equal!(rt; heard(&reply), Some(told(wanted)); at);
 }
 
 /// The same for each of these.
@@ -171,7 +175,7 @@ pub fn asks<D: Disk, S: TestDrive<D>>(
 pub fn answers<D: Disk, S: TestDrive<D>>(drive: &mut S, row: Row) -> bool {
     let (host, cdb, sent, wanted) = row;
     match Nexus::new(host) {
-        Some(nexus) => heard(&drive.answer(nexus, cdb, sent)) == told(wanted),
+        Some(nexus) => heard(&drive.answer(nexus, cdb, sent)) == Some(told(wanted)),
         None => false,
     }
 }
@@ -184,4 +188,16 @@ pub fn reads<D: Disk, S: TestDrive<D>>(drive: &mut S, blocks: &[u8]) -> bool {
         }
     }
     answers(drive, (1, READ_1, NONE, END))
+}
+
+/// A flusher's turn has the expected result.
+pub fn turns<D: Disk, S: TestDrive<D>>(
+    rt: &impl Abort,
+    drive: &mut S,
+    wanted: Turn,
+    at: &impl Debug,
+) {
+    let turn = drive.take_turn();
+    assert_equal!(rt; turn, Some(wanted); at);
+    assert_holds!(rt; drive.follow_turn(wanted); at);
 }

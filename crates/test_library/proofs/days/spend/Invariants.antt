@@ -1,3 +1,4 @@
+use Rattle.library.specs.RingRows.{ring_at}
 use Rattle.test_library.proofs.days.spend.Given as goal
 
 abbrev pub ghosts-spend_over-B-Ledger : goal.ghosts-spend_over-B-Ledger
@@ -5,6 +6,9 @@ ghosts-spend_over-B-Ledger g a = record { name = a.bay_ledger.name; parts = a.ba
 
 abbrev pub ghosts-spend_over-B-Parties : goal.ghosts-spend_over-B-Parties
 ghosts-spend_over-B-Parties g a = record { all = a.bay_ledger.parts }
+
+abbrev pub ghosts-spend_over-B-Rings : goal.ghosts-spend_over-B-Rings
+ghosts-spend_over-B-Rings g a = record { ring = ring_at a.rings }
 
 abbrev pub ghosts-spend_over-H-Ledger : goal.ghosts-spend_over-H-Ledger
 ghosts-spend_over-H-Ledger g a = record { name = a.host_ledger.name; parts = a.host_ledger.parts }

@@ -1,0 +1,136 @@
+//! A drive that stands in two halves, as the tests use it.
+ghost use Rattle.std.specs.Prelude.{IfSome};
+ghost use Rattle.split_bay.specs.Fronts.{end_of};
+ghost use Rattle.split_bay.specs.Rings.{AreEnds};
+
+use crate::drives::TestDrive;
+use bays::Bay;
+use scsi_sense::Reply;
+use split_bay::{Back, Ends, Front, Rings, execute_both, join, part, tell};
+use std::alloc::Global;
+use tape_disk::Disk;
+use volume_core::Turn;
+use vtl_base::{Bytes, Nexus};
+
+/// The two halves of a drive. Where they do not fit they are gone, and nothing is answered from then on.
+#[derive(Drop)]
+pub struct Parted<D: Disk, R: Rings> {
+    alloc: Global,
+    front: Option<Front<D, R>>,
+    back: Option<Back<D, R>>,
+}
+
+impl<D: Disk + Drop, R: Rings> Parted<D, R> {
+    /// A drive parts into its halves.
+    pub fn of(alloc: Global, bay: Bay<D>, ends: Ends<R>) -> Parted<D, R> {
+        let (front, back) = part(bay, ends);
+        Parted {
+            alloc,
+            front: Some(front),
+            back: Some(back),
+        }
+    }
+
+    // Takes both halves out, where they are those of one drive.
+    fn take_both(&mut self) -> Option<(Front<D, R>, Back<D, R>)>
+        ensures { IfSome result (λ both. AreEnds (end_of both.0) both.1.number both.1.received) }
+    {
+        match (self.front.take(), self.back.take()) {
+            (Some(front), Some(back)) => {
+                if !front.fits(&back) {
+                    return None;
+                }
+                Some((front, back))
+            }
+            _ => None,
+        }
+    }
+
+    // Puts both halves in their places.
+    fn put_both(&mut self, front: Front<D, R>, back: Back<D, R>) {
+        self.front = Some(front);
+        self.back = Some(back);
+    }
+
+    // Answers a command by both halves.
+    fn answer_by_both(&mut self, host: Nexus, cdb: &[u8], sent: &mut Bytes) -> Option<Reply> {
+        match self.take_both() {
+            Some((front, back)) => {
+                let (reply, front, back) = execute_both(front, back, host, cdb, sent);
+                self.put_both(front, back);
+                Some(reply)
+            }
+            None => None,
+        }
+    }
+
+    // The halves are put together, and part.
+    fn renew(&mut self) -> bool {
+        match self.take_both() {
+            Some((front, back)) => {
+                let (bay, ends) = join(front, back);
+                let (front, back) = part(bay, ends);
+                self.put_both(front, back);
+                true
+            }
+            None => false,
+        }
+    }
+
+    // A fault of the disk's half is reported to the hosts' half.
+    fn report(&mut self) -> bool {
+        match self.take_both() {
+            Some((front, back)) => {
+                let (front, back) = tell(front, back);
+                self.put_both(front, back);
+                true
+            }
+            None => false,
+        }
+    }
+}
+
+// As a library has it: a command is first asked of the hosts' half alone, and a turn is that of the disk's half.
+impl<D: Disk + Drop, R: Rings> TestDrive<D> for Parted<D, R> {
+    fn answer(&mut self, host: Nexus, cdb: &[u8], sent: &[u8]) -> Option<Reply> {
+        let Ok(mut lent) = Bytes::from_slice(self.alloc, sent) else {
+            return None;
+        };
+        let Some(front) = &mut self.front else {
+            return None;
+        };
+        match front.execute_lent(host, cdb, &mut lent) {
+            Some(reply) => Some(reply),
+            None => self.answer_by_both(host, cdb, &mut lent),
+        }
+    }
+
+    fn take_turn(&mut self) -> Option<Turn> {
+        match &mut self.back {
+            Some(back) => Some(back.turn()),
+            None => None,
+        }
+    }
+
+    fn follow_turn(&mut self, turn: Turn) -> bool {
+        match turn {
+            Turn::Idle => true,
+            Turn::Stored(_) => self.renew(),
+            Turn::Device => self.report(),
+        }
+    }
+
+    fn tape(&self) -> Option<&D> {
+        match &self.back {
+            Some(back) => back.disk(),
+            None => None,
+        }
+    }
+
+    fn store(&self) -> Option<&D> {
+        match &self.front {
+            Some(front) => Some(front.keeper().disk()),
+            None => None,
+        }
+    }
+}
