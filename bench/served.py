@@ -2,8 +2,8 @@
 """Speed of `vtl serve`, each beside a plain peer: TEST UNIT READY there and back beside a process that only exchanges
 the frames (peer.c, which takes `cc`); WRITE of 256 KiB blocks over files, a filemark each 64 MiB, beside the raw file
 with as many syncs (syncs.c counts them); READ of them beside a raw read through a pipe; two hosts at two drives beside
-one at one, also where each sync takes 20 milliseconds more, and two raw files beside one; and the memory at rest,
-without a host and with 64 that have spoken.
+one at one, also where each sync takes 20 milliseconds more, and two raw files beside one; how long short buffered
+WRITEs wait where each sync does; and the memory at rest, without a host and with 64 that have spoken.
 
 Of five times, taken in turns, the best and the median. --program PATH: another program than the proved one. The files
 lie in a new folder beside the repository's own, or in the one that a word names."""
@@ -24,7 +24,10 @@ READY, REWIND, MARK = bytes(6), bytes.fromhex("010000000000"), bytes.fromhex("10
 BLOCK, BLOCKS, GROUP, TRIPS, ROUNDS, HOSTS = 262_144, 2_048, 256, 20_000, 5, 64
 # a slow sync, in milliseconds, and so many blocks are written where each is
 SLOW, FEWER = 20, 512
+# and a host writes a short block this often, in seconds, so many times
+OFTEN, SHORT_WRITES = 0.001, 3_000
 WRITE, READ = b"\x0a\x00\x04\x00\x00\x00", b"\x08\x00\x04\x00\x00\x00"
+SHORT_WRITE = b"\x0a\x00\x00\x02\x00\x00"
 DATA = os.urandom(BLOCK)
 
 
@@ -156,6 +159,18 @@ class Bench:
     def slowly(self, drives):
         return self.written(drives, FEWER, **self.shim, SYNCS_MS=str(SLOW))
 
+    def waits(self):
+        """How long a host waits for the answer to each of many buffered WRITEs of 512 bytes, one a millisecond, while
+        turns run in which each sync takes 20 milliseconds more."""
+        peer = self.library(1, **self.shim, SYNCS_MS=str(SLOW))
+        peer.exchange(READY)
+        waits = []
+        for _ in range(SHORT_WRITES):
+            waits.append(timed(lambda: peer.exchange(SHORT_WRITE, DATA[:512])))
+            time.sleep(OFTEN)
+        peer.end()
+        return waits
+
     def syncs(self):
         """How many syncs the writes of one host take."""
         self.written(**self.shim)
@@ -219,10 +234,16 @@ def main():
     parser = argparse.ArgumentParser()
     parser.add_argument("folder", nargs="?")
     parser.add_argument("--program", default=PROVED)
+    parser.add_argument("--waits", action="store_true", help="how long short buffered WRITEs wait, alone")
     given = parser.parse_args()
     with tempfile.TemporaryDirectory(prefix="vtl-served-", dir=given.folder or os.path.dirname(TOP)) as folder:
         peer = compiled(folder, "peer.c")
         bench = Bench(os.path.abspath(given.program), folder)
+        waits = sorted(bench.waits())
+        print(f"a buffered WRITE of 512 bytes each millisecond, where a sync takes {SLOW} ms more: it waits "
+              f"{waits[-1] * 1e3:.2f} ms at most, {statistics.median(waits) * 1e3:.2f} ms as a median", flush=True)
+        if given.waits:
+            return
         served, plain = best(lambda: bench.trips(bench.library(1, "--memory")),
                              lambda: bench.trips(Peer([peer], folder)))
         print(f"TEST UNIT READY there and back: {served[0] / TRIPS * 1e6:.1f} us, {ratio(served, plain)} of two "

@@ -222,17 +222,39 @@ EDITS = [
      "                is_reported: report(line, errors),",
      "                is_reported: report(line, errors) && false,", ["status_and_line_of_each_end"]),
     ("one lock is held round each command and each turn of a library", "library",
-     ("src/libraries.rt", "src/libraries.rt", "src/flushers.rt"),
+     ("src/libraries.rt", "src/flushers.rt"),
      ("            Some(bay) => bay.serve(rt, &self.tally, seat, cdb, sent),",
-      "            Some(bay) => bay.serve_lent(rt, &self.tally, seat, cdb, sent),",
       "            let (turn, count) = bay.take_turn(rt, gate);"),
      ("            Some(bay) => {\n                let _all = self.row.lock(rt);\n"
       "                bay.serve(rt, &self.tally, seat, cdb, sent)\n            }",
-      "            Some(bay) => {\n                let _all = self.row.lock(rt);\n"
-      "                bay.serve_lent(rt, &self.tally, seat, cdb, sent)\n            }",
       "            let (turn, count) = {\n                let _all = self.row.lock(rt);\n"
       "                bay.take_turn(rt, gate)\n            };"),
      ["a_drive_works_while_another_stands_in_its_turn", "a_change_is_entered_while_another_drive_stores"]),
+    ("each command waits for the lock of its disk's half", "library", "src/shared.rt",
+     "        match front.execute_alone(rt, tally, seat, cdb, sent) {\n",
+     "        drop(self.back.lock(rt));\n        match front.execute_alone(rt, tally, seat, cdb, sent) {\n",
+     ["hosts_do_not_wait_for_a_turn", "a_full_buffer_is_written_beside_a_turn",
+      "a_fault_is_reported_before_a_filemark_is_stored"]),
+    ("the hosts' half has no more room behind a turn", "library", "src/shared.rt",
+     "            Turn::Stored(_) => self.renew(rt),\n", "            Turn::Stored(_) => {}\n",
+     ["a_full_buffer_is_written_beside_a_turn"]),
+    ("a turn stands before its disk's half is locked", "library", "src/shared.rt",
+     "        let mut back = self.back.lock(rt);\n        gate.in_turn();\n",
+     "        gate.in_turn();\n        let mut back = self.back.lock(rt);\n",
+     ["what_needs_the_disk_waits_for_a_turn"]),
+    ("the gate is informed of a turn before its fault is reported", "library", ("src/shared.rt", "src/flushers.rt"),
+     ("        let turn = self.turn(rt, gate);\n", "            gate.after_turn(turn);\n"),
+     ("        let turn = self.turn(rt, gate);\n        gate.after_turn(turn);\n", ""),
+     ["a_fault_is_reported_before_the_gate_is_informed"]),
+    ("hosts' halves never have room", "split_bay", "src/halving.rt", "        Ok(()) => (catalog, left),\n",
+     "        Ok(()) => (\n            catalog,\n            Budget {\n                records: 0,\n"
+     "                bytes: left.bytes,\n                room: left.room,\n            },\n        ),\n",
+     ["hosts_do_not_wait_for_a_turn", "a_full_buffer_is_written_beside_a_turn"]),
+    ("a turn does not look into the ring", "split_bay", "src/backs.rt", "        self.receiving.look();\n", "",
+     ["a_flusher_rests_until_a_change_is_accepted"]),
+    ("a fault of a turn is reported once a command needs the disk", "library", "src/shared.rt",
+     "            Turn::Device => self.tell(rt),\n", "            Turn::Device => {}\n",
+     ["a_turn_in_which_the_device_fails"]),
     ("the hosts of a pipe are answered one after another", "vtl_hosts", "src/rounds.rt",
      "    thread::for_each_mut(rt, hosts, 64, &answer);\n", "    thread::for_each_mut(rt, hosts, 1, &answer);\n",
      ["hosts_wait_for_each_other", "a_drive_answers_while_another_stands_in_its_turn"]),
@@ -279,10 +301,10 @@ EDITS = [
     ("data that are cut off are a read fault", "vtl_wire", "src/parts.rt",
      "        None => Ok(None),\n", "        None => Err(WireFault::ReadFault),\n", ["each_frame_cut_off"]),
     ("a command of a served host goes to drive 1 where there is one", "vtl_serve", "src/one_host.rt",
-     "                let reply = library.command_lent(rt, seat, drive, cdb.as_slice(), &mut sent);\n",
+     "                let reply = library.command(rt, seat, drive, cdb.as_slice(), &mut sent);\n",
      "                let one = vtl_base::DriveNo::new(1).unwrap_or(drive);\n"
      "                let other = if library.configured(one) { one } else { drive };\n"
-     "                let reply = library.command_lent(rt, seat, other, cdb.as_slice(), &mut sent);\n",
+     "                let reply = library.command(rt, seat, other, cdb.as_slice(), &mut sent);\n",
      ["a_host_is_served"]),
     ("a move that is served is made twice", "vtl_serve", "src/desks.rt",
      "                let reply = library.move_medium(rt, from, to);\n",
@@ -326,10 +348,9 @@ EDITS = [
      "        give_all(self.jobs.as_mut_slice(), replies);\n        self.library.close(self.rt);\n",
      ["a_flusher_stores_between_two_phases"]),
     ("a command takes the turn of its drive", "library", "src/shared.rt",
-     ("        let reply = place.execute(rt, tally, seat, cdb, sent);\n",
-      "        let reply = place.execute_lent(rt, tally, seat, cdb, sent);\n"),
-     ("        let reply = place.execute(rt, tally, seat, cdb, sent);\n        let _ = place.turn();\n",
-      "        let reply = place.execute_lent(rt, tally, seat, cdb, sent);\n        let _ = place.turn();\n"),
+     "        let reply = self.serve_locked(&mut front, rt, tally, seat, cdb, sent);\n",
+     "        let reply = self.serve_locked(&mut front, rt, tally, seat, cdb, sent);\n"
+     "        let _ = self.back.lock(rt).turn();\n",
      ["a_block_is_answered_before_a_turn_stores_it", "a_flusher_rests_until_a_change_is_accepted"]),
     ("no change wakes a flusher", "library", "src/shared.rt", "        if before != after {\n",
      "        if before > after {\n", ["a_flusher_rests_until_a_change_is_accepted"]),
@@ -340,55 +361,32 @@ EDITS = [
      ["a_flusher_rests_until_a_change_is_accepted"]),
     ("a closed library leaves its flushers asleep", "library", "src/libraries.rt", "                bay.ring(rt);\n",
      "                let _ = bay;\n", ["a_flusher_rests_until_a_change_is_accepted"]),
-    ("the ledgers are locked while a drive carries a command out", "library", "src/places.rt",
-     "        let before = self.count_below_limit(rt);\n        known_drive(&self.bay);\n"
-     "        let reply = self.bay.execute(seat.nexus(), cdb, sent);\n        known_drive(&self.bay);\n"
-     "        let after = self.bay.accepted();\n"
-     "        enter_if_risen(rt, tally, &mut self.share, seat, before, after);\n",
-     "        let mut held = tally.lock(rt);\n"
-     "        let before = self.count_below_limit(rt);\n        known_drive(&self.bay);\n"
-     "        let reply = self.bay.execute(seat.nexus(), cdb, sent);\n        known_drive(&self.bay);\n"
-     "        let after = self.bay.accepted();\n        if before != after {\n"
-     "            held.enter(rt, &mut self.share, seat);\n        }\n",
-     ["a_change_is_entered_while_another_drive_stores"]),
-    ("the ledgers are locked while a drive carries a command out whose data are lent", "library", "src/places.rt",
-     "        drive_laws::replies_tell_changes::<Cataloged<D>, AptplStore<D>>();\n"
-     "        let before = self.count_below_limit(rt);\n        known_drive(&self.bay);\n"
-     "        let reply = self.bay.execute_lent(seat.nexus(), cdb, sent);\n        known_drive(&self.bay);\n"
-     "        let after = self.bay.accepted();\n"
-     "        enter_if_risen(rt, tally, &mut self.share, seat, before, after);\n",
-     "        let mut held = tally.lock(rt);\n"
-     "        let before = self.count_below_limit(rt);\n        known_drive(&self.bay);\n"
-     "        let reply = self.bay.execute_lent(seat.nexus(), cdb, sent);\n        known_drive(&self.bay);\n"
-     "        let after = self.bay.accepted();\n        if before != after {\n"
-     "            held.enter(rt, &mut self.share, seat);\n        }\n",
-     ["sixteen_hosts_of_a_phase_meet"]),
-    ("each command is answered as at the beginning of the tape", "library", "src/shared.rt",
-     ("        let reply = place.execute(rt, tally, seat, cdb, sent);\n",
-      "        let reply = place.execute_lent(rt, tally, seat, cdb, sent);\n"),
-     ("        let _ = place.execute(rt, tally, seat, &[0x01, 0, 0, 0, 0, 0], &[]);\n"
-      "        let reply = place.execute(rt, tally, seat, cdb, sent);\n",
-      "        let _ = place.execute(rt, tally, seat, &[0x01, 0, 0, 0, 0, 0], &[]);\n"
-      "        let reply = place.execute_lent(rt, tally, seat, cdb, sent);\n"),
+    ("the ledgers are locked while a drive carries a command out", "library", "src/places/answers.rt",
+     "    let before = count_below_limit(rt, &front);\n"
+     "    let (reply, front, back) = execute_both(front, back, seat.nexus(), cdb, sent);\n"
+     "    let after = front.accepted();\n    enter_if_risen(rt, tally, share, seat, before, after);\n",
+     "    let mut held = tally.lock(rt);\n    let before = count_below_limit(rt, &front);\n"
+     "    let (reply, front, back) = execute_both(front, back, seat.nexus(), cdb, sent);\n"
+     "    let after = front.accepted();\n    if before != after {\n        held.enter(rt, share, seat);\n    }\n",
+     ["a_change_is_entered_while_another_drive_stores", "sixteen_hosts_of_a_phase_meet"]),
+    ("each command is answered as at the beginning of the tape", "library", "src/libraries.rt",
+     "            Some(bay) => bay.serve(rt, &self.tally, seat, cdb, sent),\n",
+     "            Some(bay) => {\n                let mut none = Bytes::from_vec(Vec::new(self.alloc));\n"
+     "                let _ = bay.serve(rt, &self.tally, seat, &[0x01, 0, 0, 0, 0, 0], &mut none);\n"
+     "                bay.serve(rt, &self.tally, seat, cdb, sent)\n            }\n",
      ["two_hosts_at_two_drives", "a_block_and_a_filemark", "long_sessions_of_two_hosts"]),
     ("the bytes that a host is given are changed", "library", "src/libraries.rt",
-     ("            Some(bay) => bay.serve(rt, &self.tally, seat, cdb, sent),\n",
-      "            Some(bay) => bay.serve_lent(rt, &self.tally, seat, cdb, sent),\n"),
-     tuple("            Some(bay) => {\n"
-           f"                let mut reply = bay.{call}(rt, &self.tally, seat, cdb, sent);\n"
-           "                let mut other = Vec::new(self.alloc);\n"
-           "                for byte in reply.bytes.as_slice() {\n"
-           "                    let _ = other.push(*byte ^ 1);\n                }\n"
-           "                reply.bytes = Bytes::from_vec(other);\n                reply\n            }\n"
-           for call in ("serve", "serve_lent")),
+     "            Some(bay) => bay.serve(rt, &self.tally, seat, cdb, sent),\n",
+     "            Some(bay) => {\n                let mut reply = bay.serve(rt, &self.tally, seat, cdb, sent);\n"
+     "                let mut other = Vec::new(self.alloc);\n"
+     "                for byte in reply.bytes.as_slice() {\n"
+     "                    let _ = other.push(*byte ^ 1);\n                }\n"
+     "                reply.bytes = Bytes::from_vec(other);\n                reply\n            }\n",
      ["two_hosts_at_two_drives", "a_block_and_a_filemark", "long_sessions_of_two_hosts"]),
     ("each command goes to drive 1 where there is one", "library", "src/libraries.rt",
-     ("        match &self.bays[drive.place()] {\n            Some(bay) => bay.serve(rt",
-      "        match &self.bays[drive.place()] {\n            Some(bay) => bay.serve_lent(rt"),
-     ("        let place = if self.bays[0].is_some() { 0 } else { drive.place() };\n"
-      "        match &self.bays[place] {\n            Some(bay) => bay.serve(rt",
-      "        let place = if self.bays[0].is_some() { 0 } else { drive.place() };\n"
-      "        match &self.bays[place] {\n            Some(bay) => bay.serve_lent(rt"),
+     "        match &self.bays[drive.place()] {\n            Some(bay) => bay.serve(rt",
+     "        let place = if self.bays[0].is_some() { 0 } else { drive.place() };\n"
+     "        match &self.bays[place] {\n            Some(bay) => bay.serve(rt",
      ["two_hosts_at_two_drives", "a_block_and_a_filemark", "long_sessions_of_two_hosts"]),
     ("a move goes to the drive beside the one that it names, where both are there", "library", "src/libraries.rt",
      "            Some(drive) => self.bays[drive.place()].as_ref(),\n",
@@ -397,10 +395,10 @@ EDITS = [
      "                if there.is_some() && beside.is_some() { beside } else { there }\n            }\n",
      ["a_cartridge_goes_round_both_drives"]),
     ("two drives change places as a library is opened", "library", "src/opening.rt",
-     "        let bay = share_one(row.take(place), tally);\n",
-     "        let both = place == 0 && row.count(0).is_some() && row.count(1).is_some();\n"
-     "        let other = if both { 1 } else { place };\n"
-     "        let bay = share_one(row.take(other), tally);\n"
+     "        let bay = share_one(row.take(at), number, rings.take(at), tally);\n",
+     "        let both = at == 0 && row.count(0).is_some() && row.count(1).is_some();\n"
+     "        let other = if both { 1 } else { at };\n"
+     "        let bay = share_one(row.take(other), number, rings.take(at), tally);\n"
      "        if both {\n            let first = row.take(0);\n            row.put(1, first);\n        }\n",
      ["a_turn_in_which_the_device_fails"]),
     ("two drives have changed places at the end", "library", "src/finishing.rt",
@@ -417,12 +415,10 @@ EDITS = [
       "                drop(slots.into_inner());\n                other\n            }\n"
       "            Err(_) => slots.into_inner(),\n        };\n"),
      ["cartridges_are_moved_while_hosts_write"]),
-    ("a cartridge that has failed is unloaded before the last turn", "library", "src/finishing.rt",
-     "    } = shared.into_place().end();\n",
-     "    } = {\n        let (mut bay, share) = shared.into_place().into_parts();\n"
+    ("a cartridge that has failed is unloaded before the last turn", "library", "src/places/ending.rt",
+     "        let written = bay.write_out();\n",
      "        if bay.drive().has_failed() {\n            if let Ok(cartridge) = bay.unload() {\n"
-     "                bay.insert(cartridge);\n            }\n        }\n        let written = bay.write_out();\n"
-     "        EndedPlace {\n            bay,\n            share,\n            written,\n        }\n    };\n",
+     "                bay.insert(cartridge);\n            }\n        }\n        let written = bay.write_out();\n",
      ["a_turn_in_which_the_device_fails"]),
     ("a move of a script is made twice", "library", "src/stages.rt",
      "        replies\n            .push(self.library.move_medium(self.rt, from, to))\n",
@@ -430,8 +426,8 @@ EDITS = [
      "        replies\n            .push(self.library.move_medium(self.rt, from, to))\n",
      ["a_crowd_ends_at_any_line"]),
     ("what is seen of the drives is the wrong way round", "library", "src/inventories.rt",
-     "            Some(bay) => bay.lock.lock(rt).seen(),\n",
-     "            Some(bay) => match bay.lock.lock(rt).seen() {\n                Element::Full => Element::Empty,\n"
+     "            Some(bay) => bay.front.lock(rt).seen(),\n",
+     "            Some(bay) => match bay.front.lock(rt).seen() {\n                Element::Full => Element::Empty,\n"
      "                _ => Element::Full,\n            },\n",
      ["a_cartridge_goes_round_both_drives"]),
     ("an inventory lets the slots go before it looks at the drives", "library", "src/inventories.rt",
