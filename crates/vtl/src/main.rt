@@ -73,9 +73,10 @@ fn main(rt: HostRuntime) -> ExitCode {
         &mut writer,
         &mut errors,
     );
-    match unread {
-        Some(word) if ended.is_reported => word.tell(rt.alloc(), &mut errors),
-        _ => {}
+    if ended.is_reported {
+        if let Some(word) = &unread {
+            word.tell(rt.alloc(), &mut errors);
+        }
     }
     ExitCode::from(ended.status)
 }
