@@ -18,7 +18,7 @@ of_drives-requires g c =
 
 pub serve_over-requires-clause-rings : goal.serve_over-requires-clause-rings
 serve_over-requires-clause-rings g c =
-    (c.in_ok-rings.ensures ∙ ap which_are_there c.as_slice-2.ensures.value, refl)
+    (ap which_are_there c.rings.view_is ∙ c.in_ok-rings.ensures ∙ ap which_are_there c.as_slice-2.ensures.value, refl)
 
 pub serve_over-requires-clause-hosts : goal.serve_over-requires-clause-hosts
 serve_over-requires-clause-hosts g c =

@@ -16,7 +16,7 @@ of_drives-requires g c =
 
 pub serve_library-served-requires-clause-rings : goal.serve_library-served-requires-clause-rings
 serve_library-served-requires-clause-rings g c κs within =
-    (c.in_ok-rings.ensures ∙ ap which_are_there c.as_slice-2.ensures.value, refl)
+    (ap which_are_there c.rings.view_is ∙ c.in_ok-rings.ensures ∙ ap which_are_there c.as_slice-2.ensures.value, refl)
 
 pub serve_library-served-requires-clause-bay_ledger : goal.serve_library-served-requires-clause-bay_ledger
 serve_library-served-requires-clause-bay_ledger g c κs within = (
