@@ -11,8 +11,9 @@ more, or it is not.
 A run of which a growth is refused ends with status 3 and `vtl: out of memory`, behind the answers up to that line. Or
 memory runs out for the command of that line: it changes nothing, the lines behind it are answered so, and given again
 it has its own answer. Or the disk in memory does not grow, and then the answers are those to a device fault. Or a
-thread does not start: there is one fewer, and all is as with no refusal. No other end stands, and no refusal is passed
-over. The files hold what was accepted.
+thread does not start: there is one fewer, and all is as with no refusal. Or a drive that parts into its halves finds no
+memory for what hosts may send without its disk: then they wait for the disk, and all is as with no refusal. No other
+end stands. The files hold what was accepted.
 
 --program PATH: another program than the proved one; --selftest: ends that are invented must be judged as they should
 be, and wrong programs that stand in for the right one must be found."""
@@ -39,6 +40,8 @@ SECONDS = 300
 MOST = 1_000
 # the threads that a round of `vtl serve` starts: one that answers, one that writes, and 63 more for the hosts
 ROUND = 65
+# what a drive that parts finds no memory for
+ROOM = "the room of a hosts' half"
 # so often a line is swept once more for whose command memory is to run out
 AGAIN = 20
 
@@ -90,6 +93,9 @@ def ended(script, way, place, run, threads):
     if run.refused and fewer(script, run, threads) == 1:
         # its work is done by the thread that waits for it
         fitting.append(right_end(script)._replace(what="a thread"))
+    if run.refused and script.parts and fewer(script, run, threads) == 0:
+        # what hosts write waits for the disk
+        fitting.append(right_end(script)._replace(what=ROOM))
     return next((end.what for end in fitting if is_at(run, end)), None)
 
 

@@ -6,8 +6,10 @@ import collections
 # on the files hold this; a file may have each of its contents. `without`: where memory runs out for the command at a
 # place, from 0 on, and it is not given again, the answers behind it, and the files. `owed`: the places of the commands
 # for which it has to run out once, since they need memory however they are made. `faults`: where the disk in memory
-# does not grow, between which lines that may be, 0 being the start, the status, and all answers.
-Script = collections.namedtuple("Script", "name words files lines held without owed faults", defaults=[(), ()])
+# does not grow, between which lines that may be, 0 being the start, the status, and all answers. `parts`: whether a
+# drive parts into its halves in it.
+Script = collections.namedtuple("Script", "name words files lines held without owed faults parts",
+                                defaults=[(), (), True])
 
 POWER_ON = "CHECK 700006000000000a00000000290000000000"
 MEDIUM_CHANGED = "CHECK 700006000000000a00000000280000000000"
@@ -75,7 +77,8 @@ FILE_WITHOUT = {
     3: (["GOOD", "GOOD 68656c6c6f", AT_END], {"tape": BLOCK_TAPE}),
     5: (["GOOD 68656c6c6f"], {"tape": TAPE}),
 }
-FILE_OWED = [2, 5]
+# a short block goes to the disk's half without memory
+FILE_OWED = [5]
 # a growth at the start: it is not loaded; in a flusher's turn; in WRITE FILEMARKS; in the READ
 FILE_FAULTS = [
     ([0], 0, [POWER_ON] + 6 * [NOT_PRESENT]), ([3, 4], 2, [*FILE_HEAD, DEFERRED] + 3 * [FAILED]),
@@ -105,7 +108,7 @@ MOVE_WITHOUT = {
     12: ([NOT_PRESENT, NOT_PRESENT], {"tape": BLOCK_TAPE, "store1": ONE_RELEASED}),
     14: ([], {"tape": BLOCK_TAPE, "store1": ONE_RELEASED}),
 }
-MOVE_OWED = [3, 11, 12, 14]
+MOVE_OWED = [3, 12, 14]
 MOVE_FAULTS = [
     # in the loading of `move 1001 1`, and in the saving of each order
     ([4], 0, [*MOVE_HEAD[:3], READ_ERROR, *MOVE_WITHOUT[3][0]]),

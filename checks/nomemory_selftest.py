@@ -5,7 +5,7 @@ import os
 import subprocess
 import tempfile
 
-from nomemory import ERRORS, ROUND, WAYS, Run, ended, shim_in, swept
+from nomemory import ERRORS, ROOM, ROUND, WAYS, Run, ended, shim_in, swept
 from nomemory_rows import (ABORTED, AT_END, AT_MARK, BLOCK_TAPE, DEFERRED, FAILED, MARK_TAPE, NEW_TAPE, NOT_PRESENT,
                            ONE_HOLDER, ONE_KEY, POWER_ON, READ_ERROR, SCRIPTS, TAPE, WRITE_ERROR, Script, held)
 
@@ -24,6 +24,8 @@ STAND = [
     (FILE, ONCE, 0, 3, [], NEW_TAPE), (FILE, ONCE, 3, 3, WHOLE[:2], NEW_TAPE),
     (FILE, ONCE, 3, 3, WHOLE[:2], BLOCK_TAPE), (FILE, ONCE, 3, 3, WHOLE[:3], BLOCK_TAPE),
     (FILE, AGAIN, 8, 3, WHOLE, TAPE), (FILE, ONCE, 3, 0, NO_WRITE, MARK_TAPE),
+    # the halves of a drive part without room for what hosts send
+    (FILE, ONCE, 3, 0, WHOLE, TAPE), (FILE, ONCE, 0, 0, WHOLE, TAPE),
     (FILE, ONCE, 4, 0, NO_MARK, BLOCK_TAPE), (FILE, ONCE, 6, 0, NO_READ, TAPE), (FILE, ONCE, 6, 0, NO_READ, TAPE[1:]),
     (FILE, AGAIN, 3, 0, WRITE_AGAIN, TAPE), (MEMORY, ONCE, 0, 0, [POWER_ON] + 6 * [NOT_PRESENT], None),
     (MEMORY, ONCE, 3, 2, LATE, None), (MEMORY, AGAIN, 6, 2, [*WHOLE[:5], READ_ERROR, FAILED], None),
@@ -31,8 +33,8 @@ STAND = [
     (KEPT, AGAIN, 3, 0, [POWER_ON, "GOOD", ABORTED, "GOOD"], ONE_HOLDER),
 ]
 FOUND = [
-    # a refusal that is passed over; a command that changed something, also its position; one that changed less
-    (FILE, ONCE, 3, 0, WHOLE, TAPE), (FILE, ONCE, 0, 0, WHOLE, TAPE), (FILE, ONCE, 3, 0, NO_WRITE, TAPE),
+    # a command that changed something, also its position; one that changed less
+    (FILE, ONCE, 3, 0, WHOLE, BLOCK_TAPE), (FILE, ONCE, 3, 0, NO_WRITE, TAPE),
     (FILE, ONCE, 3, 0, [*WHOLE[:2], ABORTED, *WHOLE[3:]], TAPE),
     (FILE, ONCE, 6, 0, [*WHOLE[:5], ABORTED, AT_MARK], TAPE),
     (FILE, ONCE, 4, 0, NO_MARK, TAPE), (FILE, ONCE, 4, 0, NO_MARK, NEW_TAPE), (FILE, ONCE, 6, 0, NO_READ, BLOCK_TAPE),
@@ -114,11 +116,11 @@ def misjudged():
     if ended(FILE, ONCE, 0, whole, fewer) != "a thread":
         wrong.append(f"not let through: {whole}")
     wrong += [f"let through, of {threads} threads: {run}" for threads, run in [
-        (THREADS, whole), (THREADS + 2, whole), (fewer, run_of(FILE, 0, NO_MARK, TAPE)),
+        (THREADS + 2, whole), (fewer, run_of(FILE, 0, NO_MARK, TAPE)),
         (fewer, run_of(FILE, 0, WHOLE, BLOCK_TAPE)), (fewer, run_of(FILE, 2, WHOLE, TAPE))]
         if ended(FILE, ONCE, 0, run, threads)]
     # frames are then served in a round more, and a script is not; a round has its threads
-    counts, owed = [ROUND, 2 * ROUND, ROUND - 1, 2 * ROUND + 1, 0], ["a thread", "a thread", None, None, None]
+    counts, owed = [ROUND, 2 * ROUND, ROUND - 1, 2 * ROUND + 1, 0], ["a thread", "a thread", None, ROOM, None]
     for script, ways in [(FRAMES, owed), (FILE, ["a thread", None, None, None, None])]:
         judged = [ended(script, ONCE, 0, run_of(script, 0, WHOLE, TAPE)._replace(threads=count), ROUND + 1)
                   for count in counts]
@@ -139,7 +141,8 @@ def unfound(folder):
     with open(source, "w", encoding="ascii") as file:
         file.write(STAND_IN)
     subprocess.run(["cc", "-w", "-fno-builtin", "-o", program, source], check=True)
-    scripts = [Script(f"a program that {way}", [way], {}, LINES, {}, WITHOUT, [0, 1, 2]) for way in [RIGHT, *WRONG]]
+    scripts = [Script(f"a program that {way}", [way], {}, LINES, {}, WITHOUT, [0, 1, 2], (), False)
+               for way in [RIGHT, *WRONG]]
     shim = shim_in(folder)
     with contextlib.redirect_stdout(io.StringIO()):
         found = {script.name: swept((program, shim), [script]) for script in scripts}
