@@ -11,8 +11,8 @@ use test_assertions::assert_equal;
 use volume_core::Turn;
 
 // Each host takes its power on condition. Host 1 writes a block to drive 1, whose flusher then begins a turn. It stands
-// in that with the drive's lock. Host 1 sends one command more to drive 1, which waits for the lock, and host 2 one to
-// drive 2, which is answered first.
+// in that with the disk's half of the drive locked. Host 1 sends a REWIND to drive 1, which waits for that half, and
+// host 2 one command to drive 2, which is answered first.
 static FRAMES: &'static [(&'static str, &'static str)] = &[
     (
         "01 01 01 06 00000000 00000001 00000000 000000000000",
@@ -27,7 +27,7 @@ static FRAMES: &'static [(&'static str, &'static str)] = &[
         "01 01 00 00 00000000 00000003 00000000",
     ),
     (
-        "01 01 01 06 00000000 00000004 00000000 000000000000",
+        "01 01 01 06 00000000 00000004 00000000 010000000000",
         "01 02 00 00 00000000 00000005 00000000",
     ),
     (
