@@ -6,7 +6,7 @@ was wanted for, or none does. Of `vtl create` the calls that fail have their nam
 are made. A closed standard error changes neither the status nor the output.
 
 --program PATH another program than the proved one; --no-memory: memory is not refused; --selftest: of each call another
-name is asked for, and another order of the calls of `vtl create`, which must be found wrong."""
+name is asked for, and another order of the calls of `vtl create`, and ends are invented, which must be found wrong."""
 import argparse
 import os
 import re
@@ -15,9 +15,10 @@ import sys
 import tempfile
 
 from cartridge_files import SECOND as BESIDE
-from faults import FILES, STORE, Room, made
+from faults import FILES, STORE, Room, Run, made
 from fault_script import FIRST, SCRIPT, SECOND, STATUS
 from real_library import PROVED, TOP
+from unproved import words_of
 
 EIO = "answer: Input/output error (os error 5)\n"
 # the calls of an explanation, by the name that the system has for the one that failed
@@ -36,7 +37,8 @@ MEANT = re.compile(r"(line [0-9]+: .*\n)*")
 
 def in_order():
     """What fails in turn as `vtl create` makes the library: the call, and what it is for."""
-    said = [("read", "the file lib.toml")] * 2
+    # it is opened, its bytes are read, and its end
+    said = [("read", "the file lib.toml")] * 3
     for name in (FIRST, SECOND, STORE):
         file = f"the file {FILES[name]}"
         said += [(call, file) for call in MADE]
@@ -51,6 +53,15 @@ def lines_behind(run, kind):
     said = run.err[MEANT.match(run.err).end():]
     line = STATUS[kind][1]
     return said[len(line):] if run.status == STATUS[kind][0] and said.startswith(line) else None
+
+
+def misended(run, lines):
+    """What is wrong with the end of a run: it has the line of its status, or status 0 and as many lines of output as
+    one in which nothing fails."""
+    if any(lines_behind(run, kind) is not None for kind in STATUS):
+        return []
+    is_whole = run.status == 0 and run.out.count("\n") == lines
+    return [] if is_whole else [f"ended with status {run.status}, {run.out!r} and {run.err!r}"]
 
 
 def misexplained(run):
@@ -81,15 +92,17 @@ def tried(tools, pristine, what, words, script, kinds, wanted=None):
     """Each call in turn, from 1 on; at 0 none fails."""
     wrong, named = [], []
     for kind, judge in kinds:
-        count, ended, at = 1, 0, 0
+        count, ended, at, lines = 1, 0, 0, 0
         while at <= count:
             room = Room(tools, pristine)
             with room.room:
                 run = room.run([*words, "--explain"], script, kind, at)
-            count, at = max(count, run.calls if at == 0 else count), at + 1
+            if at == 0:
+                count, lines = max(count, run.calls), run.out.count("\n")
+            at += 1
             ended += run.status > 1
             named += [it[:2] for it in FAILED.findall(run.err)] if kind == "fault" else []
-            wrong += [f"{what}, {kind}, call {at - 1} ({run.name}): {it}" for it in judge(run)]
+            wrong += [f"{what}, {kind}, call {at - 1} ({run.name}): {it}" for it in judge(run) + misended(run, lines)]
         print(f"{what}, {kind}: of {count} calls {ended} ended the program", flush=True)
     return wrong + (disordered(what, named, wanted) if wanted else [])
 
@@ -101,8 +114,8 @@ def plain(tools, pristine):
         room = Room(tools, pristine)
         with room.room:
             one, all_lines = room.run(words), room.run([*words, "--explain"])
-            closed = subprocess.run([tools[0], *words, "--explain"], cwd=room.path, stdin=subprocess.DEVNULL,
-                                    stdout=subprocess.PIPE, preexec_fn=lambda: os.close(2))
+            closed = subprocess.run([*words_of(tools[0]), *words, "--explain"], cwd=room.path,
+                                    stdin=subprocess.DEVNULL, stdout=subprocess.PIPE, preexec_fn=lambda: os.close(2))
         if one.err.count("\n") != 1 or not all_lines.err.startswith(one.err) or all_lines.err == one.err:
             wrong.append(f"{words}: {one.err!r}, {all_lines.err!r}")
         ends = [(one.status, one.out), (all_lines.status, all_lines.out), (closed.returncode, closed.stdout.decode())]
@@ -125,7 +138,9 @@ def selftest(tools, bare, used):
     other[5], other[6] = other[6], other[5]
     words = ["create", "--config", "lib.toml"]
     blind += ["order"] * (not tried(tools, bare, "vtl create", words, "", [("fault", misexplained)], other))
-    print(f"self-test: {len(NAMES)} names and an order, not missed: {blind}")
+    # a run that did nothing, one that another program ended
+    blind += ["end"] * any(not misended(Run(status, "", "sh: no\n", 0, "read"), 1) for status in (0, 2))
+    print(f"self-test: {len(NAMES)} names, an order and two ends, not missed: {blind}")
     return 1 if blind else 0
 
 

@@ -35,6 +35,7 @@ from drive_model import MARK
 from fault_script import (ABORTED, ANSWERED, DEFERRED, FIRST, HAS_FAILED, NOT_PRESENT, RESERVED, RIGHT, SCRIPT, SECOND,
                           STATUS, WRITE_ERROR, misanswered)
 from real_library import LONGEST, PROVED, TOP, objects_of
+from unproved import words_of
 
 STORE = "DRIVE1"
 FILES = {FIRST: "1.tape", SECOND: "2.tape", STORE: "drive1.pr"}
@@ -72,7 +73,7 @@ class Room:
         with tempfile.TemporaryFile() as given:
             given.write(script.encode())
             given.seek(0)
-            done = subprocess.run([self.program, *words], cwd=self.path, stdin=given, stdout=subprocess.PIPE,
+            done = subprocess.run([*words_of(self.program), *words], cwd=self.path, stdin=given, stdout=subprocess.PIPE,
                                   stderr=subprocess.PIPE, env={**os.environ, **more}, timeout=60)
         calls, name, _ = content(told).decode().split() if kind else (0, "", 0)
         return Run(done.returncode, done.stdout.decode(), done.stderr.decode(), int(calls), name)

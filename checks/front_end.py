@@ -108,10 +108,12 @@ class Served:
     def read_answers(self):
         while len(header := self.process.stdout.read(HEADER.size)) == HEADER.size:
             kind, host, status, sense, length, tag = HEADER.unpack(header)
-            text = text_of(status, self.process.stdout.read(sense), self.process.stdout.read(length))
+            behind = self.process.stdout.read(sense), self.process.stdout.read(length)
+            if sum(map(len, behind)) < sense + length:
+                break
             with self.news:
                 self.judge(kind, host, tag)
-                self.answers[tag] = text
+                self.answers[tag] = text_of(status, *behind)
                 self.news.notify_all()
         with self.news:
             if header and self.process.wait() != -9:

@@ -159,7 +159,7 @@ WRONG = [
     ("a frame with another status", "row\n$ vtl run", "row\n$ vtl run busy", ":7: by frames: 08 020202 in the place"),
     ("a frame with another tag", "row\n$ vtl run", "row\n$ vtl run tags", ":2: by frames: an answer of kind 1"),
     ("a frame that is answered twice", "row\n$ vtl run", "row\n$ vtl run repeats", ":2: by frames: a second answer"),
-    ("a frame that is cut off", "row\n$ vtl run", "row\n$ vtl run cuts", ":7: by frames: GOOD 0202 in the place"),
+    ("a frame that is cut off", "row\n$ vtl run", "row\n$ vtl run cuts", ":2: by frames: the output ends inside"),
     ("a frame that is not answered", "row\n$ vtl run", "row\n$ vtl run mutes", ":7: by frames: (no answer) in the"),
     ("another status behind frames", "row\n$ vtl run", "row\n$ vtl run fails", ":2: by frames: status 1 in the place"),
 ]

@@ -13,6 +13,8 @@ import time
 TOP = os.path.dirname(os.path.dirname(os.path.abspath(__file__)))
 ROOM = os.path.join(TOP, ".unproved")
 STARTED = os.path.join(ROOM, "vtl")
+# what stands in the file that starts the program, before and behind the words
+BEFORE, BEHIND = "#!/bin/sh\nexec ", ' "$@"\n'
 
 
 def reader_of(pipe):
@@ -49,8 +51,18 @@ def taken(words, folder):
     shutil.copy(os.path.join(folder, loader[at]), copy)
     os.chmod(copy, 0o755)
     with open(STARTED, "w") as file:
-        file.write("#!/bin/sh\nexec " + " ".join(map(shlex.quote, [*loader[:at], copy])) + ' "$@"\n')
+        file.write(BEFORE + " ".join(map(shlex.quote, [*loader[:at], copy])) + BEHIND)
     os.chmod(STARTED, 0o755)
+
+
+def words_of(program):
+    """The words that start a program. Of one that is built without its proofs they are those behind its shell, so that
+    what is to fail fails in the program and not in the shell."""
+    with open(program, "rb") as file:
+        text = file.read(4096)
+    if not (text.startswith(BEFORE.encode()) and text.endswith(BEHIND.encode())):
+        return [program]
+    return shlex.split(text.decode()[len(BEFORE):-len(BEHIND)])
 
 
 def opened(pipe, child):

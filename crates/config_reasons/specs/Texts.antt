@@ -54,6 +54,11 @@ outside_in (rules.OtherKind key.Capacities) (seen.List count outside) = outside
 outside_in (rules.OutOfRange key.Capacities) (seen.List count outside) = outside
 outside_in _ _ = None
 
+-- that a text stands where a value of another kind may stand: in quotation marks a number may be meant (own)
+abbrev pub kind_text : Rule → Seen → List ℕ
+kind_text (rules.OtherKind key) (seen.Text text) = codes ", a text"
+kind_text _ _ = []
+
 -- what is refused (own)
 abbrev pub refused_text : Rule → Found → List ℕ
 refused_text rule (found.NoText spot) = codes "refused: the text is no UTF-8"
@@ -61,7 +66,8 @@ refused_text rule (found.NoDocument spot message) = codes "refused: the text is 
 refused_text rule (found.OtherKey name) = codes "refused: the key " ++ string_bytes name
 refused_text rule found.Nothing = codes "refused: the key " ++ (missing_of rule ++ codes " is missing")
 refused_text rule (found.Value value) =
-    codes "refused: " ++ (subject_of rule ++ (codes " is " ++ (seen_text value ++ among_text (outside_in rule value))))
+    codes "refused: " ++ (subject_of rule ++ (codes " is " ++ (seen_text value ++ (among_text (outside_in rule value)
+    ++ kind_text rule value))))
 
 -- a place in a text (own)
 abbrev pub spot_text : Spot → List ℕ
@@ -73,9 +79,9 @@ found_place entry (found.NoText spot) = spot_text spot
 found_place entry (found.NoDocument spot message) = spot_text spot
 found_place entry _ = entry_text entry
 
--- where a reason stands, in the file of this name (own)
+-- where a reason stands, and then the file of this name, of which a line may show less (own)
 abbrev pub where_text : List ℕ → ConfigReason → List ℕ
-where_text file reason = codes "where: " ++ (file ++ (codes ", " ++ found_place reason.entry reason.found))
+where_text file reason = codes "where: " ++ (found_place reason.entry reason.found ++ (codes ", in " ++ file))
 
 -- the values that a key may have; the limits are those that are checked (own)
 abbrev pub values_text : Key → List ℕ
@@ -98,10 +104,15 @@ keys_text places.Top = codes "cartridge and drive"
 keys_text (places.Drive number) = codes "number and reservations"
 keys_text (places.Cartridge number) = codes "barcode, file, capacities and home"
 
+-- what an earlier entry has: of a cartridge's two files the name of one, else the value (own)
+abbrev pub has_text : Key → List ℕ
+has_text key.File = codes " has one of them"
+has_text _ = codes " has this one"
+
 -- the earlier entry that has the value which may not occur twice (own)
-abbrev pub other_text : Option Entry → List ℕ
-other_text None = []
-other_text (Some entry) = codes "; " ++ (entry_text entry ++ codes " has this one")
+abbrev pub other_text : Key → Option Entry → List ℕ
+other_text key None = []
+other_text key (Some entry) = codes "; " ++ (entry_text entry ++ has_text key)
 
 -- what is allowed of a key whose values may not occur twice; a cartridge has a second file (own)
 abbrev pub double_text : Key → List ℕ
@@ -117,7 +128,7 @@ allowed_by rules.OtherKey place other = codes "allowed: " ++ keys_text place
 allowed_by (rules.Missing key) place other = codes "allowed: " ++ values_text key
 allowed_by (rules.OtherKind key) place other = codes "allowed: " ++ values_text key
 allowed_by (rules.OutOfRange key) place other = codes "allowed: " ++ values_text key
-allowed_by (rules.Double key) place other = codes "allowed: " ++ (double_text key ++ other_text other)
+allowed_by (rules.Double key) place other = codes "allowed: " ++ (double_text key ++ other_text key other)
 allowed_by rules.NoSuchDrive place other = codes "allowed: a slot, or a drive that has an entry"
 
 -- what is allowed where a reason stands (own)

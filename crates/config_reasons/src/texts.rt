@@ -1,6 +1,6 @@
 //! The words of a reason.
 ghost use Rattle.std.specs.Prelude.{◌≡◌};
-ghost use Rattle.config_reasons.specs.Texts.{subject_of, missing_of, outside_in, keys_text, double_text, rule_fix};
+ghost use Rattle.config_reasons.specs.Texts.{subject_of, missing_of, outside_in, kind_text, keys_text, double_text, has_text, rule_fix};
 
 use crate::reasons::{ConfigReason, Entry, Found};
 use crate::seen::{Among, Outside, Seen};
@@ -80,6 +80,16 @@ fn outside_in(rule: Rule, seen: &Seen) -> Option<Outside>
     }
 }
 
+// That a text stands where a value of another kind may stand.
+fn kind_text(rule: Rule, seen: &Seen) -> &'static str
+    ensures { result.now ≡ kind_text rule seen.now }
+{
+    match (rule, seen) {
+        (Rule::OtherKind(_), Seen::Text(_)) => ", a text",
+        _ => "",
+    }
+}
+
 // What is refused.
 #[derive(Clone, Copy)]
 pub(crate) struct RefusedText<'a>(pub(crate) &'a ConfigReason);
@@ -101,7 +111,8 @@ impl<'a> fmt::Display for RefusedText<'a> {
             Found::Nothing => write!(f, "refused: the key {missing} is missing"),
             Found::Value(seen) => {
                 let among = Among(outside_in(self.0.rule, seen));
-                write!(f, "refused: {subject} is {seen}{among}")
+                let kind = kind_text(self.0.rule, seen);
+                write!(f, "refused: {subject} is {seen}{among}{kind}")
             }
         }
     }
@@ -126,9 +137,9 @@ impl<'a> fmt::Display for WhereText<'a> {
         match &self.reason.found {
             Found::NoText(spot) | Found::NoDocument { spot, .. } => {
                 let (line, column) = (spot.line, spot.column);
-                write!(f, "where: {file}, line {line}, column {column}")
+                write!(f, "where: line {line}, column {column}, in {file}")
             }
-            _ => write!(f, "where: {file}, {entry}"),
+            _ => write!(f, "where: {entry}, in {file}"),
         }
     }
 }
@@ -189,21 +200,35 @@ fn double_text(key: Key) -> &'static str
     }
 }
 
-// The earlier entry that has the value which may not occur twice.
+// What an earlier entry has: of a cartridge's two files the name of one, else the value.
+fn has_text(key: Key) -> &'static str
+    ensures { result.now ≡ has_text key }
+{
+    match key {
+        Key::File => " has one of them",
+        _ => " has this one",
+    }
+}
+
+// The earlier entry that has the value of the key which may not occur twice.
 #[derive(Clone, Copy)]
-struct OtherText<'a>(&'a Option<Entry>);
+struct OtherText<'a> {
+    key: Key,
+    other: &'a Option<Entry>,
+}
 
 impl<'a> fmt::Display for OtherText<'a> {
     ghost use Rattle.std.specs.Prelude.{Some};
     ghost use Rattle.config_reasons.specs.Texts.{other_text};
 
-    ghost output = { λ it. Some (other_text it.0.now) };
+    ghost output = { λ it. Some (other_text it.key it.other.now) };
 
     fn fmt<W: fmt::Write>(&self, f: &mut fmt::Formatter<W>) -> fmt::Result {
-        match self.0 {
+        match self.other {
             Some(entry) => {
                 let entry = EntryText(entry);
-                write!(f, "; {entry} has this one")
+                let has = has_text(self.key);
+                write!(f, "; {entry}{has}")
             }
             None => Ok(()),
         }
@@ -234,7 +259,10 @@ impl<'a> fmt::Display for AllowedText<'a> {
                 write!(f, "allowed: {values}")
             }
             Rule::Double(key) => {
-                let other = OtherText(&self.0.other);
+                let other = OtherText {
+                    key,
+                    other: &self.0.other,
+                };
                 let values = double_text(key);
                 write!(f, "allowed: {values}{other}")
             }

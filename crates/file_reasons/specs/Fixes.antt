@@ -1,9 +1,9 @@
 -- What to do about a call that failed.
-use Rattle.std.specs.Prelude.{ℕ, List, codes}
+use Rattle.std.specs.Prelude.{ℕ, ℤ, pos, negsuc, ◌==◌, List, Option, Some, None, codes, if◌then◌else◌}
 use Rattle.file_reasons.specs.declared.answers.Answer.{Answer}
 use Rattle.file_reasons.specs.declared.answers.Answer.TheVariants as answers
 use Rattle.file_reasons.specs.declared.reasons.FileCall.{FileCall}
-use Rattle.file_reasons.specs.declared.reasons.FileCall.TheVariants.{Read, Make}
+use Rattle.file_reasons.specs.declared.reasons.FileCall.TheVariants.{Read, Write, Make}
 
 -- what to do where there is no such file or folder: what makes a file needs the folder (own)
 abbrev pub missing_fix : FileCall → List ℕ
@@ -11,10 +11,34 @@ missing_fix Make = codes "to do: correct the name, or make the folder in which t
 missing_fix Read = codes "to do: correct the name"
 missing_fix _ = codes "to do: correct the name, or make the missing files of a configuration with vtl create"
 
--- what to do where the system does not allow it: what makes a file writes in the folder (own)
+-- what to do where the system does not allow it: what makes a file writes in the folder, and what reads all its bytes
+-- only reads it (own)
 abbrev pub denied_fix : FileCall → List ℕ
 denied_fix Make = codes "to do: let this user write in the folder in which the file is to be"
+denied_fix Read = codes "to do: let this user read the file"
 denied_fix _ = codes "to do: let this user read and write the file"
+
+-- what to do about an error of a device (own)
+abbrev pub device_fix : List ℕ
+device_fix = codes "to do: look at the device, and at what the system has logged of it"
+
+-- what to do about a stream that is not open; a file is open while it is used, and its answer is one of the device (own)
+abbrev pub closed_fix : FileCall → List ℕ
+closed_fix Read = codes "to do: start the program with this stream open"
+closed_fix Write = codes "to do: start the program with this stream open"
+closed_fix _ = device_fix
+
+-- what to do about the error of this number; 9 is that of a stream which is not open, 24 that of a process which has as
+-- many files open as it may (Linux, EBADF and EMFILE)
+abbrev pub number_fix : FileCall → ℕ → List ℕ
+number_fix call number = if number == 9 then closed_fix call
+    else (if number == 24 then codes "to do: raise the limit on the files that a process may have open" else device_fix)
+
+-- what to do about another error of the system, with its number where it has one (own)
+abbrev pub other_fix : FileCall → Option ℤ → List ℕ
+other_fix call (Some (pos number)) = number_fix call number
+other_fix call (Some (negsuc number)) = device_fix
+other_fix call None = device_fix
 
 -- what to do about a call that had this answer (own)
 abbrev pub fix_of : FileCall → Answer → List ℕ
@@ -31,4 +55,4 @@ fix_of call answers.TookNone = codes "to do: make room where the bytes go"
 fix_of call answers.TooLarge = codes "to do: raise the limit on the length of files"
 fix_of call answers.NoReader = codes "to do: let the program that reads it run to the end"
 fix_of call answers.LongScript = codes "to do: run it in several parts"
-fix_of call (answers.Other number) = codes "to do: look at the device, and at what the system has logged of it"
+fix_of call (answers.Other number) = other_fix call number

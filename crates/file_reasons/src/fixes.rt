@@ -1,6 +1,6 @@
 //! What to do about a call that failed.
 ghost use Rattle.std.specs.Prelude.{◌≡◌};
-ghost use Rattle.file_reasons.specs.Fixes.{missing_fix, denied_fix, fix_of};
+ghost use Rattle.file_reasons.specs.Fixes.{missing_fix, denied_fix, other_fix, fix_of};
 
 use crate::answers::Answer;
 use crate::reasons::FileCall;
@@ -17,13 +17,27 @@ fn missing_fix(call: FileCall) -> &'static str
     }
 }
 
-// What to do where the system does not allow it. What makes a file writes in the folder.
+// What to do where the system does not allow it. What makes a file writes in the folder, and what reads all its bytes
+// only reads it.
 fn denied_fix(call: FileCall) -> &'static str
     ensures { result.now ≡ denied_fix call }
 {
     match call {
         FileCall::Make => "to do: let this user write in the folder in which the file is to be",
+        FileCall::Read => "to do: let this user read the file",
         _ => "to do: let this user read and write the file",
+    }
+}
+
+// What to do about another error of the system. 9 is that of a stream which is not open (EBADF), 24 that of a process
+// which has as many files open as it may (EMFILE). A file is open while it is used, so its 9 is as any other number.
+fn other_fix(call: FileCall, number: Option<i32>) -> &'static str
+    ensures { result.now ≡ other_fix call number }
+{
+    match (call, number) {
+        (FileCall::Read | FileCall::Write, Some(9)) => "to do: start the program with this stream open",
+        (_, Some(24)) => "to do: raise the limit on the files that a process may have open",
+        _ => "to do: look at the device, and at what the system has logged of it",
     }
 }
 
@@ -45,6 +59,6 @@ pub(crate) fn fix_of(call: FileCall, answer: Answer) -> &'static str
         Answer::TooLarge => "to do: raise the limit on the length of files",
         Answer::NoReader => "to do: let the program that reads it run to the end",
         Answer::LongScript => "to do: run it in several parts",
-        Answer::Other(_) => "to do: look at the device, and at what the system has logged of it",
+        Answer::Other(number) => other_fix(call, number),
     }
 }

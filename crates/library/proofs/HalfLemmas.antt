@@ -23,6 +23,7 @@ use Rattle.library.specs.Halves.{EndsHeld, HasShare, HoldsBoth, JoinsHeld, Parts
 use Rattle.library.specs.Kept.{IsLeftBy}
 use Rattle.library.specs.Served.{ServesFront, ServesHalves}
 use Rattle.library.proofs.CountLemmas.{seat_grows, share_stands}
+use Rattle.library.proofs.SaveLemmas.{saves_alone}
 
 module _ {D : Type 0} (state : D → DiskState) where
   -- the hosts' half has answered, or not, and the change that it accepted was entered for the seat
@@ -50,6 +51,8 @@ module _ {D : Type 0} (state : D → DiskState) where
           end = end;
           waits = waits;
           moments = moments;
+          saves =
+              saves_alone state old new.drive.keeper step.1.step.taken.made.saved kept step.1.step.taken.saves.moved;
           kept = kept;
           keeps = keeps;
         },

@@ -9,6 +9,7 @@ pub mod LentLemmas
 pub mod LoopLemmas
 pub mod OutcomeLemmas
 pub mod RowLemmas
+pub mod SaveLemmas
 pub mod SeenLemmas
 pub mod ServedLemmas
 pub mod SessionLemmas

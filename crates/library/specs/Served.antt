@@ -5,6 +5,7 @@ use Rattle.ledgers.specs.Ledgers.{SeatState}
 use Rattle.scsi_sense.specs.declared.replies.Reply.{Reply}
 use Rattle.volume_core.specs.declared.changes.Change.{Change}
 use Rattle.aptpl_store.specs.Kept.{store_below, store_kept}
+use Rattle.bays.specs.Bays.{SavesIn}
 use Rattle.drive_core.specs.Alone.{AnswersAlone}
 use Rattle.drive_core.specs.State.{machine_of}
 use Rattle.drive_core.specs.Synchronize.{Acknowledges, IsSynchronizing}
@@ -34,8 +35,8 @@ pub record SeatGrows (request : Request) (before : SeatState) (reply : Reply) (m
 
 module _ {D : Type 0} (state : D → DiskState) where
   -- The hosts' half of a drive answers a host, without the disk's half. What its type keeps holds before and after, and
-  -- at each moment inside the command a crash leaves of the reservations what the command's event says; `step` says by
-  -- which steps of the event the store saves. No synchronizing command is acknowledged so (own).
+  -- at each moment inside the command a crash leaves of the reservations what the command's event says. An order is
+  -- saved by the steps of one event. No synchronizing command is acknowledged so (own).
   pub record AnswersFront
       (old : FrontState D) (request : Request) (reply : Reply) (made : List Change) (new : FrontState D) (left : List ℕ)
       : Type 0 where
@@ -47,6 +48,7 @@ module _ {D : Type 0} (state : D → DiskState) where
     pub waits :
         IsSynchronizing (machine_of state_near store_kept old.drive) request.cdb → Acknowledges reply → ⊥
     pub moments : LeavesOrders state old.drive request (Some reply) new.drive
+    pub saves : SavesIn state old.drive.keeper new.drive.keeper step.1.step.taken.made.saved
     pub kept : KeepsHostsHalf state old
     pub keeps : KeepsHostsHalf state new
 

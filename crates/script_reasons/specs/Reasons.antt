@@ -1,5 +1,5 @@
 -- Why a line of a script is refused.
-use Rattle.std.specs.Prelude.{◌≡◌, ◌≤◌, ◌<◌, ◌+◌, ◌-◌, ◌%◌, ℕ, Bool, true, false, List, length, take, drop, None, IfSome, IsSome, string_bytes}
+use Rattle.std.specs.Prelude.{◌≡◌, ◌≤◌, ◌<◌, ◌+◌, ◌-◌, ◌%◌, ℕ, Bool, true, false, not, List, [], ◌∷◌, length, take, drop, None, IfSome, IsSome, string_bytes}
 use Rattle.std.specs.Char.{is_ascii_hexdigit}
 use Rattle.std.specs.List.{list_all}
 use Rattle.vtl_base.specs.declared.limits.TheConstants.{LINE_BYTES}
@@ -40,7 +40,13 @@ empty_end line = record { from = length line; to = length line }
 abbrev pub any_drive : ℕ → Bool
 any_drive number = true
 
--- a field has this fault; where one is missing nothing is left of the line, and one too many has a byte (own)
+-- a part of a line begins with another byte than a hexadecimal digit (own)
+abbrev pub starts_otherwise : List ℕ → Bool
+starts_otherwise [] = false
+starts_otherwise (byte ∷ rest) = not (is_ascii_hexdigit byte)
+
+-- a part of a line has this fault; where a field is missing nothing is left of the line, one too many has a byte, and
+-- of a field with another byte than hexadecimal digits the part begins with such a byte (own)
 abbrev pub IsFaulty : Drives → Fault → List ℕ → Type 0
 IsFaulty drives faults.TooLong field = ⊥
 IsFaulty drives faults.Host field = host_of field ≡ None
@@ -48,7 +54,7 @@ IsFaulty drives faults.Drive field = drive_of any_drive field ≡ None
 IsFaulty drives faults.NotConfigured field =
     IsSome (drive_of any_drive field) × (drive_of (has drives) field ≡ None)
 IsFaulty drives faults.Odd field = (list_all is_ascii_hexdigit field ≡ true) × (length field % 2 ≡ 1)
-IsFaulty drives faults.NoHex field = list_all is_ascii_hexdigit field ≡ false
+IsFaulty drives faults.NoHex field = starts_otherwise field ≡ true
 IsFaulty drives faults.Missing field = length field ≡ 0
 IsFaulty drives faults.TooMany field = 0 < length field
 IsFaulty drives faults.Address field = decimal_of field ≡ None

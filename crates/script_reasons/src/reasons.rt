@@ -4,7 +4,7 @@ ghost use Rattle.std.specs.Char.{is_ascii_hexdigit};
 ghost use Rattle.std.specs.List.{list_all};
 ghost use Rattle.vtl_script.specs.Lines.{decimal_of};
 ghost use Rattle.script_reasons.specs.Drives.{has};
-ghost use Rattle.script_reasons.specs.Reasons.{IsLineRefused, IsPartOf, bytes_of_part, IsWrongIn, IsLineReason, empty_end, too_long};
+ghost use Rattle.script_reasons.specs.Reasons.{IsLineRefused, IsPartOf, bytes_of_part, IsWrongIn, IsLineReason, empty_end, starts_otherwise, too_long};
 
 use crate::drives::Drives;
 use crate::fields::{Part, field_from};
@@ -27,7 +27,7 @@ pub enum Fault {
     NotConfigured,
     /// The command block or the data have an odd number of digits.
     Odd,
-    /// The command block or the data have another character than hexadecimal digits.
+    /// The command block or the data have another byte than hexadecimal digits, the first where the part begins.
     NoHex,
     /// A field is missing.
     Missing,
@@ -44,11 +44,11 @@ pub enum Fault {
 pub struct LineReason {
     /// The line's number, counted from 1 on.
     pub line: u64,
-    /// Where the field begins, or the line ends, counted in bytes from 1 on.
+    /// Where the part begins that is wrong, or the line ends, counted in bytes from 1 on.
     pub column: usize,
     /// What is wrong.
     pub fault: Fault,
-    /// The field, where there is one and it is text.
+    /// The part, where there is one and it is text: a field, or its end.
     pub field: Option<String>,
     /// The drives that are configured.
     pub drives: Drives,
@@ -128,6 +128,33 @@ fn is_hex(field: &[u8]) -> bool
     field.iter().all(|byte| byte.is_ascii_hexdigit())
 }
 
+// Whether a field begins with another byte than a hexadecimal digit.
+fn starts_otherwise(field: &[u8]) -> bool
+    ensures { result ≡ starts_otherwise field.now }
+{
+    match field {
+        [byte, ..] => !byte.is_ascii_hexdigit(),
+        [] => false,
+    }
+}
+
+// What is wrong with a field that has another byte than a hexadecimal digit: the field from the first such byte on.
+fn digit_fault(line: &[u8], part: Part) -> Option<Wrong>
+    requires { IsPartOf line.now part }
+    ensures { (drives : Drives) → IfSome result (IsWrongIn drives line.now) }
+{
+    for from in part.from..part.to {
+        let rest = Part { from, to: part.to };
+        if starts_otherwise(text_in(line, rest)) {
+            return Some(Wrong {
+                fault: Fault::NoHex,
+                part: rest,
+            });
+        }
+    }
+    None
+}
+
 // What is wrong with a field that should be hexadecimal digits.
 fn hex_fault(line: &[u8], part: Part) -> Option<Wrong>
     requires { IsPartOf line.now part }
@@ -135,10 +162,7 @@ fn hex_fault(line: &[u8], part: Part) -> Option<Wrong>
 {
     let text = text_in(line, part);
     if !is_hex(text) {
-        return Some(Wrong {
-            fault: Fault::NoHex,
-            part,
-        });
+        return digit_fault(line, part);
     }
     if text.len() % 2 == 1 {
         return Some(Wrong {
@@ -277,11 +301,14 @@ fn fault_in(drives: &Drives, line: &[u8]) -> Option<Wrong>
     ensures { IfSome result (IsWrongIn drives.now line.now) }
 {
     let first = field_from(line, 0)?;
-    if text_in(line, first) == b"move".as_slice() {
-        move_fault(line, first.to)
-    } else {
-        command_fault(drives, line, first)
+    let word = text_in(line, first);
+    if word == b"--".as_slice() {
+        return field_too_many(line, first.to);
     }
+    if word == b"move".as_slice() {
+        return move_fault(line, first.to);
+    }
+    command_fault(drives, line, first)
 }
 
 // The text of a part, where it has bytes and is text.

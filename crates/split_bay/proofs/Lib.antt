@@ -1,3 +1,4 @@
+pub mod FoundLemmas
 pub mod FrontLemmas
 pub mod HalvesLemmas
 pub mod HalvingLemmas

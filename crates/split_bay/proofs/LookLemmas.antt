@@ -2,7 +2,7 @@
 use Rattle.std.proofs.Common.{◌≡◌, ◌≤◌, ◌++◌, List, [], ◌∷◌, length, take, drop, true, false, not, Bool, refl, sym, ◌∙◌, ap, subst, arith, length-append, append_assoc, inl, inr, ◌⊎◌}
 use Rattle.std.specs.Prelude.{◌&&◌}
 use Rattle.std.proofs.lemmas.Bool.{and_parts}
-use Rattle.std.proofs.lemmas.List.{append-nil, take-append-le, drop-append-le}
+use Rattle.std.proofs.lemmas.List.{append-nil, append_cancel_right, take-append-le, drop-append-le, length-drop}
 use Rattle.volume_core.specs.declared.changes.Change.{Change}
 use Rattle.volume_core.specs.declared.media.Turn.{Turn}
 use Rattle.volume_core.specs.declared.media.Turn.TheVariants.{Idle, Stored, Device}
@@ -40,6 +40,7 @@ looked_same medium =
       unread = refl;
       failed = λ failed. refl;
       parked = λ parked. refl;
+      idle = λ works same. refl;
       torn = λ works failed. not_both medium.failed works failed;
     }
 
@@ -99,6 +100,10 @@ looked_more old new change looked =
       unread = looked.unread;
       failed = λ failed. ap (λ (m : MediumState). with_more m change) (looked.failed failed);
       parked = λ parked. ap (λ (m : MediumState). with_more m change) (looked.parked parked);
+      idle =
+          λ works same.
+          ap (λ (m : MediumState). with_more m change)
+          (looked.idle works (append_cancel_right new.pending old.pending (change ∷ []) same));
       torn = λ works failed. more_torn new change (looked.torn works failed);
     }
 
@@ -181,9 +186,31 @@ looked_turn old new turn new' looked awake turns stores read read' =
           λ failed. told.same (ap (λ (m : MediumState). m.failed) (looked.failed failed) ∙ failed)
           ∙ looked.failed failed;
       parked = λ parked. not_both new.awake (looked.awake ∙ parked) awake;
+      idle = λ works same. by_turn turn turns works same;
       torn = λ works failed. by_before works (told.same) (told.torn) failed new.failed refl;
     }
   where
+    by_turn : (turn : Turn) → Turns new turn new' → new'.failed ≡ false → new'.pending ≡ old.pending → new' ≡ old
+    by_turn Idle turns works same =
+        let still = turns.1 in
+        still
+        ∙ looked.idle (sym (ap (λ (m : MediumState). m.failed) still) ∙ works)
+        (sym (ap (λ (m : MediumState). m.pending) still) ∙ same)
+    by_turn (Stored n) turns works same =
+        let none : old.pending ≡ [] = sym same ∙ turns.3 in
+        let none_left : new.pending ≡ drop looked.stores.count ([] ++ []) =
+        looked.stores.pending ∙ ap (λ (l : List Change). drop looked.stores.count (l ++ [])) none in
+        absurd (
+        omega (
+          arith,
+          turns.1,
+          turns.2,
+          ap length none_left,
+          length-drop {A = Change} looked.stores.count ([] ++ []),
+        )
+        )
+    by_turn Device turns works same = not_both new'.failed works turns.2.broken
+
     by_before : old.failed ≡ false → (new.failed ≡ true → new' ≡ new)
         → (new.failed ≡ false → new'.failed ≡ true → IsTorn new') → new'.failed ≡ true
         → (b : Bool) → new.failed ≡ b → IsTorn new'

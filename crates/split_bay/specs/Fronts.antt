@@ -1,5 +1,5 @@
 -- What contracts see of the hosts' half of a bay.
-use Rattle.std.specs.Prelude.{◌≡◌, [], Option, None, Some}
+use Rattle.std.specs.Prelude.{◌≡◌, ℕ, [], length, Option, None, Some}
 use Rattle.tape_disk.specs.Disk.{DiskState, Each}
 use Rattle.tape_disk.specs.Moments.{LeavesOnly}
 use Rattle.scsi_sense.specs.declared.replies.Reply.{Reply}
@@ -38,6 +38,11 @@ end_in Empty None = record { number = 0; sent = [] }
 -- the end of the ring of a hosts' half (own)
 abbrev pub end_of : {D : Type 0} → FrontState D → SendingState
 end_of front = end_in front.drive.bay front.end
+
+-- how many changes are pending of a medium, as hosts see it; without a medium none (own)
+abbrev pub pending_of : Option SendingState → ℕ
+pending_of None = 0
+pending_of (Some near) = length (state_near near).pending
 
 module _ {D : Type 0} (state : D → DiskState) where
   -- what the type of a hosts' half keeps of the reservations and their store (own)

@@ -3,6 +3,7 @@ pub mod Spans
 pub mod Rings
 pub mod Nears
 pub mod Looks
+pub mod Found
 pub mod Backs
 pub mod Taken
 pub mod Untold

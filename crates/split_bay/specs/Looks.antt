@@ -14,7 +14,8 @@ pub record IsTorn (new : MediumState) : Type 0 where
   pub torn : new.pending ≡ new.torn ++ rest
 
 -- A medium that hosts see so is found so: a first part of what was pending is stored, and the volume is the same. Or
--- its device has failed while something was stored. One that has failed, and one that is not awake, is as it was (own).
+-- its device has failed while something was stored. One that has failed, or is not awake, is as it was; so is one that
+-- works and of which nothing was stored (own).
 pub record Looked (old new : MediumState) : Type 0 where
   pub stores : Stores old [] new
   pub volume : volume_of new ≡ volume_of old
@@ -22,6 +23,7 @@ pub record Looked (old new : MediumState) : Type 0 where
   pub unread : new.unread ≡ old.unread
   pub failed : old.failed ≡ true → new ≡ old
   pub parked : old.awake ≡ false → new ≡ old
+  pub idle : new.failed ≡ false → new.pending ≡ old.pending → new ≡ old
   pub torn : old.failed ≡ false → new.failed ≡ true → IsTorn new
 
 -- the same of what is in a drive: it is there still, loaded or not as before (own)

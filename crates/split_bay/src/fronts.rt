@@ -4,9 +4,9 @@ ghost use Rattle.aptpl_store.specs.Kept.{store_below, store_kept};
 ghost use Rattle.drive_core.specs.declared.bays.Bay.TheVariants as Bays;
 ghost use Rattle.drive_core.specs.Alone.{AnswersAlone};
 ghost use Rattle.drive_core.specs.Execute.{asked};
-ghost use Rattle.drive_core.specs.State.{has_failed_in, machine_of};
+ghost use Rattle.drive_core.specs.State.{has_failed_in, machine_of, medium_in};
 ghost use Rattle.drive_core.specs.Synchronize.{Acknowledges, IsSynchronizing};
-ghost use Rattle.split_bay.specs.Fronts.{GivesOrders, KeepsHostsHalf, LeavesOrders, end_of};
+ghost use Rattle.split_bay.specs.Fronts.{GivesOrders, KeepsHostsHalf, LeavesOrders, end_of, pending_of};
 ghost use Rattle.split_bay.specs.Nears.{alone_near, near_below, state_near};
 ghost use Rattle.split_bay.specs.Rings.{AreEnds};
 ghost use Rattle.split_bay.specs.Spans.{KeepsLimits, span_of};
@@ -102,6 +102,18 @@ impl<D: Disk, R: Rings> Front<D, R> {
         ensures { result ≡ has_failed_in state_near self.now.drive.bay }
     {
         self.drive.has_failed()
+    }
+
+    /// How many changes are pending, as hosts see it: those that were when both halves were last held, and all that
+    /// were accepted since. A turn may have stored some of them. Without a cartridge there are none.
+    pub fn pending(&self) -> usize
+        ensures { result ≡ pending_of (medium_in self.now.drive.bay) }
+    {
+        match self.drive.medium() {
+            Some(Hosts::Apart(near)) => near.pending(),
+            None => 0,
+            _ => unreachable!(),
+        }
     }
 
     /// What keeps its reservations, to be looked at.

@@ -1,6 +1,7 @@
-//! A law of the hosts' half of a bay.
+//! Laws of the halves of a bay.
 ghost use Rattle.aptpl_store.specs.Kept.{store_below, store_kept};
 ghost use Rattle.drive_core.specs.Told.{RepliesTellChanges};
+ghost use Rattle.split_bay.specs.Found.{FoundAsItWas, FoundIsTurned};
 ghost use Rattle.split_bay.specs.Nears.{near_below, state_near};
 
 use crate::ends::Rings;
@@ -18,3 +19,10 @@ pub fn replies_tell_changes_alone<D: Disk, R: Rings>()
 {
     replies_tell_changes::<Hosts<Near<R>, Cataloged<D>>, AptplStore<D>>();
 }
+
+/// Where both halves are held, the drive is in the state that a flusher's turn of the whole drive leaves, taken before
+/// its last changes were accepted. With no medium, or with an unloaded one that is not awake, all is as it was.
+pub fn what_is_found_is_turned()
+    ensures loaded { FoundIsTurned }
+    ensures other { FoundAsItWas }
+{}

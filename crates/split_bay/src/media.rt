@@ -135,7 +135,6 @@ impl<R: Rings> Near<R> {
 
     /// How many changes are pending.
     pub fn pending(&self) -> usize
-        requires { (state_near self.now).awake ≡ true }
         ensures { result ≡ length (state_near self.now).pending }
     {
         self.waiting

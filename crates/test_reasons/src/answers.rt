@@ -136,6 +136,22 @@ fn answers_are_passed_on(rt: HostRuntime) -> Result<(), Fail> {
     Ok(())
 }
 
+// Of a write that takes only the first answer, which is GOOD, nothing has a meaning yet.
+#[test]
+fn what_is_not_taken_has_no_meaning(rt: HostRuntime) -> Result<(), Fail> {
+    let lines = lines_read(rt.alloc(), true);
+    let (mut output, mut errors) = (Vec::new(rt.alloc()), Vec::new(rt.alloc()));
+    let below = Few {
+        output: &mut output,
+        most: 5,
+    };
+    let mut writer = AnswerWriter::new(below, &mut errors, rt.alloc(), &lines);
+    let count = writer.write(ANSWERS.as_bytes())?;
+    drop(writer);
+    assert_equal!(rt; (count, errors.len()), (5, 0));
+    Ok(())
+}
+
 #[test]
 fn none_is_written_unasked(rt: HostRuntime) -> Result<(), Fail> {
     let meanings = meanings_of(rt.alloc(), false, ANSWERS.as_bytes())?;

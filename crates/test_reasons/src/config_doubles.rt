@@ -9,37 +9,37 @@ static DOUBLES: &'static [Row] = &[
         b"[[drive]]\nnumber = 1\nreservations = \"a.2\"\n[[drive]]\nnumber = 2\nreservations = \"a\"\n\
         [[cartridge]]\nbarcode = \"A\"\nfile = \"a\"\ncapacities = [4096]\nhome = 1001\n",
         "refused: file is 'a'\n\
-        where: a.toml, cartridge entry 1, A\n\
-        allowed: a name that no entry before has, also with .2 behind it; drive entry 1 has this one\n\
+        where: cartridge entry 1, A, in a.toml\n\
+        allowed: a name that no entry before has, also with .2 behind it; drive entry 1 has one of them\n\
         to do: change one of the two\n",
     ),
     (
         b"[[drive]]\nnumber = 1\nreservations = \"r\"\n[[drive]]\nnumber = 2\nreservations = \"s.2\"\n\
         [[cartridge]]\nbarcode = \"A\"\nfile = \"s\"\ncapacities = [4096]\nhome = 1001\n",
         "refused: file is 's'\n\
-        where: a.toml, cartridge entry 1, A\n\
-        allowed: a name that no entry before has, also with .2 behind it; drive entry 2 has this one\n\
+        where: cartridge entry 1, A, in a.toml\n\
+        allowed: a name that no entry before has, also with .2 behind it; drive entry 2 has one of them\n\
         to do: change one of the two\n",
     ),
     (
         b"[[cartridge]]\nbarcode = \"A\"\nfile = \"b.2\"\ncapacities = [4096]\nhome = 1001\n\
         [[cartridge]]\nbarcode = \"B\"\nfile = \"b\"\ncapacities = [4096]\nhome = 1002\n",
         "refused: file is 'b'\n\
-        where: a.toml, cartridge entry 2, B\n\
-        allowed: a name that no entry before has, also with .2 behind it; cartridge entry 1, A has this one\n\
+        where: cartridge entry 2, B, in a.toml\n\
+        allowed: a name that no entry before has, also with .2 behind it; cartridge entry 1, A has one of them\n\
         to do: change one of the two\n",
     ),
     (
         b"[[drive]]\nnumber = 1\nreservations = \"r\"\n[[drive]]\nnumber = 1\nreservations = \"s\"\n",
         "refused: number is 1\n\
-        where: a.toml, drive entry 2\n\
+        where: drive entry 2, in a.toml\n\
         allowed: a value that no entry before has; drive entry 1 has this one\n\
         to do: change one of the two\n",
     ),
     (
         b"[[drive]]\nnumber = 1\nreservations = \"r\"\n[[drive]]\nnumber = 2\nreservations = \"r\"\n",
         "refused: reservations is 'r'\n\
-        where: a.toml, drive entry 2\n\
+        where: drive entry 2, in a.toml\n\
         allowed: a value that no entry before has; drive entry 1 has this one\n\
         to do: change one of the two\n",
     ),
@@ -47,8 +47,8 @@ static DOUBLES: &'static [Row] = &[
         b"[[drive]]\nnumber = 1\nreservations = \"a.2\"\n\
         [[cartridge]]\nbarcode = \"A\"\nfile = \"a\"\ncapacities = [4096]\nhome = 1001\n",
         "refused: file is 'a'\n\
-        where: a.toml, cartridge entry 1, A\n\
-        allowed: a name that no entry before has, also with .2 behind it; drive entry 1 has this one\n\
+        where: cartridge entry 1, A, in a.toml\n\
+        allowed: a name that no entry before has, also with .2 behind it; drive entry 1 has one of them\n\
         to do: change one of the two\n",
     ),
     (
@@ -56,15 +56,15 @@ static DOUBLES: &'static [Row] = &[
         [[cartridge]]\nbarcode = \"B\"\nfile = \"b\"\ncapacities = [4096]\nhome = 1002\n\
         [[cartridge]]\nbarcode = \"C\"\nfile = \"b.2\"\ncapacities = [4096]\nhome = 1003\n",
         "refused: file is 'b.2'\n\
-        where: a.toml, cartridge entry 3, C\n\
-        allowed: a name that no entry before has, also with .2 behind it; cartridge entry 2, B has this one\n\
+        where: cartridge entry 3, C, in a.toml\n\
+        allowed: a name that no entry before has, also with .2 behind it; cartridge entry 2, B has one of them\n\
         to do: change one of the two\n",
     ),
     (
         b"[[cartridge]]\nbarcode = \"A\"\nfile = \"a\"\ncapacities = [4096]\nhome = 1001\n\
         [[cartridge]]\nbarcode = \"A\"\nfile = \"b\"\ncapacities = [4096]\nhome = 1002\n",
         "refused: barcode is 'A'\n\
-        where: a.toml, cartridge entry 2, A\n\
+        where: cartridge entry 2, A, in a.toml\n\
         allowed: a value that no entry before has; cartridge entry 1, A has this one\n\
         to do: change one of the two\n",
     ),
@@ -72,7 +72,7 @@ static DOUBLES: &'static [Row] = &[
         b"[[cartridge]]\nbarcode = \"A\"\nfile = \"a\"\ncapacities = [4096]\nhome = 1001\n\
         [[cartridge]]\nbarcode = \"B\"\nfile = \"b\"\ncapacities = [4096]\nhome = 1001\n",
         "refused: home is 1001\n\
-        where: a.toml, cartridge entry 2, B\n\
+        where: cartridge entry 2, B, in a.toml\n\
         allowed: a value that no entry before has; cartridge entry 1, A has this one\n\
         to do: change one of the two\n",
     ),

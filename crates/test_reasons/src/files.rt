@@ -1,9 +1,7 @@
 //! Calls for files that failed, and the lines that say why, written by hand.
 use explanations::Explanation;
-use file_disk::{FailedCall, FileError, SystemCall};
 use file_reasons::{Answer, FileCall, FileReason, MemoryReason, Source, StoreReason};
 use std::alloc::{AllocError, Global};
-use std::io::{self, ErrorKind};
 use std::test::Fail;
 use test_assertions::assert_equal;
 
@@ -71,7 +69,7 @@ static ROWS: &'static [(FileCall, Answer, &'static str)] = &[
         Answer::Denied,
         "failed: read, of the file a.tape\n\
         answer: the system does not allow it\n\
-        to do: let this user read and write the file\n",
+        to do: let this user read the file\n",
     ),
     (
         FileCall::WriteAt,
@@ -100,6 +98,13 @@ static ROWS: &'static [(FileCall, Answer, &'static str)] = &[
         "failed: read at, of the file a.tape\n\
         answer: the system reported an error\n\
         to do: look at the device, and at what the system has logged of it\n",
+    ),
+    (
+        FileCall::Open,
+        Answer::Other(Some(24)),
+        "failed: open, of the file a.tape\n\
+        answer: Too many open files (os error 24)\n\
+        to do: raise the limit on the files that a process may have open\n",
     ),
     (
         FileCall::Make,
@@ -170,6 +175,15 @@ static STREAMS: &'static [(bool, FileCall, Answer, &'static str)] = &[
         answer: the program that read it has ended\n\
         to do: let the program that reads it run to the end\n",
     ),
+    // a stream that was not open when the program was started: EBADF of Linux
+    (
+        true,
+        FileCall::Read,
+        Answer::Other(Some(9)),
+        "failed: read, of standard input\n\
+        answer: Bad file descriptor (os error 9)\n\
+        to do: start the program with this stream open\n",
+    ),
 ];
 
 #[test]
@@ -183,54 +197,6 @@ fn streams_by_name(rt: HostRuntime) -> Result<(), Fail> {
         let mut lines = Explanation::new(rt.alloc());
         FileReason::new(rt.alloc(), source, call, answer).add_to(rt.alloc(), &mut lines)?;
         assert_equal!(rt; lines.as_str(), wanted; call);
-    }
-    Ok(())
-}
-
-// Each call of the system for a file, and its name.
-static CALLS: &'static [(SystemCall, &'static str)] = &[
-    (SystemCall::Look, "look at"),
-    (SystemCall::Open, "open"),
-    (SystemCall::Renumber, "open"),
-    (SystemCall::Lock, "lock"),
-    (SystemCall::ReadAt, "read at"),
-    (SystemCall::WriteAt, "write at"),
-    (SystemCall::Cut, "cut"),
-    (SystemCall::Sync, "sync"),
-    (SystemCall::SyncFolder, "sync of the folder"),
-];
-
-#[test]
-fn each_call_of_the_system(rt: HostRuntime) -> Result<(), Fail> {
-    for &(call, name) in CALLS {
-        let failed = FailedCall {
-            call,
-            kind: ErrorKind::StorageFull,
-            number: Some(28),
-        };
-        let file = String::from_str(rt.alloc(), "a.tape")?;
-        let reason = FileReason::of_call(rt.alloc(), file, failed);
-        assert_equal!(rt; (reason.call.name(), reason.answer), (name, Answer::NoRoom); name);
-        let file = String::from_str(rt.alloc(), "a.tape")?;
-        let error = FileError::Device(failed);
-        let reason = FileReason::of_file(rt.alloc(), file, FileCall::Make, error);
-        assert_equal!(rt; (reason.call.name(), reason.answer), (name, Answer::NoRoom); name);
-    }
-    Ok(())
-}
-
-// The call that decided why a file was not made.
-#[test]
-fn a_file_in_use_is_not_locked(rt: HostRuntime) -> Result<(), Fail> {
-    for (error, call) in [
-        (FileError::InUse, FileCall::Lock),
-        (FileError::Missing, FileCall::Make),
-        (FileError::NotAFile, FileCall::Make),
-        (FileError::Exists, FileCall::Make),
-    ] {
-        let file = String::from_str(rt.alloc(), "a.tape")?;
-        let reason = FileReason::of_file(rt.alloc(), file, FileCall::Make, error);
-        assert_equal!(rt; reason.call, call);
     }
     Ok(())
 }
@@ -270,29 +236,4 @@ fn each_call_and_each_answer(rt: HostRuntime) -> Result<(), Fail> {
         assert_equal!(rt; lines_of(rt.alloc(), call, answer)?.as_str(), wanted; call);
     }
     Ok(())
-}
-
-#[test]
-fn the_answer_of_each_error(rt: HostRuntime) {
-    assert_equal!(rt; Answer::of_file(FileError::Exists), Answer::Exists);
-    assert_equal!(rt; Answer::of_file(FileError::Missing), Answer::Missing);
-    assert_equal!(rt; Answer::of_file(FileError::NotAFile), Answer::NotAFile);
-    assert_equal!(rt; Answer::of_file(FileError::InUse), Answer::InUse);
-    // ENOENT, EACCES, ENOTDIR, EISDIR, ENOSPC, EROFS, ENAMETOOLONG, ELOOP, EDQUOT, EFBIG, EPIPE and EIO of Linux
-    for (number, wanted) in [
-        (2, Answer::Missing),
-        (13, Answer::Denied),
-        (20, Answer::BadName),
-        (21, Answer::NotAFile),
-        (28, Answer::NoRoom),
-        (30, Answer::ReadOnly),
-        (36, Answer::BadName),
-        (40, Answer::BadName),
-        (122, Answer::NoRoom),
-        (27, Answer::TooLarge),
-        (32, Answer::NoReader),
-        (5, Answer::Other(Some(5))),
-    ] {
-        assert_equal!(rt; Answer::of_error(&io::Error::from_raw_os_error(number)), wanted; number);
-    }
 }

@@ -14,6 +14,8 @@ mod configs;
 #[cfg(test)]
 mod damages;
 #[cfg(test)]
+mod file_answers;
+#[cfg(test)]
 mod files;
 #[cfg(test)]
 mod frames;

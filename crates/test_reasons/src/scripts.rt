@@ -44,7 +44,9 @@ static COMMANDS: &'static [Row] = &[
     (b"65 1 00", "HOST is 65", 1, HOSTS),
     (b"  x 1 00", "HOST is x", 3, HOSTS),
     (b"000001 1 00", "HOST is 000001", 1, HOSTS),
-    (b"-- 1", "HOST is --", 1, HOSTS),
+    (b"-- 1", "a field too many, 1", 4, LINE),
+    (b" --  # the end", "a field too many, #", 6, LINE),
+    (b"--- 1", "HOST is ---", 1, HOSTS),
     (b"Move 1 2", "HOST is Move", 1, HOSTS),
     (b"1 7 00", "DRIVE is 7", 3, DRIVES),
     (b"1 0 00", "DRIVE is 0", 3, DRIVES),
@@ -58,7 +60,10 @@ static COMMANDS: &'static [Row] = &[
         5,
         DIGITS,
     ),
-    (b"1 1 0x", "no hexadecimal digits, 0x", 5, DIGITS),
+    // what is shown begins at the first byte that is no digit
+    (b"1 1 0x", "no hexadecimal digits, x", 6, DIGITS),
+    (b"1 1 1000O0100", "no hexadecimal digits, O0100", 9, DIGITS),
+    (b"1 1 00 0a g0", "a field too many, g0", 11, LINE),
     (
         b"1 1 00 f",
         "an odd number of hexadecimal digits, f",
@@ -101,6 +106,12 @@ static COMMANDS: &'static [Row] = &[
         &[b'1', b' ', b'1', b' ', 0xe9],
         "no hexadecimal digits, no text",
         5,
+        DIGITS,
+    ),
+    (
+        &[b'1', b' ', b'1', b' ', b'0', b'0', b' ', b'a', 0xe9, b'0'],
+        "no hexadecimal digits, no text",
+        9,
         DIGITS,
     ),
 ];
@@ -149,6 +160,22 @@ fn each_fault_of_a_move(rt: HostRuntime) -> Result<(), Fail> {
         let wanted = wanted_of(rt.alloc(), row)?;
         assert_equal!(rt; lines_of(rt.alloc(), row.0)?.as_str(), wanted.as_str());
     }
+    Ok(())
+}
+
+// Data that are longer than a line of an explanation, of which a byte far behind is no digit.
+#[test]
+fn a_byte_that_is_far_behind_is_shown(rt: HostRuntime) -> Result<(), Fail> {
+    let mut line = Vec::from_slice(rt.alloc(), b"1 1 00 ")?;
+    for _ in 0..500 {
+        line.push(b'a')?;
+    }
+    line.push(b'g')?;
+    line.push(b'0')?;
+    let row = "refused: no hexadecimal digits, g0\nwhere: line 17 of the script, column 508\n\
+        allowed: two hexadecimal digits for each byte\n\
+        to do: correct the line; the phases before its own were carried out\n";
+    assert_equal!(rt; lines_of(rt.alloc(), line.as_slice())?.as_str(), row);
     Ok(())
 }
 

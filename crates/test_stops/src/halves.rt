@@ -77,6 +77,14 @@ impl<D: Disk + Drop, R: Rings> Parted<D, R> {
         }
     }
 
+    /// How many changes are pending, as the hosts' half says.
+    pub fn pending(&self) -> Option<usize> {
+        match &self.front {
+            Some(front) => Some(front.pending()),
+            None => None,
+        }
+    }
+
     // A fault of the disk's half is reported to the hosts' half.
     fn report(&mut self) -> bool {
         match self.take_both() {

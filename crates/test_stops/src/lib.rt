@@ -22,6 +22,8 @@ mod late_tests;
 #[cfg(test)]
 mod long_disks;
 #[cfg(test)]
+mod pending_tests;
+#[cfg(test)]
 mod samples;
 #[cfg(test)]
 mod stop_tables;

@@ -11,11 +11,11 @@ use test_assertions::{assert_equal, assert_holds};
 use vtl_base::{Barcode, Bytes, Nexus};
 use vtl_wire::{Answer, Entries, Entry, WireFault, write_answer};
 
-// An answer, and its frame.
+/// An answer, and its frame.
 #[derive(Drop)]
-struct Row {
-    answer: Answer,
-    frame: &'static str,
+pub struct Row {
+    pub answer: Answer,
+    pub frame: &'static str,
 }
 
 fn to_command(number: u8, reply: Reply, tag: u32, frame: &'static str) -> Result<Row, Fail> {
@@ -90,7 +90,8 @@ fn to_moves(alloc: Global, rows: &mut Vec<Row>) -> Result<(), Fail> {
     Ok(())
 }
 
-fn rows(alloc: Global) -> Result<Vec<Row>, Fail> {
+/// Each kind of answer.
+pub fn rows(alloc: Global) -> Result<Vec<Row>, Fail> {
     let mut rows = Vec::new(alloc);
     to_commands(alloc, &mut rows)?;
     to_moves(alloc, &mut rows)?;
@@ -98,8 +99,8 @@ fn rows(alloc: Global) -> Result<Vec<Row>, Fail> {
     Ok(rows)
 }
 
-// Writes an answer, which a frame holds.
-fn write_fitting(writer: &mut PipeWriter, answer: &Answer) -> Result<(), WireFault> {
+/// Writes an answer, which a frame holds.
+pub fn write_fitting(writer: &mut PipeWriter, answer: &Answer) -> Result<(), WireFault> {
     if answer.fits_frame() {
         write_answer(writer, answer)
     } else {

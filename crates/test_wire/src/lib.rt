@@ -2,6 +2,12 @@
 #![tactic(auto)]
 
 #[cfg(test)]
+mod answer_faults;
+#[cfg(test)]
+mod answer_readings;
+#[cfg(test)]
+mod answer_refusals;
+#[cfg(test)]
 mod answers;
 #[cfg(test)]
 mod asserted;
@@ -17,5 +23,7 @@ mod pipes;
 mod refusals;
 #[cfg(test)]
 mod requests;
+#[cfg(test)]
+mod sensed;
 #[cfg(test)]
 mod served;

@@ -1,4 +1,7 @@
 //! The thread of a host: its commands are taken from a ring, carried out, and answered into another.
+ghost use Rattle.std.specs.Prelude.{◌≡◌, ◌++◌, ◌∷◌, [], false};
+ghost use Rattle.rtrb.specs.Ring.{received};
+ghost use Rattle.vtl_wire.specs.declared.requests.Request.{Request};
 ghost use Rattle.vtl_hosts.specs.Inner.Hosts.{IsHostDone, IsHostTurn};
 
 use crate::bells::{Bells, HostBells};
@@ -36,7 +39,12 @@ fn answer_next<S: Host, R: Wait>(
     place: usize,
     host: &mut HostEnd<S>,
 ) -> Turn
-    ensures { IsHostTurn S.answers host.old result host.new }
+    ensures turn { IsHostTurn S.answers host.old result host.new }
+
+    // A command is dropped only where the host does not take it.
+    ensures stray { result ≡ Turn.Stray → (request : Request)
+        × (received host.new.requests ≡ received host.old.requests ++ request ∷ [])
+        × (S.is_taken host.new.server request ≡ false) }
 {
     let Ok(request) = host.requests.pop() else {
         return Turn::Empty;

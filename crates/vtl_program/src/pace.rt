@@ -6,13 +6,13 @@ use library::Gate;
 use std::thread;
 use std::time::{Clock, Duration};
 use volume_core::Turn;
-use vtl_base::limits::BUFFER_RECORDS;
+use vtl_base::limits::{BUFFER_BYTES, MAX_BLOCK};
 
-// A turn that stored this many changes stored much: half of what may be pending.
-const MUCH: usize = BUFFER_RECORDS / 2;
+// A turn that stored this many changes may have stored a full buffer: so many of the longest blocks fill it.
+const MUCH: usize = BUFFER_BYTES / MAX_BLOCK as usize;
 
 // How long a flusher rests where its turn stored less, in milliseconds.
-const REST: u64 = 10;
+const REST: u64 = 2;
 
 /// How many milliseconds a flusher rests after a turn: none after one that stored much, and none after one that stored
 /// nothing, since it then waits for a change.
@@ -26,7 +26,7 @@ pub fn rest_after(turn: Turn) -> u64
 }
 
 /// The gate of every flusher of the program. It is always open. After a turn that stored little the next begins no
-/// sooner than ten milliseconds later, so that changes gather meanwhile.
+/// sooner than two milliseconds later, so that changes gather meanwhile.
 #[derive(Clone, Copy)]
 pub struct Pace<'a, R> {
     /// The clock.

@@ -37,13 +37,13 @@ one_status Conflict Check e = absurd (omega (arith, e))
 one_status Conflict Conflict e = refl
 
 -- a byte that a barcode may have
-abbrev IsSymbol : ℕ → Type 0
+abbrev pub IsSymbol : ℕ → Type 0
 IsSymbol byte = IsTrue (is_symbol byte)
 
-no_space : IsTrue (is_symbol 32) → ⊥
+pub no_space : IsTrue (is_symbol 32) → ⊥
 no_space holds = absurd (cc)
 
-no_zero : IsTrue (is_symbol 0) → ⊥
+pub no_zero : IsTrue (is_symbol 0) → ⊥
 no_zero holds = absurd (cc)
 
 -- bytes with spaces behind them, among which is no space
@@ -83,7 +83,7 @@ one_number : (n m : ℕ) → n < 2 ^ 32 → m < 2 ^ 32 → to_be_bytes w32 n ≡
 one_number n m fits fits' same =
     sym (from_be_bytes-to_be_bytes_4 n fits) ∙ ap (from_be_bytes w32) same ∙ from_be_bytes-to_be_bytes_4 m fits'
 
-one_entry : (a b : Entry) (x y : List ℕ) → IsEntry a → IsEntry b → spell_entry a ++ x ≡ spell_entry b ++ y
+pub one_entry : (a b : Entry) (x y : List ℕ) → IsEntry a → IsEntry b → spell_entry a ++ x ≡ spell_entry b ++ y
     → (a ≡ b) × (x ≡ y)
 one_entry a b x y is is' same =
     let first = to_be_bytes w32 a.address in
@@ -106,7 +106,7 @@ one_entry a b x y is is' same =
       sym (drop_at name x 16 long) ∙ ap (drop 16) behind ∙ drop_at name' y 16 long',
     )
 
-no_entries : (b : Entry) (rest : List ℕ) → [] ≡ spell_entry b ++ rest → ⊥
+pub no_entries : (b : Entry) (rest : List ℕ) → [] ≡ spell_entry b ++ rest → ⊥
 no_entries b rest same = absurd (cc)
 
 one_entries : (a b : List Entry) → All IsEntry a → All IsEntry b

@@ -1,5 +1,10 @@
+pub mod AnswerHeadLemmas
 pub mod AnswerLemmas
+pub mod AnswerReadLemmas
+pub mod BeginLemmas
+pub mod BehindLemmas
 pub mod EntryLemmas
+pub mod EntryReadLemmas
 pub mod FillLemmas
 pub mod FrameLemmas
 pub mod HeadLemmas
@@ -7,6 +12,9 @@ pub mod HeaderLemmas
 pub mod LawLemmas
 pub mod ReaderLemmas
 pub mod RequestLemmas
+pub mod RequestReadLemmas
 pub mod SenseLemmas
+pub mod SenseReadLemmas
 pub mod ServeLemmas
+pub mod TestLemmas
 pub mod WriteLemmas

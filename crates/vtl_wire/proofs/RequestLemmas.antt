@@ -19,9 +19,10 @@ use Rattle.vtl_wire.specs.Frames.{IsHeader, header_of, spell_header}
 use Rattle.vtl_wire.specs.Requests.{BeginsWithRequest, IsRequest, frame_of_request, spell_request}
 use Rattle.vtl_wire.specs.Inner.Headers.{frame_with}
 use Rattle.vtl_wire.specs.Inner.Requested.{request_head}
-use Rattle.vtl_wire.proofs.FrameLemmas.{frame_long, header_first, length-header, one_frame}
+use Rattle.vtl_wire.proofs.BeginLemmas.{header_there}
+use Rattle.vtl_wire.proofs.FrameLemmas.{one_frame}
 use Rattle.vtl_wire.proofs.HeadLemmas.{Says, head_says}
-use Rattle.vtl_wire.proofs.HeaderLemmas.{AreBytes, bytes_behind, four_first, one_header}
+use Rattle.vtl_wire.proofs.HeaderLemmas.{AreBytes, bytes_behind, four_first}
 
 -- a request without what is behind its header
 abbrev pub head_of : Request → RequestHead
@@ -76,7 +77,7 @@ eight_bytes front long fits =
     ∙ ap (λ (l : List ℕ). take 4 front ++ l) (take_all 4 (drop 4 front) (omega (arith, long, length-drop 4 front)))
     ∙ take-append-drop 4 front
 
-number_fits : (bytes : List ℕ) → AreBytes bytes → big_number 4 bytes < 2 ^ 32
+pub number_fits : (bytes : List ℕ) → AreBytes bytes → big_number 4 bytes < 2 ^ 32
 number_fits bytes fits = omega (arith, fits 0, fits 1, fits 2, fits 3)
 
 -- the request of a head with these behind its header
@@ -150,58 +151,13 @@ module _ (header : Header) (front payload : List ℕ) (fits : IsHeader header)
       → IsRequestOf header front payload (request_with head front payload)
   request_of_head head is = of_kind header.kind refl head (head_says header.kind header head is)
 
--- sixteen bytes that are no header begin with no request
-pub none_begin : (read : List ℕ) → length read ≡ 16
-    → ((header : Header) → IsHeader header → read ≡ spell_header header → ⊥)
-    → (more : List ℕ) → BeginsWithRequest (read ++ more) → ⊥
-none_begin read long never more w =
-    let first = header_first read more (frame_of_request w.0) w.1 long w.3 in
-    never (header_of (frame_of_request w.0)) (request_numbers w.0 w.2) first.0
-
--- the header of a request that begins these bytes is the one that stands there
-pub header_there : (header : Header) (more : List ℕ) → IsHeader header
-    → (w : BeginsWithRequest (spell_header header ++ more))
-    → (header ≡ header_of (frame_of_request w.0))
-    × (more ≡ (frame_of_request w.0).front ++ ((frame_of_request w.0).payload ++ w.1))
-header_there header more fits w =
-    let first = header_first (spell_header header) more (frame_of_request w.0) w.1 (length-header header) w.3 in (
-      one_header header (header_of (frame_of_request w.0)) fits (request_numbers w.0 w.2) first.0,
-      first.1,
-    )
-
 -- the header of no request begins with none
 pub no_head_begins : (header : Header) → IsHeader header → request_head header ≡ None
     → (more : List ℕ) → BeginsWithRequest (spell_header header ++ more) → ⊥
 no_head_begins header fits none more w =
-    let e : None ≡ Some (head_of w.0) = sym none ∙ ap request_head (header_there header more fits w).0
+    let e : None ≡ Some (head_of w.0) = sym none
+    ∙ ap request_head (header_there IsRequest frame_of_request request_numbers header more fits w).0
     ∙ head_again w.0 w.2 in cc
-
--- less than a header counts begins with no request
-pub cut_begins : (header : Header) (part : List ℕ) → IsHeader header
-    → length part < header.front + header.payload → BeginsWithRequest (spell_header header ++ part) → ⊥
-cut_begins header part fits short w =
-    let there = header_there header part fits w in
-    let frame = frame_of_request w.0 in
-    omega (
-      arith,
-      short,
-      ap (λ (h : Header). h.front) there.0,
-      ap (λ (h : Header). h.payload) there.0,
-      ap length there.1,
-      length-append frame.front (frame.payload ++ w.1),
-      length-append frame.payload w.1,
-    )
-
--- less than a header begins with no request
-pub short_begins : (read : List ℕ) → length read < 16 → BeginsWithRequest read → ⊥
-short_begins read short w =
-    omega (
-      arith,
-      short,
-      ap length w.3,
-      length-append (spell_request w.0) w.1,
-      frame_long (frame_of_request w.0),
-    )
 
 -- a request with its head is told by its frame
 pub request_again : (request : Request) → IsRequest request

@@ -28,7 +28,7 @@ key_again BlankCheck = refl
 key_again AbortedCommand = refl
 key_again VolumeOverflow = refl
 
-key_small : (key : SenseKey) → key_number key < 16
+pub key_small : (key : SenseKey) → key_number key < 16
 key_small NoSense = omega arith
 key_small NotReady = omega arith
 key_small MediumError = omega arith
@@ -40,7 +40,7 @@ key_small AbortedCommand = omega arith
 key_small VolumeOverflow = omega arith
 
 -- a bit as a number
-bit : Bool → ℕ
+unfoldable pub bit : Bool → ℕ
 bit false = 0
 bit true = 1
 
@@ -51,7 +51,7 @@ bit_again false true e = absurd (omega (arith, e))
 bit_again true false e = absurd (omega (arith, e))
 bit_again true true e = refl
 
-bit_small : (a : Bool) → bit a ≤ 1
+pub bit_small : (a : Bool) → bit a ≤ 1
 unfolding bit
 bit_small false = omega arith
 bit_small true = omega arith
@@ -77,11 +77,12 @@ response_bits false = refl
 response_bits true = refl
 
 -- the first byte tells whether it is deferred, and whether there is information
-response_is : (sense : Sense) → response_byte sense ≡ 0x70 + bit sense.deferred + 128 * bit (is_some sense.information)
+pub response_is : (sense : Sense)
+    → response_byte sense ≡ 0x70 + bit sense.deferred + 128 * bit (is_some sense.information)
 response_is sense =
     (λ i. response_bits sense.deferred i + bit_high (is_some sense.information) i)
 
-key_is : (sense : Sense) → key_byte sense
+pub key_is : (sense : Sense) → key_byte sense
     ≡ 128 * bit sense.filemark + 64 * bit sense.end_of_medium + 32 * bit sense.incorrect_length + key_number sense.key
 key_is sense = λ i. bit_high sense.filemark i + bit_next sense.end_of_medium i + bit_third sense.incorrect_length i
     + key_number sense.key

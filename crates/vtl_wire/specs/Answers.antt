@@ -16,6 +16,7 @@ use Rattle.vtl_wire.specs.declared.answers.Answer.{Answer}
 use Rattle.vtl_wire.specs.declared.answers.Answer.TheVariants.{Command, Move, Inventory}
 use Rattle.vtl_wire.specs.declared.answers.Entry.{Entry}
 use Rattle.vtl_wire.specs.Frames.{Frame, spell_frame}
+use Rattle.vtl_wire.specs.Grammars.{BeginsWith, Grammar, IsFrameRefused, SpellsFrames}
 
 -- the sense data of an answer, 18 bytes where it has some (own)
 abbrev pub sense_front : Option Sense → List ℕ
@@ -90,3 +91,19 @@ HasNumbers (Inventory entries tag) = All IsEntry entries × (tag < 2 ^ 32)
 -- an answer that has a spelling (own)
 abbrev pub IsAnswer : Answer → Type 0
 IsAnswer answer = FitsAnswer answer × HasNumbers answer
+
+-- the frames that a front end reads (own)
+abbrev pub answer_frames : Grammar Answer
+answer_frames = record { has = IsAnswer; spell = spell_answer }
+
+-- the bytes spell these answers, in this order, and nothing more (own)
+abbrev pub SpellsAnswers : List ℕ → List Answer → Type 0
+SpellsAnswers bytes answers = SpellsFrames answer_frames bytes answers
+
+-- the bytes begin with the spelling of some answer (own)
+abbrev pub BeginsWithAnswer : List ℕ → Type 0
+BeginsWithAnswer bytes = BeginsWith answer_frames bytes
+
+-- the frame of this number, from 1 on, is refused: before it stand answers, and it begins with none (own)
+abbrev pub IsAnswerRefusedAt : List ℕ → ℕ → Type 0
+IsAnswerRefusedAt bytes number = IsFrameRefused answer_frames bytes number

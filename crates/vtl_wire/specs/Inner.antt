@@ -1,4 +1,6 @@
+pub mod Answered
 pub mod Headers
 pub mod Reading
 pub mod Requested
+pub mod Sensed
 pub mod Served

@@ -1,5 +1,7 @@
+pub mod AnswerReads
 pub mod Answers
 pub mod Frames
+pub mod Grammars
 pub mod Inner
 pub mod Laws
 pub mod Reads

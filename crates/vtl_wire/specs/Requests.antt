@@ -1,6 +1,5 @@
 -- What a front end asks for, in bytes (own).
-use Rattle.std.specs.Prelude.{◌≡◌, ◌≢◌, ℕ, ◌≤◌, ◌<◌, ◌+◌, ◌^◌, List, [], ◌++◌, length, flat_map}
-use Rattle.std.specs.List.{All}
+use Rattle.std.specs.Prelude.{ℕ, ◌≤◌, ◌<◌, ◌^◌, List, [], ◌++◌, length, flat_map}
 use Rattle.std.specs.Int.{to_be_bytes, w32}
 use Rattle.vtl_base.specs.declared.limits.TheConstants.{NEXUSES, DRIVES}
 use Rattle.vtl_wire.specs.declared.frames.TheConstants.{MOST_CDB, MOST_DATA}
@@ -8,6 +7,7 @@ use Rattle.vtl_wire.specs.declared.frames.FrameKind.TheVariants as kinds
 use Rattle.vtl_wire.specs.declared.requests.Request.{Request}
 use Rattle.vtl_wire.specs.declared.requests.Request.TheVariants.{Command, Move, Inventory}
 use Rattle.vtl_wire.specs.Frames.{Frame, spell_frame}
+use Rattle.vtl_wire.specs.Grammars.{BeginsWith, Grammar, IsFrameRefused, SpellsFrames}
 
 -- the frame of a request: of a command the block and the data; of a move its two element addresses, 4 bytes each, the
 -- highest first; host and drive are 0 in a move and in an inventory (own)
@@ -55,22 +55,18 @@ spell_request request = spell_frame (frame_of_request request)
 abbrev pub spell_requests : List Request → List ℕ
 spell_requests requests = flat_map spell_request requests
 
+-- the frames that a front end writes (own)
+abbrev pub request_frames : Grammar Request
+request_frames = record { has = IsRequest; spell = spell_request }
+
 -- the bytes spell these requests, in this order, and nothing more (own)
 abbrev pub SpellsRequests : List ℕ → List Request → Type 0
-SpellsRequests bytes requests = All IsRequest requests × (bytes ≡ spell_requests requests)
+SpellsRequests bytes requests = SpellsFrames request_frames bytes requests
 
 -- the bytes begin with the spelling of some request (own)
 abbrev pub BeginsWithRequest : List ℕ → Type 0
-BeginsWithRequest bytes =
-    (request : Request) × (rest : List ℕ) × IsRequest request × (bytes ≡ spell_request request ++ rest)
+BeginsWithRequest bytes = BeginsWith request_frames bytes
 
--- The frame of this number, from 1 on, is refused: the bytes begin with the spellings of the requests before it. What
--- is behind these is not nothing, and begins with no request's spelling (own).
-pub record IsRefusedAt (bytes : List ℕ) (number : ℕ) : Type 0 where
-  pub requests : List Request
-  pub rest : List ℕ
-  pub spelled : All IsRequest requests
-  pub begins : bytes ≡ spell_requests requests ++ rest
-  pub number_is : number ≡ length requests + 1
-  pub some : rest ≢ []
-  pub bad : BeginsWithRequest rest → ⊥
+-- the frame of this number, from 1 on, is refused: before it stand requests, and it begins with none (own)
+abbrev pub IsRefusedAt : List ℕ → ℕ → Type 0
+IsRefusedAt bytes number = IsFrameRefused request_frames bytes number

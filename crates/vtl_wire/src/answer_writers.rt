@@ -105,7 +105,7 @@ fn barcode_bytes(barcode: &Option<Barcode>) -> [u8; MAX_BARCODE]
 }
 
 // The 20 bytes of an entry.
-fn entry_bytes(entry: &Entry) -> [u8; ENTRY_BYTES]
+pub(crate) fn entry_bytes(entry: &Entry) -> [u8; ENTRY_BYTES]
     ensures { result ≡ spell_entry entry.now }
 {
     let mut bytes = [0; ENTRY_BYTES];

@@ -1,14 +1,17 @@
-//! Memory for the data of requests.
-ghost use Rattle.std.specs.Prelude.{◌≡◌, ◌≤◌, length, IfOk, IfErr};
+//! Memory for the data of frames.
+ghost use Rattle.std.specs.Prelude.{◌≡◌, ◌≤◌, ◌<◌, ◌+◌, ◌*◌, [], length, vec_len, vec_capacity, IfOk, IfErr, OnErr};
 ghost use Rattle.vtl_base.specs.declared.bytes.TheConstants.{INLINE_BYTES};
-ghost use Rattle.vtl_wire.specs.Inner.Requested.{MayStand};
+ghost use Rattle.vtl_wire.specs.declared.frames.TheConstants.{ENTRY_BYTES};
+ghost use Rattle.vtl_wire.specs.Inner.Answered.{MayStand};
 
+use crate::answers::Entry;
 use crate::faults::WireFault;
+use crate::frames::ENTRY_BYTES;
 use crate::headers::Header;
 use std::alloc::Global;
 use vtl_base::Bytes;
 
-// Where the data of requests get their memory. Whoever reads frames has this and no other: so memory is taken only for
+// Where the data of frames get their memory. Whoever reads frames has this and no other: so memory is taken only for
 // the data of a header that was looked at, and as many bytes as it counts.
 #[derive(Drop)]
 pub(crate) struct Memory {
@@ -32,7 +35,7 @@ impl Memory {
         }
     }
 
-    // Room for the data that this header counts, which some request may have.
+    // Room for the data that this header counts, which some request or answer may have.
     pub(crate) fn room(&self, header: Header) -> Result<Vec<u8>, WireFault>
         requires { MayStand header }
         ensures room { IfOk result (λ room. length room.items ≡ header.payload) }
@@ -41,6 +44,20 @@ impl Memory {
         let count = header.payload as usize;
         let mut room = Vec::with_capacity(self.alloc, count)?;
         room.resize(count, 0)?;
+        Ok(room)
+    }
+
+    // Room for the entries that this header counts, which some request or answer may have.
+    pub(crate) fn entries(&self, header: Header) -> Result<Vec<Entry>, WireFault>
+        requires { MayStand header }
+        ensures none { IfOk result (λ room. (room.items ≡ []) × (vec_len room ≡ 0)) }
+        ensures room { IfOk result (λ room. header.payload < ENTRY_BYTES * vec_capacity room + ENTRY_BYTES) }
+        ensures most { IfOk result (λ room. ENTRY_BYTES * vec_capacity room ≤ header.payload) }
+        ensures some { OnErr result (ENTRY_BYTES ≤ header.payload) }
+        ensures fault { IfErr result (λ fault. fault ≡ WireFault.NoMemory) }
+    {
+        let count = header.payload as usize / ENTRY_BYTES;
+        let room = Vec::with_capacity(self.alloc, count)?;
         Ok(room)
     }
 }

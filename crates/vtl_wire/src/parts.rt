@@ -2,7 +2,7 @@
 ghost use Rattle.std.specs.Prelude.{◌≡◌, ◌≤◌, IfOk, IfErr};
 ghost use Rattle.vtl_base.specs.declared.bytes.TheConstants.{INLINE_BYTES};
 ghost use Rattle.vtl_wire.specs.Reads.{NotesFault};
-ghost use Rattle.vtl_wire.specs.Inner.Requested.{MayStand};
+ghost use Rattle.vtl_wire.specs.Inner.Answered.{MayStand};
 ghost use Rattle.vtl_wire.specs.Inner.Reading.{ReadsParts, MissesParts};
 
 use crate::faults::WireFault;

@@ -4,7 +4,7 @@ ghost use Rattle.std.specs.Io.KnownBytes.{Consumes, IsAtEnd};
 ghost use Rattle.vtl_base.specs.declared.bytes.TheConstants.{INLINE_BYTES};
 ghost use Rattle.vtl_wire.specs.declared.frames.TheConstants.{HEADER_BYTES};
 ghost use Rattle.vtl_wire.specs.Reads.{NotesFault};
-ghost use Rattle.vtl_wire.specs.Inner.Requested.{MayStand};
+ghost use Rattle.vtl_wire.specs.Inner.Answered.{MayStand};
 ghost use Rattle.vtl_wire.specs.Inner.Reading.{count_given, ReadsWhole, ReadsBytes, MissesBytes, ReadsHeader, TakesFewer};
 
 use crate::faults::WireFault;

@@ -3,7 +3,7 @@ ghost use Rattle.std.specs.Prelude.{◌≡◌, ℕ, false, IfOk, IfErr, IfSome, 
 ghost use Rattle.vtl_base.specs.Steps.{ticked};
 ghost use Rattle.vtl_wire.specs.Requests.{IsRefusedAt, SpellsRequests};
 ghost use Rattle.vtl_wire.specs.Reads.{MissesRequest, MissesRequests, NotesFault, ReadsRequest, count_after};
-ghost use Rattle.vtl_wire.specs.Inner.Reading.{FindsRequest, MissesFrame};
+ghost use Rattle.vtl_wire.specs.Inner.Reading.{FindsRequest, FindsNoRequest};
 
 use crate::faults::WireFault;
 use crate::memory::Memory;
@@ -40,7 +40,7 @@ fn find_request<R: Read>(
     reader: &mut R,
 ) -> Result<Found<Request>, WireFault>
     ensures found { IfOk result (FindsRequest (R.remaining reader.old) (R.remaining reader.new)) }
-    ensures fault { IfErr result (MissesFrame (R.remaining reader.old) (R.remaining reader.new)) }
+    ensures fault { IfErr result (FindsNoRequest (R.remaining reader.old) (R.remaining reader.new)) }
     ensures same { IfOk result (λ _. reads.new ≡ reads.old) }
     ensures noted { IfErr result (NotesFault reads.old reads.new) }
 {

@@ -11,7 +11,9 @@ use Rattle.vtl_wire.specs.declared.reading.Found.{Found}
 use Rattle.vtl_wire.specs.declared.requests.Request.{Request}
 use Rattle.vtl_wire.specs.declared.reading.Found.TheVariants.{Ended, Frame, Refused}
 use Rattle.vtl_wire.specs.Frames.{IsHeader, spell_header}
-use Rattle.vtl_wire.specs.Reads.{LacksData, ReadsRequest, RefusesRequest, TakesSome}
+use Rattle.vtl_wire.specs.Grammars.{Grammar}
+use Rattle.vtl_wire.specs.Reads.{IsHeaderLong, LacksData, ReadsFrame, RefusesFrame, TakesPart}
+use Rattle.vtl_wire.specs.Requests.{request_frames}
 
 -- how many bytes a read gave: none where it failed or was interrupted (own)
 abbrev pub count_read : Result (Option ℕ) WireFault → ℕ
@@ -82,15 +84,25 @@ ReadsHeader left left' Ended = Consumes left left' [] × IsAtEnd left'
 ReadsHeader left left' Refused =
     (read : List ℕ) × Consumes left left' read × (read ≢ []) × AreNoHeader read left'
 
+-- a frame was read, or the input had ended, or the frame is refused (own)
+abbrev pub FindsFrame : {T : Type 0} → Grammar T → (List ℕ → Type 0) → Option (List ℕ) → Option (List ℕ)
+    → Found T → Type 0
+FindsFrame grammar IsLookedAt left left' (Frame frame) = ReadsFrame grammar left left' (Some frame)
+FindsFrame grammar IsLookedAt left left' Ended = ReadsFrame grammar left left' None
+FindsFrame grammar IsLookedAt left left' Refused = RefusesFrame grammar IsLookedAt left left'
+
+-- why no frame is found: a read failed before a whole one was read, or memory ran out (own)
+abbrev pub FindsNone : {T : Type 0} → Grammar T → (Option (List ℕ) → Option (List ℕ) → Type 0) → Option (List ℕ)
+    → Option (List ℕ) → WireFault → Type 0
+FindsNone grammar Lacks left left' (BadFrame number) = ⊥
+FindsNone grammar Lacks left left' ReadFault = TakesPart grammar left left'
+FindsNone grammar Lacks left left' WriteFault = ⊥
+FindsNone grammar Lacks left left' NoMemory = Lacks left left'
+
 -- a request was read, or the input had ended, or the frame is refused (own)
 abbrev pub FindsRequest : Option (List ℕ) → Option (List ℕ) → Found Request → Type 0
-FindsRequest left left' (Frame request) = ReadsRequest left left' (Some request)
-FindsRequest left left' Ended = ReadsRequest left left' None
-FindsRequest left left' Refused = RefusesRequest left left'
+FindsRequest left left' found = FindsFrame request_frames IsHeaderLong left left' found
 
--- why no frame is found: a read failed before a whole request was read, or memory ran out (own)
-abbrev pub MissesFrame : Option (List ℕ) → Option (List ℕ) → WireFault → Type 0
-MissesFrame left left' (BadFrame number) = ⊥
-MissesFrame left left' ReadFault = TakesSome left left'
-MissesFrame left left' WriteFault = ⊥
-MissesFrame left left' NoMemory = LacksData left left'
+-- why no request is found (own)
+abbrev pub FindsNoRequest : Option (List ℕ) → Option (List ℕ) → WireFault → Type 0
+FindsNoRequest left left' fault = FindsNone request_frames LacksData left left' fault

@@ -30,7 +30,3 @@ request_head_by kinds.Inventory header = if is_plain header 0 then Some (Invento
 -- the request of a header, where one may have it (own)
 abbrev pub request_head : Header → Option RequestHead
 request_head header = request_head_by header.kind header
-
--- some request may have this header (own)
-abbrev pub MayStand : Header → Type 0
-MayStand header = (head : RequestHead) × (request_head header ≡ Some head)

@@ -9,17 +9,17 @@ loop-init g c = served_none g.S.Host.answers c.args.host.now
 
 pub loop-preserved-in-Served : goal.loop-preserved-in-Served
 loop-preserved-in-Served g c =
-    served_on g.S.Host.answers c.args.host.now c.loop.host _ c.loop.invariant c.in-Served.ensures
+    served_on g.S.Host.answers c.args.host.now c.loop.host _ c.loop.invariant c.in-Served.ensures.turn
 
 pub returns-in-Stray : goal.returns-in-Stray
 returns-in-Stray g c =
-    done_on g.S.Host.answers c.args.host.now c.loop.host _ c.loop.invariant c.in-Stray.ensures
+    done_on g.S.Host.answers c.args.host.now c.loop.host _ c.loop.invariant c.in-Stray.ensures.turn
 
 pub returns-then-is_last : goal.returns-then-is_last
 returns-then-is_last g c =
     done_of g.S.Host.answers c.args.host.now _
-    (served_on g.S.Host.answers c.args.host.now c.loop.host _ c.loop.invariant c.in-Empty.ensures)
+    (served_on g.S.Host.answers c.args.host.now c.loop.host _ c.loop.invariant c.in-Empty.ensures.turn)
 
 pub loop-preserved : goal.loop-preserved
 loop-preserved g c =
-    served_on g.S.Host.answers c.args.host.now c.loop.host _ c.loop.invariant c.in-Empty.ensures
+    served_on g.S.Host.answers c.args.host.now c.loop.host _ c.loop.invariant c.in-Empty.ensures.turn

@@ -4,8 +4,8 @@ use Rattle.rtrb.specs.Ring.{sent}
 use Rattle.vtl_hosts.proofs.HostLemmas.{producer_same}
 use Rattle.vtl_hosts.proofs.hosts.answer_next.Goals as goal
 
-pub returns-then-not-takes : goal.returns-then-not-takes
-returns-then-not-takes g c =
+pub returns-then-not-takes-clause-turn : goal.returns-then-not-takes-clause-turn
+returns-then-not-takes-clause-turn g c =
     record {
       requests = [];
       stray = c.in-Ok.request ∷ [];

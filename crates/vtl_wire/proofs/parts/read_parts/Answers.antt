@@ -2,7 +2,7 @@ use Rattle.std.proofs.Common.{ℕ, ◌+◌, subst}
 use Rattle.std.proofs.lemmas.Result.{err_from_is_err_and}
 use Rattle.vtl_wire.specs.Inner.Reading.{EndsWithin}
 use Rattle.vtl_wire.proofs.FillLemmas.{ends_later}
-use Rattle.vtl_wire.proofs.ReaderLemmas.{missed_second}
+use Rattle.vtl_wire.proofs.RequestReadLemmas.{missed_second}
 use Rattle.vtl_wire.proofs.parts.read_parts.Goals as goal
 
 pub returns-in_err-payload-clause-fault : goal.returns-in_err-payload-clause-fault

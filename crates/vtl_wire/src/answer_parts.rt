@@ -1,0 +1,116 @@
+//! What stands after the header of an answer.
+ghost use Rattle.std.specs.Prelude.{◌≡◌, Option, List, IfSome, IfNone, IfOk, IfErr};
+ghost use Rattle.scsi_sense.specs.declared.sense_data.Sense.{Sense};
+ghost use Rattle.vtl_wire.specs.Answers.{IsSense, sense_front};
+ghost use Rattle.vtl_wire.specs.Frames.{IsHeader, spell_header};
+ghost use Rattle.vtl_wire.specs.Reads.{NotesFault};
+ghost use Rattle.vtl_wire.specs.Inner.Answered.{EntriesSay, FindsBehind, MissesBehind, ReplySays, answer_with};
+
+use crate::answer_heads::ReplyHead;
+use crate::answers::{Answer, Entries};
+use crate::entry_readers::read_entries;
+use crate::faults::WireFault;
+use crate::headers::Header;
+use crate::memory::Memory;
+use crate::reading::{Found, read_data, read_few};
+use crate::reads::Reads;
+use crate::sense_readers::read_sense;
+use scsi_sense::{Reply, Sense};
+use std::io::Read;
+use vtl_base::Bytes;
+
+// What stands before the data of an answer: sense data, if it has some.
+#[derive(Clone, Copy)]
+struct Front {
+    sense: Option<Sense>,
+}
+
+// The sense data with these bytes, or none of no bytes.
+fn front_in(bytes: &[u8]) -> Option<Front>
+    ensures found { IfSome result (λ front. IfSome front.sense IsSense × (bytes.now ≡ sense_front front.sense)) }
+    ensures none { IfNone result
+        ((sense : Option Sense) → IfSome sense IsSense → bytes.now ≡ sense_front sense → ⊥) }
+{
+    if bytes.is_empty() {
+        return Some(Front { sense: None });
+    }
+    match read_sense(bytes) {
+        Some(sense) => Some(Front { sense: Some(sense) }),
+        None => None,
+    }
+}
+
+// The answer of such a header, with what stands after it.
+fn answer_with(head: ReplyHead, front: Front, bytes: Bytes) -> Answer
+    ensures { result ≡ answer_with head front.sense bytes }
+{
+    let reply = Reply {
+        status: head.status,
+        sense: front.sense,
+        bytes,
+    };
+    let tag = head.tag;
+    match head.host {
+        Some(host) => Answer::Command { host, reply, tag },
+        None => Answer::Move { reply, tag },
+    }
+}
+
+// The answer to a command or a move, behind its header. The sense data are looked at before memory is taken.
+pub(crate) fn find_reply<R: Read>(
+    memory: &Memory,
+    reads: &mut Reads,
+    reader: &mut R,
+    header: Header,
+    head: ReplyHead,
+) -> Result<Found<Answer>, WireFault>
+    requires fits { IsHeader header }
+    requires says { ReplySays header head }
+    ensures found { IfOk result
+        (FindsBehind (spell_header header) (R.remaining reader.old) (R.remaining reader.new)) }
+    ensures fault { IfErr result
+        (MissesBehind (spell_header header) (R.remaining reader.old) (R.remaining reader.new)) }
+    ensures same { IfOk result (λ _. reads.new ≡ reads.old) }
+    ensures noted { IfErr result (NotesFault reads.old reads.new) }
+{
+    let Some(first) = read_few(memory, reads, reader, header.front as usize)? else {
+        return Ok(Found::Refused);
+    };
+    let Some(front) = front_in(first.as_slice()) else {
+        return Ok(Found::Refused);
+    };
+    match read_data(memory, reads, reader, header)? {
+        Some(bytes) => Ok(Found::Frame(answer_with(head, front, bytes))),
+        None => Ok(Found::Refused),
+    }
+}
+
+// The answer to an inventory, behind its header. The memory for its entries is taken before the first is read.
+pub(crate) fn find_inventory<R: Read>(
+    memory: &Memory,
+    reads: &mut Reads,
+    reader: &mut R,
+    header: Header,
+    tag: u32,
+) -> Result<Found<Answer>, WireFault>
+    requires fits { IsHeader header }
+    requires says { EntriesSay header tag }
+    ensures found { IfOk result
+        (FindsBehind (spell_header header) (R.remaining reader.old) (R.remaining reader.new)) }
+    ensures fault { IfErr result
+        (MissesBehind (spell_header header) (R.remaining reader.old) (R.remaining reader.new)) }
+    ensures same { IfOk result (λ _. reads.new ≡ reads.old) }
+    ensures noted { IfErr result (NotesFault reads.old reads.new) }
+{
+    let room = memory.entries(header)?;
+    let Some(bytes) = read_data(memory, reads, reader, header)? else {
+        return Ok(Found::Refused);
+    };
+    match read_entries(room, bytes.as_slice()) {
+        Some(entries) => Ok(Found::Frame(Answer::Inventory {
+            entries: Entries::from_vec(entries),
+            tag,
+        })),
+        None => Ok(Found::Refused),
+    }
+}
