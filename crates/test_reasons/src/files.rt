@@ -99,6 +99,14 @@ static ROWS: &'static [(FileCall, Answer, &'static str)] = &[
         answer: the system reported an error\n\
         to do: look at the device, and at what the system has logged of it\n",
     ),
+    // a file is open while it is used, so this answer is one of the device
+    (
+        FileCall::ReadAt,
+        Answer::Other(Some(9)),
+        "failed: read at, of the file a.tape\n\
+        answer: Bad file descriptor (os error 9)\n\
+        to do: look at the device, and at what the system has logged of it\n",
+    ),
     (
         FileCall::Open,
         Answer::Other(Some(24)),
@@ -181,6 +189,14 @@ static STREAMS: &'static [(bool, FileCall, Answer, &'static str)] = &[
         FileCall::Read,
         Answer::Other(Some(9)),
         "failed: read, of standard input\n\
+        answer: Bad file descriptor (os error 9)\n\
+        to do: start the program with this stream open\n",
+    ),
+    (
+        false,
+        FileCall::Write,
+        Answer::Other(Some(9)),
+        "failed: write, of standard output\n\
         answer: Bad file descriptor (os error 9)\n\
         to do: start the program with this stream open\n",
     ),
