@@ -41,10 +41,10 @@ pub record IsOrdered (machine : Machine) (request : Request) (state : PrState) :
   pub bytes : ℕ
   pub order : PrOut
   pub answer : PrAnswer
-  pub told : List AttentionSet
+  pub established : List AttentionSet
   pub command : verdict machine request ≡ Ok (PersistentReserveOut action bytes)
   pub list : list_decoded action request.sent ≡ Ok order
-  pub ordered : Orders machine.reservations request.nexus order answer told state
+  pub ordered : Orders machine.reservations request.nexus order answer established state
 
 -- the state after the order of a call, if it is one (own)
 abbrev pub IsOrderedIn : Machine → Call → PrState → Type 0

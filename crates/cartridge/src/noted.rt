@@ -60,7 +60,7 @@ impl Noted {
         by_noted(self)
     }
 
-    /// The notes with these changes in a frame that is under way.
+    /// The notes with these changes in a frame that is in flight.
     pub(crate) fn with_torn(&self, changes: &[Change]) -> Noted
         ensures { result.notes ≡ with_torn self.now.notes changes.now }
     {

@@ -39,8 +39,8 @@ LoadsInto honest _ medium old answer made new = ⊥
 abbrev pub Loads : Type 0 → MediumState → MachineRelation
 Loads honest medium old answer made new = LoadsInto honest old.bay medium old answer made new
 
--- A parked medium is put into an empty drive, and into no other: it stands there, not loaded, and no host is told
--- (SMC-3; that no host is told, own).
+-- A parked medium is put into an empty drive, and into no other: it stands there, not loaded, and no unit attention
+-- condition is established (SMC-3; that none is established, own).
 abbrev pub Inserts : MediumState → Machine → Result Unit Fault → Made → Machine → Type 0
 Inserts medium old outcome made new =
     (old.bay ≡ Empty) × (medium.awake ≡ false) × (outcome ≡ Ok tt) × (made ≡ made_nothing)
@@ -55,7 +55,7 @@ bay_when_on (Err Errors.Unreadable) opened = Some (Unloaded opened)
 bay_when_on (Err Errors.Device) opened = Some (Unloaded opened)
 bay_when_on (Err _) opened = None
 
--- what came of a power on: it was done, or the device failed (own)
+-- the outcome of a power on: it was done, or the device failed (own)
 abbrev pub power_on_outcome : Result Unit MediumError → Result Unit Fault
 power_on_outcome (Err Errors.Device) = Err Reading
 power_on_outcome _ = Ok tt

@@ -25,8 +25,8 @@ unloaded drive medium = record drive { bay = Unloaded medium }
 abbrev pub emptied : {M K : Type 0} → DriveState M K → M → DriveState M K
 emptied drive medium = record drive { bay = Empty }
 
--- a drive whose own medium a nexus has loaded: at the start, and every other nexus is told that the medium may have
--- changed (SSC-4, LOAD UNLOAD)
+-- A drive once a nexus has loaded the medium in it: it is at the start. For every other nexus the condition that the
+-- medium may have changed is established (SSC-4, LOAD UNLOAD).
 abbrev pub reloaded : {M K : Type 0} → DriveState M K → ℕ → M → DriveState M K
 reloaded drive nexus medium = record drive {
   bay = Loaded medium;

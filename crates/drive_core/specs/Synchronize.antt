@@ -46,7 +46,7 @@ abbrev pub Acknowledges : Reply → Type 0
 Acknowledges reply =
     (reply.status ≡ Good) ⊎ ((reply.status ≡ Check) × IsSomeAnd reply.sense IsEarlyWarning)
 
--- of a medium that is not loaded, where it is honest, no frame is under way: what its side gives is sure (own)
+-- of a medium that is not loaded, where it is honest, no frame is in flight: what its side gives is sure (own)
 abbrev pub IsSureOnSide : Type 0 → Bay MediumState → Type 0
 IsSureOnSide honest (Unloaded medium) = honest → medium.torn ≡ []
 IsSureOnSide honest _ = Unit {0}

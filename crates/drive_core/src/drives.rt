@@ -102,8 +102,8 @@ impl<M: Medium, K: Keeper> Drive<M, K> {
         self.take_in(medium)
     }
 
-    /// Puts a parked medium into an empty drive: it is there, not loaded, and no host is told. It takes
-    /// no memory.
+    /// Puts a parked medium into an empty drive: it is there, not loaded, and no unit attention condition
+    /// is established. It takes no memory.
     pub fn insert(&mut self, medium: M)
         requires empty { self.old.bay ≡ Bays.Empty }
         requires parked { (M.state medium).awake ≡ false }
@@ -113,9 +113,9 @@ impl<M: Medium, K: Keeper> Drive<M, K> {
         fill(&mut self.bay, Bay::Unloaded(medium));
     }
 
-    /// Unloads what is in the drive, as UNLOAD does, and gives it out, parked. Where there is nothing
-    /// (2, 3A/00), or the device fails (3, 0C/00), nothing comes out, and the reply says so; in the
-    /// second case the medium stays loaded, and has failed.
+    /// Unloads the medium in the drive, as UNLOAD does, and returns it, parked. If the drive is empty
+    /// (2, 3A/00) or the device fails (3, 0C/00), it returns that reply instead. In the second case the
+    /// medium stays loaded, and has failed.
     pub fn unload(&mut self) -> Result<M, Reply>
         requires hand { IsAtHand M.below.at_hand self.old.bay }
         ensures out { GoesOut M.state M.below self.old result self.new }

@@ -4,7 +4,7 @@ ghost use Rattle.volume_core.specs.Volume.{refusal_of};
 ghost use Rattle.volume_core.specs.Medium.{volume_of};
 ghost use Rattle.drive_core.specs.State.{IsPositioned, mounted};
 ghost use Rattle.drive_core.specs.Erase.{EraseWork, erase_at};
-ghost use Rattle.drive_core.specs.Inner.Carries.{IsReady, Tallies};
+ghost use Rattle.drive_core.specs.Inner.Carries.{IsOnWorkingMedium, Tallies};
 
 use crate::appends::append;
 use crate::faults::Fault;
@@ -24,7 +24,7 @@ pub fn erase<M: Medium>(
     buffered: bool,
 ) -> Result<Reply, Fault>
     requires hand { M.below.at_hand medium.old }
-    requires ready { IsReady (mounted (M.state medium.old) position.old) }
+    requires ready { IsOnWorkingMedium (mounted (M.state medium.old) position.old) }
     ensures carries { Tallies M.state M.below
         (EraseWork buffered)
         medium.old position.old accepted.old result medium.new position.new accepted.new }

@@ -16,8 +16,8 @@ pub enum Fault {
     Writing,
     /// The device failed while a block was read. The medium has failed.
     Reading,
-    /// The side is full, and nothing changed. The residue is what was not written, where it is
-    /// told: bytes of a block, or marks.
+    /// The side is full, and nothing changed. The residue, where it is reported, is what was not
+    /// written: bytes of a block, or marks.
     SideFull { residue: Option<u32> },
     /// The device failed while reservations were saved. The old ones stand, and the keeper has failed.
     Saving,
@@ -52,7 +52,7 @@ impl From<KeeperError> for Fault {
 }
 
 impl Fault {
-    /// What a host is told of it (own). It takes no memory.
+    /// The reply to the command that met it (own). It takes no memory.
     pub fn reply(self, alloc: Global) -> Reply
         ensures { result ≡ fault_reply self }
     {

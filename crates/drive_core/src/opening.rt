@@ -72,7 +72,7 @@ pub fn wake_answer(alloc: Global, error: MediumError) -> Result<Reply, Fault>
     }
 }
 
-/// What a host is told of a medium that could not be opened. It takes no memory.
+/// The reply where a medium could not be opened. It takes no memory.
 pub fn wake_reply(alloc: Global, error: MediumError) -> Reply
     ensures { result ≡ reply_of (wake_answer error) }
 {

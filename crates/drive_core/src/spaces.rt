@@ -2,7 +2,7 @@
 ghost use Rattle.std.specs.Prelude.{◌≡◌, [], false};
 ghost use Rattle.drive_core.specs.State.{IsPositioned, mounted};
 ghost use Rattle.drive_core.specs.Space.{SpaceWork, is_over_nothing, space_reply};
-ghost use Rattle.drive_core.specs.Inner.Carries.{Carries, IsReady};
+ghost use Rattle.drive_core.specs.Inner.Carries.{Carries, IsOnWorkingMedium};
 
 use crate::faults::Fault;
 use crate::storing::store_pending;
@@ -22,7 +22,7 @@ pub fn space<M: Medium>(
     count: i32,
 ) -> Result<Reply, Fault>
     requires hand { is_over_nothing code count ≡ false → M.below.at_hand medium.old }
-    requires ready { IsReady (mounted (M.state medium.old) position.old) }
+    requires ready { IsOnWorkingMedium (mounted (M.state medium.old) position.old) }
     ensures carries { Carries M.state M.below
         (SpaceWork code count)
         medium.old position.old result [] medium.new position.new }

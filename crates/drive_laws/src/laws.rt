@@ -2,7 +2,7 @@
 ghost use Rattle.drive_core.specs.Counted.{CountsAreHeld};
 ghost use Rattle.drive_core.specs.Determined.{HonestStepsAreSteps, StepsAreDetermined, RunsAreDetermined, RunsStaySure};
 ghost use Rattle.drive_core.specs.Run.{EventsAreRuns, RunsAppend, ServedByRuns};
-ghost use Rattle.drive_core.specs.Told.{RepliesTellChanges};
+ghost use Rattle.drive_core.specs.ShownChanges.{RepliesShowChanges};
 
 use positioning::laws::{each_locate_has_one_end, each_space_has_one_end};
 use pr_core::Keeper;
@@ -47,8 +47,8 @@ pub fn events_run<M: Medium, K: Keeper>()
 
 /// How many changes a command made, by its reply: one where a WRITE of at least one byte, a WRITE FILEMARKS of at least
 /// one filemark or an ERASE is acknowledged; none or one where the reply is a write error; else none.
-pub fn replies_tell_changes<M: Medium, K: Keeper>()
-    ensures { RepliesTellChanges M.state M.below K.kept K.below }
+pub fn replies_show_changes<M: Medium, K: Keeper>()
+    ensures { RepliesShowChanges M.state M.below K.kept K.below }
 {}
 
 /// The count of a drive rises by the number of the changes that are accepted, and stays at its limit.

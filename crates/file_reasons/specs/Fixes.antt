@@ -22,7 +22,7 @@ denied_fix _ = codes "to do: let this user read and write the file"
 abbrev pub device_fix : List ℕ
 device_fix = codes "to do: look at the device, and at what the system has logged of it"
 
--- what to do about a stream that is not open; a file is open while it is used, and its answer is one of the device (own)
+-- what to do where a stream is not open; a file is open while it is used, and this answer is one of the device (own)
 abbrev pub closed_fix : FileCall → List ℕ
 closed_fix Read = codes "to do: start the program with this stream open"
 closed_fix Write = codes "to do: start the program with this stream open"

@@ -35,7 +35,8 @@ fn other_fix(call: FileCall, number: Option<i32>) -> &'static str
     ensures { result.now ≡ other_fix call number }
 {
     match (call, number) {
-        (FileCall::Read | FileCall::Write, Some(9)) => "to do: start the program with this stream open",
+        (FileCall::Read | FileCall::Write, Some(9)) =>
+            "to do: start the program with this stream open",
         (_, Some(24)) => "to do: raise the limit on the files that a process may have open",
         _ => "to do: look at the device, and at what the system has logged of it",
     }

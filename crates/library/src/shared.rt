@@ -100,7 +100,7 @@ impl<D: Disk + Drop, B: Parties + Rings> SharedBay<D, B> {
         back.turn()
     }
 
-    // Lets hosts send as much again as the buffer takes, under both locks. No turn is under way then, so that a host
+    // Lets hosts send as much again as the buffer takes, under both locks. No turn runs then, so that a host
     // which sends less than that during a turn never waits for one.
     fn renew<R: Wait>(&self, rt: &R) {
         let mut front = self.front.lock(rt);

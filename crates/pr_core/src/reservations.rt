@@ -72,7 +72,7 @@ impl Reservations {
     {
         let outcome = self.state.ordered(nexus, order);
         self.state = outcome.state;
-        (outcome.answer, outcome.told)
+        (outcome.answer, outcome.established)
     }
 
     /// Whether the commands of a nexus are let through, under a reservation of any type (own).

@@ -25,15 +25,15 @@ use Rattle.split_bay.specs.Looks.{LookedIn, Looks, fails_anew}
 use Rattle.split_bay.specs.Nears.{state_near}
 use Rattle.split_bay.specs.Rings.{SendingState}
 use Rattle.split_bay.specs.Spans.{span_of}
-use Rattle.split_bay.specs.Untold.{AcceptsUntold}
+use Rattle.split_bay.specs.Unreported.{AcceptsUnreported}
 
 module _ {D : Type 0} (state : D → DiskState) where
-  -- Exactly these changes are accepted by a medium: by one that works, and, with no call of a disk, by one whose fault
-  -- hosts were not told of (own).
+  -- A medium accepts exactly these changes: one that works, and, with no call of a disk, one whose fault was not
+  -- reported (own).
   pub record AcceptsAll (old : LentState D) (made : List Change) (new : BufferState D) : Type 0 where
     pub advances :
         (state_of state old.buffer).failed ≡ false → Advances (buffer_below state) old.buffer made false new
-    pub accepts : AcceptsUntold state old.buffer made new
+    pub accepts : AcceptsUnreported state old.buffer made new
 
   -- the same of a medium that may be there; by none, none (own)
   abbrev pub AcceptsIn : Option (LentState D) → List Change → Option (BufferState D) → Type 0
@@ -133,13 +133,13 @@ module _ {D : Type 0} (state : D → DiskState) where
     pub positioned : IsBayPositioned (state_of state) answered.bay answered.position
     pub parts : Parts answered ends front' back'
 
-  -- a fault of the disk's half that hosts were not told of: what is loaded has failed, and is not seen to have (own)
-  abbrev pub is_untold : FrontState D → BackState D → Bool
-  is_untold front back = is_stuck_in state back.medium && not (has_failed_in state_near front.drive.bay)
+  -- a fault of the disk's half that was not reported: what is loaded has failed, and hosts do not see that yet (own)
+  abbrev pub is_unreported : FrontState D → BackState D → Bool
+  is_unreported front back = is_stuck_in state back.medium && not (has_failed_in state_near front.drive.bay)
 
-  -- Hosts are told of a fault of the disk's half: both are looked at and part again. A deferred error is established,
-  -- and what is loaded is seen to have failed (own).
-  pub record TellsFault (front : FrontState D) (back : BackState D) (front' : FrontState D) (back' : BackState D)
+  -- A fault of the disk's half is reported: the halves are joined, looked at and parted again. A deferred error is
+  -- established, and hosts see that what is loaded has failed (own).
+  pub record ReportsFault (front : FrontState D) (back : BackState D) (front' : FrontState D) (back' : BackState D)
       : Type 0 where
     pub joined : BayState D
     pub ends : SendingState
@@ -149,6 +149,6 @@ module _ {D : Type 0} (state : D → DiskState) where
     pub failed : has_failed_in state_near front'.drive.bay ≡ true
 
   -- the same where there is such a fault; else nothing has changed (own)
-  abbrev pub TellsBoth : Bool → FrontState D → BackState D → FrontState D → BackState D → Type 0
-  TellsBoth false front back front' back' = (front' ≡ front) × (back' ≡ back)
-  TellsBoth true front back front' back' = TellsFault front back front' back'
+  abbrev pub ReportsBoth : Bool → FrontState D → BackState D → FrontState D → BackState D → Type 0
+  ReportsBoth false front back front' back' = (front' ≡ front) × (back' ≡ back)
+  ReportsBoth true front back front' back' = ReportsFault front back front' back'

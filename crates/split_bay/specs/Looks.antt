@@ -7,7 +7,7 @@ use Rattle.drive_core.specs.declared.bays.Bay.{Bay}
 use Rattle.drive_core.specs.declared.bays.Bay.TheVariants.{Empty, Unloaded, Loaded}
 use Rattle.drive_core.specs.State.{Machine}
 
--- the frame that was under way when the device failed: a first part of what is pending, of which there is some (own)
+-- the frame that was in flight when the device failed: a first part of what is pending, of which there is some (own)
 pub record IsTorn (new : MediumState) : Type 0 where
   pub some_pending : 1 ≤ length new.pending
   pub rest : List Change
@@ -47,8 +47,8 @@ abbrev pub deferred_after : Bool → Bool → Bool
 deferred_after true deferred = true
 deferred_after false deferred = deferred
 
--- A drive is looked at once both halves of its medium are held: the medium is as it is found; a fault that hosts were
--- not told of establishes a deferred error; and nothing else has changed (own).
+-- A drive is looked at once both halves of its medium are held. The medium is as it is found, and a fault that was not
+-- reported establishes a deferred error. Nothing else has changed (own).
 pub record Looks (old new : Machine) : Type 0 where
   pub bay : LookedIn old.bay new.bay
   pub others :

@@ -10,7 +10,7 @@ ghost use Rattle.split_bay.specs.Hosts.{IsApartIn, near_of};
 ghost use Rattle.split_bay.specs.Looks.{deferred_after, is_broken};
 ghost use Rattle.split_bay.specs.Nears.{IsThere, state_near};
 ghost use Rattle.split_bay.specs.Backs.{FollowsIn};
-ghost use Rattle.split_bay.specs.Halves.{ExecutesBoth, Joins, JoinsBay, JoinsThere, Parts, PartsBay, TellsBoth, is_untold};
+ghost use Rattle.split_bay.specs.Halves.{ExecutesBoth, Joins, JoinsBay, JoinsThere, Parts, PartsBay, ReportsBoth, is_unreported};
 ghost use Rattle.split_bay.specs.Rings.{AreEnds};
 ghost use Rattle.split_bay.specs.Spans.{span_of};
 
@@ -85,7 +85,7 @@ pub fn execute_both<D: Disk, R: Rings>(
 /// on. Where there is no fault, or it was reported, nothing changes.
 pub fn tell<D: Disk, R: Rings>(front: Front<D, R>, back: Back<D, R>) -> (Front<D, R>, Back<D, R>)
     requires { AreEnds (end_of front) back.number back.received }
-    ensures { TellsBoth D.state (is_untold D.state front back) front back result.0 result.1 }
+    ensures { ReportsBoth D.state (is_unreported D.state front back) front back result.0 result.1 }
 {
     if !back.is_stuck() || front.has_failed() {
         return (front, back);

@@ -47,14 +47,14 @@ pub(crate) struct Taking<D: Disk> {
 }
 
 impl<D: Disk> Model for Lent<D> {
-    ghost use Rattle.tape_buffer.specs.Inner.Lending.{IsLent, buffer_lent};
+    ghost use Rattle.tape_buffer.specs.Inner.Lending.{MayBeLent, buffer_lent};
     ghost use Rattle.tape_buffer.specs.Taking.{LentState};
 
     ghost Value = { LentState D };
 
     ghost view = { λ l. record { buffer = buffer_lent l.lending; left = l.left } };
 
-    ghost invariant = { λ l. IsLent l.lending l.left };
+    ghost invariant = { λ l. MayBeLent l.lending l.left };
 }
 
 impl<D: Disk> Lent<D> {

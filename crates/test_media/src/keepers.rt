@@ -101,7 +101,7 @@ impl StagedKeeper {
         &self.saved
     }
 
-    /// The reservations whose save was under way when the device failed. A restart may find them in place of
+    /// The reservations whose save was in flight when the device failed. A restart may find them in place of
     /// those saved last.
     pub fn torn(&self) -> Option<Reservations>
         ensures { result ≡ self.now.torn }

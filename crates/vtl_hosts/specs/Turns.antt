@@ -26,12 +26,12 @@ pub record IsCommand (takes : Request → Bool) (request : Request) : Type 0 whe
   pub host : host_in request ≡ place + 1
   pub within : place < NEXUSES
 
--- a request is of no host, and is taken: a move or an inventory (own)
+-- a request belongs to no host, and is taken: a move or an inventory (own)
 pub record IsAlone (takes : Request → Bool) (request : Request) : Type 0 where
   pub taken : takes request ≡ true
   pub host : host_in request ≡ 0
 
--- what serves hosts, each in its place, and what serves the requests that are of none (own)
+-- what serves hosts, each in its place, and what serves the requests that belong to none (own)
 pub record HostsState (S G : Type 0) : Type 0 where
   pub hosts : List S
   pub desk : G

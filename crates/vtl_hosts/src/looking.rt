@@ -1,7 +1,7 @@
 //! What is left in the rings once all threads are joined.
 ghost use Rattle.std.specs.Prelude.{◌≡◌, ◌&&◌, length, false};
 ghost use Rattle.rtrb.specs.Ring.{IsPair};
-ghost use Rattle.vtl_hosts.specs.Inner.Looks.{ArePairs, LeavesAt, LeavesSome, LooksAll, LooksAt};
+ghost use Rattle.vtl_hosts.specs.Inner.Looks.{ArePairs, LeavesAt, LeavesSome, LooksAll, ChecksRings};
 
 use crate::hosts::HostEnd;
 use crate::servers::Host;
@@ -16,7 +16,7 @@ fn is_empty_at<S: Host>(
 ) -> bool
     requires requests { IsPair requests.old host.old.requests }
     requires answers { IsPair host.old.answers answers.old }
-    ensures looks { LooksAt host.old requests.old answers.old host.new requests.new answers.new result }
+    ensures looks { ChecksRings host.old requests.old answers.old host.new requests.new answers.new result }
     ensures some { result ≡ false → LeavesSome host.new answers.new }
 {
     let waiting = host.requests.slots_beside(requests);

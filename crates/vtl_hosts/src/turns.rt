@@ -4,7 +4,7 @@ ghost use Rattle.vtl_base.specs.declared.limits.TheConstants.{NEXUSES};
 ghost use Rattle.vtl_hosts.specs.Rounds.{host_in};
 ghost use Rattle.vtl_hosts.specs.Turns.{ServesHosts};
 ghost use Rattle.vtl_hosts.specs.Inner.Idle.{AreIdle, servers_of};
-ghost use Rattle.vtl_hosts.specs.Inner.Serving.{AnswersAlone, ServesNext};
+ghost use Rattle.vtl_hosts.specs.Inner.Serving.{AnswersOfNoHost, ServesNext};
 
 use crate::ends::{Ends, make_rooms};
 use crate::reading::Break;
@@ -37,7 +37,8 @@ fn serve_alone<G: Desk, W: Write>(
 ) -> Result<(), WireFault>
     requires taken { G.is_taken desk.old request ≡ true }
     requires host { host_in request ≡ 0 }
-    ensures { AnswersAlone G.answers G.lacks desk.old request (W.contents writer.old) desk.new (W.contents writer.new)
+    ensures { AnswersOfNoHost G.answers G.lacks desk.old request (W.contents writer.old) desk.new
+        (W.contents writer.new)
         result }
 {
     let answer = desk.serve(alloc, request)?;

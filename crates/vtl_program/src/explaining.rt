@@ -258,7 +258,7 @@ pub fn run_explained<
     errors: &mut E,
 ) -> Ended
     ensures { RunsExplained D.state
-        (answers_of F.reads F.opens_to_read F.closes F.opens F.hands_back F.closes_all F.gives_up
+        (answers_of F.reads F.opens_to_read F.closes F.opens F.returns_disk F.closes_all F.gives_up
         F.opens_second F.closes_second F.makes F.leaves F.takes_away)
         (given_words words)
         (I.remaining reader.old) (I.remaining reader.new)

@@ -161,7 +161,7 @@ pub(crate) fn serve_order<
     reader: &mut I,
     writer: &mut W,
 ) -> Result<(), VtlFault>
-    ensures { ServesOrder D.state F.reads (file_sides D.state F.opens F.opens_second F.hands_back) F.closes_all
+    ensures { ServesOrder D.state F.reads (file_sides D.state F.opens F.opens_second F.returns_disk) F.closes_all
         F.gives_up memory (option_map string_bytes config)
         (I.remaining reader.old) (I.remaining reader.new)
         (W.contents writer.old) (W.contents writer.new) result }

@@ -53,7 +53,7 @@ shows_on is_configured unread unread' count parsed h parsed_is rest inside good 
     ap (shows_phase is_configured) rest ∙ ap (has_end is_configured) first.splits
     ∙ or_rest _ _ (no_end parsed _ line_is inside good) all
 
--- the same of a line that is told
+-- the same of a line that is reported
 pub shown_behind : (is_configured : ℕ → Bool) (old mid new : Reading) (count : ℕ) (parsed : ParsedLine) (number : ℕ)
     (result : Result NextLine ScriptFault) → (shows_end old.unread ≡ true → mid ≡ old)
     → position (λ byte. byte == 10) mid.unread ≡ Some count

@@ -89,7 +89,7 @@ whole is_configured true text parsed_list unread left h =
 whole is_configured false text parsed_list unread left h =
     (parsed_lines is_configured (unread ++ rest_of left), h (rest_of left))
 
--- a line that was read, by what is told of it
+-- a line that was read, by what its reading says
 pub tells : (is_configured : ℕ → Bool) (left left' : Option (List ℕ)) (old mid new : Reading) (parsed : ParsedLine)
     (is_last : Bool) (number : ℕ) (result : Result NextLine ScriptFault)
     → list_all has_host (filter_map line_in (parsed ∷ [])) ≡ true
@@ -124,11 +124,11 @@ refuses is_configured left left' old mid new parsed is_last number (Ok next) com
     absurd (cc)
 refuses is_configured left left' old mid new parsed is_last number (Err fault) comes says counted accepts told is =
     let all = whole is_configured is_last mid.unread (parsed ∷ []) new.unread left' says in
-    let number_told : told ≡ number = cc in
+    let number_reported : told ≡ number = cc in
     record {
       read = comes.read;
       taken = comes.taken;
-      number_is = number_told ∙ counted;
+      number_is = number_reported ∙ counted;
       behind = all.0;
       says = rw (← comes.unread, ← accepts.1) all.1;
     }

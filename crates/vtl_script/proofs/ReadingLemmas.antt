@@ -7,7 +7,7 @@ use Rattle.std.specs.Io.KnownBytes.{Consumes}
 use Rattle.vtl_script.specs.declared.faults.ScriptFault.{ScriptFault}
 use Rattle.vtl_script.specs.declared.faults.ScriptFault.TheVariants.{ReadFault, NoMemory}
 use Rattle.vtl_script.specs.Runs.{TakesWithin}
-use Rattle.vtl_script.specs.Inner.Reading.{Reading, part, shows_end, Brings, Comes}
+use Rattle.vtl_script.specs.Inner.Reading.{Reading, part, shows_end, BringsBytes, Comes}
 
 -- what holds anyway holds at an error
 pub on_err : {T E : Type 0} (r : Result T E) (P : Type 0) → P → OnErr r P
@@ -45,7 +45,8 @@ consumes_none (Some xs) = refl
 -- so many bytes were put behind those that fill a buffer up to a place
 pub brings_behind : (left left' : Option (List ℕ)) (start filled count : ℕ) (old now : List ℕ)
     → part start filled now ≡ old → start ≤ filled → filled + count ≤ length now
-    → Consumes left left' (take count (drop filled now)) → Brings left old left' (part start (filled + count) now) count
+    → Consumes left left' (take count (drop filled now))
+    → BringsBytes left old left' (part start (filled + count) now) count
 brings_behind left left' start filled count old now same order within taken =
     let long : length (take filled now) ≡ filled = length-take-le filled now (omega (arith, within)) in
     let rest = length-drop filled now in
@@ -60,7 +61,7 @@ brings_behind left left' start filled count old now same order within taken =
 
 -- what a buffer was brought comes to what is unread
 pub comes_of : (left left' : Option (List ℕ)) (old new : Reading) (buffer : List ℕ) (some count : ℕ)
-    → Brings left buffer left' new.unread some → buffer ≡ old.unread → some ≡ count → new.bytes ≡ old.bytes + count
+    → BringsBytes left buffer left' new.unread some → buffer ≡ old.unread → some ≡ count → new.bytes ≡ old.bytes + count
     → old.reads ≤ new.reads → new.lines ≡ old.lines → Comes left old left' new
 comes_of left left' old new buffer some count brings same is bytes reads lines = record {
   read = brings.read;

@@ -3,7 +3,7 @@ ghost use Rattle.std.specs.Prelude.{◌≡◌, ◌<◌, ◌≤◌, ◌+◌, ◌-
 ghost use Rattle.std.specs.Io.KnownBytes.{Consumes, IsAtEnd};
 ghost use Rattle.vtl_base.specs.declared.limits.TheConstants.{LINE_BYTES};
 ghost use Rattle.vtl_script.specs.declared.read_buffers.TheConstants.{MOST_BYTES};
-ghost use Rattle.vtl_script.specs.Inner.Reading.{part, bytes_read, Brings};
+ghost use Rattle.vtl_script.specs.Inner.Reading.{part, bytes_read, BringsBytes};
 
 use crate::faults::ScriptFault;
 use crate::interruptions::is_interrupted;
@@ -171,7 +171,7 @@ impl ReadBuffer {
     /// no line is whole moves each byte once at most, and those of a line that outgrows the first buffer once more.
     pub fn read<R: Read>(&mut self, reader: &mut R) -> Result<Option<usize>, ScriptFault>
         requires { length self.old ≤ LINE_BYTES }
-        ensures brings { Brings (R.remaining reader.old) self.old
+        ensures brings { BringsBytes (R.remaining reader.old) self.old
             (R.remaining reader.new) self.new (bytes_read result) }
         ensures end { result ≡ Ok (Some 0) → IsAtEnd (R.remaining reader.new) }
         ensures fault { IfErr result (λ fault. (fault ≡ ScriptFault.ReadFault)

@@ -18,15 +18,15 @@ AnswersAndWrites writes answers old request before new now =
 
 -- a move or an inventory was answered, and its answer written; or a write failed, or there was no memory, and nothing
 -- was done (own)
-abbrev pub AnswersAlone : {G : Type 0} → (G → Request → Answer → G → Type 0) → (G → Request → Type 0) → G → Request
+abbrev pub AnswersOfNoHost : {G : Type 0} → (G → Request → Answer → G → Type 0) → (G → Request → Type 0) → G → Request
     → Option (List ℕ) → G → Option (List ℕ) → Result (Unit {0}) WireFault → Type 0
-AnswersAlone answers lacks old request before new now (Ok done) =
+AnswersOfNoHost answers lacks old request before new now (Ok done) =
     AnswersAndWrites WritesAnswer answers old request before new now
-AnswersAlone answers lacks old request before new now (Err (BadFrame number)) = ⊥
-AnswersAlone answers lacks old request before new now (Err ReadFault) = ⊥
-AnswersAlone answers lacks old request before new now (Err WriteFault) =
+AnswersOfNoHost answers lacks old request before new now (Err (BadFrame number)) = ⊥
+AnswersOfNoHost answers lacks old request before new now (Err ReadFault) = ⊥
+AnswersOfNoHost answers lacks old request before new now (Err WriteFault) =
     AnswersAndWrites WritesFront answers old request before new now
-AnswersAlone answers lacks old request before new now (Err NoMemory) =
+AnswersOfNoHost answers lacks old request before new now (Err NoMemory) =
     lacks old request × (new ≡ old) × (now ≡ before)
 
 module _ {S G : Type 0} (serves : S → Request → Answer → S → Type 0) (takes : G → Request → Bool)

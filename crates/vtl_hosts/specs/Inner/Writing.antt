@@ -4,7 +4,7 @@ use Rattle.rtrb.specs.Ring.{SameConsumer, received}
 use Rattle.vtl_wire.specs.declared.answers.Answer.{Answer}
 use Rattle.vtl_wire.specs.Serving.{WritesAnswer as WritesOne, WritesFront}
 use Rattle.vtl_hosts.specs.Rounds.{Given, WritesCut, WritesWhole}
-use Rattle.vtl_hosts.specs.Inner.Rings.{Answers, Takes}
+use Rattle.vtl_hosts.specs.Inner.Rings.{Answers, TakesAnswers}
 
 -- An answer was written, which a frame holds; or a beginning of it, and a write failed. Once one failed, nothing is
 -- written (own).
@@ -34,5 +34,5 @@ WritesNext old before failed new now failed' false =
 pub record WritesAll (old : List Answers) (before : Option (List ℕ)) (failed : Bool)
     (new : List Answers) (now : Option (List ℕ)) (failed' : Bool) : Type 0 where
   pub given : List Given
-  pub taken : Takes old new given
+  pub taken : TakesAnswers old new given
   pub written : WritesGiven before failed now failed' given

@@ -40,7 +40,7 @@ abbrev pub part : ℕ → ℕ → List ℕ → List ℕ
 part start filled bytes = drop start (take filled bytes)
 
 -- this many bytes came from a reader that knew the bytes `left`, and stand after the others (own)
-pub record Brings (left : Option (List ℕ)) (old : List ℕ) (left' : Option (List ℕ)) (new : List ℕ) (count : ℕ)
+pub record BringsBytes (left : Option (List ℕ)) (old : List ℕ) (left' : Option (List ℕ)) (new : List ℕ) (count : ℕ)
     : Type 0 where
   pub read : List ℕ
   pub taken : Consumes left left' read
@@ -61,7 +61,7 @@ abbrev pub shows_end : List ℕ → Bool
 shows_end unread = is_some (position (λ byte. byte == 10) unread) || nat_lt LINE_BYTES (length unread)
 
 -- where the first line ends: at its line feed, with the text, or not within its limit (own)
-abbrev pub Ends : Found → List ℕ → Option (List ℕ) → Type 0
-Ends (Line count) unread left = position (λ byte. byte == 10) unread ≡ Some count
-Ends Last unread left = (position (λ byte. byte == 10) unread ≡ None) × IsAtEnd left
-Ends TooLong unread left = (position (λ byte. byte == 10) unread ≡ None) × (LINE_BYTES < length unread)
+abbrev pub LineEnds : Found → List ℕ → Option (List ℕ) → Type 0
+LineEnds (Line count) unread left = position (λ byte. byte == 10) unread ≡ Some count
+LineEnds Last unread left = (position (λ byte. byte == 10) unread ≡ None) × IsAtEnd left
+LineEnds TooLong unread left = (position (λ byte. byte == 10) unread ≡ None) × (LINE_BYTES < length unread)
