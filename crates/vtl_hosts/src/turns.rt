@@ -4,7 +4,7 @@ ghost use Rattle.vtl_base.specs.declared.limits.TheConstants.{NEXUSES};
 ghost use Rattle.vtl_hosts.specs.Rounds.{host_in};
 ghost use Rattle.vtl_hosts.specs.Turns.{ServesHosts};
 ghost use Rattle.vtl_hosts.specs.Inner.Idle.{AreIdle, servers_of};
-ghost use Rattle.vtl_hosts.specs.Inner.Serving.{AnswersOfNoHost, ServesNext};
+ghost use Rattle.vtl_hosts.specs.Inner.Serving.{AnswersOfNoHost, ServesNextTurn};
 
 use crate::ends::{Ends, make_rooms};
 use crate::reading::Break;
@@ -57,7 +57,7 @@ fn serve_turn<S: Host + Send, G: Desk, R: Threads + Wait + Clock + Sync, I: Read
 ) -> Result<bool, WireFault>
     requires idle { AreIdle ends.old.hosts.items ends.old.requests.items ends.old.answers.items }
     requires all { length ends.old.hosts.items ≡ NEXUSES }
-    ensures serves { ServesNext S.answers G.is_taken G.answers G.lacks frames.old.frames
+    ensures serves { ServesNextTurn S.answers G.is_taken G.answers G.lacks frames.old.frames
         (record { hosts = servers_of ends.old.hosts.items; desk = desk.old }) (I.remaining reader.old)
         (W.contents writer.old) frames.new.frames (record { hosts = servers_of ends.new.hosts.items; desk = desk.new })
         (I.remaining reader.new) (W.contents writer.new) result }

@@ -1,6 +1,6 @@
 //! The thread that writes: answers come from the hosts' rings.
 ghost use Rattle.std.specs.Prelude.{false};
-ghost use Rattle.vtl_hosts.specs.Inner.Writing.{WritesAll, WritesAnswer, WritesNext};
+ghost use Rattle.vtl_hosts.specs.Inner.Writing.{WritesAll, WritesUnlessFailed, WritesNext};
 
 use crate::bells::Bells;
 use rtrb::Consumer;
@@ -10,7 +10,7 @@ use vtl_wire::{Answer, write_if_fits};
 
 // Writes an answer, unless a write failed before, and says whether one did now.
 fn write_unless<W: Write>(writer: &mut W, failed: bool, answer: &Answer) -> bool
-    ensures { WritesAnswer (W.contents writer.old) failed (W.contents writer.new) result answer.now }
+    ensures { WritesUnlessFailed (W.contents writer.old) failed (W.contents writer.new) result answer.now }
 {
     if failed {
         return true;

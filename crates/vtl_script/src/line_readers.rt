@@ -35,9 +35,9 @@ pub enum Found {
 impl Model for LineReader {
     ghost use Rattle.std.specs.Prelude.{◌≤◌, ◌+◌, length};
     ghost use Rattle.vtl_base.specs.declared.limits.TheConstants.{SCRIPT_BYTES, SCRIPT_READS};
-    ghost use Rattle.vtl_script.specs.Inner.Reading.{Reading};
+    ghost use Rattle.vtl_script.specs.Inner.Reading.{LineReading};
 
-    ghost Value = { Reading };
+    ghost Value = { LineReading };
 
     ghost view = { λ b. record {
       unread = b.buffer;

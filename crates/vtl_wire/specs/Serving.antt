@@ -45,6 +45,12 @@ abbrev pub WritesFront : Option (List ℕ) → Option (List ℕ) → Answer → 
 WritesFront before now answer =
     AppendsFront before now (spell_answer answer) × ((FitsAnswer answer → ⊥) → now ≡ before)
 
+-- a request is answered, and this is written of the answer (own)
+abbrev pub AnswersAndWrites : {S : Type 0} → (Option (List ℕ) → Option (List ℕ) → Answer → Type 0)
+    → (S → Request → Answer → S → Type 0) → S → Request → Option (List ℕ) → S → Option (List ℕ) → Type 0
+AnswersAndWrites writes answers old request before new now =
+    (answer : Answer) × answers old request answer new × writes before now answer
+
 -- a request was served, and its answer written whole, or a beginning of it (own)
 pub record ServesOne {S : Type 0} (takes : S → Request → Bool) (answers : S → Request → Answer → S → Type 0)
     (writes : Option (List ℕ) → Option (List ℕ) → Answer → Type 0)

@@ -4,7 +4,7 @@ ghost use Rattle.scsi_sense.specs.declared.replies.Status.{Status};
 ghost use Rattle.scsi_sense.specs.declared.sense_data.Sense.{Sense};
 ghost use Rattle.scsi_sense.specs.Replies.{status_code};
 ghost use Rattle.vtl_wire.specs.declared.answer_heads.AnswerHead.{AnswerHead};
-ghost use Rattle.vtl_wire.specs.Inner.Answered.{EntriesSay, GoesTo, HeadSays, IsReplyHeader};
+ghost use Rattle.vtl_wire.specs.Inner.Answered.{EntriesSay, GoesToHost, HeadSays, IsReplyHeader};
 
 use crate::frames::{ENTRY_BYTES, FrameKind, MOST_DATA, SENSE_BYTES};
 use crate::headers::Header;
@@ -59,7 +59,7 @@ fn reply_status(header: Header) -> Option<Status>
 
 // The reply of a header that goes to this host, or answers a move.
 fn reply_head(header: Header, host: Option<Nexus>) -> Option<AnswerHead>
-    requires { GoesTo header.kind header.host host }
+    requires { GoesToHost header.kind header.host host }
     ensures found { IfSome result (HeadSays header) }
     ensures none { IfNone result ((status : Status) → IsReplyHeader header status → ⊥) }
 {

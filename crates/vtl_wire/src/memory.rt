@@ -2,7 +2,7 @@
 ghost use Rattle.std.specs.Prelude.{◌≡◌, ◌≤◌, ◌<◌, ◌+◌, ◌*◌, [], length, vec_len, vec_capacity, IfOk, IfErr, OnErr};
 ghost use Rattle.vtl_base.specs.declared.bytes.TheConstants.{INLINE_BYTES};
 ghost use Rattle.vtl_wire.specs.declared.frames.TheConstants.{ENTRY_BYTES};
-ghost use Rattle.vtl_wire.specs.Inner.Answered.{MayStand};
+ghost use Rattle.vtl_wire.specs.Inner.Answered.{MayBeHeader};
 
 use crate::answers::Entry;
 use crate::faults::WireFault;
@@ -37,7 +37,7 @@ impl Memory {
 
     // Room for the data that this header counts, which some request or answer may have.
     pub(crate) fn room(&self, header: Header) -> Result<Vec<u8>, WireFault>
-        requires { MayStand header }
+        requires { MayBeHeader header }
         ensures room { IfOk result (λ room. length room.items ≡ header.payload) }
         ensures fault { IfErr result (λ fault. fault ≡ WireFault.NoMemory) }
     {
@@ -49,7 +49,7 @@ impl Memory {
 
     // Room for the entries that this header counts, which some request or answer may have.
     pub(crate) fn entries(&self, header: Header) -> Result<Vec<Entry>, WireFault>
-        requires { MayStand header }
+        requires { MayBeHeader header }
         ensures none { IfOk result (λ room. (room.items ≡ []) × (vec_len room ≡ 0)) }
         ensures room { IfOk result (λ room. header.payload < ENTRY_BYTES * vec_capacity room + ENTRY_BYTES) }
         ensures most { IfOk result (λ room. ENTRY_BYTES * vec_capacity room ≤ header.payload) }

@@ -4,7 +4,7 @@ ghost use Rattle.std.specs.Io.KnownBytes.{Consumes, IsAtEnd};
 ghost use Rattle.vtl_base.specs.declared.bytes.TheConstants.{INLINE_BYTES};
 ghost use Rattle.vtl_wire.specs.declared.frames.TheConstants.{HEADER_BYTES};
 ghost use Rattle.vtl_wire.specs.Reads.{NotesFault};
-ghost use Rattle.vtl_wire.specs.Inner.Answered.{MayStand};
+ghost use Rattle.vtl_wire.specs.Inner.Answered.{MayBeHeader};
 ghost use Rattle.vtl_wire.specs.Inner.Reading.{count_given, ReadsWhole, ReadsBytes, MissesBytes, ReadsHeader, TakesFewer};
 
 use crate::faults::WireFault;
@@ -121,7 +121,7 @@ fn read_many<R: Read>(
     reader: &mut R,
     header: Header,
 ) -> Result<Option<Bytes>, WireFault>
-    requires head { MayStand header }
+    requires head { MayBeHeader header }
     requires many { INLINE_BYTES < header.payload }
     ensures bytes { IfOk result (ReadsBytes (R.remaining reader.old) (R.remaining reader.new) header.payload) }
     ensures fault { IfErr result (MissesBytes (R.remaining reader.old) (R.remaining reader.new) header.payload) }
@@ -143,7 +143,7 @@ pub(crate) fn read_data<R: Read>(
     reader: &mut R,
     header: Header,
 ) -> Result<Option<Bytes>, WireFault>
-    requires { MayStand header }
+    requires { MayBeHeader header }
     ensures bytes { IfOk result (ReadsBytes (R.remaining reader.old) (R.remaining reader.new) header.payload) }
     ensures fault { IfErr result (MissesBytes (R.remaining reader.old) (R.remaining reader.new) header.payload) }
     ensures same { IfOk result (λ _. reads.new ≡ reads.old) }

@@ -14,7 +14,7 @@ use Rattle.clap.specs.declared.error.kind.ErrorKind.{ErrorKind}
 use Rattle.clap.specs.declared.error.kind.ErrorKind.TheVariants.{OutOfMemory}
 use Rattle.vtl_base.specs.Barcode.{IsBarcode}
 use Rattle.vtl_words.specs.Commands.{vtl_command}
-use Rattle.vtl_words.specs.Inner.ParserErrors.{StandsFor, AsksNothing}
+use Rattle.vtl_words.specs.Inner.ParserErrors.{IsReportedAs, AsksNothing}
 use Rattle.vtl_words.specs.Orders.{Asked, reclaim_by, IsNoOrder, order_from, AreRefused, RefusesWords}
 use Rattle.vtl_words.specs.declared.orders.WordsError.{WordsError}
 use Rattle.vtl_words.specs.declared.orders.WordsError.TheVariants.{Help, Refused, NoMemory}
@@ -41,7 +41,7 @@ rows_from_parts (Some b) word rows named matched =
 
 -- the fault that stands for an error of the parser refuses the words
 pub reported_refused :
-    (words : List (List ℕ)) (kind : ErrorKind) (error : WordsError) → StandsFor kind error
+    (words : List (List ℕ)) (kind : ErrorKind) (error : WordsError) → IsReportedAs kind error
     → (kind ≡ OutOfMemory) ⊎ IsAmong kind (fault_of vtl_command words) → RefusesWords words error
 reported_refused words kind (Help text) (inl help) (inl memory) = cc
 reported_refused words kind (Help text) (inr version) (inl memory) = cc

@@ -8,7 +8,7 @@ ghost use Rattle.clap.specs.Walk.{first_of, rows_of};
 ghost use Rattle.vtl_base.specs.Barcode.{IsBarcode};
 ghost use Rattle.vtl_words.specs.Commands.{vtl_command};
 ghost use Rattle.vtl_words.specs.Orders.{asked_of, asked_by, order_from, is_set, texts_of, Asks, RefusesWords};
-ghost use Rattle.vtl_words.specs.Inner.ParserErrors.{StandsFor, AsksFor, AsksNothing};
+ghost use Rattle.vtl_words.specs.Inner.ParserErrors.{IsReportedAs, AsksFor, AsksNothing};
 
 use crate::commands::vtl_command;
 use crate::orders::{Order, WordsError};
@@ -19,7 +19,7 @@ use vtl_base::{Barcode, NoMemory};
 
 // The fault that stands for an error of the parser.
 fn parser_error(alloc: Global, error: &clap::Error) -> WordsError
-    ensures { StandsFor (kind_of error.now) result }
+    ensures { IsReportedAs (kind_of error.now) result }
 {
     match error.kind() {
         ErrorKind::OutOfMemory => WordsError::NoMemory,

@@ -8,10 +8,10 @@ use Rattle.vtl_words.specs.declared.orders.WordsError.{WordsError}
 use Rattle.vtl_words.specs.declared.orders.WordsError.TheVariants.{Help, Refused, NoMemory}
 
 -- what an error of the parser is reported as (own)
-abbrev pub StandsFor : ErrorKind → WordsError → Type 0
-StandsFor kind (Help text) = IsTextRequest kind
-StandsFor kind Refused = ¬ IsTextRequest kind × (kind ≢ OutOfMemory)
-StandsFor kind NoMemory = ⊤
+abbrev pub IsReportedAs : ErrorKind → WordsError → Type 0
+IsReportedAs kind (Help text) = IsTextRequest kind
+IsReportedAs kind Refused = ¬ IsTextRequest kind × (kind ≢ OutOfMemory)
+IsReportedAs kind NoMemory = ⊤
 
 -- the order is what is asked for, and that has its form (own)
 abbrev pub AsksFor : Option Asked → Order → Type 0
