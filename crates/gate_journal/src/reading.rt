@@ -6,7 +6,7 @@ ghost use Rattle.gate_journal.specs.Inner.Reading.{copied_size, heading_parsed, 
 ghost use Rattle.std.specs.Int.{to_be_bytes, w32};
 ghost use Rattle.gate_journal.specs.Crash.{Unwritten};
 ghost use Rattle.gate_journal.specs.Reads.{OnlyReads};
-ghost use Rattle.gate_journal.specs.Inner.Found.{FindsBytes, FindsFront, FindsStart, FindsFront, FindsAsked, FindsMark, FindsFrames, FindsSide};
+ghost use Rattle.gate_journal.specs.Inner.Found.{FindsBytes, FindsParsed, FindsStart, FindsFront, FindsAsked, FindsMark, FindsFrames, FindsSide};
 ghost use Rattle.tape_disk.specs.Moments.{LeavesOnly};
 
 use crate::error::JournalError;
@@ -125,7 +125,7 @@ fn find_front<D: Disk>(disk: &mut D) -> Result<(FrontBytes, ParsedFront), Journa
     ensures unwritten { (D.state disk.old).honest →
         Unwritten (D.state disk.old) (D.state disk.new) }
     ensures reads { OnlyReads D.effect disk.old disk.new }
-    ensures answer { FindsFront result (D.state disk.old) (D.state disk.new) }
+    ensures answer { FindsParsed result (D.state disk.old) (D.state disk.new) }
 {
     let found = read_bytes(disk)?;
     match parse_front(&found.bytes[..found.len]) {

@@ -39,11 +39,11 @@ FindsBytes (Ok found) old new =
 FindsBytes (Err error) old new = NotRead error (old.honest → IsNotOurs old.seen) (λ at. ⊥) ⊥ old new
 
 -- the bytes of the front at the start of the disk, with what is read from them; or there is no front (own)
-abbrev pub FindsFront : Result (FrontBytes × ParsedFront) JournalError → DiskState → DiskState → Type 0
-FindsFront (Ok found) old new =
+abbrev pub FindsParsed : Result (FrontBytes × ParsedFront) JournalError → DiskState → DiskState → Type 0
+FindsParsed (Ok found) old new =
     NoneFailed old new × (found.0.len ≤ HEADER_BYTES) × ParsesFront (take found.0.len found.0.bytes) (Some found.1)
     × (old.honest → (rest : List ℕ) × (old.seen ≡ take found.0.len found.0.bytes ++ rest))
-FindsFront (Err error) old new = NotRead error (old.honest → IsNotOurs old.seen) (λ at. ⊥) ⊥ old new
+FindsParsed (Err error) old new = NotRead error (old.honest → IsNotOurs old.seen) (λ at. ⊥) ⊥ old new
 
 -- what is read from the front at the start of the disk; or there is no front (own)
 abbrev pub FindsStart : Result ParsedFront JournalError → DiskState → DiskState → Type 0
