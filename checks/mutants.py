@@ -530,7 +530,7 @@ EDITS = [
     ("a tab parts the fields of a line", "script_reasons", "src/fields.rt",
      "        if (line[place] == b' ') == is_space {",
      "        if (line[place] == b' ' || line[place] == b'\\t') == is_space {", ["each_fault_of_a_command"]),
-    ("a missing field is told at the beginning of its line", "script_reasons", "src/reasons.rt",
+    ("a missing field is told at the beginning of its line", "script_reasons", "src/wrong_fields.rt",
      "        fault: Fault::Missing,\n        part: end_of(line),",
      "        fault: Fault::Missing,\n        part: Part { from: 0, to: 0 },", ["each_fault_of_a_command"]),
     ("what stands behind the end of a phase is explained as a host", "script_reasons", "src/reasons.rt",
