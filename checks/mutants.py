@@ -535,7 +535,7 @@ EDITS = [
      "        fault: Fault::Missing,\n        part: Part { from: 0, to: 0 },", ["each_fault_of_a_command"]),
     ("what stands behind the end of a phase is explained as a host", "script_reasons", "src/reasons.rt",
      '    if word == b"--".as_slice() {', '    if word == b"---".as_slice() {', ["each_fault_of_a_command"]),
-    ("the first byte of a field is no digit, and is passed over", "script_reasons", "src/reasons.rt",
+    ("the first byte of a field is no digit, and is passed over", "script_reasons", "src/wrong_fields.rt",
      "    for from in part.from..part.to {", "    for from in part.from + 1..part.to {", ["each_fault_of_a_command"]),
     ("flushes of answers are left out", "answer_notes", "src/writers.rt",
      "        self.below.flush()\n", "        Ok(())\n", ["each_flush_is_passed_on"]),
