@@ -16,8 +16,8 @@ pub enum Fault {
     Writing,
     /// The device failed while a block was read. The medium has failed.
     Reading,
-    /// The side is full, and nothing changed. The residue, where it is reported, is what was not
-    /// written: bytes of a block, or marks.
+    /// The side is full, and nothing changed. The residue, where it is reported, is how much was not written: bytes of
+    /// a block, or marks.
     SideFull { residue: Option<u32> },
     /// The device failed while reservations were saved. The old ones stand, and the keeper has failed.
     Saving,

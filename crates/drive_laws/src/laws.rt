@@ -16,9 +16,9 @@ pub fn honest_steps<M: Medium>()
 
 /// An input has one answer, makes one list of changes and leaves one drive, unless a fault comes, memory runs out or a
 /// side is full. How the volume is split into what is stored and what is pending makes no difference. The same holds of
-/// the inputs of a run, wherever flushers' turns stand in it. For an input that opens a medium it has to be sure what
-/// the medium's side gives. That is so in each run without a fault, with enough memory and with no full side, if it was
-/// sure at the start what the side of each medium gives.
+/// the inputs of a run, wherever flushers' turns stand in it. An input that opens a medium needs more: it has to be
+/// sure which volume the medium's side gives. That is sure throughout a run without a fault, with enough memory and
+/// with no full side, if it was sure at the start for the side of each medium.
 pub fn answers_are_determined()
     ensures step { StepsAreDetermined }
     ensures run { RunsAreDetermined }

@@ -179,7 +179,8 @@ impl Volume {
         }
     }
 
-    /// The object number of a partition's mark number k, counted from 0. It goes over the objects up to that one.
+    /// The object number of filemark k of a partition, counted from 0. The search goes over the objects up to that
+    /// filemark.
     pub fn mark_at(&self, part: PartNo, k: u32) -> ObjNo
         requires { k < mark_count self.now part }
         ensures { IsMarkOf self.now part k result }

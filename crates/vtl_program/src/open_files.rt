@@ -61,7 +61,7 @@ impl OpenFiles {
         number
     }
 
-    /// Notes that the file of this number is used.
+    /// Notes that the file with this number was used last. 0 is no file.
     pub fn used(&self, number: u64) {
         if number > 0 {
             self.last.store(number, Ordering::SeqCst);

@@ -1,4 +1,4 @@
-//! The items of a script: phases and moves, each of which is run at once.
+//! The items of a script: phases and moves. Each is one step of a run.
 ghost use Rattle.std.specs.Prelude.{◌≡◌, ◌≢◌, ℕ, true, IfOk, IfErr, Err};
 ghost use Rattle.vtl_script.specs.Runs.{TakesWithin};
 ghost use Rattle.vtl_script.specs.Inner.ReadItem.{ReadsItems, RefusesItem, shows_phase};
@@ -36,7 +36,7 @@ impl Commands {
         Commands { lines }
     }
 
-    /// The commands, to be read.
+    /// The commands, for reading.
     pub fn as_slice(&self) -> &[Line]
         ensures { result.now ≡ self.now }
     {
@@ -51,7 +51,7 @@ impl Commands {
     }
 }
 
-/// A part of a script that is run at once.
+/// A part of a script that is run as one step.
 #[derive(Drop)]
 pub enum Item {
     /// The commands of a phase, in the order of their turns.

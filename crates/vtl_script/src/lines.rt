@@ -30,7 +30,7 @@ pub enum ParsedLine {
     Command(Line),
     /// The cartridge at an element address is moved to another. The phase ends before it.
     Move { from: u32, to: u32 },
-    /// It has none of the forms of a line.
+    /// The text has none of the forms of a line.
     Refused,
 }
 

@@ -11,7 +11,7 @@ use crate::interruptions::is_interrupted;
 use scsi_sense::{Reply, Sense, Status};
 use std::io::Write;
 
-// The bytes whose digits are added at once at most.
+// How many bytes one step spells in digits at most.
 const DIGITS_PIECE: usize = 4_096;
 
 /// Writes a text. Where a write fails, which is a `WriteFault`, a beginning of it is written. An interrupted write is

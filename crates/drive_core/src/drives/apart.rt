@@ -49,7 +49,7 @@ impl<K: Keeper> Rest<K> {
         self.deferred = true;
     }
 
-    /// What keeps the reservations, to be looked at.
+    /// The keeper of the reservations, for reading.
     pub fn keeper(&self) -> &K
         ensures { result.now ≡ self.now.keeper }
     {
