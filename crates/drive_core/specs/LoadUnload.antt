@@ -62,8 +62,8 @@ abbrev pub ReloadsAs :
 ReloadsAs (Ok done) opened nexus old answer new = (answer ≡ Ok (good_with [])) × (new ≡ reloaded old nexus opened)
 ReloadsAs (Err error) parked nexus old answer new = (answer ≡ wake_answer error) × (new ≡ unloaded old parked)
 
--- A loaded medium is asked to load: of one that has failed that is refused; else what is pending is stored, and the
--- position is the start (SSC-4, LOAD UNLOAD; the refusal own).
+-- A loaded medium is asked to load. If it has failed, that is refused; else what is pending is stored, and the position
+-- is the start (SSC-4, LOAD UNLOAD; the refusal own).
 abbrev pub LoadsAgain : Bool → MediumState → MachineRelation
 LoadsAgain true medium old answer made new = RepliesAlone (check_with medium_failed []) old answer made new
 LoadsAgain false medium old answer made new =

@@ -1,4 +1,4 @@
-//! What may come into a command, beside what the standard says.
+//! Faults that a command may meet, beside what the standard says.
 ghost use Rattle.std.specs.Prelude.{◌≡◌};
 ghost use Rattle.drive_core.specs.Faults.{fault_sense, fault_reply};
 
@@ -7,10 +7,10 @@ use scsi_sense::{Reply, Sense};
 use std::alloc::Global;
 use vtl_base::{Bytes, NoMemory};
 
-/// A fault that came into a command.
+/// A fault that a command met.
 #[derive(Clone, Copy, PartialEq, Eq, Debug)]
 pub enum Fault {
-    /// A growth was refused. Nothing changed, but what was pending may have been stored.
+    /// Memory ran out. Nothing changed, except that what was pending may have been stored.
     NoMemory,
     /// The device failed while what was pending was stored. The medium has failed.
     Writing,

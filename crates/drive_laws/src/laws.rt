@@ -29,24 +29,24 @@ pub fn answers_are_determined()
     each_order_has_one_end();
 }
 
-/// A run, and one that goes on from where it ended, are one run.
+/// A run, and a second one that starts where the first ended, are one run together.
 pub fn runs_append()
     ensures { RunsAppend }
 {}
 
-/// What one drive answers to hosts, one after another, is a run of its machine.
+/// The answers of one drive to hosts, one after another, are a run of its machine.
 pub fn served_hosts_run<M: Medium, K: Keeper>()
     ensures { ServedByRuns M.state M.below K.kept K.below }
 {}
 
-/// What one drive answers to hosts, with flusher's turns between them, is a run of its machine in
-/// which each turn stands where it was taken.
+/// The answers of one drive to hosts, with flusher's turns between them, are a run of its machine. Each turn stands in
+/// it where it was taken.
 pub fn events_run<M: Medium, K: Keeper>()
     ensures { EventsAreRuns M.state M.below K.kept K.below }
 {}
 
-/// How many changes a command made, by its reply: one where a WRITE of at least one byte, a WRITE FILEMARKS of at least
-/// one filemark or an ERASE is acknowledged; none or one where the reply is a write error; else none.
+/// A reply shows how many changes the command made. It is one where a WRITE of at least one byte, a WRITE FILEMARKS of
+/// at least one filemark or an ERASE is acknowledged; none or one where the reply is a write error; else none.
 pub fn replies_show_changes<M: Medium, K: Keeper>()
     ensures { RepliesShowChanges M.state M.below K.kept K.below }
 {}

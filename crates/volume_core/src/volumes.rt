@@ -77,8 +77,7 @@ pub fn is_in_early_zone(capacity: u64, used: u64) -> bool
     used > capacity - capacity / 16
 }
 
-/// The contents of a cartridge, in memory: 1 to 4 partitions of objects. To a contract it is the list of its
-/// partitions.
+/// The contents of a cartridge, in memory: 1 to 4 partitions of objects. A contract sees the list of its partitions.
 #[derive(Drop)]
 pub struct Volume {
     partitions: Vec<Partition>,

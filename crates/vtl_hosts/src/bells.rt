@@ -33,7 +33,7 @@ impl Bell {
         }
     }
 
-    // Rings once. A `closed` that is there is stored: whether nothing more comes.
+    // Rings once. `closed` sets whether nothing more comes; None leaves that as it is.
     fn strike<R: Wait>(&self, rt: &R, closed: Option<bool>) {
         let mut rung = self.rung.lock(rt);
         rung.count = rung.count.wrapping_add(1);

@@ -15,7 +15,7 @@ use std::marker::Model;
 /// How many bytes one write has at most.
 pub const WRITE_CHUNK: usize = 65_536;
 
-/// Text that is not written yet: the first `filled` bytes of `buffer`. To a contract it is a list.
+/// Text that is not written yet: the first `filled` bytes of `buffer`. A contract sees it as a list.
 #[derive(Drop)]
 pub struct AnswerText {
     buffer: Vec<u8>,

@@ -13,7 +13,7 @@ use std::alloc::Global;
 use std::io::Read;
 use std::marker::Model;
 
-/// The commands of a phase. To a contract they are a list.
+/// The commands of a phase. A contract sees them as a list.
 #[derive(Drop)]
 pub struct Commands {
     lines: Vec<Line>,
@@ -56,8 +56,8 @@ impl Commands {
 pub enum Item {
     /// The commands of a phase, in the order of their turns.
     Phase(Commands),
-    /// The cartridge at an element address is moved to another. The addresses are as the line gives
-    /// them, at most 99999 each.
+    /// Moves the cartridge at one element address to another one. The addresses are as the line gives them, at most
+    /// 99999 each.
     Move { from: u32, to: u32 },
 }
 

@@ -14,8 +14,8 @@ use std::io::Write;
 // How many bytes one step spells in digits at most.
 const DIGITS_PIECE: usize = 4_096;
 
-/// Writes a text. Where a write fails, which is a `WriteFault`, a beginning of it is written. An interrupted write is
-/// made again; it is not flushed.
+/// Writes a text. Where a write fails, the result is a `WriteFault`, and a beginning of the text is written. An
+/// interrupted write is made again. Nothing is flushed.
 pub fn write_text<W: Write>(writer: &mut W, text: &[u8]) -> Result<(), ScriptFault>
     ensures ok { OnOk result (Appends (W.contents writer.old) (W.contents writer.new) text.now) }
     ensures err { OnErr result
