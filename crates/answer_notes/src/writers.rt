@@ -1,4 +1,4 @@
-//! A writer of answers that writes beside them what each means.
+//! A writer of answers, which also writes what each of them means.
 ghost use Rattle.std.specs.Prelude.{◌≡◌, min, take};
 ghost use Rattle.answer_notes.specs.Meanings.{WritesMeaning, ExplainsAnswer};
 

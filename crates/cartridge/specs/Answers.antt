@@ -126,7 +126,8 @@ IsNotCreated SideFull memory device = ⊥
 IsNotCreated Failed memory device = ⊥
 
 module _ {D : Type 0} (state : D → DiskState) where
-  -- no call of either disk failed; and where both are honest this is what they read, and it is sure (own)
+  -- no call of either disk failed; and where both are honest this is true, and a crash leaves just what a read gives
+  -- (own)
   abbrev pub ReadsSure : TwoDisks D → TwoDisks D → Type 0 → Type 0
   ReadsSure old new what =
       NoneOfTwo state old new × (AreHonest state old → what × OnlyOfTwo state old new)

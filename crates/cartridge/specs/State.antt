@@ -29,7 +29,7 @@ pub record OpenCartridge (D : Type 0) : Type 0 where
 -- with the frame that was in flight when a disk failed (own)
 pub record ClosedCartridge (D : Type 0) : Type 0 where
   pub disks : TwoDisks D
-  -- it was made or closed by this library; of disks that are only taken for a cartridge nothing is known
+  -- it was made or closed by this library; nothing is known of disks that were only put together as a cartridge
   pub known : Bool
   pub contents : Contents
   pub torn : List (List Change)

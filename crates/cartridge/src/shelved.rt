@@ -96,7 +96,7 @@ impl<D: Disk> Shelved<D> {
         }
     }
 
-    /// What holds of every closed cartridge. Each pair of images that a crash may leave gives the contents, or the
+    /// The invariant of every closed cartridge. Each pair of images that a crash may leave gives the contents, or the
     /// contents with the frame that was in flight when a disk failed. The contents are a cartridge's over any disks.
     pub fn known(&self)
         ensures contents { self.now.known ≡ true → IsContents self.now.contents }

@@ -41,7 +41,7 @@ is_warned (Some amount) volume position = is_near_end volume position
 abbrev pub done_reply : Bool → Reply
 done_reply warned = if warned then check_with early_warning [] else good_with []
 
--- the reply to a change that was made: the warning goes by the volume as it is then (SSC-4, early warning)
+-- the reply to a change that was made: the warning depends on the volume as it is then (SSC-4, early warning)
 abbrev pub made_reply : Change → Mounted → Reply
 made_reply change old =
     done_reply (is_warned (amount_of change) (changed (contents_of old) change) (behind change old.position))

@@ -34,7 +34,7 @@ abbrev pub side_sight : Bool → MediumState → Option SideSight
 side_sight true medium = None
 side_sight false medium = Some (record { stored = medium.stored; torn = medium.torn })
 
--- a medium, but for how its volume is split into what is stored and what is pending while it is awake and works, and
+-- a medium, except for how its volume is split into what is stored and what is pending while it is awake and works, and
 -- for the room of its side (own)
 pub record Sight : Type 0 where
   pub awake : Bool
@@ -52,7 +52,7 @@ sight_of medium =
       side = side_sight (is_sound medium) medium;
     }
 
--- a keeper, but for the room of its store (own)
+-- a keeper, except for the room of its store (own)
 abbrev pub without_room : KeeperState → KeeperState
 without_room keeper = record keeper { room = None }
 
@@ -139,7 +139,7 @@ abbrev pub is_no_turn : Input → Bool
 is_no_turn FlushTurn = false
 is_no_turn _ = true
 
--- the inputs but for the flusher's turns (own)
+-- the inputs except for the flusher's turns (own)
 abbrev pub without_turns : List Input → List Input
 without_turns inputs = filter is_no_turn inputs
 
@@ -177,9 +177,9 @@ StepsAreDetermined =
     → Step (Unit {0}) old input output made new → Step (Unit {0}) beside other output' made' new'
     → AreAlike (IsSureDrive (seen_of old) × BringsSure input) output output' made made' new new'
 
--- Two runs of which none of these came, by inputs that ask alike but for flusher's turns, which may stand at different
--- places, from drives that are seen alike: the replies are the same, and they come out alike. Again the inputs of one
--- run that open a medium are asked that it be sure how that is opened, in the drives that they come to (own).
+-- Two runs start from drives that are seen alike. None of these comes in them, and their inputs ask alike, except for
+-- flusher's turns, which may stand at different places. Then the replies are the same, and the runs end alike. Again
+-- each input of one run that opens a medium has to be sure how that is opened, in the drive that it comes to (own).
 abbrev pub RunsAreDetermined : Type 0
 RunsAreDetermined =
     (old beside : Machine) (inputs others : List Input) (outputs outputs' : List Output) (made made' : Made)

@@ -60,8 +60,8 @@ abbrev pub power_on_outcome : Result Unit MediumError → Result Unit Fault
 power_on_outcome (Err Errors.Device) = Err Reading
 power_on_outcome _ = Ok tt
 
--- a drive is switched on with this medium in it, if any, and with this keeper: its reservations are what a loss of
--- power left (SPC-4, power on, persist through power loss; SSC-4)
+-- a drive is switched on with this medium in it, if any, and with this keeper: its reservations are those that a loss
+-- of power left (SPC-4, power on, persist through power loss; SSC-4)
 abbrev pub PowersOn : Type 0 → Option MediumState → KeeperState → Result Unit Fault → Made → Machine → Type 0
 PowersOn honest None keeper outcome made new =
     (outcome ≡ Ok tt) × (made ≡ made_nothing) × (new ≡ powered_on Empty (left_of keeper.saved) keeper)

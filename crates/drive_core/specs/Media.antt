@@ -37,7 +37,7 @@ unload_reply (Ok out) = good_with []
 unload_reply (Err reply) = reply
 
 module _ {M : Type 0} (state : M → MediumState) (below : Below M Change) where
-  -- a medium was asked to open, and answered so (own)
+  -- a medium was opened, with this result (own)
   pub record WakesAs (old : M) (woke : Result Unit MediumError) (new : M) : Type 0 where
     pub answer : Wakes (below.honest old) (state old) woke (state new)
     pub advances : Advances below old [] (met_fault woke) new

@@ -11,7 +11,7 @@ use Rattle.drive_core.specs.State.{DriveState}
 use Rattle.drive_core.specs.Relations.{MachineRelation, RepliesAlone, made_nothing}
 use Rattle.drive_core.specs.Giving.{GivesData}
 
--- A drive with this buffered mode. A unit attention condition is established for every nexus but one (SPC-4, MODE
+-- A drive with this buffered mode. A unit attention condition is established for every nexus but this one (SPC-4, MODE
 -- SELECT; SSC-4, buffered mode).
 abbrev pub changed_mode : {M K : Type 0} → Bool → ℕ → DriveState M K → DriveState M K
 changed_mode buffered nexus drive = record drive {

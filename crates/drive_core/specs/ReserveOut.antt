@@ -47,8 +47,8 @@ fault_of_save keepers.Failed = Saving
 abbrev pub made_by_save : List PrState → Made
 made_by_save states = record { changes = []; saved = states }
 
--- The keeper was asked to save, answered so, and is this now. Where it saved, the order stands; else the fault comes,
--- and the old reservations stand (own).
+-- The keeper was asked to save; this is its result, and this is the keeper now. Where it saved, the order stands; else
+-- the fault comes, and the old reservations stand (own).
 abbrev pub StandsOnceSaved :
     Result Unit KeeperError → KeeperState → PrAnswer → PrState → List AttentionSet → Machine
     → Result Reply Fault → Machine → Type 0

@@ -46,7 +46,7 @@ pub record ShowsChanges (cdb : List ℕ) (reply : Reply) (changes : List Change)
   pub few : length changes ≤ 1
   -- one is made where a command that changes the medium is acknowledged, by GOOD or by an early warning
   pub one : IsChanging cdb → Acknowledges reply → length changes ≡ 1
-  -- every other reply comes with none, but for a write error
+  -- every other reply comes with none, except for a write error
   pub none : (IsChanging cdb → Acknowledges reply → ⊥) → (ShowsWriteError reply → ⊥) → changes ≡ []
   -- and a command that does not change the medium makes none, whatever it is answered
   pub other : (IsChanging cdb → ⊥) → changes ≡ []

@@ -14,8 +14,8 @@ use scsi_sense::Reply;
 use std::alloc::Global;
 use volume_core::{Catalog, Change, Medium};
 
-/// Stores what is pending, and erases what stands behind the position, at the end of data too
-/// (SSC-4, ERASE(6)). In unbuffered mode that is stored before the answer.
+/// Stores what is pending, and then erases what stands behind the position (SSC-4, ERASE(6)). It does this at the end
+/// of data too. In unbuffered mode the erasure is stored before the answer.
 pub fn erase<M: Medium>(
     alloc: Global,
     medium: &mut M,

@@ -12,7 +12,7 @@ use std::alloc::Global;
 use volume_core::Medium;
 use vtl_base::Bytes;
 
-/// GOOD with a copy of these bytes. Of 24 at most it takes no memory.
+/// GOOD with a copy of these bytes. A copy of at most 24 bytes takes no memory.
 pub fn give(alloc: Global, bytes: &[u8]) -> Result<Reply, Fault>
     ensures { Gives bytes.now result }
 {

@@ -13,8 +13,8 @@ use std::alloc::Global;
 use volume_core::{Change, Medium};
 use vtl_base::Bytes;
 
-/// Puts marks at the position, which is then behind them and the end of data (SSC-4, WRITE
-/// FILEMARKS(6)). Unless the answer is to be immediate, all is stored before it, marks or none.
+/// Puts marks at the position. The position is then behind them, at the end of data (SSC-4, WRITE FILEMARKS(6)). Unless
+/// the answer is to be immediate, all is stored before it, with marks or without.
 pub fn write_marks<M: Medium>(
     alloc: Global,
     medium: &mut M,

@@ -20,8 +20,8 @@ use std::alloc::Global;
 use volume_core::{Kind, Medium, MediumError};
 use vtl_base::{Bytes, ObjNo, PartNo};
 
-/// Stores what is pending, then gives the object at the position and goes behind it (SSC-4,
-/// READ(6)). Of no bytes nothing is done.
+/// Stores what is pending, then gives the object at the position and goes behind it (SSC-4, READ(6)). A READ of 0 bytes
+/// does nothing.
 pub fn read<M: Medium>(
     alloc: Global,
     medium: &mut M,

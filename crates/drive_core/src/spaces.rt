@@ -12,8 +12,8 @@ use std::alloc::Global;
 use volume_core::Medium;
 use vtl_base::{Bytes, SpaceCode};
 
-/// Stores what is pending, and goes over blocks, over filemarks or to the end of data (SSC-4,
-/// SPACE(6)). Over no blocks and no filemarks nothing is done.
+/// Stores what is pending, and goes over blocks, over filemarks or to the end of data (SSC-4, SPACE(6)). A SPACE over 0
+/// blocks or 0 filemarks does nothing.
 pub fn space<M: Medium>(
     alloc: Global,
     medium: &mut M,
@@ -37,7 +37,7 @@ pub fn space<M: Medium>(
     Ok(space_reply(alloc, moved))
 }
 
-/// Whether a SPACE is over no blocks or no filemarks.
+/// Whether a SPACE is over 0 blocks or 0 filemarks.
 pub fn is_over_nothing(code: SpaceCode, count: i32) -> bool
     ensures { result ≡ is_over_nothing code count }
 {

@@ -19,9 +19,9 @@ use volume_core::{Catalog, Change, Medium};
 use vtl_base::Bytes;
 use vtl_base::limits::{MAX_OBJECTS, OBJECT_COST};
 
-/// Puts what was sent as a block at the position, which is then behind it and the end of data
-/// (SSC-4, WRITE(6)). Of no bytes nothing is done. The bytes are taken where the medium accepts the
-/// block; else they stay.
+/// Puts the bytes that were sent as a block at the position. The position is then behind the block, at the end of data
+/// (SSC-4, WRITE(6)). A WRITE of 0 bytes does nothing. Where the medium accepts the block it takes the bytes; else the
+/// caller still has them.
 pub fn write<M: Medium>(
     alloc: Global,
     medium: &mut M,

@@ -1,4 +1,4 @@
-//! The trait of what decodes the bodies of a side while it is opened.
+//! The trait of a decoder, which reads the bodies of a side while the side is opened.
 ghost use Rattle.std.specs.Prelude.{◌≡◌, ◌≤◌, ◌++◌, ℕ, List, [], length, false, IfOk};
 ghost use Rattle.gate_journal.specs.Decoding.{IsUnderWay, TakesBody, TakesPiece};
 ghost use Rattle.gate_journal.specs.Side.{Heading, IsHeading, heading_of};

@@ -21,7 +21,7 @@ module _ {D : Type 0} where
   IsAccepted (Some front) count = count ≡ front.drive.accepted
 
 module _ {D : Type 0} (state : D → DiskState) where
-  -- the halves behind two locks are put together so (own)
+  -- the halves behind two locks are put together into this drive (own)
   abbrev pub JoinsHeld : Option (FrontState D) → Option (BackState D) → BayState D → SendingState → Type 0
   JoinsHeld (Some front) (Some back) bay ends = Joins state front back bay ends
   JoinsHeld _ _ bay ends = ⊥

@@ -36,7 +36,7 @@ pub record SeatGrows (request : Request) (before : SeatState) (reply : Reply) (m
 module _ {D : Type 0} (state : D → DiskState) where
   -- The hosts' half of a drive answers a host, without the disk's half. What its type keeps holds before and after, and
   -- at each moment inside the command a crash leaves of the reservations what the command's event says. An order is
-  -- saved by the steps of one event. No synchronizing command is acknowledged so (own).
+  -- saved by the steps of one event. No synchronizing command is acknowledged by this half alone (own).
   pub record AnswersFront
       (old : FrontState D) (request : Request) (reply : Reply) (made : List Change) (new : FrontState D) (left : List ℕ)
       : Type 0 where
@@ -61,14 +61,14 @@ module _ {D : Type 0} (state : D → DiskState) where
     pub both : ExecutesBoth state front back request reply left front' back'
     pub made_is : made ≡ both.answers.step.step.taken.made.changes
 
-  -- the hosts' half of some drive answers so (own)
+  -- the hosts' half of some drive gives this answer (own)
   pub record IsAnsweredAlone (request : Request) (reply : Reply) (made : List Change) : Type 0 where
     pub old : FrontState D
     pub new : FrontState D
     pub left : List ℕ
     pub answers : AnswersFront old request reply made new left
 
-  -- both halves of some drive answer so (own)
+  -- both halves of some drive give this answer (own)
   pub record IsAnsweredByBoth (request : Request) (reply : Reply) (made : List Change) : Type 0 where
     pub front : FrontState D
     pub back : BackState D

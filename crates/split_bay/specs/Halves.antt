@@ -46,8 +46,8 @@ module _ {D : Type 0} (state : D → DiskState) where
   JoinsThere near received None new = ⊥
   JoinsThere near received (Some old) new = JoinsMedium state near received old new
 
-  -- What is in a drive is put together: what was received begins what was sent, and what was not is pending now; the
-  -- medium is what hosts see of it, as far as it is stored; exactly these changes are accepted (own).
+  -- What is in a drive is put together. What was received begins what was sent, and the rest is pending now. The medium
+  -- is as hosts see it, as far as it is stored. Exactly these changes are accepted (own).
   pub record JoinsBay
       (old : Bay SendingState) (end : Option SendingState) (received : List Item) (medium : Option (LentState D))
       (new : Bay (BufferState D)) (ends : SendingState) (fails : Bool) : Type 0 where
@@ -59,8 +59,8 @@ module _ {D : Type 0} (state : D → DiskState) where
     pub advances : AcceptsIn medium waiting (medium_in new)
     pub fails_is : fails ≡ fails_anew (bay_of state_near old) (bay_of (state_of state) new)
 
-  -- The two halves of a bay are put together. What was received begins what was sent; what was not received is pending
-  -- now, and exactly that is accepted. The bay is what the hosts' half is found to be (own).
+  -- The two halves of a bay are put together. What was received begins what was sent; the rest is pending now, and
+  -- exactly that is accepted. The bay is the hosts' half, as it is found (own).
   pub record Joins (front : FrontState D) (back : BackState D) (bay : BayState D) (ends : SendingState) : Type 0 where
     pub waiting : List Change
     pub ends_are : ends ≡ end_of front
@@ -96,7 +96,7 @@ module _ {D : Type 0} (state : D → DiskState) where
     pub allowed : IsAllowedIn near
 
   -- A bay parts into its halves, and a span begins: all that was sent is received. The hosts' half is the same machine;
-  -- the medium of the disk's half is as it was, but for the memory that is reserved (own).
+  -- the medium of the disk's half is as it was, except for the memory that is reserved (own).
   pub record Parts (bay : BayState D) (ends : SendingState) (front : FrontState D) (back : BackState D) : Type 0 where
     pub begins : BeginsNext ends (end_of front)
     pub number : back.number ≡ (end_of front).number

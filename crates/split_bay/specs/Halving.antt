@@ -49,14 +49,14 @@ module _ {D : Type 0} (state : D → DiskState) where
         (state_of state old.buffer).failed ≡ false → Advances (buffer_below state) old.buffer waiting false new
     pub accepts : AcceptsUnreported state old.buffer waiting new
 
-  -- A medium is lent, as it was but for the memory that is reserved. Nothing was called (own).
+  -- A medium is lent, as it was except for the memory that is reserved. Nothing was called (own).
   pub record IsLent (old : BufferState D) (new : LentState D) : Type 0 where
     pub lends : LendsFrom old new
     pub state_is : state_of state new.buffer ≡ state_of state old
     pub advances : Advances (buffer_below state) old [] false new.buffer
 
-  -- A span begins with this medium, which is as it was, but for the memory that is reserved: its hosts' half sees it as
-  -- just what it is (own).
+  -- A span begins with this medium, which is as it was, except for the memory that is reserved: its hosts' half sees it
+  -- as just what it is (own).
   pub record PartsMedium (ends : SendingState) (old : BufferState D) (near : SendingState) (back : BackState D)
       : Type 0 where
     pub begins : BeginsNext ends near

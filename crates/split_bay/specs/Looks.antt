@@ -13,9 +13,9 @@ pub record IsTorn (new : MediumState) : Type 0 where
   pub rest : List Change
   pub torn : new.pending ≡ new.torn ++ rest
 
--- A medium that hosts see so is found so: a first part of what was pending is stored, and the volume is the same. Or
--- its device has failed while something was stored. One that has failed, or is not awake, is as it was; so is one that
--- works and of which nothing was stored (own).
+-- Hosts see the old medium, and both halves find the new one. A first part of what was pending is stored, and the
+-- volume is the same; or the device has failed while something was stored. A medium that has failed, or is not awake,
+-- is found unchanged. So is one that works and of which nothing was stored (own).
 pub record Looked (old new : MediumState) : Type 0 where
   pub stores : Stores old [] new
   pub volume : volume_of new ≡ volume_of old

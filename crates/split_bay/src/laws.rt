@@ -12,7 +12,7 @@ use drive_laws::replies_show_changes;
 use tape_buffer::Cataloged;
 use tape_disk::Disk;
 
-/// How many changes the hosts' half accepted with a command, by its reply, as `drive_laws::replies_show_changes` says
+/// A reply shows how many changes the hosts' half accepted with the command, as `drive_laws::replies_show_changes` says
 /// of a drive.
 pub fn replies_show_changes_alone<D: Disk, R: Rings>()
     ensures { RepliesShowChanges state_near near_below store_kept (store_below D.state) }

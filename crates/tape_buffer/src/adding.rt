@@ -127,7 +127,8 @@ fn add_over<D: Disk>(
     ensures ok { OnOk result (pending.new ≡ pending.old ++ change ∷ []) }
     ensures err { IfErr result (λ back. (back ≡ change) × (pending.new ≡ pending.old)) }
 {
-    // Called for the proof: at rest nothing is in flight, and the partition is there, within its limits.
+    // Called for the proof: in a cartridge that has not failed nothing is in flight, and the partition is there, within
+    // its limits.
     cartridge.known();
     let _ = cartridge.parts();
     let _ = cartridge.count(change.part());

@@ -143,7 +143,7 @@ static ERRORS: &'static [Turn] = &[
 
 // A call, the failures that it reports, and the length after it.
 static COUNTED: &'static [(Step, u64, u64)] = &[
-    // Two of the bytes are there, and the length is what the file has.
+    // Two of the bytes are there, and the length is the file's.
     (Step::Put(3, b"defg"), 1, 5),
     // A call that moves none is an error, too.
     (Step::Put(5, b"x"), 2, 5),

@@ -23,8 +23,8 @@ pub struct SavePlan {
     pub by: SaveFault,
 }
 
-/// A keeper for tests, in memory. Its store takes a limited number of bytes, and one of its saves fails. Once
-/// the device has failed, the keeper has failed for good.
+/// A keeper for tests, in memory. Its store takes a limited number of bytes, and one of its saves fails. Once the
+/// device has failed, the keeper stays failed.
 #[derive(Drop)]
 pub struct StagedKeeper {
     saved: Reservations,

@@ -23,8 +23,8 @@ pub record MediumState : Type 0 where
   pub failed : Bool
   -- the bytes that may still be added to the side; None is no bound, as in memory
   pub room : Option ℕ
-  -- of a parked medium alone: it was not opened yet. What its side gives is what a read gives now. No frame is under
-  -- way, and a device that fails in its opening may leave that another volume is given, or none.
+  -- of a parked medium alone: it was not opened yet. Its side gives what a read gives now. No frame is in flight. A
+  -- device that fails in its opening may leave a side that gives another volume, or none.
   pub unread : Bool
 
 -- the volume that a side gives; of a side with none, one of no partition (own)

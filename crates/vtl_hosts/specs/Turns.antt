@@ -112,7 +112,7 @@ module _ {S G : Type 0} (serves : S → Request → Answer → S → Type 0) (ta
       ServesLast (λ commands given. WritesWhole before now given) (AnswersHosts serves) old left new left'
 
   -- Not all answers were written, or the last is not known to be flushed: a write or a flush failed. Or all that were
-  -- given on were written, and some host is owed one (own).
+  -- given on were written, and some host still has to get one (own).
   abbrev pub WritesNotAll : Option (List ℕ) → Option (List ℕ) → List S → List Request → List Given → Type 0
   WritesNotAll before now hosts commands given =
       WritesCut before now given ⊎ (WritesWhole before now given × OwesAnswer (length hosts) commands given)

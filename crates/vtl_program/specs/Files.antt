@@ -12,9 +12,9 @@ use Rattle.vtl_program.specs.Configured.{IsNoConfig}
 use Rattle.vtl_program.specs.Faults.{fault_of_error}
 use Rattle.vtl_program.specs.Unfinished.{NotStartedState}
 
--- The answers that a call for the file of a name may have, and the disks that may be returned for one, or in a
--- library. Nothing else is known of a file: whatever the program says that it read, opened or made, it has of a call
--- that answered so, and the disk that it returns is the last that it had (own).
+-- The answers that a call for the file of a name may have, and the disks that may be returned for one, or in a library.
+-- Nothing else is known of a file: whatever the program says that it read, opened or made, a call gave that answer; and
+-- the disk that the program returns is the last that it had (own).
 pub record FileAnswers (D : Type 0) : Type 1 where
   -- the bytes of a file are read
   pub reads : List ℕ → Result (Vec ℕ Global) Error → Type 0

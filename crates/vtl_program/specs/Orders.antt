@@ -103,7 +103,7 @@ verdict_from (Ok done) = Ok Done
 verdict_from (Err fault) = Err fault
 
 module _ {D : Type 0} (state : D → DiskState) (files : FileAnswers D) where
-  -- what an order does; but for a run and a serving nothing is read (own)
+  -- what an order does; except for a run and a serving nothing is read (own)
   abbrev pub DoesOrder : Asked → (left left' before now : Option (List ℕ)) → Result Verdict VtlFault → Type 0
   DoesOrder (run memory config) left left' before now result =
       (outcome : Result (Unit {0}) VtlFault)

@@ -67,9 +67,9 @@ module _ {D : Type 0} where
       pub sure : (state disk).honest → Only (state disk).seen (state store.disk).may_leave
       pub any_moment : (state disk).honest → LeavesOnly (state disk) (state store.disk) (state disk).may_leave
 
-    -- A disk gives no store, for such a fault, and this is what it is last: a call of it failed, it holds none, or
-    -- memory ran out. But for a failed call a read of it gives what one gave before; and at no moment since it was
-    -- opened a crash left anything new (own).
+    -- A disk gives no store, for this fault, and `last` is its last state: a call of it failed, it holds no store, or
+    -- memory ran out. Without a failed call a read gives the same bytes as before. At no moment since the disk was
+    -- opened did a crash leave anything new (own).
     pub record IsNoStoreOn (disk last : D) (fault : VtlFault) : Type 0 where
       pub error : StoreError
       pub printed : fault ≡ fault_of_store error

@@ -232,10 +232,10 @@ fn check_store<D: Disk>(alloc: Global, first: D, second: D) -> Checked<D>
     }
 }
 
-/// The lines of `vtl check`: of a cartridge its barcode and its partitions, of a store of reservations its
-/// name, its frames and how many are registered after a loss of power, else why the side gives neither. It
-/// opens both disks as a cartridge; where no side of it counts, the first one as a store. Each opening begins
-/// with a sync and writes nothing. After an `Err` the disks stand for what they stood for.
+/// The lines of `vtl check`: of a cartridge its barcode and its partitions, of a store of reservations its name, its
+/// frames and how many are registered after a loss of power, else why the side gives neither. It opens both disks as a
+/// cartridge; where no side of it counts, the first one as a store. Each opening begins with a sync and writes nothing.
+/// After an `Err` the disks stand for the same as before.
 pub fn check_side<D: Disk>(alloc: Global, first: D, second: D) -> Checked<D>
     ensures disks { KeepsDisks D.state (both first second) (disks_checked result) }
     ensures ok { OnOk result.lines (NoneOfTwo D.state (both first second) (disks_checked result)) }

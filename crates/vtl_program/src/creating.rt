@@ -16,7 +16,7 @@ use tape_disk::Disk;
 use vtl_base::{Barcode, DriveNo};
 use vtl_config::{Capacities, CartridgeEntry, Config, DriveEntry, FileName, UsedName};
 
-/// What became of a file.
+/// What `create` did with a file.
 #[derive(Clone, Copy, PartialEq, Eq, Debug)]
 pub enum Fate {
     /// It was missing, and is made.

@@ -85,8 +85,8 @@ pub trait ChangeFiles<D> {
         ensures { returns_disk name disk };
 }
 
-/// What takes back the disks of a library that is no longer used: of an `L` that was run, or of an `S` that was not
-/// switched on.
+/// Takes back the disks of a library that is no longer used: of an `L` that was run, or of an `S` that was not switched
+/// on.
 pub trait TakesBack<L, S> {
     // The library that was taken back.
     ghost closes_all: { L → Type 0 };

@@ -1,4 +1,4 @@
-//! Both files of a cartridge are opened.
+//! Opens both files of a cartridge.
 ghost use Rattle.std.specs.Prelude.{IfOk, IfErr};
 ghost use Rattle.vtl_program.specs.Opened.{AreOpened, AreNotOpened};
 

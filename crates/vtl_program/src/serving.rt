@@ -1,4 +1,4 @@
-//! Serving frames over a library, for all hosts at once.
+//! Serves frames over a library, for all hosts at the same time.
 ghost use Rattle.std.specs.Prelude.{◌≡◌, ℕ, List, IfOk, option_map, string_bytes};
 ghost use Rattle.vtl_config.specs.Configs.{Says};
 ghost use Rattle.vtl_program.specs.Program.{HaveAcceptedNone};

@@ -27,7 +27,7 @@ pub struct DriveStore<D: Disk> {
     pub left: Reservations,
 }
 
-/// What gives the sides of a library, entry by entry.
+/// A source of the sides of a library, entry by entry.
 pub trait Sides<D: Disk> {
     // What a side may be, and why one may be refused.
     ghost given: { SidesGiven D };

@@ -18,7 +18,7 @@ const FIRST_BYTES: usize = 65_536;
 // The bytes of a buffer behind a line that has: a longest line, and the byte that ends it or is one too many.
 const MOST_BYTES: usize = LINE_BYTES + 1;
 
-/// Bytes that came and were not taken up: those of `buffer` from `start` up to `filled`. To a contract they are a
+/// Bytes that came and were not taken up: those of `buffer` from `start` up to `filled`. A contract sees them as a
 /// list.
 #[derive(Drop)]
 pub struct ReadBuffer {

@@ -1,4 +1,4 @@
--- A library whose hosts are served at once over one pipe.
+-- A library whose hosts are served at the same time over one pipe.
 use Rattle.std.specs.Prelude.{◌≡◌, ◌⊎◌, ℕ, Bool, List, map, Option, Result, Err, IfOk}
 use Rattle.tape_disk.specs.Disk.{DiskState}
 use Rattle.ledgers.specs.Ledgers.{SeatState}

@@ -26,7 +26,7 @@ AnswersEach {S} takes answers old (request ∷ requests) (answer ∷ others) new
 AnswersEach takes answers old [] (answer ∷ others) new = ⊥
 AnswersEach takes answers old (request ∷ requests) [] new = ⊥
 
--- the next frame is refused: what comes begins with no request, or with one that is not taken (own)
+-- the next frame is refused: the input begins with no request, or with one that is not taken (own)
 abbrev pub RefusesNext : (Request → Bool) → Option (List ℕ) → Option (List ℕ) → Type 0
 RefusesNext takes left left' =
     RefusesRequest left left'

@@ -11,20 +11,20 @@ use crate::headers::Header;
 use std::alloc::Global;
 use vtl_base::Bytes;
 
-// Where the data of frames get their memory. Whoever reads frames has this and no other: so memory is taken only for
-// the data of a header that was looked at, and as many bytes as it counts.
+// The memory for the data of frames. The readers of frames have no other memory. So memory is taken only for the data
+// of a header that was checked, and for as many bytes as the header counts.
 #[derive(Drop)]
 pub(crate) struct Memory {
     alloc: Global,
 }
 
 impl Memory {
-    // Memory from here.
+    // Memory from this allocator.
     pub(crate) fn new(alloc: Global) -> Self {
         Memory { alloc }
     }
 
-    // At most 24 bytes, which take no memory.
+    // These bytes, at most 24. They take no memory.
     pub(crate) fn few(&self, bytes: &[u8]) -> Bytes
         requires { length bytes.now ≤ INLINE_BYTES }
         ensures { result ≡ bytes.now }
@@ -35,7 +35,7 @@ impl Memory {
         }
     }
 
-    // Room for the data that this header counts, which some request or answer may have.
+    // Room for the data that this header counts. Some request or answer may have this header.
     pub(crate) fn room(&self, header: Header) -> Result<Vec<u8>, WireFault>
         requires { MayBeHeader header }
         ensures room { IfOk result (λ room. length room.items ≡ header.payload) }
@@ -47,7 +47,7 @@ impl Memory {
         Ok(room)
     }
 
-    // Room for the entries that this header counts, which some request or answer may have.
+    // Room for the entries that this header counts. Some request or answer may have this header.
     pub(crate) fn entries(&self, header: Header) -> Result<Vec<Entry>, WireFault>
         requires { MayBeHeader header }
         ensures none { IfOk result (λ room. (room.items ≡ []) × (vec_len room ≡ 0)) }

@@ -20,7 +20,7 @@ pub(crate) struct Parts {
     pub(crate) payload: Bytes,
 }
 
-// The parts that a header counts, or None where the input ends within them.
+// Reads the parts that a header counts. None where the input ends within them.
 pub(crate) fn read_parts<R: Read>(
     memory: &Memory,
     reads: &mut Reads,

@@ -70,8 +70,8 @@ EntersAt true item at old new =
     × ((place : ℕ) × (reserved : ℕ) × (new ≡ placed_after old item place reserved) × IsPlaceOf item at place)
 EntersAt false item at old new = (cause : Refusal) × (refusal_of (outline old) (outlined item) ≡ Some cause)
 
--- What is noted is what just these bodies spell, which lie in these extents of a side with this heading: a cartridge's
--- contents, and the index says where their objects lie (own).
+-- Exactly these bodies spell what is noted. They lie in these extents of a side with this heading. The notes are a
+-- cartridge's contents, and the index says where their objects lie (own).
 pub record HasRead (index : List PlacedPart) (notes : Notes) (heading : Heading) (extents : List (ℕ × ℕ))
     (bodies : List (List ℕ)) : Type 0 where
   pub is_open : IsOpen heading extents false index notes

@@ -21,7 +21,7 @@ use volume_core::Medium;
 use vtl_base::{Bytes, Nexus};
 
 impl<M: Medium, K: Keeper> Drive<M, K> {
-    /// Reads a parameter list, and is in the mode that it asks for (SPC-4, MODE SELECT).
+    /// Reads a parameter list, and sets the mode that the list asks for (SPC-4, MODE SELECT).
     pub(super) fn mode_select(&mut self, nexus: Nexus, sent: &[u8]) -> Result<Reply, Fault>
         ensures { Takes M.state M.below K.kept K.below
             (ModeSelectWork nexus sent.now (machine_of M.state K.kept self.old))

@@ -45,7 +45,7 @@ impl<M: Medium, K: Keeper> Drive<M, K> {
         Some(Condition::UnitAttention(attention))
     }
 
-    // Conditions, reservation and medium, but for an exempt command.
+    // Conditions, reservation and medium, except for an exempt command.
     fn state_denial(&self, nexus: Nexus, opcode: Opcode) -> Option<Denial>
         ensures { result ≡ state_denial (machine_of M.state K.kept self.now) nexus opcode }
     {

@@ -38,8 +38,8 @@ fn enter_if_risen<B: Parties + Rings, H: Parties, R: Wait>(
     }
 }
 
-// How many changes a drive accepted, below 2^64 - 1. At the limit the share could not follow the count, and the call
-// waits for good.
+// How many changes a drive accepted, below 2^64 - 1. At the limit the share could not follow the count, so the call
+// waits forever.
 fn count_below_limit<D: Disk, B: Rings, R: Wait>(rt: &R, half: &Front<D, B>) -> u64
     ensures count { result ≡ half.now.drive.accepted }
     ensures below { result + 1 < 2 ^ 64 }
@@ -67,7 +67,7 @@ fn answer_alone<D: Disk, B: Parties + Rings, H: Parties, R: Wait>(
     ensures serves { ServesFront D.state half.old (asked seat.old.nexus cdb.now sent.old) seat.old
         result half.new sent.new seat.new }
 {
-    // The law, and what the half keeps before and after, for the proof alone.
+    // The law, and the half's invariant before and after, for the proof alone.
     replies_show_changes_alone::<D, B>();
     let before = count_below_limit(rt, half);
     half.known();
@@ -116,10 +116,10 @@ fn report_to_hosts<D: Disk + Drop, B: Rings>(
 }
 
 impl<D: Disk + Drop, B: Parties + Rings> FrontPlace<D, B> {
-    /// Answers a command of a seat's host, where it needs no disk, and enters the change that the drive accepted with
-    /// it, if any, in both ledgers. Its data are lent: a block takes them without copying. Where it needs the disk's
-    /// half too, there is no answer, and nothing has changed. Where 2^64 - 1 changes were accepted or entered before,
-    /// it waits for good.
+    /// Answers a command of a seat's host, if it needs no disk, and enters the change that the drive accepted with it,
+    /// if any, in both ledgers. The command's data are lent: a written block takes them without copying. Where the
+    /// command needs the disk's half too, the result is None, and nothing has changed. Where 2^64 - 1 changes were
+    /// accepted or entered before, the call waits forever.
     pub fn execute_alone<H: Parties, R: Wait>(
         &mut self,
         rt: &R,
@@ -180,7 +180,7 @@ impl<D: Disk + Drop, B: Parties + Rings> FrontPlace<D, B> {
         back.half = Some(disks);
     }
 
-    /// Lets the hosts' half send as much again as the buffer takes: the halves are put together, and part.
+    /// Lets the hosts' half send again as much as the buffer takes: puts the halves together, and parts them.
     pub fn renew<R: Wait>(&mut self, back: &mut BackPlace<D, B>, rt: &R)
         ensures { (bay : BayState D) × HoldsBoth D.state self.old back.old bay bay self.new back.new }
     {

@@ -49,7 +49,7 @@ length-spell (Put part at block) = omega arith
 length-spell (Marks part at count) = refl
 length-spell (Erase part at) = refl
 
--- a change is what follows the head of its record
+-- a change, read back from its record and the bytes behind the record's head
 pub change_again : (change : Change) (rest : List ℕ) → change_in (record_of change) (spell_change change ++ rest) ≡
     change
 change_again (Put part at block) rest = ap (Put part at) (take_at block rest (length block) refl)

@@ -59,7 +59,7 @@ pub fn run_noted<R: Threads + Wait + Clock + Sync, W: Write + Send, M: Write + S
     ))
 }
 
-// What a run writes to standard output, and to standard error but for what answers mean; and how it ends.
+// What a run writes to standard output, and to standard error except for what answers mean; and how it ends.
 #[derive(Drop)]
 struct Outcome {
     output: Vec<u8>,

@@ -86,7 +86,7 @@ with_move phase (Some moved) = phase ∷ moved ∷ []
 abbrev pub AreEmpty : List Item → Type 0
 AreEmpty items = (items ≡ []) ⊎ (items ≡ Phase [] ∷ [])
 
--- these lines are some items before what follows; at the end of a text, the last but for a phase of no command (own)
+-- these lines are some items before what follows; at the end of a text, the last except for a phase of no command (own)
 abbrev pub AreItems : Bool → List ParsedLine → List Item → Type 0
 AreItems true parsed_list items = (rest : List Item) × (items_to_run parsed_list ≡ items ++ rest) × AreEmpty rest
 AreItems false parsed_list items =

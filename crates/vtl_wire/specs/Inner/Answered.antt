@@ -75,7 +75,7 @@ abbrev pub MayBeHeader : Header → Type 0
 MayBeHeader header =
     ((head : RequestHead) × (request_head header ≡ Some head)) ⊎ ((head : AnswerHead) × HeadSays header head)
 
--- behind these bytes an answer was read up to its last byte; or its frame is refused (own)
+-- an answer that begins with these bytes was read up to its last byte; or its frame is refused (own)
 abbrev pub FindsBehind : List ℕ → Option (List ℕ) → Option (List ℕ) → Found Answer → Type 0
 FindsBehind read left left' (Frame answer) =
     IsAnswer answer × ((more : List ℕ) × Consumes left left' more × (read ++ more ≡ spell_answer answer))

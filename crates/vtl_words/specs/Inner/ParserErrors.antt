@@ -13,7 +13,7 @@ IsReportedAs kind (Help text) = IsTextRequest kind
 IsReportedAs kind Refused = ¬ IsTextRequest kind × (kind ≢ OutOfMemory)
 IsReportedAs kind NoMemory = ⊤
 
--- the order is what is asked for, and that has its form (own)
+-- the words ask for this order, and it has its form (own)
 abbrev pub AsksFor : Option Asked → Order → Type 0
 AsksFor asked order = (asked ≡ Some (asked_of order)) × HasForm (asked_of order)
 
