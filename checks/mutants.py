@@ -16,19 +16,19 @@ TOP = os.path.dirname(os.path.dirname(os.path.abspath(__file__)))
 EDITS = [
     ("what waits is stored before each write", "tape_buffer", "src/adding.rt", "    if !pending.is_full_for(change) {",
      "    if pending.is_empty() {",
-     ["writes_wait_for_one_frame", "a_turn_tells_how_many_waited", "what_waits_is_counted"]),
+     ["writes_wait_for_one_frame", "a_turn_reports_how_many_waited", "what_waits_is_counted"]),
     ("each write is stored at once", "tape_buffer", "src/adding.rt",
      "    match add_over(cartridge, pending, change) {\n        Ok(()) => Ok(()),",
      "    match add_over(cartridge, pending, change) {\n"
      "        Ok(()) => { let _ = settle_over(cartridge, pending); Ok(()) }",
-     ["writes_wait_for_one_frame", "a_turn_tells_how_many_waited", "what_waits_is_counted"]),
+     ["writes_wait_for_one_frame", "a_turn_reports_how_many_waited", "what_waits_is_counted"]),
     ("a change is stored one change early", "tape_buffer", "src/adding.rt", "    if !pending.is_full_for(change) {",
      "    if pending.len() < 255 && !pending.is_full_for(change) {",
-     ["a_turn_tells_how_many_waited", "what_waits_is_counted"]),
+     ["a_turn_reports_how_many_waited", "what_waits_is_counted"]),
     ("what waits is stored before each write", "drive_core", "src/writes.rt",
      "    let mut copy = Bytes::from_slice(alloc, sent)?;\n",
      "    crate::storing::store_pending(medium)?;\n    let mut copy = Bytes::from_slice(alloc, sent)?;\n",
-     ["writes_wait_for_one_frame", "a_turn_tells_how_many_waited"]),
+     ["writes_wait_for_one_frame", "a_turn_reports_how_many_waited"]),
     ("what waits is stored before each lent write", "drive_core", "src/drives/lending.rt",
      "        write(\n            self.alloc,\n            medium,\n",
      "        let (part, at, bytes) = (self.position.part, self.position.obj, sent.len() as u32);\n"
@@ -36,7 +36,7 @@ EDITS = [
      "            && medium.used(part, at) + bytes as u64 + 16 <= medium.capacity(part);\n"
      "        if fits {\n            crate::storing::store_pending(medium)?;\n        }\n"
      "        write(\n            self.alloc,\n            medium,\n",
-     ["writes_wait_for_one_frame", "a_turn_tells_how_many_waited"]),
+     ["writes_wait_for_one_frame", "a_turn_reports_how_many_waited"]),
     ("a side that is refused at power on is told as memory that ran out", "drive_core", "src/opening.rt",
      "        Err(MediumError::Unreadable) => Ok(Bay::Unloaded(medium)),",
      "        Err(MediumError::Unreadable) => Err(medium),",
@@ -207,7 +207,7 @@ EDITS = [
      "                break;\n            },\n"
      "            Err(fault) => {\n                end = Err(fault);\n                break;\n            }\n"
      "        }\n    }\n    for (fate, barcode) in made {\n"
-     "        if let Err(fault) = tell_fate(alloc, writer, fate, barcode.as_bytes()) {\n"
+     "        if let Err(fault) = print_fate(alloc, writer, fate, barcode.as_bytes()) {\n"
      "            return Err(fault);\n        }\n    }\n    end\n",
      ["a_creation_ends_where_a_line_is_not_out"]),
     ("a library to be served that is not switched on is told as memory that ran out", "vtl_program", "src/serving.rt",
@@ -494,15 +494,15 @@ EDITS = [
      ["a_file_of_the_system_says_what_it_was_answered"]),
     ("a flush that fails is not noted", "vtl_program", "src/noted_streams.rt",
      "            self.fail_by(error);\n        }\n        flushed\n",
-     "            let _ = error;\n        }\n        flushed\n", ["a_flush_that_fails_is_told_as_a_write"]),
+     "            let _ = error;\n        }\n        flushed\n", ["a_flush_that_fails_is_reported_as_a_write"]),
     ("a write that was interrupted is noted", "vtl_program", "src/noted_streams.rt",
      "        if error.kind() != ErrorKind::Interrupted {\n"
      "            self.note.fail(Answer::of_error(error));\n        }\n",
-     "        self.note.fail(Answer::of_error(error));\n", ["what_standard_output_answered_is_told"]),
+     "        self.note.fail(Answer::of_error(error));\n", ["what_standard_output_answered_is_reported"]),
     ("a failed read is explained as one of standard output", "vtl_program", "src/noting.rt",
      "            .fail(self.alloc, Source::Input, FileCall::Read, answer);",
      "            .fail(self.alloc, Source::Output, FileCall::Read, answer);",
-     ["what_standard_input_answered_is_told"]),
+     ["what_standard_input_answered_is_reported"]),
     ("of the drives that are configured the last is named", "vtl_program", "src/noting.rt",
      "            drives = drives.with(drive.number);", "            drives = Drives::none().with(drive.number);",
      ["rows/14-scripts/explained.row"]),
@@ -530,12 +530,12 @@ EDITS = [
     ("a tab parts the fields of a line", "script_reasons", "src/fields.rt",
      "        if (line[place] == b' ') == is_space {",
      "        if (line[place] == b' ' || line[place] == b'\\t') == is_space {", ["each_fault_of_a_command"]),
-    ("a missing field is told at the beginning of its line", "script_reasons", "src/reasons.rt",
+    ("a missing field is told at the beginning of its line", "script_reasons", "src/wrong_fields.rt",
      "        fault: Fault::Missing,\n        part: end_of(line),",
      "        fault: Fault::Missing,\n        part: Part { from: 0, to: 0 },", ["each_fault_of_a_command"]),
     ("what stands behind the end of a phase is explained as a host", "script_reasons", "src/reasons.rt",
      '    if word == b"--".as_slice() {', '    if word == b"---".as_slice() {', ["each_fault_of_a_command"]),
-    ("the first byte of a field is no digit, and is passed over", "script_reasons", "src/reasons.rt",
+    ("the first byte of a field is no digit, and is passed over", "script_reasons", "src/wrong_fields.rt",
      "    for from in part.from..part.to {", "    for from in part.from + 1..part.to {", ["each_fault_of_a_command"]),
     ("flushes of answers are left out", "answer_notes", "src/writers.rt",
      "        self.below.flush()\n", "        Ok(())\n", ["each_flush_is_passed_on"]),

@@ -52,7 +52,7 @@ CELLS = {
     "flush | LOAD UNLOAD of a loaded cartridge whose medium has not failed": [STORES, UNLOADS],
     "flush | in unbuffered mode also WRITE of at least one byte, and ERASE": ["an_unbuffered_write_is_stored_at_once"],
     "buffer | 256 changes, 4,194,304 bytes of blocks": ["a_change_too_many_is_preceded_by_a_settle",
-                                                       "a_turn_tells_how_many_waited", "what_waits_is_counted"],
+                                                       "a_turn_reports_how_many_waited", "what_waits_is_counted"],
     # the streams
     "stream | an interrupted read": ["reads_that_are_interrupted_many_times"],
     "stream | any other error of the reader, or a script that is too long": ["reads_that_fail", ENDINGS],

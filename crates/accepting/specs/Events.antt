@@ -184,8 +184,8 @@ module _ (rules : Rules) (device : Device rules.Image) (laws : IsDevice device) 
       }
 
 module _ (rules : Rules) where
-  -- An image gives all that was acknowledged in the old core: the first `kept` items accepted in a core that some of
-  -- the steps lead to, which begin with what was acknowledged. The base is that of the old core (own).
+  -- An image gives all that was acknowledged in the old core: some of the steps lead to a core, and the image gives the
+  -- first `kept` items accepted in it, which begin with what was acknowledged. The base is that of the old core (own).
   pub record GivesAcknowledged (old : Core rules.Base rules.Item) (steps : List (CoreStep rules.Item))
       (image : rules.Image) : Type 0 where
     pub count : ℕ

@@ -1,4 +1,4 @@
-//! Which line of a script each answer is of, and what it means.
+//! Which line of a script each answer belongs to, and what the answer means.
 ghost use Rattle.std.specs.Prelude.{◌≡◌, IfSome, OnOk};
 ghost use Rattle.vtl_script.specs.Lines.{line_fields, parse_fields};
 ghost use Rattle.script_reasons.specs.Drives.{has};
@@ -75,9 +75,9 @@ fn note_line(
     }
 }
 
-/// The lines of a script that are to be answered. What reads the script adds them, and what writes the answers takes
-/// them, one call at a time: a call that is made beside another finds no lines, and changes none. Where memory runs out
-/// there are none any more.
+/// The lines of a script that are to be answered. The reader of the script adds them, and the writer of the answers
+/// takes them, one call at a time. A call during another one finds no lines, and changes none. Once memory runs out,
+/// there are no lines any more.
 #[derive(Drop)]
 pub struct Answers {
     alloc: Global,

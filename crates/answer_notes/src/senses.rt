@@ -1,4 +1,4 @@
-//! Sense data of their bytes.
+//! Sense data, from their bytes.
 ghost use Rattle.std.specs.Prelude.{◌≡◌, IfSome, MatchOption};
 ghost use Rattle.scsi_sense.specs.SenseData.{key_number, sense_bytes};
 ghost use Rattle.answer_notes.specs.Causes.{IsNoKey};

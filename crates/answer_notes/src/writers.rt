@@ -1,4 +1,4 @@
-//! A writer of answers that writes beside them what each means.
+//! A writer of answers, which also writes what each of them means.
 ghost use Rattle.std.specs.Prelude.{◌≡◌, min, take};
 ghost use Rattle.answer_notes.specs.Meanings.{WritesMeaning, ExplainsAnswer};
 
@@ -38,7 +38,7 @@ impl<'a, W, E> AnswerWriter<'a, W, E> {
 }
 
 // Writes what an answer means. What cannot be written, or finds no memory, is left out.
-fn tell<E: Write>(alloc: Global, line: &AnswerLine, errors: &mut E)
+fn write_meaning<E: Write>(alloc: Global, line: &AnswerLine, errors: &mut E)
     ensures { WritesMeaning line.now (E.contents errors.old) (E.contents errors.new) }
 {
     let text = match format!(in alloc; "{line}\n") {
@@ -53,13 +53,13 @@ impl<'a, W, E: Write> AnswerWriter<'a, W, E> {
     fn end_answer(&mut self)
         ensures below { self.new.below ≡ self.old.below }
         ensures count { self.new.count ≡ 0 }
-        ensures told { ExplainsAnswer (take (min self.old.count 42) self.old.front)
+        ensures explained { ExplainsAnswer (take (min self.old.count 42) self.old.front)
             (E.contents self.old.errors) (E.contents self.new.errors) }
     {
         let count = self.count.min(FRONT);
         self.count = 0;
         if let Some(line) = self.answers.next(&self.front[..count]) {
-            tell(self.alloc, &line, &mut self.errors);
+            write_meaning(self.alloc, &line, &mut self.errors);
         }
     }
 

@@ -10,8 +10,8 @@ use Rattle.pr_core.specs.Sets.{is_some_in}
 use Rattle.pr_core.specs.Sound.{is_held_rightly}
 use Rattle.pr_core.specs.States.{has_key}
 use Rattle.aptpl_store.specs.Spelling.{IsKey, IsSavable, SpellsState, spell_state}
-use Rattle.aptpl_store.specs.Inner.Told.{state_told}
-use Rattle.aptpl_store.proofs.TellingLemmas.{told_again, told_sound, told_spelled}
+use Rattle.aptpl_store.specs.Inner.Decoded.{state_decoded}
+use Rattle.aptpl_store.proofs.DecodingLemmas.{decoded_again, decoded_sound, decoded_spelled}
 
 -- it holds, or it does not
 abbrev Decided : Type 0 → Type 0
@@ -67,19 +67,19 @@ is_savable state =
     by (inl all) (inr none) (inl held) (inr never) = inr (λ is. never is.keys)
 
 -- the state that is read from bytes is the one that they spell, if they spell any
-told_savable : (state : PrState) (body : List ℕ) → SpellsState state body → IsSavable (state_told body)
-told_savable state body spells = record {
-  sound = told_sound state body spells;
+decoded_savable : (state : PrState) (body : List ℕ) → SpellsState state body → IsSavable (state_decoded body)
+decoded_savable state body spells = record {
+  sound = decoded_sound state body spells;
   keys =
-      subst (λ (s : PrState). All IsKey s.keys) (sym (told_again state body spells)) spells.savable.keys;
+      subst (λ (s : PrState). All IsKey s.keys) (sym (decoded_again state body spells)) spells.savable.keys;
 }
 
 pub spelled_or_not : (body : List ℕ)
     → ((state : PrState) × SpellsState state body) ⊎ ((state : PrState) → SpellsState state body → ⊥)
-spelled_or_not body = by (is_savable (state_told body)) (same_bytes body (spell_state (state_told body)))
+spelled_or_not body = by (is_savable (state_decoded body)) (same_bytes body (spell_state (state_decoded body)))
   where
-    by : Decided (IsSavable (state_told body)) → Decided (body ≡ spell_state (state_told body))
+    by : Decided (IsSavable (state_decoded body)) → Decided (body ≡ spell_state (state_decoded body))
         → ((state : PrState) × SpellsState state body) ⊎ ((state : PrState) → SpellsState state body → ⊥)
-    by (inl savable) (inl bytes) = inl (state_told body, record { savable = savable; bytes = bytes })
-    by (inr never) same = inr (λ state spells. never (told_savable state body spells))
-    by (inl savable) (inr never) = inr (λ state spells. never (sym (told_spelled state body spells)))
+    by (inl savable) (inl bytes) = inl (state_decoded body, record { savable = savable; bytes = bytes })
+    by (inr never) same = inr (λ state spells. never (decoded_savable state body spells))
+    by (inl savable) (inr never) = inr (λ state spells. never (sym (decoded_spelled state body spells)))

@@ -4,5 +4,5 @@ pub mod DecidingLemmas
 pub mod OpeningLemmas
 pub mod SavingLemmas
 pub mod SpellingLemmas
-pub mod TellingLemmas
+pub mod DecodingLemmas
 pub mod UniqueLemmas

@@ -14,7 +14,7 @@ use Rattle.pr_core.specs.declared.states.PrState.{PrState}
 use Rattle.aptpl_store.specs.Answers.{IsStoreNotOpened}
 use Rattle.aptpl_store.specs.Contents.{IsBadState, IsNoStore}
 use Rattle.aptpl_store.specs.Inner.Causes.{store_error}
-use Rattle.aptpl_store.specs.Inner.Reading.{HasRead, IsNoState, IsWithin}
+use Rattle.aptpl_store.specs.Inner.Reading.{HasRead, IsNoState, IsWithinBody}
 use Rattle.aptpl_store.specs.NotedStates.{NotedStates, with_state}
 use Rattle.aptpl_store.specs.Spelling.{IsSavable, SpellsState, spell_state}
 use Rattle.aptpl_store.proofs.ContentsLemmas.{bodies_more, latest_more}
@@ -91,9 +91,9 @@ module _ {T : Type 0} (notes : T → NotedStates) (last : T → PrState) (body :
       → (good ≡ true → body new ≡ body old ++ piece)
       → (good ≡ false → 580 < length (body old) + length piece)
       → notes new ≡ notes old → last new ≡ last old
-      → IsWithin (notes start) (last start) (notes old) (last old) (body old) so_far
+      → IsWithinBody (notes start) (last start) (notes old) (last old) (body old) so_far
       → TakesPiece (λ (d : T). HasRead (notes d) (last d)) (λ (d : T). IsNoState)
-      (λ (s d : T) (at : ℕ). IsWithin (notes s) (last s) (notes d) (last d) (body d)) good start new place
+      (λ (s d : T) (at : ℕ). IsWithinBody (notes s) (last s) (notes d) (last d) (body d)) good start new place
       (so_far ++ piece)
   piece_taken true start old new place so_far piece added long same_notes same_last within = record {
     notes_same = same_notes ∙ within.notes_same;

@@ -14,7 +14,7 @@ use Rattle.pr_core.specs.declared.states.PrState.{PrState}
 use Rattle.pr_core.specs.Keepers.{state_frame_size}
 use Rattle.pr_core.specs.States.{key_of}
 use Rattle.aptpl_store.specs.Spelling.{IsKey, registration, registrations, spell_state}
-use Rattle.aptpl_store.specs.Inner.Told.{nexuses_from, registrations_of}
+use Rattle.aptpl_store.specs.Inner.Decoded.{nexuses_from, registrations_of}
 
 -- the nexuses from one on are that one and those from the next on
 pub nexuses_more : (nexus : ℕ) → nexus ≤ 64 → nexuses_from nexus ≡ nexus ∷ nexuses_from (nexus + 1)

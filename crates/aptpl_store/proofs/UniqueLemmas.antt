@@ -20,7 +20,7 @@ use Rattle.aptpl_store.specs.declared.error.StoreError.TheVariants.{NotOurs, Dam
 use Rattle.aptpl_store.specs.Answers.{IsNotOfBytes, IsStoreNotOpened}
 use Rattle.aptpl_store.specs.Contents.{AreAllSavedAlike, GivesStates, IsBadState, IsBadStateAt, IsNoStore, OpensAs, state_bodies}
 use Rattle.aptpl_store.specs.Spelling.{IsSavable, spell_state}
-use Rattle.aptpl_store.proofs.TellingLemmas.{one_state}
+use Rattle.aptpl_store.proofs.DecodingLemmas.{one_state}
 
 -- states with the same spelling are saved alike
 same_states : (states others : List PrState) → All IsSavable states → All IsSavable others

@@ -2,4 +2,4 @@
 pub mod Causes
 pub mod Open
 pub mod Reading
-pub mod Told
+pub mod Decoded

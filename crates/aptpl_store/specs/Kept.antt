@@ -23,7 +23,7 @@ store_rules = record {
   rebases = λ heading states other. ⊥;
 }
 
--- the core of a store: all its states are safe, and a state whose save was under way when the disk failed may be stored
+-- the core of a store: all its states are safe, and a state whose save was in flight when the disk failed may be stored
 -- (own)
 abbrev pub core_with : Heading → List PrState → Option PrState → Core Heading PrState
 core_with heading states None =

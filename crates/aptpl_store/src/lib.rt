@@ -2,6 +2,7 @@
 #![tactic(auto)]
 
 mod creating;
+mod decoding;
 pub mod error;
 pub mod laws;
 mod noted;
@@ -11,7 +12,6 @@ mod saving;
 mod spelling;
 mod state_body;
 pub mod stores;
-mod telling;
 
 pub use error::{StoreError, StoreRefused};
 pub use stores::AptplStore;

@@ -1,4 +1,4 @@
-//! What only proofs note of a side, which takes no bytes: the states that were saved are on the disk alone.
+//! Notes of a side, for proofs alone. They take no bytes: only the disk has the saved states.
 ghost use Rattle.std.specs.Prelude.{◌≡◌};
 ghost use Rattle.aptpl_store.specs.NotedStates.{NotedStates, no_notes, with_state, with_torn_state};
 ghost use Rattle.aptpl_store.specs.Codes.{noted_states_code};

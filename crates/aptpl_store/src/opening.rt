@@ -17,12 +17,11 @@ use std::alloc::Global;
 use tape_disk::Disk;
 
 impl<D: Disk> AptplStore<D> {
-    /// Opens the store on the disk, and returns what a loss of power leaves of the state that was saved last;
-    /// where none was saved, that is the empty state. It begins with a sync, and writes nothing: at every
-    /// moment of it, and after every error, the disk stands for what it stood for. After each error but
-    /// `Device` that is sure too. A cartridge's side is `NotOurs`, even where it is damaged, since the header
-    /// is read first. The first frame that spells no state is `BadRecord`, even where later ones spell
-    /// states.
+    /// Opens the store on the disk, and returns what a loss of power leaves of the state that was saved last; where
+    /// none was saved, that is the empty state. The call begins with a sync, and writes nothing. At every moment of the
+    /// call, and after every error, the disk stands for the same as before. After each error except `Device` that is
+    /// sure too. A cartridge's side is `NotOurs`, even where it is damaged, since the header is read first. The first
+    /// frame that spells no state is `BadRecord`, even where later ones spell states.
     pub fn open(alloc: Global, disk: D) -> Result<(AptplStore<D>, Reservations), StoreRefused<D>>
         ensures disk { Keeps (D.state disk) (D.state (disk_of_opened result)) }
         ensures ok { IfOk result (λ opened. (opened.0.torn ≡ None) × (opened.0.failed ≡ false)

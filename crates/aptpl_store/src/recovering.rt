@@ -3,10 +3,10 @@ ghost use Rattle.std.specs.Prelude.{◌≤◌};
 ghost use Rattle.aptpl_store.specs.declared.spelling.TheConstants.{STATE_BYTES};
 
 use crate::creating::make_frame;
+use crate::decoding::decode;
 use crate::noted::Noted;
 use crate::spelling::STATE_BYTES;
 use crate::state_body::StateBody;
-use crate::telling::decode;
 use gate_journal::{Decodes, Frame, Header, NotedBytes, SideKind};
 use pr_core::Reservations;
 use std::alloc::Global;
@@ -25,7 +25,7 @@ pub(crate) struct Recovered {
 
 impl Decodes for Recovered {
     ghost use Rattle.gate_journal.specs.declared.header.SideKind.TheVariants.{Store};
-    ghost use Rattle.aptpl_store.specs.Inner.Reading.{HasRead, IsNoState, IsWithin};
+    ghost use Rattle.aptpl_store.specs.Inner.Reading.{HasRead, IsNoState, IsWithinBody};
 
     ghost KIND = { Store };
 
@@ -34,7 +34,7 @@ impl Decodes for Recovered {
     ghost refuses = { λ found. IsNoState };
 
     ghost is_within = { λ start found at.
-        IsWithin start.noted.notes start.last found.noted.notes found.last found.body };
+        IsWithinBody start.noted.notes start.last found.noted.notes found.last found.body };
 
     ghost unseen = { λ found. 0 };
 

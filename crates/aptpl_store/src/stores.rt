@@ -49,10 +49,10 @@ impl<D: Disk> Model for AptplStore<D> {
 }
 
 impl<D: Disk> AptplStore<D> {
-    /// What holds of every open store. It is a drive's store, and has failed exactly where a save is in doubt. Where
+    /// The invariant of every open store. It is a drive's store, and has failed exactly where a save is in doubt. Where
     /// the disk is honest, each image that a crash may leave now gives the states, or these with the one that was being
-    /// saved when the disk failed. It opens as what a loss of power leaves of the state that was saved last, or of that
-    /// one. The room is what the side's spelling leaves.
+    /// saved when the disk failed. It opens with what a loss of power leaves of the state that was saved last, or of
+    /// that one. The room is as many bytes as the side's spelling leaves free.
     pub fn known(&self)
         ensures kind { self.now.heading.kind ≡ Kinds.Store }
         ensures at_rest { self.now.failed ≡ is_some self.now.torn }

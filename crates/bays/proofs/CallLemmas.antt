@@ -186,12 +186,13 @@ module _ {M D : Type 0} (medium : M → MediumState) (below : Below M Change) (d
       (ordered : IsOrdered (machine_of medium store_kept old) request state) where
     sound : IsSound state
     sound =
-        keep old.reservations request.nexus ordered.order ordered.answer ordered.told state holding.sound
+        keep old.reservations request.nexus ordered.order ordered.answer ordered.established state holding.sound
         ordered.ordered
 
     once_saved : (saving : Result Unit KeeperError) (keeper : KeeperState)
         → Saves (store_kept old.keeper) state saving keeper
-        → StandsOnceSaved saving keeper ordered.answer state ordered.told (machine_of medium store_kept old) answer
+        → StandsOnceSaved saving keeper ordered.answer state ordered.established (machine_of medium store_kept old)
+        answer
         (machine_of medium store_kept new)
         → made.saved ≡ saved_by saving state → CallGoes old (Asked request reply) new
     once_saved (Ok done) keeper saves stands made_is =
@@ -202,7 +203,7 @@ module _ {M D : Type 0} (medium : M → MediumState) (below : Below M Change) (d
         keeper saves (ap (λ (m : Machine). m.keeper) stands.1) made_is (ap (λ (m : Machine). m.reservations) stands.1)
 
     stands_by : (needed : Bool) → needs_save old.reservations state ≡ needed
-        → StandsBy needed ordered.answer state ordered.told (machine_of medium store_kept old) answer made
+        → StandsBy needed ordered.answer state ordered.established (machine_of medium store_kept old) answer made
         (machine_of medium store_kept new) → CallGoes old (Asked request reply) new
     stands_by false needed stands =
         let is : new.reservations ≡ state = ap (λ (m : Machine). m.reservations) stands.2 in
@@ -233,7 +234,7 @@ module _ {M D : Type 0} (medium : M → MediumState) (below : Below M Change) (d
             bytes = order.bytes;
             order = order.order;
             answer = order.work.0;
-            told = order.work.1;
+            established = order.work.1;
             command = order.command;
             list = order.list;
             ordered = order.work.3;

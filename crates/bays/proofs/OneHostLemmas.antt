@@ -96,12 +96,12 @@ pub record Laws {D : Type 0} (state : D → DiskState) : Type 0 where
 
 module _ {D : Type 0} (state : D → DiskState) (laws : Laws state) where
   -- a drive may give no other replies than those that it gave
-  told_alike : (bay : BayState D) (requests : List Request) (silent others : List Reply) (made : Made) (end : Machine)
+  shown_alike : (bay : BayState D) (requests : List Request) (silent others : List Reply) (made : Made) (end : Machine)
       → IsHonestBay state bay → IsSureDrive (seen_of (machine_in state bay))
       → Run (IsHonestBay state bay) (machine_in state bay) (map Execute requests) (map Answered (map Ok silent)) made
       end
       → MayReply state requests others bay → silent ≡ others
-  told_alike bay requests silent others made end honest sure run may =
+  shown_alike bay requests silent others made end honest sure run may =
       let own = map Execute requests in
       let alike : AllAskAlike (without_turns own) (without_turns may.inputs) =
       subst (λ (xs : List Input). AllAskAlike (without_turns own) xs) (sym may.asked)
@@ -176,7 +176,7 @@ module _ {D : Type 0} (state : D → DiskState) (laws : Laws state) where
           let told : beside number lines answers ≡ map Ok (beside number lines silent) =
           ap (λ (given : List (Result Reply Fault)). beside number lines given) ended
           ∙ beside_map Ok number lines silent in
-          told_alike bay (requests_at number lines) (beside number lines silent) (beside number lines others) run.made
+          shown_alike bay (requests_at number lines) (beside number lines silent) (beside number lines others) run.made
           (machine_in state run.left) other.0 other.1
           (subst (λ (given : List (Result Reply Fault)). Run (IsHonestBay state bay) (machine_in state bay)
           (map Execute (requests_at number lines)) (map Answered given) run.made (machine_in state run.left)) told

@@ -72,7 +72,7 @@ module _ (old : Machine) (request : Request) (answer : Result Reply Fault) (made
             bytes = bytes;
             order = order;
             answer = work.0;
-            told = work.1;
+            established = work.1;
             command = command;
             list = list;
             ordered = work.3;
@@ -101,7 +101,7 @@ module _ (old : Machine) (request : Request) (answer : Result Reply Fault) (made
         bytes = order.bytes;
         order = order.order;
         answer = order.work.0;
-        told = order.work.1;
+        established = order.work.1;
         command = order.command;
         list = order.list;
         ordered = order.work.3;

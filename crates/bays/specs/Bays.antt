@@ -108,7 +108,7 @@ module _ {D : Type 0} (state : D → DiskState) where
     pub step : Answers (state_of state) (buffer_below state) store_kept (store_below state) old request reply new
     pub moments : EveryMoment old (Asked request reply) step.taken.made (medium_in old.bay) (medium_in new.bay) new
 
-  -- the same for a host whose data are lent, of which this is left (own)
+  -- the same for a host that lends its data: this is left of them (own)
   pub record AnswersLentInEvent
       (old : BayState D) (request : Request) (reply : Reply) (new : BayState D) (left : List ℕ) : Type 0 where
     pub step :

@@ -41,10 +41,10 @@ pub record IsOrdered (machine : Machine) (request : Request) (state : PrState) :
   pub bytes : ℕ
   pub order : PrOut
   pub answer : PrAnswer
-  pub told : List AttentionSet
+  pub established : List AttentionSet
   pub command : verdict machine request ≡ Ok (PersistentReserveOut action bytes)
   pub list : list_decoded action request.sent ≡ Ok order
-  pub ordered : Orders machine.reservations request.nexus order answer told state
+  pub ordered : Orders machine.reservations request.nexus order answer established state
 
 -- the state after the order of a call, if it is one (own)
 abbrev pub IsOrderedIn : Machine → Call → PrState → Type 0
@@ -135,7 +135,7 @@ module _ {M D : Type 0} (medium : M → MediumState) (below : Below M Change) (d
       × (disk_of new).honest × IsHolding new
 
   -- The same for one call, over any disk: IsHolding holds after it. Where the store's disk is honest it stays honest,
-  -- and each image that a crash may leave opens so, inside the call and after it (own).
+  -- and each image that a crash may leave opens as said there, inside the call and after it (own).
   abbrev pub HoldingGoesOn : Type 0
   HoldingGoesOn =
       (old new : DriveState M (OpenStore D)) (call : Call) → IsHolding old → CallDoes old call new

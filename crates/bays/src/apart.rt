@@ -12,7 +12,7 @@ use tape_buffer::Cataloged;
 use tape_disk::Disk;
 
 impl<D: Disk> Bay<D> {
-    /// The drive, with what the type keeps of its cartridge and its store.
+    /// The drive, with the bay's invariant of its cartridge and its store.
     pub fn into_drive(self) -> Drive<Cataloged<D>, AptplStore<D>>
         ensures same { result ≡ self }
         ensures kept { KeepsBoth D.state self }
@@ -20,7 +20,8 @@ impl<D: Disk> Bay<D> {
         self.drive
     }
 
-    /// A bay of a drive over a cartridge and a store, where its reservations are as they were saved.
+    /// A bay of a drive over a cartridge and a store. After a loss of power, what was saved last gives the same as the
+    /// drive's reservations.
     pub fn of_drive(drive: Drive<Cataloged<D>, AptplStore<D>>) -> Bay<D>
         requires { IsHolding (state_of D.state) (buffer_below D.state) D.state drive }
         ensures { result ≡ drive }

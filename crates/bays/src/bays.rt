@@ -38,8 +38,8 @@ pub struct NotOn<D: Disk> {
     pub store: AptplStore<D>,
 }
 
-/// A drive in buffered mode over a cartridge on two disks, with a store of its reservations on a third disk.
-/// The type's invariant is what a stop may leave of cartridge and store.
+/// A drive in buffered mode over a cartridge on two disks, with a store of its reservations on a third disk. The type's
+/// invariant says what a stop may leave of cartridge and store.
 #[derive(Drop)]
 pub struct Bay<D: Disk> {
     pub(crate) drive: Drive<Cataloged<D>, AptplStore<D>>,
@@ -106,7 +106,7 @@ impl<D: Disk> Bay<D> {
             × SwitchesOn (state_of D.state) (buffer_below D.state) cartridge reservations store
             (Err (not.cartridge, not.store, reason))) }
 
-        // At every moment inside the call a crash leaves what this says.
+        // What a crash leaves at every moment inside the call.
         ensures moments { IfOk result (λ bay. EveryMomentOn D.state cartridge store bay) }
         ensures moments_off { IfErr result (λ not.
             EveryMomentOff D.state cartridge store not.cartridge not.store) }
@@ -193,9 +193,9 @@ impl<D: Disk> Bay<D> {
         turn
     }
 
-    /// Opens a cartridge and loads it into an empty drive. For each nexus 28/00 is established: the medium
-    /// may have changed. One that can't be opened is returned, closed, with the reply: 3, 11/00 where its
-    /// side is refused or the device fails; Bh, 55/03 where memory runs out.
+    /// Opens a cartridge and loads it into an empty drive. For each nexus 28/00 is established: the medium may have
+    /// changed. A cartridge that can't be opened is returned, closed, with the reply: 3, 11/00 where its side is
+    /// refused or the device fails; Bh, 55/03 where memory runs out.
     pub fn load(&mut self, cartridge: Parked<D>) -> Result<(), (Parked<D>, Reply)>
         requires empty { self.old.bay ≡ Bays.Empty }
         ensures taken { TakesIn (state_of D.state) (buffer_below D.state) self.old cartridge result self.new }
@@ -259,7 +259,7 @@ impl<D: Disk> Bay<D> {
         self.drive.held()
     }
 
-    /// How many changes were accepted since it was switched on, as `Drive::accepted` says.
+    /// How many changes were accepted since the drive was switched on, as `Drive::accepted` says.
     pub fn accepted(&self) -> u64
         ensures { result ≡ self.now.accepted }
     {

@@ -33,8 +33,8 @@ impl<D: Disk> Bay<D> {
 }
 
 impl<D: Disk + Drop> Held<D> {
-    /// Writes every buffer out, by a turn of each drive, of all drives even where one fails. It takes no
-    /// memory. At Ok all that was accepted is stored; else the loaded medium of some drive has failed.
+    /// Writes every buffer out, by a turn of each drive. A drive that fails does not stop the turns of the others. The
+    /// call takes no memory. At Ok all that was accepted is stored; else the loaded medium of some drive has failed.
     pub fn finish(&mut self) -> Result<(), Unwritten>
         ensures { WritesOut D.state self.old result self.new }
     {

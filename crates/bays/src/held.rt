@@ -89,7 +89,7 @@ impl<D: Disk + Drop> Held<D> {
         self.bays[drive.place()].is_some()
     }
 
-    /// Puts a drive into its place. If a drive is there already, it stays, and the other is returned.
+    /// Puts a drive into its place. If a drive is there already, that drive stays, and the new one is returned.
     pub fn install(&mut self, number: DriveNo, bay: Bay<D>) -> Result<(), Bay<D>>
         ensures ok { OnOk result ((bay_at self.old.bays number ≡ None)
             × Becomes number (Some bay) self.old.bays self.new.bays
@@ -134,8 +134,8 @@ impl<D: Disk + Drop> Held<D> {
         }
     }
 
-    /// Answers a command of a host to a configured drive, as `command` does. Its data are lent: a block takes
-    /// them without copying; else they stay.
+    /// Answers a command of a host to a configured drive, as `command` does. The command's data are lent: a written
+    /// block takes them without copying; else the caller still has them.
     pub fn command_lent(
         &mut self,
         nexus: Nexus,

@@ -12,9 +12,9 @@ use accepting::laws::{
 use tape_buffer::Cataloged;
 use tape_disk::Disk;
 
-/// For every list of events, of the changes of a cartridge and of the orders of a drive's reservations: what
-/// was accepted at an acknowledgement begins all that is accepted later, whatever stops come between. For a
-/// cartridge the base may change between two events: then what was accepted begins what goes into the new
+/// Laws over every list of events, whatever stops come between: of the changes of a cartridge, and of the orders of a
+/// drive's reservations. What was accepted at an acknowledgement is the first part of all that is accepted later. For a
+/// cartridge the base may change between two events. Then what was accepted is the first part of what goes into the new
 /// base.
 pub fn stop_keeps<D: Disk>()
     ensures changes { StopsKeepThrough medium_rules }

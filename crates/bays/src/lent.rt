@@ -14,7 +14,7 @@ use std::alloc::Global;
 use tape_disk::Disk;
 use vtl_base::{Bytes, SlotNo};
 
-// One end of a move, by what decides whether a cartridge may leave it or come to it.
+// One end of a move: what decides whether a cartridge may leave it or come to it.
 #[derive(Clone, Copy)]
 pub(crate) struct End {
     // Whether there is such a slot or drive.
@@ -47,7 +47,7 @@ fn drive_end<D: Disk + Drop>(bay: &Bay<D>) -> End
     }
 }
 
-// The other end of a move out of this drive, where no other drive is named.
+// The other end of a move out of this drive, where the addresses name no other drive.
 fn end_beside<D: Disk + Drop>(slots: &Slots<Parked<D>>, bay: &Bay<D>, from: u32, to: u32) -> End
     ensures { result ≡ end_beside slots.now bay.now from to }
 {
@@ -119,7 +119,7 @@ fn between_slots<D: Disk + Drop>(
     Reply::good(Bytes::new(alloc))
 }
 
-// A move out of a drive, where no other drive is named.
+// A move out of a drive, where the addresses name no other drive.
 fn out_of_drive<D: Disk + Drop>(
     alloc: Global,
     slots: &mut Slots<Parked<D>>,
@@ -207,12 +207,11 @@ fn between_drives<D: Disk + Drop>(
     }
 }
 
-/// Moves a cartridge from one element address to another, on lent slots and drives, by the rules of
-/// `Held::move_medium` (own). `source` is the drive at `from` and `destination` the one at `to`, or `None`
-/// where the address is no configured drive's. A drive at both is lent as the source alone. So a drive is
-/// lent only for an address of 1 to 16, and a destination only where the addresses differ. In every library
-/// of 16 places with these slots, and these drives at these addresses, reply and outcome are those of
-/// `Held::move_medium`. A move counts no change.
+/// Moves a cartridge from one element address to another, on lent slots and drives, by the rules of `Held::move_medium`
+/// (own). `source` is the drive at `from` and `destination` the one at `to`, or `None` where the address is not that of
+/// a configured drive. A drive at both addresses is lent as the source alone. So a drive is lent only for an address of
+/// 1 to 16, and a destination only where the addresses differ. In every library of 16 places with these slots, and
+/// these drives at these addresses, reply and outcome are those of `Held::move_medium`. A move counts no change.
 pub fn move_lent<D: Disk + Drop>(
     alloc: Global,
     slots: &mut Slots<Parked<D>>,

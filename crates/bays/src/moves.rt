@@ -15,8 +15,8 @@ use std::alloc::Global;
 use tape_disk::Disk;
 use vtl_base::{Bytes, DriveNo};
 
-/// The drive of this element address, if it is the address of a drive's place: 1 to 16, whatever is
-/// configured. SMC-3, element addresses; which they are, own.
+/// The drive of this element address, if it is the address of a drive's place: 1 to 16, whatever is configured. Element
+/// addresses: SMC-3. Their numbers: own.
 pub fn drive_of(address: u32) -> Option<DriveNo>
     ensures some { IfSome result (λ drive.
         (drive ≡ address) × (1 ≤ address) × (address ≤ DRIVES)) }
@@ -111,7 +111,7 @@ impl<D: Disk + Drop> Held<D> {
         reply
     }
 
-    // Moves a cartridge out of this drive, which was taken out of its place; `to` names no other.
+    // Moves a cartridge out of this drive, which was taken out of its place. `to` names no other drive.
     fn move_out_of_drive(&mut self, source: Bay<D>, from: u32, to: u32) -> Reply
         requires source { IsDriveAddress from }
         requires alone { bay_at self.old.bays to ≡ None }
@@ -132,7 +132,7 @@ impl<D: Disk + Drop> Held<D> {
         reply
     }
 
-    // Moves a cartridge into this drive, which was taken out of its place; `from` names none.
+    // Moves a cartridge into this drive, which was taken out of its place. `from` names no drive.
     fn move_into_drive(&mut self, destination: Bay<D>, from: u32, to: u32) -> Reply
         requires destination { IsDriveAddress to }
         requires apart { from ≢ to }

@@ -10,9 +10,8 @@ use std::marker::Model;
 use tape_buffer::Cataloged;
 use tape_disk::Disk;
 
-/// A closed cartridge, as it is in a slot and as a drive loads it. A contract sees its medium, which is
-/// parked. Its invariant is that of a cartridge in a drive; for an unread one it holds once a drive has
-/// opened it.
+/// A closed cartridge, as it is in a slot and as a drive loads it. A contract sees its medium, which is parked. Its
+/// invariant is that of a cartridge in a drive. For an unread cartridge it holds once a drive has opened it.
 #[derive(Drop)]
 pub struct Parked<D: Disk> {
     medium: Cataloged<D>,
@@ -31,8 +30,7 @@ impl<D: Disk> Model for Parked<D> {
 }
 
 impl<D: Disk> Parked<D> {
-    /// A closed cartridge. Over disks that were only taken for a cartridge it is unread: nothing is known of
-    /// it until a drive opens it.
+    /// A closed cartridge. A cartridge that was never opened is unread: nothing is known of it until a drive opens it.
     pub fn of(alloc: Global, shelved: Shelved<D>) -> Parked<D>
         ensures { result ≡ closed_buffer shelved }
     {

@@ -22,7 +22,8 @@ use vtl_base::{DriveNo, NoMemory};
 use vtl_script::{Item, Line, Runner, ScriptFault, run_script};
 
 impl<D: Disk + Drop> Held<D> {
-    // Carries out the command of a line, on the drive that it names. A block takes its data without copying.
+    // Carries out the command of a line, on the drive that it names. A written block takes the line's data without
+    // copying.
     fn run_line(&mut self, line: &mut Line) -> Reply
         requires { is_configured_in self.old line.old.drive ≡ true }
         ensures { Commands D.state line.old.drive (line_request line.old) self.old result self.new }

@@ -39,9 +39,9 @@ module _ {D : Type 0} (state : D → DiskState) where
     fault_then : (fault : DevFault) → NoneOfTwo state old mid → IsFaultOfTwo state fault mid new
         → IsFaultOfTwo state fault old new
     fault_then fault none (inl (is, rests)) =
-        inl (record { cause = omega (arith, none.0, is.cause); told = is.told }, rests ∙ none.1)
+        inl (record { cause = omega (arith, none.0, is.cause); reported = is.reported }, rests ∙ none.1)
     fault_then fault none (inr (rests, is)) =
-        inr (rests ∙ none.0, record { cause = omega (arith, none.1, is.cause); told = is.told })
+        inr (rests ∙ none.0, record { cause = omega (arith, none.1, is.cause); reported = is.reported })
 
     -- where a read gives the same after the first run
     module _ (none : NoneOfTwo state old mid) (on : AreHonest state old → AreHonest state mid)

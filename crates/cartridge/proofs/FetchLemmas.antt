@@ -27,11 +27,11 @@ outline_objects index part = ap objects_in (slice_get-map (filled_part blank) in
     of_it None = refl
     of_it (Some p) = refl
 
--- what the index has there tells the kind
-pub kind_told : (index : List PlacedPart) (volume : List Part) (part at : ℕ) (found : Option Placed)
+-- what the index has there shows the kind
+pub kind_decoded : (index : List PlacedPart) (volume : List Part) (part at : ℕ) (found : Option Placed)
     → IsIndexOf index volume → slice_get (placed_objects index part) at ≡ found
     → kind_at volume part at ≡ kind_in (option_map (filled blank) found)
-kind_told index volume part at found shape is =
+kind_decoded index volume part at found shape is =
     sym (kind_by_shape volume part at) ∙ ap (λ (v : List Part). kind_at v part at) (sym shape)
     ∙ ap (λ (objects : List Object). kind_in (slice_get objects at)) (outline_objects index part)
     ∙ ap kind_in (slice_get-map (filled blank) (placed_objects index part) at)
@@ -41,12 +41,12 @@ kind_told index volume part at found shape is =
 pub not_none : (index : List PlacedPart) (volume : List Part) (part at : ℕ) → IsIndexOf index volume
     → slice_get (placed_objects index part) at ≡ None → kind_at volume part at ≡ Some Kinds.Block → ⊥
 not_none index volume part at shape is block =
-    let e = sym (kind_told index volume part at None shape is) ∙ block in cc
+    let e = sym (kind_decoded index volume part at None shape is) ∙ block in cc
 
 pub not_a_mark : (index : List PlacedPart) (volume : List Part) (part at : ℕ) → IsIndexOf index volume
     → slice_get (placed_objects index part) at ≡ Some Placeds.Mark → kind_at volume part at ≡ Some Kinds.Block → ⊥
 not_a_mark index volume part at shape is block =
-    let e = sym (kind_told index volume part at (Some Placeds.Mark) shape is) ∙ block in cc
+    let e = sym (kind_decoded index volume part at (Some Placeds.Mark) shape is) ∙ block in cc
 
 object_short : (objects : List Placed) (at place size : ℕ) → All IsObject (map (filled blank) objects)
     → slice_get objects at ≡ Some (Placeds.Block place size) → size ≤ 1048576

@@ -189,7 +189,7 @@ stores_unwritten disk spare new which front bodies bodies' notes stores same ima
   beside = stores.beside;
 }
 
--- with no frame under way an image gives the contents
+-- with no frame in flight an image gives the contents
 pub sure_at_rest : (front : Front) (contents : Contents) (torn : List (List Change)) (image : List ℕ) → torn ≡ []
     → SideShows front contents torn image → SideGives front contents image
 sure_at_rest front contents torn image none (inl gives) = gives

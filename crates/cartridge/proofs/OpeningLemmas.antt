@@ -23,7 +23,7 @@ use Rattle.record_index.specs.Indexes.{Indexes, indexes_empty}
 use Rattle.cartridge.specs.Contents.{AreGood, IsBadFrame, bodies_of, changes_of, volume_made}
 use Rattle.cartridge.specs.Notes.{Notes, noted_contents, with_frame}
 use Rattle.cartridge.specs.Lying.{LiesIn, LiesOnSide}
-use Rattle.cartridge.specs.Inner.Reading.{BehindEach, HasRead, IsBadBody, IsWithin, Walks, WalksTo}
+use Rattle.cartridge.specs.Inner.Reading.{BehindEach, HasRead, IsBadBody, IsWithinBody, Walks, WalksTo}
 use Rattle.cartridge.specs.Extending.{bodies_more, contents_more, volume_more}
 
 module _ (index : List PlacedPart) (notes : Notes) (heading : Heading) (extents : List (ℕ × ℕ))
@@ -119,11 +119,11 @@ module _ (index : List PlacedPart) (notes : Notes) (heading : Heading) (extents 
 -- the next bytes of a body are taken, or it is bad, by what is indexed, noted and read of a decoder
 module _ {T : Type 0} (index : T → List PlacedPart) (notes : T → Notes) (reader : T → ReaderState) where
   pub piece_taken : (good : Bool) (start old new : T) (place : ℕ) (so_far bytes : List ℕ) → notes new ≡ notes old
-      → IsWithin (index start) (notes start) (index old) (notes old) (reader old) place so_far
+      → IsWithinBody (index start) (notes start) (index old) (notes old) (reader old) place so_far
       → Walks good (index start) place bytes (index new) (reader new)
       → TakesPiece (λ (d : T). HasRead (index d) (notes d))
       (λ (d : T). IsBadBody (volume_made (noted_contents (notes d))))
-      (λ (s d : T). IsWithin (index s) (notes s) (index d) (notes d) (reader d)) good start new place bytes
+      (λ (s d : T). IsWithinBody (index s) (notes s) (index d) (notes d) (reader d)) good start new place bytes
   piece_taken true start old new place so_far bytes same within walks = record {
     notes_same = same ∙ within.notes_same;
     walked = walks;

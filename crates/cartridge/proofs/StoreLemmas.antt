@@ -20,7 +20,7 @@ use Rattle.record_index.specs.Records.{IsRecord, spell_all}
 use Rattle.cartridge.specs.Answers.{HasBroken, HasStored}
 use Rattle.cartridge.specs.Contents.{GivesContents, IsContents, ShowsContents, volume_made}
 use Rattle.cartridge.specs.Disks.{disks_by, images_by}
-use Rattle.cartridge.specs.Inner.Growing.{HasRoomFor, HasRoomWithin, IsGrown, IsSameSide, TakesEntries}
+use Rattle.cartridge.specs.Inner.Growing.{HasEnoughReserved, HasRoomWithin, IsGrown, IsSameSide, TakesEntries}
 use Rattle.cartridge.specs.Inner.Open.{IsOpen, SideShows, StoresContents}
 use Rattle.cartridge.specs.Lying.{LiesOnSide}
 use Rattle.cartridge.specs.Notes.{Notes, noted_as, noted_contents, with_frame, with_torn}
@@ -61,7 +61,7 @@ module _ {D : Type 0} (old mid : OpenSide D) (same : IsSameSide old mid) (index 
       open_records mid.front.head.heading mid.extents mid.failed index' notes open_still changes apply few_still
 
   -- the room that was made is room for all of the changes
-  pub room_made : HasRoomWithin index' changes → HasRoomFor index' changes
+  pub room_made : HasRoomWithin index' changes → HasEnoughReserved index' changes
   room_made =
       room_for (volume_made (noted_contents notes)) index' changes apply
       (open_parts mid.front.head.heading mid.extents mid.failed index' notes open_still)
@@ -239,7 +239,7 @@ module _ {D : Type 0} (old mid : OpenSide D) (same : IsSameSide old mid) (index 
 
     module _ (broke : Broke mid new (length body)) (noted : Notes) (noted_is : noted ≡ with_torn notes changes)
         (front_is : new.front ≡ mid.front) where
-      -- after a fault the cartridge is open, and notes what was under way
+      -- after a fault the cartridge is open, and notes what was in flight
       pub broken_open : IsOpen new.front.head.heading new.extents new.failed index' noted
       broken_open =
           subst (λ (n : Notes). IsOpen new.front.head.heading new.extents new.failed index' n) (sym noted_is)

@@ -18,7 +18,7 @@ use Rattle.cartridge.specs.Contents.{IsContents}
 use Rattle.cartridge.specs.Disks.{disks_by}
 use Rattle.cartridge.specs.State.{OpenCartridge, Reserved}
 use Rattle.cartridge.specs.Notes.{Notes, noted_as}
-use Rattle.cartridge.specs.Inner.Growing.{HasRoomFor, HasRoomWithin, IsGrown, IsSameSide, TakesEntries}
+use Rattle.cartridge.specs.Inner.Growing.{HasEnoughReserved, HasRoomWithin, IsGrown, IsSameSide, TakesEntries}
 use Rattle.cartridge.specs.Inner.Open.{IsOpen, StoresContents}
 use Rattle.cartridge.proofs.GrowingLemmas.{entries_at, grown_reserved}
 use Rattle.cartridge.proofs.OpenLemmas.{open_grown}
@@ -65,7 +65,7 @@ taken_entries old mid new changes grown takes part =
 
 -- there is room in each partition, also in one that is not there: nothing is put into it
 pub room_for : (volume : List Part) (index : List PlacedPart) (changes : List Change) → AllApply volume changes
-    → length index ≡ length volume → HasRoomWithin index changes → HasRoomFor index changes
+    → length index ≡ length volume → HasRoomWithin index changes → HasEnoughReserved index changes
 room_for volume index changes apply same room part = elim (cases_lt part (length index)) [
   | inl inside ↦ room part inside
   | inr beyond ↦ omega (arith, entries_none volume changes part apply (omega (arith, same, beyond)))
@@ -98,7 +98,7 @@ module _ {D : Type 0} (old new : OpenSide D) (same : IsSameSide old new) (index 
           (λ i. (sym same.disk i, (sym same.front i, sym same.bodies i))) stores
 
 -- too little was reserved for these changes
-pub lacks_told : (index : List PlacedPart) (frames body size : ℕ) (changes : List Change)
+pub lacks_shown : (index : List PlacedPart) (frames body size : ℕ) (changes : List Change)
     → size ≡ length (spell_all changes)
     → (frames ≡ 0) ⊎ ((body < size) ⊎ ((part : ℕ) × (reserved_of index part < sum_by (entries_of part) changes)))
     → LacksReserved (record {
@@ -106,9 +106,9 @@ pub lacks_told : (index : List PlacedPart) (frames body size : ℕ) (changes : L
       frames = frames;
       entries = map (λ (p : PlacedPart). p.reserved) index;
     }) changes
-lacks_told index frames body size changes is (inl none) = inl none
-lacks_told index frames body size changes is (inr (inl less)) = inr (inl (omega (arith, is, less)))
-lacks_told index frames body size changes is (inr (inr fewer)) =
+lacks_shown index frames body size changes is (inl none) = inl none
+lacks_shown index frames body size changes is (inr (inl less)) = inr (inl (omega (arith, is, less)))
+lacks_shown index frames body size changes is (inr (inr fewer)) =
     inr (inr (fewer.0, omega (arith, entries_at index fewer.0, fewer.1)))
 
 -- an open cartridge over this side and the other disk

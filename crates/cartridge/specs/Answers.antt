@@ -38,7 +38,7 @@ entries_of part (Put p at block) = if part == p then 1 else 0
 entries_of part (Marks p at count) = if part == p then 1 else 0
 entries_of part (Erase p at) = 0
 
--- what changes take of what is reserved, in one frame, and what is then left of it (own)
+-- what changes in one frame take of the reserved memory, and what is left of it (own)
 pub record TakesReserved (old : Reserved) (changes : List Change) (new : Reserved) : Type 0 where
   pub body : old.body ≤ new.body
   pub frames : old.frames ≤ new.frames + 1
@@ -82,7 +82,7 @@ module _ {D : Type 0} where
     pub reserved : TakesReserved old.reserved changes new.reserved
 
   -- the disk failed while these changes were stored: the contents are unchanged, and these changes are the frame that
-  -- was under way (own)
+  -- was in flight (own)
   pub record HasBroken (old : OpenCartridge D) (changes : List Change) (new : OpenCartridge D) : Type 0 where
     pub was_fine : old.failed ≡ false
     pub fitted : length (spell_all changes) + 5 ≤ old.room
@@ -126,7 +126,8 @@ IsNotCreated SideFull memory device = ⊥
 IsNotCreated Failed memory device = ⊥
 
 module _ {D : Type 0} (state : D → DiskState) where
-  -- no call of either disk failed; and where both are honest this is what they read, and it is sure (own)
+  -- no call of either disk failed; and where both are honest this is true, and a crash leaves just what a read gives
+  -- (own)
   abbrev pub ReadsSure : TwoDisks D → TwoDisks D → Type 0 → Type 0
   ReadsSure old new what =
       NoneOfTwo state old new × (AreHonest state old → what × OnlyOfTwo state old new)

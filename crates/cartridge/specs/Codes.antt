@@ -83,7 +83,7 @@ which_of false = Second
 abbrev which_code : Coded Which
 which_code = code_by Bool coded_bool is_first which_of (elim [ First ↦ refl | Second ↦ refl ])
 
--- what is said of a copy as plain data (own)
+-- the report on a copy, as plain data (own)
 abbrev copy_code : Coded Copied
 copy_code =
     code_by (ℕ × ℕ) (coded× coded_ℕ coded_ℕ) (λ c. (c.epoch, c.base)) (λ p. record { epoch = p.0; base = p.1 })

@@ -94,7 +94,7 @@ GivesContents contents images =
     IsContents contents
     × PairStandsFor contents.which contents.head (bodies_of contents.frames) images.0 images.1
 
--- the images give the contents, or the contents with the frame that was under way (own)
+-- the images give the contents, or the contents with the frame that was in flight (own)
 abbrev pub ShowsContents : Contents → List (List Change) → Images → Type 0
 ShowsContents contents torn images = GivesContents contents images ⊎ GivesContents (with_frames contents torn) images
 

@@ -19,7 +19,7 @@ module _ (contents : Contents) (changes : List Change) where
       flat_map-append (λ (frame : List Change). frame) contents.frames (changes ∷ [])
       ∙ ap (λ (l : List Change). changes_in contents ++ l) (append-nil changes)
 
-  -- the volume is what they make of it
+  -- the new volume: these changes, carried out on the old one
   pub volume_more : volume_made (with_frames contents (changes ∷ [])) ≡ after (volume_made contents) changes
   volume_more =
       ap (after contents.base) changes_more ∙ after_append contents.base (changes_in contents) changes
@@ -46,7 +46,7 @@ module _ (contents : Contents) (changes : List Change) where
     copied = omega (arith, is.copied, length-append contents.frames (changes ∷ []));
   }
 
--- the volume is what the changes since make of what they are carried out from
+-- the volume comes from the start by the changes since then
 pub volume_since : (contents : Contents)
     → volume_made contents ≡ after (start_of contents).volume (changes_since contents)
 volume_since contents =

@@ -8,13 +8,13 @@ use Rattle.side_pairs.specs.declared.which.Which.TheVariants.{First}
 use Rattle.cartridge.specs.Contents.{Contents, contents_from}
 
 -- what is noted of a side: its heading, the changes that each of its frames spells, and those of the frame that was
--- under way when the disk failed, of none or of one (own)
+-- in flight when the disk failed, of none or of one (own)
 pub record Notes : Type 0 where
   pub heading : Heading
   pub frames : List (List Change)
   pub torn : List (List Change)
 
--- what is noted as the contents of a cartridge, of which that side counts, and says this of a copy (own)
+-- The contents that are noted of a cartridge: this side of it counts, and the notes say this of a copy (own).
 abbrev pub noted_as : Which → Option Copied → Notes → Contents
 noted_as which copied notes = contents_from which (record { heading = notes.heading; copied = copied }) notes.frames
 
@@ -26,6 +26,6 @@ noted_contents = noted_as First None
 abbrev pub with_frame : Notes → List Change → Notes
 with_frame notes changes = record notes { frames = notes.frames ++ changes ∷ [] }
 
--- what is noted, with these changes in a frame that is under way (own)
+-- what is noted, with these changes in a frame that is in flight (own)
 abbrev pub with_torn : Notes → List Change → Notes
 with_torn notes changes = record notes { torn = changes ∷ [] }

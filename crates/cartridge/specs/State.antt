@@ -17,7 +17,7 @@ pub record Reserved : Type 0 where
 pub record OpenCartridge (D : Type 0) : Type 0 where
   pub disks : TwoDisks D
   pub contents : Contents
-  -- the changes of the frame that was under way when a disk failed: of none or of one
+  -- the changes of the frame that was in flight when a disk failed: of none or of one
   pub torn : List (List Change)
   -- the disk of the side that counts failed, and nothing more is read or written
   pub failed : Bool
@@ -26,10 +26,10 @@ pub record OpenCartridge (D : Type 0) : Type 0 where
   pub reserved : Reserved
 
 -- a closed cartridge: its disks, and where something is known of them, what they then give: these contents, or these
--- with the frame that was under way when a disk failed (own)
+-- with the frame that was in flight when a disk failed (own)
 pub record ClosedCartridge (D : Type 0) : Type 0 where
   pub disks : TwoDisks D
-  -- it was made or closed by this library; of disks that are only taken for a cartridge nothing is known
+  -- it was made or closed by this library; nothing is known of disks that were only put together as a cartridge
   pub known : Bool
   pub contents : Contents
   pub torn : List (List Change)

@@ -76,9 +76,9 @@ impl<D: Disk> Model for Cartridge<D> {
 }
 
 impl<D: Disk> Cartridge<D> {
-    /// What holds of every open cartridge. Where the disks are honest, each pair of images that a crash now may leave
-    /// gives the contents, or the contents with the frame that was under way when a disk failed; where it has not
-    /// failed, the contents alone. The room is what the spelling of the side that counts leaves.
+    /// The invariant of every open cartridge. Where the disks are honest, each pair of images that a crash now may
+    /// leave gives the contents, or the contents with the frame that was in flight when a disk failed; where it has not
+    /// failed, the contents alone. The room is as many bytes as the spelling of the side that counts leaves free.
     pub fn known(&self)
         ensures contents { IsContents self.now.contents }
         ensures at_rest { self.now.failed ≡ false → self.now.torn ≡ [] }
@@ -216,7 +216,7 @@ impl<D: Disk> Cartridge<D> {
         &self.spare
     }
 
-    /// Closes the cartridge. Its disks then give the contents, or the contents with the frame that was under way when a
+    /// Closes the cartridge. Its disks then give the contents, or the contents with the frame that was in flight when a
     /// disk failed.
     pub fn shelve(self) -> Shelved<D>
         ensures { result ≡ record {

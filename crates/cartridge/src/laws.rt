@@ -37,8 +37,8 @@ pub fn each_pair_is_answered()
     ensures { (images : Images) → IsAnswered images }
 {}
 
-/// The volume is what the changes since the cartridge was made or last reclaimed make of the volume
-/// that they are carried out from.
+/// The changes since the cartridge was made or last reclaimed make the volume out of the one that they are carried out
+/// from.
 pub fn a_volume_is_made_since()
     ensures { (contents : Contents) → volume_made contents
         ≡ after (start_of contents).volume (changes_since contents) }

@@ -1,4 +1,4 @@
-//! A cartridge on two disks, of which one counts: its changes are stored a frame at a time, each frame
+//! A cartridge on two disks, one of which counts. Its changes are stored a frame at a time, each frame
 //! whole or not at all.
 #![tactic(auto)]
 

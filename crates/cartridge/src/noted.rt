@@ -1,4 +1,4 @@
-//! What proofs alone note of a side, which takes no bytes: the block bytes of a cartridge stay on its disk.
+//! Notes of a side, for proofs alone. They take no bytes: the block bytes of a cartridge stay on its disk.
 ghost use Rattle.std.specs.Prelude.{◌≡◌, [], unwrap_or};
 ghost use Rattle.gate_journal.specs.Side.{heading_of};
 ghost use Rattle.cartridge.specs.Notes.{Notes, with_frame, with_torn};
@@ -60,7 +60,7 @@ impl Noted {
         by_noted(self)
     }
 
-    /// The notes with these changes in a frame that is under way.
+    /// The notes with these changes in a frame that is in flight.
     pub(crate) fn with_torn(&self, changes: &[Change]) -> Noted
         ensures { result.notes ≡ with_torn self.now.notes changes.now }
     {

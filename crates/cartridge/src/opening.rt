@@ -27,10 +27,10 @@ struct Unopened<D> {
 }
 
 impl<D: Disk> Cartridge<D> {
-    /// Opens a closed cartridge, by the side that counts. It begins with a sync of both disks, and writes nothing. At
-    /// every moment of it, and after every error, the disks stand for what they stood for; so does an honest disk
-    /// beside one that is not. After each error but `Device` that is sure too. With an error the cartridge is returned
-    /// closed, as it was.
+    /// Opens a closed cartridge, by the side that counts. The call begins with a sync of both disks, and writes
+    /// nothing. At every moment of the call, and after every error, the disks stand for the same as before; so does an
+    /// honest disk beside one that is not. After each error except `Device` that is sure too. With an error the
+    /// cartridge is returned closed, as it was.
     pub fn open(alloc: Global, shelved: Shelved<D>) -> Result<Cartridge<D>, NotOpened<D>>
         ensures disks { KeepsDisks D.state shelved.disks (disks_opened result) }
         ensures ok { IfOk result (λ cartridge. (cartridge.failed ≡ false) × (cartridge.torn ≡ [])

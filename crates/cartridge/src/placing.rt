@@ -6,7 +6,7 @@ ghost use Rattle.record_index.specs.Records.{IsRecord, size_of, spell_all};
 ghost use Rattle.record_index.specs.Places.{reserved_of};
 ghost use Rattle.cartridge.specs.Answers.{entries_of};
 ghost use Rattle.cartridge.specs.Contents.{volume_made};
-ghost use Rattle.cartridge.specs.Inner.Growing.{HasRoomFor, TakesEntries};
+ghost use Rattle.cartridge.specs.Inner.Growing.{HasEnoughReserved, TakesEntries};
 ghost use Rattle.record_index.specs.Indexes.{Indexes};
 ghost use Rattle.cartridge.specs.Lying.{HasBlock, IsPlaceOf, LiesOnSide};
 ghost use Rattle.cartridge.specs.Notes.{noted_contents, with_frame};
@@ -26,7 +26,7 @@ pub(crate) fn place_frame<D: Disk>(
 )
     requires apply { AllApply (volume_made (noted_contents noted.now.notes)) changes.now }
     requires records { All IsRecord changes.now }
-    requires room { HasRoomFor index.old changes.now }
+    requires room { HasEnoughReserved index.old changes.now }
     requires counted { length journal.now.extents ≡ length noted.now.notes.frames + 1 }
     requires sized { (slice_index_or journal.now.extents (length noted.now.notes.frames) (0, 0)).1
         ≡ length (spell_all changes.now) }

@@ -55,8 +55,7 @@ impl<D: Disk> Cartridge<D> {
     /// Reclaims a closed cartridge: the volume of the side that counts is copied to the other one, which counts from
     /// then on. The cartridge is opened first, and every cause but a device fault is found before anything is written;
     /// so is a device fault of the opening. At every moment each pair of images is an old one, or gives what the
-    /// cartridge holds, or the copy: the same volume. At Ok the side that counted before has its length still, and
-    /// holds what it held.
+    /// cartridge holds, or the copy: the same volume. At Ok the side that counted before is unchanged from place 10 on.
     pub fn reclaim(alloc: Global, shelved: Shelved<D>) -> Result<Shelved<D>, NotReclaimed<D>>
         ensures disks { KeepsDisks D.state shelved.disks (disks_reclaimed result) }
         ensures ok { IfOk result (λ reclaimed. (reclaimed.known ≡ true) × (reclaimed.torn ≡ [])

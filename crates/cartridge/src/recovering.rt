@@ -12,14 +12,14 @@ use vtl_base::NoMemory;
 pub(crate) struct Recovered {
     pub index: Index,
     pub noted: Noted,
-    // Reads the body that is under way.
+    // Reads on in the body that was begun.
     pub reader: RecordReader,
 }
 
 impl Decodes for Recovered {
     ghost use Rattle.gate_journal.specs.declared.header.SideKind.TheVariants.{Cartridge};
     ghost use Rattle.cartridge.specs.Contents.{volume_made};
-    ghost use Rattle.cartridge.specs.Inner.Reading.{HasRead, IsBadBody, IsWithin};
+    ghost use Rattle.cartridge.specs.Inner.Reading.{HasRead, IsBadBody, IsWithinBody};
     ghost use Rattle.cartridge.specs.Notes.{noted_contents};
 
     ghost KIND = { Cartridge };
@@ -29,7 +29,7 @@ impl Decodes for Recovered {
     ghost refuses = { λ found. IsBadBody (volume_made (noted_contents found.noted.notes)) };
 
     ghost is_within = { λ start found.
-        IsWithin start.index start.noted.notes found.index found.noted.notes found.reader };
+        IsWithinBody start.index start.noted.notes found.index found.noted.notes found.reader };
 
     ghost unseen = { λ found. found.reader.left };
 

@@ -51,7 +51,7 @@ impl<D: Disk> Model for Shelved<D> {
 }
 
 impl<D: Disk> Shelved<D> {
-    /// A closed cartridge on these two disks, of which nothing is known until it is opened.
+    /// A closed cartridge on these two disks. Nothing is known of it until it is opened.
     pub fn of(first: D, second: D) -> Shelved<D>
         ensures disks { result.disks ≡ record { first = first; second = second } }
         ensures unknown { result.known ≡ false }
@@ -96,8 +96,8 @@ impl<D: Disk> Shelved<D> {
         }
     }
 
-    /// What holds of every closed cartridge. Each pair of images that a crash may leave gives the contents, or the
-    /// contents with the frame that was under way when a disk failed. The contents are a cartridge's over any disks.
+    /// The invariant of every closed cartridge. Each pair of images that a crash may leave gives the contents, or the
+    /// contents with the frame that was in flight when a disk failed. The contents are a cartridge's over any disks.
     pub fn known(&self)
         ensures contents { self.now.known ≡ true → IsContents self.now.contents }
         ensures shows { self.now.known ≡ true → AreHonest D.state self.now.disks →

@@ -1,10 +1,10 @@
-//! The two disks of a cartridge: that of the side that counts, and the other one.
+//! The two disks of a cartridge: the disk of the side that counts, and the other disk.
 ghost use Rattle.std.specs.Prelude.{◌≡◌};
 ghost use Rattle.cartridge.specs.Disks.{disks_by};
 
 use side_pairs::Which;
 
-// The first and the second disk, given the disk of this side and the other one.
+// The first and the second disk, from the disk of this side and the other disk.
 pub(crate) fn in_order<D>(which: Which, this: D, other: D) -> (D, D)
     ensures { (record { first = result.0; second = result.1 }) ≡ disks_by which this other }
 {

@@ -27,7 +27,7 @@ use Rattle.drive_core.specs.Erase.{erase_at}
 use Rattle.drive_core.specs.Write.{WriteWork, put_at}
 use Rattle.drive_core.specs.Execute.{is_device_fault}
 use Rattle.drive_core.specs.Data.{data_left}
-use Rattle.drive_core.specs.Inner.Carries.{IsReady}
+use Rattle.drive_core.specs.Inner.Carries.{IsOnWorkingMedium}
 use Rattle.drive_core.specs.Inner.Appending.{IsAt, SettlesAfter, refused_as, restored, returned_of}
 
 -- there is a partition at a number below their count
@@ -56,7 +56,7 @@ refused_in : (part : Part) (change : Change) (cause : Refusal) → kept_of chang
     → is_well_formed change ≡ true → refusal_in (Some part) change ≡ Some cause → cause ≡ NoRoom
 refused_in part change cause at formed e = grind (arith, nat_tests)
 
--- a change that is well formed, at a position on the medium, is refused for want of room alone
+-- a change that is well formed, at a position on the medium, is refused only where room is lacking
 refused_for_room : (volume : List Part) (change : Change) (cause : Refusal) → part_of change < length volume
     → kept_of change ≤ length (objects_of volume (part_of change)) → is_well_formed change ≡ true
     → refusal_of volume change ≡ Some cause → refusal_of volume change ≡ Some NoRoom
@@ -65,11 +65,11 @@ refused_for_room volume change cause within at formed e =
     e ∙ ap Some (refused_in part change cause (rw is at at) formed (rw is at e))
 
 -- the part and the object of a change at a position on the medium
-within : (u : MediumState) (p : Pos) (change : Change) → IsReady (mounted u p) → IsAt p change
+within : (u : MediumState) (p : Pos) (change : Change) → IsOnWorkingMedium (mounted u p) → IsAt p change
     → part_of change < length (volume_of u)
 within u p change ready at = rw at.part ready.on.on_tape.part
 
-reaches : (u : MediumState) (p : Pos) (change : Change) → IsReady (mounted u p) → IsAt p change
+reaches : (u : MediumState) (p : Pos) (change : Change) → IsOnWorkingMedium (mounted u p) → IsAt p change
     → kept_of change ≤ length (objects_of (volume_of u) (part_of change))
 reaches u p change ready at = rw (at.part, at.object) ready.on.on_tape.object
 
@@ -81,7 +81,7 @@ lacks (Some amount) u t p some same = (refl, refl, ap (λ (x : MediumState). mou
 
 -- what a medium does not accept changes nothing
 pub append_refused : (settles : Bool) (change : Change) (u t : MediumState) (p : Pos) (error : MediumError)
-    → IsReady (mounted u p) → IsAt p change → is_well_formed change ≡ true
+    → IsOnWorkingMedium (mounted u p) → IsAt p change → is_well_formed change ≡ true
     → (amount_of change ≡ None → refusal_of (volume_of u) change ≡ None) → Accepts u change (Err error) t
     → AppendWork settles change (mounted u p) (refused_as error (amount_of change)) [] (mounted t p)
 append_refused settles change u t p (medium.Refused cause) ready at formed fits answer =
@@ -100,7 +100,7 @@ append_refused settles change u t p medium.Failed ready at formed fits answer =
 append_refused settles change u t p medium.Unreadable ready at formed fits answer = absurd answer
 
 -- the position behind a change is the end of data
-stands : (change : Change) (u mid : MediumState) (p : Pos) (count : ℕ) → IsReady (mounted u p) → IsAt p change
+stands : (change : Change) (u mid : MediumState) (p : Pos) (count : ℕ) → IsOnWorkingMedium (mounted u p) → IsAt p change
     → Accepts u change (Ok tt) mid → count ≡ length (objects_of (volume_of mid) p.part)
     → record p { obj = count } ≡ behind change p
 stands change u mid p count ready at accepts counted =
@@ -115,7 +115,7 @@ stands change u mid p count ready at accepts counted =
 -- what a medium accepts stands, and the position is behind it
 pub append_accepted : (settles : Bool) (change : Change) (u mid t : MediumState) (p : Pos) (count : ℕ)
     (warned : Bool) (answer : Result Reply Fault)
-    → IsReady (mounted u p) → IsAt p change → Accepts u change (Ok tt) mid
+    → IsOnWorkingMedium (mounted u p) → IsAt p change → Accepts u change (Ok tt) mid
     → count ≡ length (objects_of (volume_of mid) p.part)
     → warned ≡ is_warned (amount_of change) (volume_of mid) (record p { obj = count })
     → SettlesAfter settles warned mid answer t
@@ -277,7 +277,7 @@ write_lacks_side buffered (byte ∷ bytes) u p false some none told lacking = (
 
 -- a WRITE that the side has room for, and no memory
 pub write_lacks_memory : (buffered : Bool) (sent : List ℕ) (u : MediumState) (p : Pos) (has : Bool) → 1 ≤ length sent
-    → IsReady (mounted u p) → refusal_of (volume_of u) (put_at p sent) ≡ None
+    → IsOnWorkingMedium (mounted u p) → refusal_of (volume_of u) (put_at p sent) ≡ None
     → (IsTrue has → HasRoomFor u.room u.pending (length sent)) → has ≡ true
     → WriteWork buffered sent (mounted u p) (Err NoMemory) [] (mounted u p)
 write_lacks_memory buffered [] u p has some ready none told having = absurd (omega (arith, some))

@@ -37,27 +37,29 @@ keeper_fault old state keepers.Failed new works h = cc (works, h.0)
 module _ {M K : Type 0}
     (state : M → MediumState) (below : Below M Change) (kept : K → KeeperState) (keeps : Below K PrState)
     (nowhere : (m : M) → Advances below m [] false m) (keeps_nowhere : (k : K) → Advances keeps k [] false k)
-    (order : PrOut) (nexus : ℕ) (old : DriveState M K) (brought : PrAnswer) (told : List AttentionSet) (left : PrState)
-    (orders : Orders old.reservations nexus order brought told left) where
+    (order : PrOut) (nexus : ℕ) (old : DriveState M K) (brought : PrAnswer) (established : List AttentionSet)
+    (left : PrState)
+    (orders : Orders old.reservations nexus order brought established left) where
   -- one that needs no save stands
   pub unsaved_takes : needs_save old.reservations left ≡ false
       → Takes state below kept keeps (OrderWork order nexus (machine_of state kept old)) old (Ok (order_reply brought))
-      (ordered old left told)
+      (ordered old left established)
   unsaved_takes due =
       still_takes state below kept keeps nowhere keeps_nowhere (OrderWork order nexus (machine_of state kept old)) old
-      (ordered old left told) (Ok (order_reply brought)) (record { medium = refl; keeper = refl })
-      (record { bay = refl; keeper = refl; accepted = refl }) (brought, told, left, orders, rw due (refl, refl, refl))
+      (ordered old left established) (Ok (order_reply brought)) (record { medium = refl; keeper = refl })
+      (record { bay = refl; keeper = refl; accepted = refl })
+      (brought, established, left, orders, rw due (refl, refl, refl))
 
   module _ (keeper : K) (due : needs_save old.reservations left ≡ true) where
     -- one that was saved stands
     pub saved_takes : Saves (kept old.keeper) left (Ok tt) (kept keeper)
         → Advances keeps old.keeper (saved_by (Ok tt) left) false keeper
         → Takes state below kept keeps (OrderWork order nexus (machine_of state kept old)) old
-        (Ok (order_reply brought)) (ordered (record old { keeper = keeper }) left told)
+        (Ok (order_reply brought)) (ordered (record old { keeper = keeper }) left established)
     saved_takes saves advances =
         record {
           made = made_by_save (saved_by (Ok tt) left);
-          step = (brought, told, left, orders, rw due (Ok tt, kept keeper, saves, (refl, refl), refl));
+          step = (brought, established, left, orders, rw due (Ok tt, kept keeper, saves, (refl, refl), refl));
           advances = advances_nowhere_in state below kept keeps nowhere keeps_nowhere (medium_in old.bay);
           stores = stores_nowhere_in state below kept keeps nowhere keeps_nowhere old.bay;
           saves = advances;
@@ -73,7 +75,7 @@ module _ {M K : Type 0}
     refused_takes error works saves advances =
         record {
           made = made_by_save (saved_by (Err error) left);
-          step = (brought, told, left, orders, rw due (Err error, kept keeper, saves, (refl, refl), refl));
+          step = (brought, established, left, orders, rw due (Err error, kept keeper, saves, (refl, refl), refl));
           advances =
               rw (no_device_fault error)
               (advances_nowhere_in state below kept keeps nowhere keeps_nowhere (medium_in old.bay));

@@ -88,10 +88,10 @@ module _ (old : Machine) (answer : Result Reply Fault) (made : Made) (new : Mach
   mode_quiet (Err sense) nexus work = unmade made work.1
 
   -- an order to the reservations
-  stands_quiet : (due : Bool) (brought : PrAnswer) (state : PrState) (told : List AttentionSet)
-      → StandsBy due brought state told old answer made new → made.changes ≡ []
-  stands_quiet false brought state told work = unmade made work.1
-  stands_quiet true brought state told work = ap (λ (m : Made). m.changes) work.4
+  stands_quiet : (due : Bool) (brought : PrAnswer) (state : PrState) (established : List AttentionSet)
+      → StandsBy due brought state established old answer made new → made.changes ≡ []
+  stands_quiet false brought state established work = unmade made work.1
+  stands_quiet true brought state established work = ap (λ (m : Made). m.changes) work.4
 
   order_quiet : (failed : Bool) (order : PrOut) (nexus : ℕ) → OrderUnlessFailed failed order nexus old answer made new
       → made.changes ≡ []

@@ -59,7 +59,7 @@ conflict_unacknowledged : Acknowledges conflict → ⊥
 conflict_unacknowledged (inl good) = cc
 conflict_unacknowledged (inr warning) = cc warning.0
 
--- want of room acknowledges nothing
+-- where room is lacking nothing is acknowledged
 pub lacks_unacknowledged : (amount : Option ℕ) (old : Mounted) (reply : Reply) (made : List Change) (new : Mounted)
     → LacksRoom amount old reply made new → Acknowledges reply → ⊥
 lacks_unacknowledged None old reply made new h acknowledged = absurd h

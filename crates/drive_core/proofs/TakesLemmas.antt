@@ -26,7 +26,7 @@ use Rattle.drive_core.specs.Conditions.{condition_due, denial_reply, denied, wit
 use Rattle.drive_core.specs.Relations.{Made, MediumRelation, made_nothing, made_on_medium}
 use Rattle.drive_core.specs.Mode.{in_asked_mode, in_mode}
 use Rattle.drive_core.specs.RequestSense.{RequestSenseWork, after_report, once_reported, sense_due}
-use Rattle.drive_core.specs.Tell.{Gives, Tells}
+use Rattle.drive_core.specs.Giving.{Gives, GivesData}
 use Rattle.drive_core.specs.Work.{Request, Work, WorkBy}
 use Rattle.drive_core.specs.OnMedium.{OnMediumIn}
 use Rattle.drive_core.specs.Checks.{Executes, verdict}
@@ -159,11 +159,11 @@ module _ {M K : Type 0}
         counted = h.counted;
       }
 
-  pub tells_takes :
+  pub gives_takes :
       (bytes : List ℕ) (old : DriveState M K) (answer : Result Reply Fault) → Gives bytes answer
-      → Takes state below kept keeps (Tells bytes (machine_of state kept old)) old answer old
-  tells_takes bytes old answer given =
-      still_takes (Tells bytes (machine_of state kept old)) old old answer (gives_faultless bytes answer given)
+      → Takes state below kept keeps (GivesData bytes (machine_of state kept old)) old answer old
+  gives_takes bytes old answer given =
+      still_takes (GivesData bytes (machine_of state kept old)) old old answer (gives_faultless bytes answer given)
       (record { bay = refl; keeper = refl; accepted = refl }) (given, refl, refl)
 
   -- sense data that is reported

@@ -37,7 +37,7 @@ needs_disk alone buffered (Write length) = nat_lt 0 length && (not buffered || n
 needs_disk alone buffered (WriteFilemarks count immediate) = not immediate || (nat_lt 0 count && not (alone 0))
 needs_disk alone buffered _ = false
 
--- the same of a request that was judged so: one that is denied needs no disk (own)
+-- the same of a request whose checks had this result: a request that is denied needs no disk (own)
 abbrev pub needs_disk_as : (ℕ → Bool) → Bool → Result Command Denial → Bool
 needs_disk_as alone buffered (Ok command) = needs_disk alone buffered command
 needs_disk_as alone buffered (Err denial) = false

@@ -15,8 +15,8 @@ use Rattle.drive_core.specs.declared.faults.Fault.TheVariants.{NoMemory, Writing
 use Rattle.drive_core.specs.State.{Mounted, contents_of}
 use Rattle.drive_core.specs.Relations.{MediumRelation, Stays, FailsToStore}
 
--- what INFORMATION tells of a change that does not fit: the bytes of its block, the number of its marks; an erasing
--- adds nothing, and tells nothing (SSC-4, WRITE(6), WRITE FILEMARKS(6); all of them, own)
+-- INFORMATION for a change that does not fit: the bytes of its block, or the number of its marks. An erasing adds
+-- nothing, and has none (SSC-4, WRITE(6), WRITE FILEMARKS(6); all of them, own).
 abbrev pub amount_of : Change → Option ℕ
 amount_of (Put part at block) = Some (length block)
 amount_of (Marks part at count) = Some count
@@ -41,13 +41,13 @@ is_warned (Some amount) volume position = is_near_end volume position
 abbrev pub done_reply : Bool → Reply
 done_reply warned = if warned then check_with early_warning [] else good_with []
 
--- the reply to a change that was made: the warning goes by the volume as it is then (SSC-4, early warning)
+-- the reply to a change that was made: the warning depends on the volume as it is then (SSC-4, early warning)
 abbrev pub made_reply : Change → Mounted → Reply
 made_reply change old =
     done_reply (is_warned (amount_of change) (changed (contents_of old) change) (behind change old.position))
 
--- what does not fit is not there, and the host is told how much that is; an ERASE always fits (SSC-4, WRITE(6);
--- nothing is written that does not fit whole, own)
+-- What does not fit is not written, and the reply shows how much that is. An ERASE always fits (SSC-4, WRITE(6);
+-- nothing is written that does not fit whole, own).
 abbrev pub LacksRoom : Option ℕ → Mounted → Reply → List Change → Mounted → Type 0
 LacksRoom None old reply made new = ⊥
 LacksRoom (Some amount) old reply made new =

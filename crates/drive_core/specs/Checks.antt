@@ -76,7 +76,8 @@ verdict_at machine request (Some opcode) =
 abbrev pub verdict : Machine → Request → Result Command Denial
 verdict machine request = verdict_at machine request (opcode_of request.cdb)
 
--- a request that was judged so: it is denied, and no more is done; or its command is carried out (SAM-5; honesty own)
+-- a request whose checks had this result: it is denied, and no more is done; or its command is carried out (SAM-5;
+-- honesty own)
 abbrev pub ExecutesAs : Type 0 → Result Command Denial → Request → MachineRelation
 ExecutesAs honest (Err denial) request old answer made new =
     (answer ≡ Ok (denial_reply denial)) × (made ≡ made_nothing) × (new ≡ denied denial request.nexus old)

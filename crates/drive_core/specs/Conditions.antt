@@ -31,8 +31,8 @@ abbrev pub first_some : {A : Type 0} → Option A → Option A → Option A
 first_some (Some a) other = Some a
 first_some None other = other
 
--- the condition that a nexus is reported next: the deferred error, to whoever comes first, and then the first unit
--- attention condition of the nexus (SPC-4, deferred errors, unit attention conditions; to any nexus, own)
+-- The condition that is reported to a nexus next: the deferred error, to the first nexus that asks, and then the first
+-- unit attention condition of the nexus (SPC-4, deferred errors, unit attention conditions; to any nexus, own).
 abbrev pub condition_due : Machine → ℕ → Option Condition
 condition_due machine nexus =
     first_some (deferred_due machine) (attention_due (attention_of machine.attentions nexus))

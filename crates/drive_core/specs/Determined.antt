@@ -34,7 +34,7 @@ abbrev pub side_sight : Bool → MediumState → Option SideSight
 side_sight true medium = None
 side_sight false medium = Some (record { stored = medium.stored; torn = medium.torn })
 
--- a medium, but for how its volume is split into what is stored and what is pending while it is awake and works, and
+-- a medium, except for how its volume is split into what is stored and what is pending while it is awake and works, and
 -- for the room of its side (own)
 pub record Sight : Type 0 where
   pub awake : Bool
@@ -52,7 +52,7 @@ sight_of medium =
       side = side_sight (is_sound medium) medium;
     }
 
--- a keeper, but for the room of its store (own)
+-- a keeper, except for the room of its store (own)
 abbrev pub without_room : KeeperState → KeeperState
 without_room keeper = record keeper { room = None }
 
@@ -74,7 +74,7 @@ abbrev pub torn_seen : Option SideSight → List Change
 torn_seen None = []
 torn_seen (Some side) = side.torn
 
--- it is sure what the side of a medium gives that is seen so: no frame was under way when a device failed (own)
+-- it is sure what the side of a medium that is seen so gives: no frame was in flight when a device failed (own)
 abbrev pub IsSureSight : Sight → Type 0
 IsSureSight sight = torn_seen sight.side ≡ []
 
@@ -82,29 +82,29 @@ IsSureSight sight = torn_seen sight.side ≡ []
 abbrev pub IsSure : MediumState → Type 0
 IsSure medium = IsSureSight (sight_of medium)
 
--- the same of the medium in a drive that is seen so, if there is one (own)
+-- the same for the medium in such a drive, if there is one (own)
 abbrev pub IsSureDrive : DriveState Sight KeeperState → Type 0
 IsSureDrive seen = IfSome (medium_in seen.bay) IsSureSight
 
--- it is sure how a medium is opened: one that is awake stays as it is, and of a parked one no frame was under way when
+-- it is sure how a medium is opened: one that is awake stays as it is, and of a parked one no frame was in flight when
 -- a device failed (own)
 abbrev pub OpensSurely : MediumState → Type 0
 OpensSurely medium = medium.awake ≡ false → medium.torn ≡ []
 
--- it is sure how what a command opens is opened: LOAD alone opens one, the medium in the drive that is not loaded (own)
+-- It is sure how a command opens a medium. Only LOAD opens one: the medium in the drive that is not loaded (own).
 abbrev pub IsSureCommand : Command → Bay MediumState → Type 0
 IsSureCommand (LoadUnload true) (Unloaded medium) = OpensSurely medium
 IsSureCommand _ _ = Unit {0}
 
--- It is sure how what an input opens is opened. A LOAD that is carried out, a loading and a power on open a medium, and
--- nothing else does (own).
+-- It is sure how an input opens a medium. A LOAD that is carried out, a loading and a power on open one, and nothing
+-- else does (own).
 abbrev pub IsSureInput : Machine → Input → Type 0
 IsSureInput old (Execute request) = IfOk (verdict old request) (λ command. IsSureCommand command old.bay)
 IsSureInput old (Load medium) = OpensSurely medium
 IsSureInput old (PowerOn medium keeper) = IfSome medium OpensSurely
 IsSureInput old _ = Unit {0}
 
--- it is sure what the side of a medium gives that an input takes in (own)
+-- where an input takes a medium in, it is sure what its side gives (own)
 abbrev pub BringsSure : Input → Type 0
 BringsSure (Load medium) = IsSure medium
 BringsSure (Insert medium) = IsSure medium
@@ -139,11 +139,11 @@ abbrev pub is_no_turn : Input → Bool
 is_no_turn FlushTurn = false
 is_no_turn _ = true
 
--- the inputs but for the flusher's turns (own)
+-- the inputs except for the flusher's turns (own)
 abbrev pub without_turns : List Input → List Input
 without_turns inputs = filter is_no_turn inputs
 
--- no fault, want of memory or full side came of it (own)
+-- it met no fault and no full side, and memory did not run out (own)
 abbrev pub IsCalm : Output → Type 0
 IsCalm (Answered (Ok reply)) = Unit {0}
 IsCalm (Answered (Err fault)) = ⊥
@@ -158,8 +158,8 @@ InRun P old (input ∷ inputs) (output ∷ outputs) made new run =
 InRun P old [] outputs made new run = Unit {0}
 InRun P old (input ∷ inputs) [] made new run = Unit {0}
 
--- the same came of both, they made the same, and the drives are seen alike; where something holds, it is sure what the
--- sides of their media give (own)
+-- Both had the same outcome and made the same changes, and the drives are seen alike. Under a condition it is sure what
+-- the sides of their media give (own).
 pub record AreAlike {R : Type 0} (where_sure : Type 0) (out other : R) (made others : Made) (new beside : Machine) :
     Type 0 where
   pub outputs : out ≡ other
@@ -167,9 +167,9 @@ pub record AreAlike {R : Type 0} (where_sure : Type 0) (out other : R) (made oth
   pub drives : seen_of new ≡ seen_of beside
   pub sure : where_sure → IsSureDrive (seen_of new)
 
--- Two steps of which no fault, want of memory or full side came, by inputs that ask alike, from drives that are seen
--- alike, come out alike. An input that opens a medium is asked that it be sure how that is opened, and no other. What
--- was sure of the side of a medium in the drive stays so (own).
+-- Two steps from drives that are seen alike, by inputs that ask alike, end alike where neither meets a fault or a full
+-- side, and memory does not run out. Where an input opens a medium, it has to be sure how that is opened. What was sure
+-- of the side of a medium in the drive stays so (own).
 abbrev pub StepsAreDetermined : Type 0
 StepsAreDetermined =
     (old beside : Machine) (input other : Input) (output output' : Output) (made made' : Made) (new new' : Machine)
@@ -177,9 +177,9 @@ StepsAreDetermined =
     → Step (Unit {0}) old input output made new → Step (Unit {0}) beside other output' made' new'
     → AreAlike (IsSureDrive (seen_of old) × BringsSure input) output output' made made' new new'
 
--- Two runs of which none of these came, by inputs that ask alike but for flusher's turns, which may stand at different
--- places, from drives that are seen alike: the replies are the same, and they come out alike. Again the inputs of one
--- run that open a medium are asked that it be sure how that is opened, in the drives that they come to (own).
+-- Two runs start from drives that are seen alike. None of these comes in them, and their inputs ask alike, except for
+-- flusher's turns, which may stand at different places. Then the replies are the same, and the runs end alike. Again
+-- each input of one run that opens a medium has to be sure how that is opened, in the drive that it comes to (own).
 abbrev pub RunsAreDetermined : Type 0
 RunsAreDetermined =
     (old beside : Machine) (inputs others : List Input) (outputs outputs' : List Output) (made made' : Made)
@@ -192,8 +192,8 @@ RunsAreDetermined =
     → AreAlike (IsSureDrive (seen_of old) × All BringsSure (without_turns inputs)) (replies_of outputs)
     (replies_of outputs') made made' new new'
 
--- From a drive of whose medium it is sure what its side gives, in a run of which none of these came and which takes in
--- such media alone, it is sure how each medium is opened (own).
+-- It is sure how each medium of a run is opened, if at its start it is sure what the side of the drive's medium gives,
+-- no input meets one of these, and the run takes in only such media (own).
 abbrev pub RunsStaySure : Type 0
 RunsStaySure =
     (old : Machine) (inputs : List Input) (outputs : List Output) (made : Made) (new : Machine)

@@ -1,4 +1,4 @@
--- Faults that may come into a command, and what a host is told of each.
+-- Faults that a command may meet, and the reply to each.
 use Rattle.std.specs.Prelude.{[], Result, Ok, Err}
 use Rattle.scsi_sense.specs.declared.replies.Reply.{Reply}
 use Rattle.scsi_sense.specs.declared.sense_data.Sense.{Sense}
@@ -7,7 +7,7 @@ use Rattle.scsi_sense.specs.Senses.{insufficient_resources, write_error, read_er
 use Rattle.drive_core.specs.declared.faults.Fault.{Fault}
 use Rattle.drive_core.specs.declared.faults.Fault.TheVariants.{NoMemory, Writing, Reading, SideFull, Saving, StoreFull}
 
--- the sense data of a fault (SPC-4, SSC-4, additional sense codes; which is told where is own)
+-- the sense data of a fault (SPC-4, SSC-4, additional sense codes; which fault has which code is own)
 abbrev pub fault_sense : Fault → Sense
 fault_sense NoMemory = insufficient_resources
 fault_sense Writing = write_error
@@ -20,7 +20,7 @@ fault_sense StoreFull = store_full
 abbrev pub fault_reply : Fault → Reply
 fault_reply fault = check_with (fault_sense fault) []
 
--- what a host sees of an answer: the reply, or what a fault is told by (own)
+-- what a host sees of an answer: the reply, or that of a fault (own)
 abbrev pub reply_of : Result Reply Fault → Reply
 reply_of (Ok reply) = reply
 reply_of (Err fault) = fault_reply fault

@@ -3,7 +3,7 @@ pub mod Relations
 pub mod Faults
 pub mod Conditions
 pub mod StoredFirst
-pub mod Tell
+pub mod Giving
 pub mod Rewind
 pub mod Space
 pub mod Locate
@@ -29,7 +29,7 @@ pub mod Execute
 pub mod Data
 pub mod Alone
 pub mod Apart
-pub mod Told
+pub mod ShownChanges
 pub mod Media
 pub mod Run
 pub mod Determined

@@ -39,8 +39,8 @@ LoadsInto honest _ medium old answer made new = ⊥
 abbrev pub Loads : Type 0 → MediumState → MachineRelation
 Loads honest medium old answer made new = LoadsInto honest old.bay medium old answer made new
 
--- A parked medium is put into an empty drive, and into no other: it stands there, not loaded, and no host is told
--- (SMC-3; that no host is told, own).
+-- A parked medium is put into an empty drive, and into no other: it stands there, not loaded, and no unit attention
+-- condition is established (SMC-3; that none is established, own).
 abbrev pub Inserts : MediumState → Machine → Result Unit Fault → Made → Machine → Type 0
 Inserts medium old outcome made new =
     (old.bay ≡ Empty) × (medium.awake ≡ false) × (outcome ≡ Ok tt) × (made ≡ made_nothing)
@@ -55,13 +55,13 @@ bay_when_on (Err Errors.Unreadable) opened = Some (Unloaded opened)
 bay_when_on (Err Errors.Device) opened = Some (Unloaded opened)
 bay_when_on (Err _) opened = None
 
--- what came of a power on: it was done, or the device failed (own)
+-- the outcome of a power on: it was done, or the device failed (own)
 abbrev pub power_on_outcome : Result Unit MediumError → Result Unit Fault
 power_on_outcome (Err Errors.Device) = Err Reading
 power_on_outcome _ = Ok tt
 
--- a drive is switched on with this medium in it, if any, and with this keeper: its reservations are what a loss of
--- power left (SPC-4, power on, persist through power loss; SSC-4)
+-- a drive is switched on with this medium in it, if any, and with this keeper: its reservations are those that a loss
+-- of power left (SPC-4, power on, persist through power loss; SSC-4)
 abbrev pub PowersOn : Type 0 → Option MediumState → KeeperState → Result Unit Fault → Made → Machine → Type 0
 PowersOn honest None keeper outcome made new =
     (outcome ≡ Ok tt) × (made ≡ made_nothing) × (new ≡ powered_on Empty (left_of keeper.saved) keeper)

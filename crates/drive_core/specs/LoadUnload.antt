@@ -25,8 +25,8 @@ unloaded drive medium = record drive { bay = Unloaded medium }
 abbrev pub emptied : {M K : Type 0} → DriveState M K → M → DriveState M K
 emptied drive medium = record drive { bay = Empty }
 
--- a drive whose own medium a nexus has loaded: at the start, and every other nexus is told that the medium may have
--- changed (SSC-4, LOAD UNLOAD)
+-- A drive once a nexus has loaded the medium in it: it is at the start. For every other nexus the condition that the
+-- medium may have changed is established (SSC-4, LOAD UNLOAD).
 abbrev pub reloaded : {M K : Type 0} → DriveState M K → ℕ → M → DriveState M K
 reloaded drive nexus medium = record drive {
   bay = Loaded medium;
@@ -34,8 +34,8 @@ reloaded drive nexus medium = record drive {
   attentions = established_for_others drive.attentions nexus MediumChanged;
 }
 
--- A loaded medium was parked, and answered so. Once it is parked the drive is left so; where the device failed it stays
--- loaded, and has failed (SSC-4, LOAD UNLOAD; the fault own).
+-- A loaded medium was parked, with this result. Where it is parked, `leave` gives the drive that is left. Where the
+-- device failed, the medium stays loaded, and has failed (SSC-4, LOAD UNLOAD; the fault own).
 abbrev pub ParksAs :
     (Machine → MediumState → Machine) → Result Unit MediumError → MediumState → Machine
     → Result Reply Fault → Machine → Type 0
@@ -43,8 +43,9 @@ ParksAs leave (Ok done) parked old answer new = (answer ≡ Ok (good_with [])) �
 ParksAs leave (Err error) broken old answer new =
     (answer ≡ Err Writing) × (new ≡ record old { bay = Loaded broken })
 
--- What is in the drive is unloaded, and left so: a loaded medium is parked, once what is pending is stored; of one that
--- is not loaded that is done already (SSC-4, LOAD UNLOAD; that a failed medium gives up what is pending, own).
+-- The medium in the drive is unloaded, and `leave` gives the drive that is left. A loaded medium is parked, once what
+-- is pending is stored. One that is not loaded is parked already (SSC-4, LOAD UNLOAD; that a failed medium gives up
+-- what is pending, own).
 abbrev pub UnloadsInto : (Machine → MediumState → Machine) → Type 0 → Bay MediumState → MachineRelation
 UnloadsInto leave honest Empty old answer made new =
     RepliesAlone (check_with medium_not_present []) old answer made new
@@ -54,15 +55,15 @@ UnloadsInto leave honest (Loaded medium) old answer made new =
     (parking : Result Unit MediumError) × (left : MediumState) × Parks honest medium parking left
     × ParksAs leave parking left old answer new × (made ≡ made_nothing)
 
--- A medium that was not loaded was asked to open, and answered so. Once it is open it is loaded; else it stays as it
--- became (SSC-4, LOAD UNLOAD; the rest own).
+-- A medium that was not loaded was opened, with this result. Where it is open it is loaded; else it stays in the drive
+-- as the opening left it (SSC-4, LOAD UNLOAD; the rest own).
 abbrev pub ReloadsAs :
     Result Unit MediumError → MediumState → ℕ → Machine → Result Reply Fault → Machine → Type 0
 ReloadsAs (Ok done) opened nexus old answer new = (answer ≡ Ok (good_with [])) × (new ≡ reloaded old nexus opened)
 ReloadsAs (Err error) parked nexus old answer new = (answer ≡ wake_answer error) × (new ≡ unloaded old parked)
 
--- A loaded medium is asked to load: of one that has failed that is refused; else what is pending is stored, and the
--- position is the start (SSC-4, LOAD UNLOAD; the refusal own).
+-- A loaded medium is asked to load. If it has failed, that is refused; else what is pending is stored, and the position
+-- is the start (SSC-4, LOAD UNLOAD; the refusal own).
 abbrev pub LoadsAgain : Bool → MediumState → MachineRelation
 LoadsAgain true medium old answer made new = RepliesAlone (check_with medium_failed []) old answer made new
 LoadsAgain false medium old answer made new =

@@ -12,7 +12,7 @@ use Rattle.drive_core.specs.State.{Mounted, contents_of}
 use Rattle.drive_core.specs.Relations.{MediumRelation}
 use Rattle.drive_core.specs.StoredFirst.{StoredFirst}
 
--- the partition that is gone to: the one that is asked for, else the position's (SSC-4, LOCATE(10))
+-- the partition that LOCATE goes to: the one that is asked for, else the position's (SSC-4, LOCATE(10))
 abbrev pub part_asked : Option ℕ → Pos → ℕ
 part_asked (Some part) position = part
 part_asked None position = position.part
@@ -23,8 +23,8 @@ abbrev pub locate_reply : Stop → Reply
 locate_reply Done = good_with []
 locate_reply _ = check_with (end_of_data None) []
 
--- the position is in the partition that is gone to, and ends where LOCATE ends there; the host is told why, and the
--- medium stays (SSC-4, LOCATE(10))
+-- The position is in the partition that LOCATE goes to, and where it ends there. The reply shows why, and the medium
+-- stays (SSC-4, LOCATE(10)).
 pub record IsLocated (object : ℕ) (part : Option ℕ) (old : Mounted) (reply : Reply) (new : Mounted) : Type 0 where
   pub stop : Stop
   pub left : ℕ

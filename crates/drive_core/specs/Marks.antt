@@ -11,8 +11,8 @@ use Rattle.drive_core.specs.Append.{AppendWork}
 abbrev pub marks_at : Pos → ℕ → Change
 marks_at position count = Marks position.part position.obj count
 
--- filemarks are put at the position, and unless the answer is to be immediate it settles; of none the settling is all
--- (SSC-4, WRITE FILEMARKS(6))
+-- Filemarks are put at the position. Unless the answer is immediate, all that is pending is stored; where the number is
+-- 0, only that is done (SSC-4, WRITE FILEMARKS(6)).
 abbrev pub MarksWork : ℕ → Bool → MediumRelation
 MarksWork zero true old answer made new = Idles old answer made new
 MarksWork zero false old answer made new = StoredFirst Idles old answer made new

@@ -37,7 +37,7 @@ unload_reply (Ok out) = good_with []
 unload_reply (Err reply) = reply
 
 module _ {M : Type 0} (state : M → MediumState) (below : Below M Change) where
-  -- a medium was asked to open, and answered so (own)
+  -- a medium was opened, with this result (own)
   pub record WakesAs (old : M) (woke : Result Unit MediumError) (new : M) : Type 0 where
     pub answer : Wakes (below.honest old) (state old) woke (state new)
     pub advances : Advances below old [] (met_fault woke) new
@@ -95,7 +95,7 @@ module _ {M : Type 0} (state : M → MediumState) (below : Below M Change) where
             Step (HonestIn below (medium_in old.bay)) (machine_of state kept old)
             FlushTurn (Unanswered (turn_outcome turn)) made_nothing (machine_of state kept new)
         pub advances : AdvancesIn below (medium_in old.bay) [] (turn_met_fault turn) (medium_in new.bay)
-        pub told : TurnsIn (bay_of state old.bay) (machine_of state kept old) turn (machine_of state kept new)
+        pub turns : TurnsIn (bay_of state old.bay) (machine_of state kept old) turn (machine_of state kept new)
         pub stores : StoresIn state old.bay [] new.bay
         pub keeper : new.keeper ≡ old.keeper
         pub accepted : new.accepted ≡ old.accepted

@@ -9,17 +9,18 @@ use Rattle.scsi_lists.specs.ModeLists.{mode_data, mode_decoded}
 use Rattle.scsi_wire.specs.Answers.{cut_to}
 use Rattle.drive_core.specs.State.{DriveState}
 use Rattle.drive_core.specs.Relations.{MachineRelation, RepliesAlone, made_nothing}
-use Rattle.drive_core.specs.Tell.{Tells}
+use Rattle.drive_core.specs.Giving.{GivesData}
 
--- a drive whose buffered mode is this, of which every nexus but one is told (SPC-4, MODE SELECT; SSC-4, buffered mode)
+-- A drive with this buffered mode. A unit attention condition is established for every nexus but this one (SPC-4, MODE
+-- SELECT; SSC-4, buffered mode).
 abbrev pub changed_mode : {M K : Type 0} → Bool → ℕ → DriveState M K → DriveState M K
 changed_mode buffered nexus drive = record drive {
   buffered = buffered;
   attentions = established_for_others drive.attentions nexus ModeChanged;
 }
 
--- a drive once a nexus has asked for a buffered mode: where it is the drive's already, nobody is told anything
--- (SPC-4, MODE SELECT; SSC-4, buffered mode)
+-- A drive once a nexus has asked for a buffered mode. Where the drive has this mode already, no condition is
+-- established (SPC-4, MODE SELECT; SSC-4, buffered mode).
 abbrev pub in_mode : {M K : Type 0} → Bool → Bool → ℕ → DriveState M K → DriveState M K
 in_mode true true nexus drive = drive
 in_mode false false nexus drive = drive
@@ -40,6 +41,6 @@ ModeSelectOf (Ok list) nexus old answer made new =
 abbrev pub ModeSelectWork : ℕ → List ℕ → MachineRelation
 ModeSelectWork nexus sent old answer made new = ModeSelectOf (mode_decoded sent) nexus old answer made new
 
--- the mode is told, with a block descriptor or without one, cut to the room that the host has (SPC-4, MODE SENSE)
+-- the mode is given, with a block descriptor or without one, cut to the room that the host has (SPC-4, MODE SENSE)
 abbrev pub ModeSenseWork : Bool → ℕ → MachineRelation
-ModeSenseWork bare room old answer made new = Tells (cut_to room (mode_data old.buffered bare)) old answer made new
+ModeSenseWork bare room old answer made new = GivesData (cut_to room (mode_data old.buffered bare)) old answer made new

@@ -31,8 +31,8 @@ next position = record position { obj = position.obj + 1 }
 abbrev pub residue_of : ℕ → ℕ → ℕ
 residue_of asked has = (asked + 2 ^ 32 - has) % 2 ^ 32
 
--- the bytes that fit: GOOD where the lengths are equal or SILI is set, else the incorrect length is told beside them
--- (SSC-4, READ(6))
+-- The bytes that fit: with GOOD where the lengths are equal or SILI is set, else with the sense data of an incorrect
+-- length (SSC-4, READ(6)).
 abbrev pub block_reply : Bool → ℕ → List ℕ → Reply
 block_reply suppress asked block =
     if asked == length block then good_with block

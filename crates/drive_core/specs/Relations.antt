@@ -36,7 +36,7 @@ MediumRelation = Mounted → Result Reply Fault → List Change → Mounted → 
 abbrev pub MachineRelation : Type 1
 MachineRelation = Machine → Result Reply Fault → Made → Machine → Type 0
 
--- a host is answered so, and nothing is done (own)
+-- a host gets this reply, and nothing is done (own)
 abbrev pub RepliesAlone : Reply → MachineRelation
 RepliesAlone reply old answer made new = (answer ≡ Ok reply) × (made ≡ made_nothing) × (new ≡ old)
 

@@ -10,9 +10,9 @@ use Rattle.drive_core.specs.declared.faults.Fault.{Fault}
 use Rattle.drive_core.specs.State.{Machine, DriveState}
 use Rattle.drive_core.specs.Conditions.{condition_due, condition_sense, without_condition}
 use Rattle.drive_core.specs.Relations.{MachineRelation, made_nothing}
-use Rattle.drive_core.specs.Tell.{Gives}
+use Rattle.drive_core.specs.Giving.{Gives}
 
--- the sense data of a condition that may be there; of none, that there is nothing to report (SPC-4, REQUEST SENSE)
+-- the sense data of a condition; where there is none, NO SENSE (SPC-4, REQUEST SENSE)
 abbrev pub sense_due : Option Condition → Sense
 sense_due None = no_sense
 sense_due (Some condition) = condition_sense condition

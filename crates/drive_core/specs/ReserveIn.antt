@@ -6,7 +6,7 @@ use Rattle.scsi_wire.specs.Answers.{cut_to}
 use Rattle.pr_core.specs.declared.states.PrState.{PrState}
 use Rattle.pr_core.specs.Reads.{keys_read, reservation_read}
 use Rattle.drive_core.specs.Relations.{MachineRelation}
-use Rattle.drive_core.specs.Tell.{Tells}
+use Rattle.drive_core.specs.Giving.{GivesData}
 
 -- what is read of the reservations (SPC-4, PERSISTENT RESERVE IN)
 abbrev pub data_read : PrRead → PrState → List ℕ
@@ -16,4 +16,4 @@ data_read ReadReservation state = reservation_read state
 -- the reservations are read, cut to the room that the host has (SPC-4, PERSISTENT RESERVE IN)
 abbrev pub ReserveInWork : PrRead → ℕ → MachineRelation
 ReserveInWork action room old answer made new =
-    Tells (cut_to room (data_read action old.reservations)) old answer made new
+    GivesData (cut_to room (data_read action old.reservations)) old answer made new

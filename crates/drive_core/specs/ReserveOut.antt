@@ -22,7 +22,7 @@ use Rattle.drive_core.specs.declared.faults.Fault.TheVariants.{NoMemory, Saving,
 use Rattle.drive_core.specs.State.{Machine, DriveState}
 use Rattle.drive_core.specs.Relations.{Made, MachineRelation, made_nothing}
 
--- what a host is told of how its order was answered (SPC-4, PERSISTENT RESERVE OUT)
+-- the reply to an order that was answered so (SPC-4, PERSISTENT RESERVE OUT)
 abbrev pub order_reply : PrAnswer → Reply
 order_reply Good = good_with []
 order_reply Conflict = conflict
@@ -30,11 +30,11 @@ order_reply BadType = check_with invalid_field []
 order_reply BadKey = check_with invalid_parameter []
 order_reply BadRelease = check_with invalid_release []
 
--- a drive once an order was carried out: these are its reservations, and what each nexus is told is established for it
--- (SPC-4, PERSISTENT RESERVE OUT, unit attention conditions)
+-- A drive once an order was carried out: these are its reservations, and these conditions are established, each for its
+-- nexus (SPC-4, PERSISTENT RESERVE OUT, unit attention conditions).
 abbrev pub ordered : {M K : Type 0} → DriveState M K → PrState → List AttentionSet → DriveState M K
-ordered drive reservations told =
-    record drive { reservations = reservations; attentions = established_by drive.attentions told }
+ordered drive reservations established =
+    record drive { reservations = reservations; attentions = established_by drive.attentions established }
 
 -- the fault that a refusal of a save is; one that failed earlier is asked for no save (own)
 abbrev pub fault_of_save : KeeperError → Fault
@@ -47,34 +47,34 @@ fault_of_save keepers.Failed = Saving
 abbrev pub made_by_save : List PrState → Made
 made_by_save states = record { changes = []; saved = states }
 
--- The keeper was asked to save, answered so, and is this now. Where it saved, the order stands; else the fault comes,
--- and the old reservations stand (own).
+-- The keeper was asked to save; this is its result, and this is the keeper now. Where it saved, the order stands; else
+-- the fault comes, and the old reservations stand (own).
 abbrev pub StandsOnceSaved :
     Result Unit KeeperError → KeeperState → PrAnswer → PrState → List AttentionSet → Machine
     → Result Reply Fault → Machine → Type 0
-StandsOnceSaved (Ok done) keeper brought state told old answer new =
-    (answer ≡ Ok (order_reply brought)) × (new ≡ ordered (record old { keeper = keeper }) state told)
-StandsOnceSaved (Err error) keeper brought state told old answer new =
+StandsOnceSaved (Ok done) keeper brought state established old answer new =
+    (answer ≡ Ok (order_reply brought)) × (new ≡ ordered (record old { keeper = keeper }) state established)
+StandsOnceSaved (Err error) keeper brought state established old answer new =
     (answer ≡ Err (fault_of_save error)) × (new ≡ record old { keeper = keeper })
 
--- An order brought this. Where a save is due the keeper is asked first; else the order stands (SPC-4, persist through
--- power loss; what comes of a save own).
+-- An order had this outcome. Where a save is due, the keeper is called first, else the order stands (SPC-4, persist
+-- through power loss; the outcomes of a save own).
 abbrev pub StandsBy :
     Bool → PrAnswer → PrState → List AttentionSet → MachineRelation
-StandsBy false brought state told old answer made new =
-    (answer ≡ Ok (order_reply brought)) × (made ≡ made_nothing) × (new ≡ ordered old state told)
-StandsBy true brought state told old answer made new =
+StandsBy false brought state established old answer made new =
+    (answer ≡ Ok (order_reply brought)) × (made ≡ made_nothing) × (new ≡ ordered old state established)
+StandsBy true brought state established old answer made new =
     (saving : Result Unit KeeperError) × (keeper : KeeperState)
-    × Saves old.keeper state saving keeper × StandsOnceSaved saving keeper brought state told old answer new
+    × Saves old.keeper state saving keeper × StandsOnceSaved saving keeper brought state established old answer new
     × (made ≡ made_by_save (saved_by saving state))
 
 -- an order of a nexus is carried out: it is saved before it is answered, where what is saved has changed
 -- (SPC-4, PERSISTENT RESERVE OUT, persist through power loss)
 abbrev pub OrderWork : PrOut → ℕ → MachineRelation
 OrderWork order nexus old answer made new =
-    (brought : PrAnswer) × (told : List AttentionSet) × (state : PrState)
-    × Orders old.reservations nexus order brought told state
-    × StandsBy (needs_save old.reservations state) brought state told old answer made new
+    (brought : PrAnswer) × (established : List AttentionSet) × (state : PrState)
+    × Orders old.reservations nexus order brought established state
+    × StandsBy (needs_save old.reservations state) brought state established old answer made new
 
 -- by whether the keeper has failed: then no order is carried out (own)
 abbrev pub OrderUnlessFailed : Bool → PrOut → ℕ → MachineRelation

@@ -28,7 +28,7 @@ space_reply AtMark left = check_with (filemark_detected left) []
 space_reply AtEnd left = check_with (end_of_data (Some left)) []
 space_reply AtStart left = check_with (beginning left) []
 
--- the position ends where SPACE ends in its partition, the host is told why, and the medium stays (SSC-4, SPACE(6))
+-- the position ends where SPACE ends in its partition, the reply shows why, and the medium stays (SSC-4, SPACE(6))
 pub record IsSpaced (code : SpaceCode) (count : ℤ) (old : Mounted) (reply : Reply) (new : Mounted) : Type 0 where
   pub stop : Stop
   pub left : ℕ

@@ -100,8 +100,8 @@ abbrev pub has_failed_in : {M : Type 0} → (M → MediumState) → Bay M → Bo
 has_failed_in state (Loaded m) = (state m).failed
 has_failed_in state _ = false
 
--- the reservations with which a drive begins whose keeper holds this: what a loss of power leaves of the state that was
--- saved last; of one that keeps nothing, none (SPC-4, persist through power loss)
+-- the reservations with which a drive begins, by the state that its keeper saved last: what a loss of power leaves of
+-- that state; none, where nothing is saved (SPC-4, persist through power loss)
 abbrev pub left_of : Option PrState → PrState
 left_of None = empty_state
 left_of (Some saved) = power_loss saved

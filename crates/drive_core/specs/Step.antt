@@ -1,4 +1,4 @@
--- The drive machine: what it is asked, and what comes of it.
+-- The drive machine: its inputs, and their outcomes.
 use Rattle.std.specs.Prelude.{List, filter_map, Option, None, Some, Result}
 use Rattle.scsi_sense.specs.declared.replies.Reply.{Reply}
 use Rattle.pr_core.specs.Keepers.{KeeperState}
@@ -25,8 +25,8 @@ pub data Input : Type 0 where
   Unload : Input
   PowerOn : (medium : Option MediumState) → (keeper : KeeperState) → Input
 
--- what comes of an input: a command, a loading and an unloading are answered, by a reply or a fault; all else has no
--- reply, and is done or meets a fault (own)
+-- The outcome of an input. A command, a loading and an unloading are answered, by a reply or a fault. Any other input
+-- has no reply: it is done, or meets a fault (own).
 pub data Output : Type 0 where
   Answered : (answer : Result Reply Fault) → Output
   Unanswered : (outcome : Result Unit Fault) → Output
@@ -43,11 +43,11 @@ Step honest old Unload (Answered answer) made new = TakesOut honest old answer m
 Step honest old (PowerOn medium keeper) (Unanswered outcome) made new = PowersOn honest medium keeper outcome made new
 Step honest old _ _ made new = ⊥
 
--- the reply that came of an input, if it is answered (own)
+-- the reply to an input, if it is answered (own)
 abbrev pub reply_in : Output → Option Reply
 reply_in (Answered answer) = Some (reply_of answer)
 reply_in (Unanswered outcome) = None
 
--- the replies among what came of some inputs (own)
+-- the replies among the outcomes of some inputs (own)
 abbrev pub replies_of : List Output → List Reply
 replies_of outputs = filter_map reply_in outputs

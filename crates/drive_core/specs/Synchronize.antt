@@ -46,13 +46,13 @@ abbrev pub Acknowledges : Reply → Type 0
 Acknowledges reply =
     (reply.status ≡ Good) ⊎ ((reply.status ≡ Check) × IsSomeAnd reply.sense IsEarlyWarning)
 
--- of a medium that is not loaded, where it is honest, no frame is under way: what its side gives is sure (own)
+-- of a medium that is not loaded, where it is honest, no frame is in flight: what its side gives is sure (own)
 abbrev pub IsSureOnSide : Type 0 → Bay MediumState → Type 0
 IsSureOnSide honest (Unloaded medium) = honest → medium.torn ≡ []
 IsSureOnSide honest _ = Unit {0}
 
--- the medium in the drive, if there is one, has not failed, and has nothing pending; and of one that is not loaded it
--- is sure what its side gives (own)
+-- the medium in the drive, if there is one, has not failed, and has nothing pending; where it is not loaded, it is sure
+-- what its side gives (own)
 abbrev pub NothingPending : Type 0 → Machine → Type 0
 NothingPending honest machine =
     IfSome (medium_in machine.bay) (λ medium. (medium.failed ≡ false) × (medium.pending ≡ []))

@@ -15,13 +15,13 @@ abbrev pub after_turn : Turn → MediumState → Machine → Machine
 after_turn Device medium machine = record machine { bay = Loaded medium; deferred = true }
 after_turn _ medium machine = record machine { bay = Loaded medium }
 
--- a loaded medium, which is awake, takes the turn; where none is loaded nothing is done (own)
+-- a loaded medium, which is awake, takes the turn; if none is loaded, nothing is done (own)
 abbrev pub TurnsIn : Bay MediumState → Machine → Turn → Machine → Type 0
 TurnsIn (Loaded medium) old turn new =
     (medium.awake ≡ true) × (left : MediumState) × Turns medium turn left × (new ≡ after_turn turn left old)
 TurnsIn _ old turn new = (turn ≡ Idle) × (new ≡ old)
 
--- what came of a turn: it was done, or the device failed (own)
+-- the outcome of a turn: it was done, or the device failed (own)
 abbrev pub turn_outcome : Turn → Result Unit Fault
 turn_outcome Device = Err Writing
 turn_outcome _ = Ok tt

@@ -18,7 +18,7 @@ use Rattle.drive_core.specs.ReserveIn.{ReserveInWork}
 use Rattle.drive_core.specs.ReserveOut.{ReserveOutWork}
 use Rattle.drive_core.specs.Rewind.{RewindWork}
 use Rattle.drive_core.specs.Space.{SpaceWork}
-use Rattle.drive_core.specs.Tell.{Tells, ReadPositionWork}
+use Rattle.drive_core.specs.Giving.{GivesData, ReadPositionWork}
 use Rattle.drive_core.specs.Write.{WriteWork}
 
 -- what a host sends to a drive: who it is, a command block, and data (SAM-5)
@@ -54,8 +54,9 @@ MediumWork honest (LoadUnload load) buffered sent old answer made new = ⊥
 -- the work of a command that needs no medium, for a nexus that sent these bytes (SPC-4, SSC-4; honesty own)
 abbrev pub DriveWork : Type 0 → Command → ℕ → List ℕ → MachineRelation
 DriveWork honest (RequestSense room) nexus sent old answer made new = RequestSenseWork room nexus old answer made new
-DriveWork honest ReadBlockLimits nexus sent old answer made new = Tells block_limits old answer made new
-DriveWork honest (Inquiry room) nexus sent old answer made new = Tells (cut_to room inquiry_data) old answer made new
+DriveWork honest ReadBlockLimits nexus sent old answer made new = GivesData block_limits old answer made new
+DriveWork honest (Inquiry room) nexus sent old answer made new =
+    GivesData (cut_to room inquiry_data) old answer made new
 DriveWork honest (PersistentReserveIn action room) nexus sent old answer made new =
     ReserveInWork action room old answer made new
 DriveWork honest (PersistentReserveOut action bytes) nexus sent old answer made new =

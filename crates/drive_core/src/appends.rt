@@ -7,7 +7,7 @@ ghost use Rattle.volume_core.specs.Stores.{Stores};
 ghost use Rattle.drive_core.specs.State.{IsPositioned, mounted};
 ghost use Rattle.drive_core.specs.Append.{AppendWork, amount_of, done_reply, is_warned};
 ghost use Rattle.drive_core.specs.Execute.{is_device_fault};
-ghost use Rattle.drive_core.specs.Inner.Carries.{IsReady, Tallies};
+ghost use Rattle.drive_core.specs.Inner.Carries.{IsOnWorkingMedium, Tallies};
 ghost use Rattle.drive_core.specs.Inner.Appending.{IsAt, refused_as, returned_of, SettlesAfter};
 
 use crate::faults::Fault;
@@ -18,7 +18,7 @@ use std::alloc::Global;
 use volume_core::{Catalog, Change, Medium, MediumError};
 use vtl_base::Bytes;
 
-/// What came of a change at the position.
+/// The outcome of a change at the position.
 #[derive(Drop)]
 pub struct Appended {
     /// The answer.
@@ -27,10 +27,9 @@ pub struct Appended {
     pub returned: Option<Change>,
 }
 
-/// Makes a change at the position, which is then behind what it adds, and counts it. `amount` is what the host is
-/// told where the change does not fit, None for one that adds nothing, and so always fits and warns
-/// of nothing. `settles` is that all is stored before the answer. A change that is not accepted is
-/// returned.
+/// Makes a change at the position, moves the position behind what it adds, and counts it. `amount` is reported where
+/// the change does not fit. It is None for a change that adds nothing, which always fits and gives no warning.
+/// `settles` says that all is stored before the answer. A change that is not accepted is returned.
 pub fn append<M: Medium>(
     alloc: Global,
     medium: &mut M,
@@ -42,7 +41,7 @@ pub fn append<M: Medium>(
 ) -> Appended
     requires settled { settles ≡ true → M.below.at_hand medium.old }
     requires room { M.alone medium.old (block_bytes change) ≡ false → M.below.at_hand medium.old }
-    requires ready { IsReady (mounted (M.state medium.old) position.old) }
+    requires ready { IsOnWorkingMedium (mounted (M.state medium.old) position.old) }
     requires at { IsAt position.old change }
     requires formed { is_well_formed change ≡ true }
     requires amount { amount ≡ amount_of change }

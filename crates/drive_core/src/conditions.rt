@@ -27,7 +27,7 @@ pub enum Denial {
 }
 
 impl Condition {
-    /// The sense data by which it is reported.
+    /// The sense data that report the condition.
     pub fn sense(self) -> Sense
         ensures { result ≡ condition_sense self }
     {
@@ -39,7 +39,7 @@ impl Condition {
 }
 
 impl Denial {
-    /// What the host is answered. It takes no memory.
+    /// The reply to the host. The call takes no memory.
     pub fn reply(self, alloc: Global) -> Reply
         ensures { result ≡ denial_reply self }
     {

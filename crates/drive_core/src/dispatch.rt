@@ -4,19 +4,19 @@ ghost use Rattle.vtl_base.specs.declared.limits.TheConstants.{MAX_BLOCK};
 ghost use Rattle.scsi_wire.specs.Commands.{code_of, sent_length, written_length};
 ghost use Rattle.scsi_wire.specs.Opcodes.{needs_medium};
 ghost use Rattle.drive_core.specs.State.{IsPositioned, mounted};
-ghost use Rattle.drive_core.specs.Inner.Carries.{IsReady, Tallies};
+ghost use Rattle.drive_core.specs.Inner.Carries.{IsOnWorkingMedium, Tallies};
 ghost use Rattle.drive_core.specs.Inner.Passing.{HasPart};
 ghost use Rattle.drive_core.specs.Alone.{needs_disk};
 ghost use Rattle.drive_core.specs.Work.{MediumWork};
 
 use crate::erases::erase;
 use crate::faults::Fault;
+use crate::giving::read_position;
 use crate::locates::locate;
 use crate::marks::write_marks;
 use crate::reads::read;
 use crate::rewinds::rewind;
 use crate::spaces::space;
-use crate::telling::read_position;
 use crate::writes::write_copy;
 use positioning::Pos;
 use scsi_sense::Reply;
@@ -36,7 +36,7 @@ pub fn carry_out<M: Medium>(
     sent: &[u8],
 ) -> Result<Reply, Fault>
     requires hand { needs_disk (M.alone medium.old) buffered command ≡ true → M.below.at_hand medium.old }
-    requires ready { IsReady (mounted (M.state medium.old) position.old) }
+    requires ready { IsOnWorkingMedium (mounted (M.state medium.old) position.old) }
     requires needs { needs_medium (code_of command) ≡ true }
     requires part { HasPart (M.state medium.old) command }
     requires sent { length sent.now ≡ sent_length command }

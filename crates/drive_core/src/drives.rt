@@ -34,9 +34,8 @@ use std::mem;
 use volume_core::{Medium, Turn};
 use vtl_base::{Nexus, NoMemory};
 
-/// A drive over any medium and any keeper of its reservations (SSC-4, SPC-4). To a contract it is a
-/// `DriveState` that holds both themselves; `machine_of` makes the machine of it, which knows of
-/// them their states alone.
+/// A drive over any medium and any keeper of its reservations (SSC-4, SPC-4). A contract sees a `DriveState`, which
+/// holds medium and keeper themselves. `machine_of` makes the machine of it, which has only their states.
 #[derive(Drop)]
 pub struct Drive<M: Medium, K: Keeper> {
     alloc: Global,
@@ -70,10 +69,10 @@ impl<M: Medium, K: Keeper> Model for Drive<M, K> {
 }
 
 impl<M: Medium, K: Keeper> Drive<M, K> {
-    /// A drive that was just switched on, with this medium in it, if any, awake or parked: opened
-    /// and loaded, or unloaded where its side is refused or the device fails. Its reservations are
-    /// those that a loss of power leaves of what the keeper saved last. Where memory runs out, medium
-    /// and keeper come back; a medium that is awake needs none.
+    /// A drive that was just switched on, with this medium in it, if any, awake or parked: opened and loaded, or
+    /// unloaded where its side is refused or the device fails. Its reservations are those that a loss of power leaves
+    /// of what the keeper saved last. Where memory runs out, medium and keeper are returned; a medium that is awake
+    /// needs no memory.
     pub fn power_on(
         alloc: Global,
         keeper: K,
@@ -89,10 +88,10 @@ impl<M: Medium, K: Keeper> Drive<M, K> {
         switch_on(alloc, keeper, reservations, medium)
     }
 
-    /// Opens a medium, awake or parked, and loads it into an empty drive: it stands at its start,
-    /// and for every nexus it is established that the medium may have changed. One that can't be
-    /// opened comes back with the reply: 4, 44/00 where it has failed, 3, 11/00 where its side is
-    /// refused or the device fails, Bh, 55/03 where memory runs out.
+    /// Opens a medium, awake or parked, and loads it into an empty drive: the position is its start, and a unit
+    /// attention condition is established for every nexus: the medium may have changed. A medium that can't be opened
+    /// is returned with the reply: 4, 44/00 where it has failed, 3, 11/00 where its side is refused or the device
+    /// fails, Bh, 55/03 where memory runs out.
     pub fn load(&mut self, medium: M) -> Result<(), (M, Reply)>
         requires hand { M.below.at_hand medium }
         requires empty { self.old.bay ≡ Bays.Empty }
@@ -102,8 +101,8 @@ impl<M: Medium, K: Keeper> Drive<M, K> {
         self.take_in(medium)
     }
 
-    /// Puts a parked medium into an empty drive: it is there, not loaded, and no host is told. It takes
-    /// no memory.
+    /// Puts a parked medium into an empty drive: it is there, not loaded, and no unit attention condition
+    /// is established. It takes no memory.
     pub fn insert(&mut self, medium: M)
         requires empty { self.old.bay ≡ Bays.Empty }
         requires parked { (M.state medium).awake ≡ false }
@@ -113,9 +112,9 @@ impl<M: Medium, K: Keeper> Drive<M, K> {
         fill(&mut self.bay, Bay::Unloaded(medium));
     }
 
-    /// Unloads what is in the drive, as UNLOAD does, and gives it out, parked. Where there is nothing
-    /// (2, 3A/00), or the device fails (3, 0C/00), nothing comes out, and the reply says so; in the
-    /// second case the medium stays loaded, and has failed.
+    /// Unloads the medium in the drive, as UNLOAD does, and returns it, parked. If the drive is empty
+    /// (2, 3A/00) or the device fails (3, 0C/00), it returns that reply instead. In the second case the
+    /// medium stays loaded, and has failed.
     pub fn unload(&mut self) -> Result<M, Reply>
         requires hand { IsAtHand M.below.at_hand self.old.bay }
         ensures out { GoesOut M.state M.below self.old result self.new }
@@ -145,8 +144,8 @@ impl<M: Medium, K: Keeper> Drive<M, K> {
         }
     }
 
-    /// Answers a command: a command block of a host, and the data that were sent with it. Each
-    /// refusal is a reply. The disk of what is loaded is at hand where the work of the command needs it.
+    /// Answers a command: a command block of a host, and the data that were sent with it. Each refusal is a reply.
+    /// Where the work of the command needs the disk of the loaded medium, that disk has to be at hand.
     pub fn execute(&mut self, nexus: Nexus, cdb: &[u8], sent: &[u8]) -> Reply
         requires hand { request_needs_disk M.state K.kept M.alone self.old (asked nexus cdb.now sent.now) ≡ true
             → IsAtHand M.below.at_hand self.old.bay }

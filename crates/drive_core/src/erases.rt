@@ -4,7 +4,7 @@ ghost use Rattle.volume_core.specs.Volume.{refusal_of};
 ghost use Rattle.volume_core.specs.Medium.{volume_of};
 ghost use Rattle.drive_core.specs.State.{IsPositioned, mounted};
 ghost use Rattle.drive_core.specs.Erase.{EraseWork, erase_at};
-ghost use Rattle.drive_core.specs.Inner.Carries.{IsReady, Tallies};
+ghost use Rattle.drive_core.specs.Inner.Carries.{IsOnWorkingMedium, Tallies};
 
 use crate::appends::append;
 use crate::faults::Fault;
@@ -14,8 +14,8 @@ use scsi_sense::Reply;
 use std::alloc::Global;
 use volume_core::{Catalog, Change, Medium};
 
-/// Stores what is pending, and erases what stands behind the position, at the end of data too
-/// (SSC-4, ERASE(6)). In unbuffered mode that is stored before the answer.
+/// Stores what is pending, and then erases what stands behind the position (SSC-4, ERASE(6)). It does this at the end
+/// of data too. In unbuffered mode the erasure is stored before the answer.
 pub fn erase<M: Medium>(
     alloc: Global,
     medium: &mut M,
@@ -24,7 +24,7 @@ pub fn erase<M: Medium>(
     buffered: bool,
 ) -> Result<Reply, Fault>
     requires hand { M.below.at_hand medium.old }
-    requires ready { IsReady (mounted (M.state medium.old) position.old) }
+    requires ready { IsOnWorkingMedium (mounted (M.state medium.old) position.old) }
     ensures carries { Tallies M.state M.below
         (EraseWork buffered)
         medium.old position.old accepted.old result medium.new position.new accepted.new }

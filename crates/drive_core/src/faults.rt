@@ -1,4 +1,4 @@
-//! What may come into a command, beside what the standard says.
+//! Faults that a command may meet, beside what the standard says.
 ghost use Rattle.std.specs.Prelude.{◌≡◌};
 ghost use Rattle.drive_core.specs.Faults.{fault_sense, fault_reply};
 
@@ -7,17 +7,17 @@ use scsi_sense::{Reply, Sense};
 use std::alloc::Global;
 use vtl_base::{Bytes, NoMemory};
 
-/// A fault that came into a command.
+/// A fault that a command met.
 #[derive(Clone, Copy, PartialEq, Eq, Debug)]
 pub enum Fault {
-    /// A growth was refused. Nothing changed, but what was pending may have been stored.
+    /// Memory ran out. Nothing changed, except that what was pending may have been stored.
     NoMemory,
     /// The device failed while what was pending was stored. The medium has failed.
     Writing,
     /// The device failed while a block was read. The medium has failed.
     Reading,
-    /// The side is full, and nothing changed. The residue is what was not written, where it is
-    /// told: bytes of a block, or marks.
+    /// The side is full, and nothing changed. The residue, where it is reported, is how much was not written: bytes of
+    /// a block, or marks.
     SideFull { residue: Option<u32> },
     /// The device failed while reservations were saved. The old ones stand, and the keeper has failed.
     Saving,
@@ -52,7 +52,7 @@ impl From<KeeperError> for Fault {
 }
 
 impl Fault {
-    /// What a host is told of it (own). It takes no memory.
+    /// The reply to the command that met it (own). It takes no memory.
     pub fn reply(self, alloc: Global) -> Reply
         ensures { result ≡ fault_reply self }
     {

@@ -8,6 +8,7 @@ mod dispatch;
 pub mod drives;
 mod erases;
 pub mod faults;
+mod giving;
 mod loads;
 mod locates;
 mod marks;
@@ -16,7 +17,6 @@ mod reads;
 mod rewinds;
 mod spaces;
 mod storing;
-mod telling;
 mod writes;
 
 pub use bays::Bay;

@@ -2,7 +2,7 @@
 ghost use Rattle.std.specs.Prelude.{◌≡◌, []};
 ghost use Rattle.drive_core.specs.State.{IsPositioned, mounted, start};
 ghost use Rattle.drive_core.specs.StoredFirst.{GoesTo, StoredFirst};
-ghost use Rattle.drive_core.specs.Inner.Carries.{Carries, IsReady};
+ghost use Rattle.drive_core.specs.Inner.Carries.{Carries, IsOnWorkingMedium};
 
 use crate::faults::Fault;
 use crate::opening::start_of;
@@ -20,7 +20,7 @@ pub fn go_to_start<M: Medium>(
     position: &mut Pos,
 ) -> Result<Reply, Fault>
     requires hand { M.below.at_hand medium.old }
-    requires ready { IsReady (mounted (M.state medium.old) position.old) }
+    requires ready { IsOnWorkingMedium (mounted (M.state medium.old) position.old) }
     ensures carries { Carries M.state M.below
         (StoredFirst (GoesTo (λ m. start)))
         medium.old position.old result [] medium.new position.new }

@@ -3,7 +3,7 @@ ghost use Rattle.std.specs.Prelude.{◌≡◌, ◌<◌, [], length, IfSome};
 ghost use Rattle.volume_core.specs.Medium.{volume_of};
 ghost use Rattle.drive_core.specs.State.{IsPositioned, mounted};
 ghost use Rattle.drive_core.specs.Locate.{LocateWork, locate_reply};
-ghost use Rattle.drive_core.specs.Inner.Carries.{Carries, IsReady};
+ghost use Rattle.drive_core.specs.Inner.Carries.{Carries, IsOnWorkingMedium};
 
 use crate::faults::Fault;
 use crate::storing::store_pending;
@@ -23,7 +23,7 @@ pub fn locate<M: Medium>(
     part: Option<PartNo>,
 ) -> Result<Reply, Fault>
     requires hand { M.below.at_hand medium.old }
-    requires ready { IsReady (mounted (M.state medium.old) position.old) }
+    requires ready { IsOnWorkingMedium (mounted (M.state medium.old) position.old) }
     requires part { IfSome part (λ number. number < length (volume_of (M.state medium.old))) }
     ensures carries { Carries M.state M.below
         (LocateWork object part)

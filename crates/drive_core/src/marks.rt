@@ -2,7 +2,7 @@
 ghost use Rattle.std.specs.Prelude.{◌≡◌, [], false};
 ghost use Rattle.drive_core.specs.State.{IsPositioned, mounted};
 ghost use Rattle.drive_core.specs.Marks.{MarksWork};
-ghost use Rattle.drive_core.specs.Inner.Carries.{Carries, IsReady, Tallies};
+ghost use Rattle.drive_core.specs.Inner.Carries.{Carries, IsOnWorkingMedium, Tallies};
 
 use crate::appends::append;
 use crate::faults::Fault;
@@ -13,8 +13,8 @@ use std::alloc::Global;
 use volume_core::{Change, Medium};
 use vtl_base::Bytes;
 
-/// Puts marks at the position, which is then behind them and the end of data (SSC-4, WRITE
-/// FILEMARKS(6)). Unless the answer is to be immediate, all is stored before it, marks or none.
+/// Puts marks at the position. The position is then behind them, at the end of data (SSC-4, WRITE FILEMARKS(6)). Unless
+/// the answer is to be immediate, all is stored before it, with marks or without.
 pub fn write_marks<M: Medium>(
     alloc: Global,
     medium: &mut M,
@@ -25,7 +25,7 @@ pub fn write_marks<M: Medium>(
 ) -> Result<Reply, Fault>
     requires settled { immediate ≡ false → M.below.at_hand medium.old }
     requires room { (count ≡ 0 → ⊥) → M.alone medium.old 0 ≡ false → M.below.at_hand medium.old }
-    requires ready { IsReady (mounted (M.state medium.old) position.old) }
+    requires ready { IsOnWorkingMedium (mounted (M.state medium.old) position.old) }
     ensures carries { Tallies M.state M.below
         (MarksWork count immediate)
         medium.old position.old accepted.old result medium.new position.new accepted.new }
@@ -59,7 +59,7 @@ fn write_none<M: Medium>(
     immediate: bool,
 ) -> Result<Reply, Fault>
     requires settled { immediate ≡ false → M.below.at_hand medium.old }
-    requires ready { IsReady (mounted (M.state medium.old) position.now) }
+    requires ready { IsOnWorkingMedium (mounted (M.state medium.old) position.now) }
     ensures carries { Carries M.state M.below
         (MarksWork 0 immediate)
         medium.old position.now result [] medium.new position.now }

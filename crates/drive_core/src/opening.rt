@@ -18,8 +18,8 @@ use vtl_base::Bytes;
 // The beginning of the medium (SSC-4).
 pub const START: Pos = Pos { part: 0, obj: 0 };
 
-/// Where a medium stands once the power is on: opened and loaded, or unloaded where its side is
-/// refused. It comes back where memory runs out.
+/// Opens a medium as the power comes on: it is loaded, or unloaded where its side is refused or the device fails. Where
+/// memory runs out, the medium is returned.
 pub fn open<M: Medium>(medium: M) -> Result<Bay<M>, M>
     requires hand { M.below.at_hand medium }
     ensures opens { OpensInto M.state M.below medium result }
@@ -47,8 +47,8 @@ fn loaded<M: Medium>(medium: M) -> Bay<M>
     Bay::Loaded(medium)
 }
 
-/// Where a medium is loaded: its start, which is on it, since it has at least one partition. The
-/// count of partitions is asked for the proof's sake alone.
+/// The position of a medium that was just loaded: its start. The medium has at least one partition, so the start is on
+/// it. The count of partitions is asked for the proof's sake alone.
 pub fn start_of<M: Catalog>(medium: &M) -> Pos
     requires { (M.state medium.now).awake ≡ true }
     ensures start { result ≡ start }
@@ -58,7 +58,7 @@ pub fn start_of<M: Catalog>(medium: &M) -> Pos
     START
 }
 
-/// How a command is answered whose medium could not be opened. It takes no memory.
+/// The answer to a command whose medium could not be opened. The call takes no memory.
 pub fn wake_answer(alloc: Global, error: MediumError) -> Result<Reply, Fault>
     ensures { result ≡ wake_answer error }
 {
@@ -72,7 +72,7 @@ pub fn wake_answer(alloc: Global, error: MediumError) -> Result<Reply, Fault>
     }
 }
 
-/// What a host is told of a medium that could not be opened. It takes no memory.
+/// The reply where a medium could not be opened. It takes no memory.
 pub fn wake_reply(alloc: Global, error: MediumError) -> Reply
     ensures { result ≡ reply_of (wake_answer error) }
 {

@@ -9,7 +9,7 @@ ghost use Rattle.volume_core.specs.Stores.{Stores};
 ghost use Rattle.drive_core.specs.State.{IsPositioned, mounted};
 ghost use Rattle.drive_core.specs.Read.{ReadWork, GivesObject, block_reply};
 ghost use Rattle.drive_core.specs.Execute.{is_device_fault};
-ghost use Rattle.drive_core.specs.Inner.Carries.{Carries, IsReady};
+ghost use Rattle.drive_core.specs.Inner.Carries.{Carries, IsOnWorkingMedium};
 ghost use Rattle.drive_core.specs.Inner.Fetching.{FetchesBlock};
 
 use crate::faults::Fault;
@@ -20,8 +20,8 @@ use std::alloc::Global;
 use volume_core::{Kind, Medium, MediumError};
 use vtl_base::{Bytes, ObjNo, PartNo};
 
-/// Stores what is pending, then gives the object at the position and goes behind it (SSC-4,
-/// READ(6)). Of no bytes nothing is done.
+/// Stores what is pending, then gives the object at the position and goes behind it (SSC-4, READ(6)). A READ of 0 bytes
+/// does nothing.
 pub fn read<M: Medium>(
     alloc: Global,
     medium: &mut M,
@@ -30,7 +30,7 @@ pub fn read<M: Medium>(
     suppress_length: bool,
 ) -> Result<Reply, Fault>
     requires hand { nat_lt 0 length ≡ true → M.below.at_hand medium.old }
-    requires ready { IsReady (mounted (M.state medium.old) position.old) }
+    requires ready { IsOnWorkingMedium (mounted (M.state medium.old) position.old) }
     ensures carries { Carries M.state M.below
         (ReadWork (M.below.honest medium.old) suppress_length length)
         medium.old position.old result [] medium.new position.new }
@@ -52,7 +52,7 @@ fn give<M: Medium>(
     suppress_length: bool,
 ) -> Result<Reply, Fault>
     requires hand { M.below.at_hand medium.old }
-    requires ready { IsReady (mounted (M.state medium.old) position.old) }
+    requires ready { IsOnWorkingMedium (mounted (M.state medium.old) position.old) }
     ensures carries { Carries M.state M.below
         (GivesObject (M.below.honest medium.old) suppress_length length)
         medium.old position.old result [] medium.new position.new }
@@ -103,7 +103,7 @@ fn fetch<M: Medium>(
     }
 }
 
-// GOOD with the bytes that fit, or the wrong length told beside them.
+// GOOD with the bytes that fit, or these bytes and the sense data of the wrong length.
 fn block_reply(mut block: Vec<u8>, asked: u32, suppress_length: bool) -> Reply
     requires { length block.items ≤ MAX_BLOCK }
     ensures { result ≡ block_reply suppress_length asked block.items }

@@ -2,7 +2,7 @@
 ghost use Rattle.std.specs.Prelude.{◌≡◌, []};
 ghost use Rattle.drive_core.specs.State.{IsPositioned, mounted};
 ghost use Rattle.drive_core.specs.Rewind.{RewindWork};
-ghost use Rattle.drive_core.specs.Inner.Carries.{Carries, IsReady};
+ghost use Rattle.drive_core.specs.Inner.Carries.{Carries, IsOnWorkingMedium};
 
 use crate::faults::Fault;
 use crate::storing::store_pending;
@@ -15,7 +15,7 @@ use vtl_base::Bytes;
 /// Stores what is pending, and goes to object 0 of the partition (SSC-4, REWIND).
 pub fn rewind<M: Medium>(alloc: Global, medium: &mut M, position: &mut Pos) -> Result<Reply, Fault>
     requires hand { M.below.at_hand medium.old }
-    requires ready { IsReady (mounted (M.state medium.old) position.old) }
+    requires ready { IsOnWorkingMedium (mounted (M.state medium.old) position.old) }
     ensures carries { Carries M.state M.below
         RewindWork
         medium.old position.old result [] medium.new position.new }

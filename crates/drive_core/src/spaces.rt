@@ -2,7 +2,7 @@
 ghost use Rattle.std.specs.Prelude.{◌≡◌, [], false};
 ghost use Rattle.drive_core.specs.State.{IsPositioned, mounted};
 ghost use Rattle.drive_core.specs.Space.{SpaceWork, is_over_nothing, space_reply};
-ghost use Rattle.drive_core.specs.Inner.Carries.{Carries, IsReady};
+ghost use Rattle.drive_core.specs.Inner.Carries.{Carries, IsOnWorkingMedium};
 
 use crate::faults::Fault;
 use crate::storing::store_pending;
@@ -12,8 +12,8 @@ use std::alloc::Global;
 use volume_core::Medium;
 use vtl_base::{Bytes, SpaceCode};
 
-/// Stores what is pending, and goes over blocks, over filemarks or to the end of data (SSC-4,
-/// SPACE(6)). Over no blocks and no filemarks nothing is done.
+/// Stores what is pending, and goes over blocks, over filemarks or to the end of data (SSC-4, SPACE(6)). A SPACE over 0
+/// blocks or 0 filemarks does nothing.
 pub fn space<M: Medium>(
     alloc: Global,
     medium: &mut M,
@@ -22,7 +22,7 @@ pub fn space<M: Medium>(
     count: i32,
 ) -> Result<Reply, Fault>
     requires hand { is_over_nothing code count ≡ false → M.below.at_hand medium.old }
-    requires ready { IsReady (mounted (M.state medium.old) position.old) }
+    requires ready { IsOnWorkingMedium (mounted (M.state medium.old) position.old) }
     ensures carries { Carries M.state M.below
         (SpaceWork code count)
         medium.old position.old result [] medium.new position.new }
@@ -37,7 +37,7 @@ pub fn space<M: Medium>(
     Ok(space_reply(alloc, moved))
 }
 
-/// Whether a SPACE is over no blocks or no filemarks.
+/// Whether a SPACE is over 0 blocks or 0 filemarks.
 pub fn is_over_nothing(code: SpaceCode, count: i32) -> bool
     ensures { result ≡ is_over_nothing code count }
 {

@@ -8,7 +8,7 @@ ghost use Rattle.drive_core.specs.State.{IsPositioned, mounted};
 ghost use Rattle.drive_core.specs.Write.{WriteWork, put_at};
 ghost use Rattle.drive_core.specs.Data.{data_left};
 ghost use Rattle.drive_core.specs.Inner.Appending.{restored};
-ghost use Rattle.drive_core.specs.Inner.Carries.{IsReady, Tallies};
+ghost use Rattle.drive_core.specs.Inner.Carries.{IsOnWorkingMedium, Tallies};
 
 use crate::appends::append;
 use crate::faults::Fault;
@@ -19,9 +19,9 @@ use volume_core::{Catalog, Change, Medium};
 use vtl_base::Bytes;
 use vtl_base::limits::{MAX_OBJECTS, OBJECT_COST};
 
-/// Puts what was sent as a block at the position, which is then behind it and the end of data
-/// (SSC-4, WRITE(6)). Of no bytes nothing is done. The bytes are taken where the medium accepts the
-/// block; else they stay.
+/// Puts the bytes that were sent as a block at the position. The position is then behind the block, at the end of data
+/// (SSC-4, WRITE(6)). A WRITE of 0 bytes does nothing. Where the medium accepts the block it takes the bytes; else the
+/// caller still has them.
 pub fn write<M: Medium>(
     alloc: Global,
     medium: &mut M,
@@ -33,7 +33,7 @@ pub fn write<M: Medium>(
     requires settled { (sent.old ≡ [] → ⊥) → buffered ≡ false → M.below.at_hand medium.old }
     requires room { (sent.old ≡ [] → ⊥) → M.alone medium.old (length sent.old) ≡ false
         → M.below.at_hand medium.old }
-    requires ready { IsReady (mounted (M.state medium.old) position.old) }
+    requires ready { IsOnWorkingMedium (mounted (M.state medium.old) position.old) }
     requires short { length sent.old ≤ MAX_BLOCK }
     ensures carries { (tallies : Tallies M.state M.below
         (WriteWork buffered sent.old)
@@ -86,7 +86,7 @@ pub fn write_copy<M: Medium>(
     requires settled { (sent.now ≡ [] → ⊥) → buffered ≡ false → M.below.at_hand medium.old }
     requires room { (sent.now ≡ [] → ⊥) → M.alone medium.old (length sent.now) ≡ false
         → M.below.at_hand medium.old }
-    requires ready { IsReady (mounted (M.state medium.old) position.old) }
+    requires ready { IsOnWorkingMedium (mounted (M.state medium.old) position.old) }
     requires short { length sent.now ≤ MAX_BLOCK }
     ensures carries { Tallies M.state M.below
         (WriteWork buffered sent.now)

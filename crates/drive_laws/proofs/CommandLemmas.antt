@@ -23,7 +23,7 @@ use Rattle.drive_core.specs.Append.{AppendWork, AppendAnswer, LacksRoom, amount_
 use Rattle.drive_core.specs.Erase.{EraseWork, Erases, erase_at}
 use Rattle.drive_core.specs.Space.{SpaceMotion, SpaceWhen, is_over_nothing, space_reply}
 use Rattle.drive_core.specs.Locate.{LocateMotion, locate_reply, part_asked}
-use Rattle.drive_core.specs.Tell.{GivesPosition}
+use Rattle.drive_core.specs.Giving.{GivesPosition}
 use Rattle.drive_core.specs.Write.{WriteWork, put_at}
 use Rattle.drive_core.specs.Marks.{MarksWork, marks_at}
 use Rattle.drive_core.specs.Read.{ReadWork, ReadAnswer, GivesObject, object_at, next, block_reply}
@@ -33,7 +33,7 @@ use Rattle.drive_laws.proofs.AlikeLemmas.{MountedAlike, Agrees, IsDetermined, wo
 
 module _ (old old' : Mounted) (reply reply' : Reply) (made made' : List Change) (m m' : Mounted)
     (S : Type 0) (e : MountedAlike S old old') where
-  -- want of room
+  -- room is lacking
   lacks : (amount : Option ℕ) → LacksRoom amount old reply made m → LacksRoom amount old' reply' made' m'
       → Agrees S reply reply' made made' m m'
   lacks None h k = absurd h
@@ -136,7 +136,7 @@ module _ (S : Type 0) where
   rewinds = stored_first S (GoesTo partition_start)
       (goes_to S partition_start (λ m m' e. ap (λ (q : Pos). record q { obj = 0 }) e.positions))
 
-  -- the position is told
+  -- the position is given
   gives_position : IsDetermined S GivesPosition
   gives_position old old' reply reply' made made' m m' e h k = record {
     replies = h.0 ∙ (λ i. good_with (report_of (contents_alike S old old' e i) (e.positions i))) ∙ sym k.0;

@@ -54,43 +54,45 @@ module _ (orders : NoOrderEndsTwice) (old beside : Machine) (reply reply' : Repl
   }
 
   -- the same order stands in both
-  ordered_same : (keeper keeper' : KeeperState) (state : PrState) (told : List AttentionSet)
+  ordered_same : (keeper keeper' : KeeperState) (state : PrState) (established : List AttentionSet)
       → without_room keeper ≡ without_room keeper'
-      → seen_of (ordered (record old { keeper = keeper }) state told)
-      ≡ seen_of (ordered (record beside { keeper = keeper' }) state told)
-  ordered_same keeper keeper' state told kept =
+      → seen_of (ordered (record old { keeper = keeper }) state established)
+      ≡ seen_of (ordered (record beside { keeper = keeper' }) state established)
+  ordered_same keeper keeper' state established kept =
       λ i. record (e i) {
         reservations = state;
-        attentions = established_by (e i).attentions told;
+        attentions = established_by (e i).attentions established;
         keeper = kept i;
       }
 
   -- both were saved
-  saved_stand : (brought : PrAnswer) (state : PrState) (told : List AttentionSet)
-      → StandsBy true brought state told old (Ok reply) made new
-      → StandsBy true brought state told beside (Ok reply') made' new' → Alike
-  saved_stand brought state told (Ok done, keeper, saves, stands, made_is) (Ok done', keeper', saves', stands', is') =
+  saved_stand : (brought : PrAnswer) (state : PrState) (established : List AttentionSet)
+      → StandsBy true brought state established old (Ok reply) made new
+      → StandsBy true brought state established beside (Ok reply') made' new' → Alike
+  saved_stand brought state established (Ok done, keeper, saves, stands, made_is)
+      (Ok done', keeper', saves', stands', is') =
       record {
         outputs = ap Answered (stands.0 ∙ sym stands'.0);
         changes = made_is ∙ sym is';
         drives =
             ap seen_of stands.1
-            ∙ ordered_same keeper keeper' state told
+            ∙ ordered_same keeper keeper' state established
             (saved_alike old.keeper beside.keeper state keeper keeper' (ap (λ (x : Seen). x.keeper) e) saves.1 saves'.1)
             ∙ sym (ap seen_of stands'.1);
         sure = λ s. subst IsSureDrive (sym (ap seen_of stands.1)) (sure s);
       }
-  saved_stand brought state told (Err error, keeper, saves, stands, made_is) k = cc stands.0
-  saved_stand brought state told (Ok done, keeper, saves, stands, made_is) (Err error, keeper', saves', stands', is') =
+  saved_stand brought state established (Err error, keeper, saves, stands, made_is) k = cc stands.0
+  saved_stand brought state established (Ok done, keeper, saves, stands, made_is)
+      (Err error, keeper', saves', stands', is') =
       cc stands'.0
 
-  stand_by : (due : Bool) (brought : PrAnswer) (state : PrState) (told : List AttentionSet)
-      → StandsBy due brought state told old (Ok reply) made new
-      → StandsBy due brought state told beside (Ok reply') made' new' → Alike
-  stand_by false brought state told h k =
-      ends (Ok (order_reply brought)) (ordered old state told) (ordered beside state told)
-      (ordered_same old.keeper beside.keeper state told (ap (λ (x : Seen). x.keeper) e)) sure h k
-  stand_by true brought state told h k = saved_stand brought state told h k
+  stand_by : (due : Bool) (brought : PrAnswer) (state : PrState) (established : List AttentionSet)
+      → StandsBy due brought state established old (Ok reply) made new
+      → StandsBy due brought state established beside (Ok reply') made' new' → Alike
+  stand_by false brought state established h k =
+      ends (Ok (order_reply brought)) (ordered old state established) (ordered beside state established)
+      (ordered_same old.keeper beside.keeper state established (ap (λ (x : Seen). x.keeper) e)) sure h k
+  stand_by true brought state established h k = saved_stand brought state established h k
 
   -- the same order has one answer
   order_alike : (order : PrOut) (nexus : ℕ) → OrderWork order nexus old (Ok reply) made new

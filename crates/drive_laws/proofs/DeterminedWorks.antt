@@ -21,7 +21,7 @@ use Rattle.drive_core.specs.Conditions.{condition_due}
 use Rattle.drive_core.specs.Relations.{Made, MediumRelation}
 use Rattle.drive_core.specs.RequestSense.{RequestSenseWork, once_reported, sense_due}
 use Rattle.drive_core.specs.ReserveIn.{data_read}
-use Rattle.drive_core.specs.Tell.{Tells}
+use Rattle.drive_core.specs.Giving.{GivesData}
 use Rattle.drive_core.specs.Work.{DriveWork}
 use Rattle.drive_core.specs.LoadUnload.{LoadUnloadWork, LoadsAgain, LoadsIn, unloaded}
 use Rattle.drive_core.specs.Mode.{ModeSelectOf, changed_mode, in_asked_mode, in_mode}
@@ -64,9 +64,10 @@ module _ (spaces : NoSpaceEndsTwice) (locates : NoLocateEndsTwice) (orders : NoO
   on_medium W determined (Loaded m) Empty same surely h k = absurd k
   on_medium W determined (Loaded m) (Unloaded m') same surely h k = absurd k
 
-  -- data that is told
-  tells : (bytes : List ℕ) → Tells bytes old (Ok reply) made new → Tells bytes beside (Ok reply') made' new' → Alike
-  tells bytes h k = record {
+  -- data that are given
+  gives_data : (bytes : List ℕ) → GivesData bytes old (Ok reply) made new
+      → GivesData bytes beside (Ok reply') made' new' → Alike
+  gives_data bytes h k = record {
     outputs = ap (λ (r : Reply). Answered (Ok r)) (h.0 ∙ sym k.0);
     changes = h.1 ∙ sym k.1;
     drives = ap seen_of h.2 ∙ e ∙ sym (ap seen_of k.2);
@@ -178,8 +179,8 @@ module _ (spaces : NoSpaceEndsTwice) (locates : NoLocateEndsTwice) (orders : NoO
       reply) made new
       → DriveWork (Unit {0}) command nexus sent beside (Ok reply') made' new' → Alike
   on_drive (RequestSense room) nexus sent opens h k = senses room nexus h k
-  on_drive ReadBlockLimits nexus sent opens h k = tells block_limits h k
-  on_drive (Inquiry room) nexus sent opens h k = tells (cut_to room inquiry_data) h k
+  on_drive ReadBlockLimits nexus sent opens h k = gives_data block_limits h k
+  on_drive (Inquiry room) nexus sent opens h k = gives_data (cut_to room inquiry_data) h k
   on_drive TestUnitReady nexus sent opens h k = absurd h
   on_drive Rewind nexus sent opens h k = absurd h
   on_drive (Read asked suppress) nexus sent opens h k = absurd h
@@ -190,14 +191,14 @@ module _ (spaces : NoSpaceEndsTwice) (locates : NoLocateEndsTwice) (orders : NoO
   on_drive (Locate object part) nexus sent opens h k = absurd h
   on_drive ReadPosition nexus sent opens h k = absurd h
   on_drive (PersistentReserveIn action room) nexus sent opens h k =
-      tells (cut_to room (data_read action old.reservations)) h
-      (subst (λ (s : PrState). Tells (cut_to room (data_read action s)) beside (Ok reply') made' new')
+      gives_data (cut_to room (data_read action old.reservations)) h
+      (subst (λ (s : PrState). GivesData (cut_to room (data_read action s)) beside (Ok reply') made' new')
       (ap (λ (x : Seen). x.reservations) (sym e)) k)
   on_drive (PersistentReserveOut action bytes) nexus sent opens h k =
       lists_alike orders old beside reply reply' made made' new new' e S sure (list_decoded action sent) nexus h k
   on_drive (ModeSelect length) nexus sent opens h k = modes (mode_decoded sent) nexus h k
   on_drive (ModeSense room bare) nexus sent opens h k =
-      tells (cut_to room (mode_data old.buffered bare)) h
-      (subst (λ (b : Bool). Tells (cut_to room (mode_data b bare)) beside (Ok reply') made' new')
+      gives_data (cut_to room (mode_data old.buffered bare)) h
+      (subst (λ (b : Bool). GivesData (cut_to room (mode_data b bare)) beside (Ok reply') made' new')
       (ap (λ (x : Seen). x.buffered) (sym e)) k)
   on_drive (LoadUnload load) nexus sent opens h k = load_unload load nexus opens h k

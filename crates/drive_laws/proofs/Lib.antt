@@ -9,6 +9,6 @@ pub mod DeterminedWorks
 pub mod DeterminedChecks
 pub mod DeterminedLemmas
 pub mod DeterminedRuns
-pub mod ToldLemmas
+pub mod ShownLemmas
 pub mod StepLemmas
 pub mod RunLemmas

@@ -2,7 +2,7 @@
 ghost use Rattle.drive_core.specs.Counted.{CountsAreHeld};
 ghost use Rattle.drive_core.specs.Determined.{HonestStepsAreSteps, StepsAreDetermined, RunsAreDetermined, RunsStaySure};
 ghost use Rattle.drive_core.specs.Run.{EventsAreRuns, RunsAppend, ServedByRuns};
-ghost use Rattle.drive_core.specs.Told.{RepliesTellChanges};
+ghost use Rattle.drive_core.specs.ShownChanges.{RepliesShowChanges};
 
 use positioning::laws::{each_locate_has_one_end, each_space_has_one_end};
 use pr_core::Keeper;
@@ -16,9 +16,9 @@ pub fn honest_steps<M: Medium>()
 
 /// An input has one answer, makes one list of changes and leaves one drive, unless a fault comes, memory runs out or a
 /// side is full. How the volume is split into what is stored and what is pending makes no difference. The same holds of
-/// the inputs of a run, wherever flushers' turns stand in it. For an input that opens a medium it has to be sure what
-/// the medium's side gives. That is so in each run without a fault, with enough memory and with no full side, if it was
-/// sure at the start what the side of each medium gives.
+/// the inputs of a run, wherever flushers' turns stand in it. An input that opens a medium needs more: it has to be
+/// sure which volume the medium's side gives. That is sure throughout a run without a fault, with enough memory and
+/// with no full side, if it was sure at the start for the side of each medium.
 pub fn answers_are_determined()
     ensures step { StepsAreDetermined }
     ensures run { RunsAreDetermined }
@@ -29,26 +29,26 @@ pub fn answers_are_determined()
     each_order_has_one_end();
 }
 
-/// A run, and one that goes on from where it ended, are one run.
+/// A run, and a second one that starts where the first ended, are one run together.
 pub fn runs_append()
     ensures { RunsAppend }
 {}
 
-/// What one drive answers to hosts, one after another, is a run of its machine.
+/// The answers of one drive to hosts, one after another, are a run of its machine.
 pub fn served_hosts_run<M: Medium, K: Keeper>()
     ensures { ServedByRuns M.state M.below K.kept K.below }
 {}
 
-/// What one drive answers to hosts, with flusher's turns between them, is a run of its machine in
-/// which each turn stands where it was taken.
+/// The answers of one drive to hosts, with flusher's turns between them, are a run of its machine. Each turn stands in
+/// it where it was taken.
 pub fn events_run<M: Medium, K: Keeper>()
     ensures { EventsAreRuns M.state M.below K.kept K.below }
 {}
 
-/// How many changes a command made, by its reply: one where a WRITE of at least one byte, a WRITE FILEMARKS of at least
-/// one filemark or an ERASE is acknowledged; none or one where the reply is a write error; else none.
-pub fn replies_tell_changes<M: Medium, K: Keeper>()
-    ensures { RepliesTellChanges M.state M.below K.kept K.below }
+/// A reply shows how many changes the command made. It is one where a WRITE of at least one byte, a WRITE FILEMARKS of
+/// at least one filemark or an ERASE is acknowledged; none or one where the reply is a write error; else none.
+pub fn replies_show_changes<M: Medium, K: Keeper>()
+    ensures { RepliesShowChanges M.state M.below K.kept K.below }
 {}
 
 /// The count of a drive rises by the number of the changes that are accepted, and stays at its limit.

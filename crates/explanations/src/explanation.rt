@@ -8,8 +8,8 @@ use std::marker::Model;
 /// The columns of a line, at most.
 pub const COLUMNS: usize = 120;
 
-/// Lines of printable ASCII characters, each of at most 120 columns and with a line feed behind it. To a contract they
-/// are their text.
+/// Lines of printable ASCII characters, each of at most 120 columns and with a line feed behind it. A contract sees
+/// their text.
 #[derive(Debug, Drop)]
 pub struct Explanation {
     text: String,

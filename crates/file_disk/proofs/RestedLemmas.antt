@@ -4,12 +4,12 @@ use Rattle.vtl_base.specs.declared.faults.DevFault.{DevFault}
 use Rattle.tape_disk.specs.Disk.{Cuts, DiskState, Elapses, IsDisk, Same, Syncs, Writes}
 use Rattle.gate_journal.specs.Reads.{OnlyReads, ReadsInRow}
 use Rattle.file_disk.specs.RawFile.{IsAsHonest, ReachesStill}
-use Rattle.file_disk.specs.Inner.Rested.{Looks, OnlyRead, Rested, Rests}
+use Rattle.file_disk.specs.Inner.Rested.{ReadsOnly, OnlyReadFile, Rested, FileRests}
 use Rattle.file_disk.specs.declared.looked.Looked.{Looked}
 use Rattle.file_disk.proofs.RunLemmas.{as_honest_both}
 
 -- nothing was called
-pub rests_none : (state : DiskState) → Rests state state
+pub rests_none : (state : DiskState) → FileRests state state
 rests_none state = record {
   later = omega arith;
   seen = refl;
@@ -19,7 +19,7 @@ rests_none state = record {
 }
 
 -- one call
-pub rests_call : (old new : DiskState) → IsDisk old → Elapses old new → Same old new → Rests old new
+pub rests_call : (old new : DiskState) → IsDisk old → Elapses old new → Same old new → FileRests old new
 rests_call old new is_disk time same = record {
   later = omega (arith, time.later);
   seen = same.seen;
@@ -29,9 +29,9 @@ rests_call old new is_disk time same = record {
   keeps = time.keeps;
 }
 
-module _ (old mid new : DiskState) (first : Rests old mid) where
+module _ (old mid new : DiskState) (first : FileRests old mid) where
   -- more of them
-  pub rests_then : Rests mid new → Rests old new
+  pub rests_then : FileRests mid new → FileRests old new
   rests_then second = record {
     later = omega (arith, first.later, second.later);
     seen = second.seen ∙ first.seen;
@@ -91,12 +91,12 @@ module _ {F : Type 0} (state : F → DiskState) (passed_over unsynced : F → �
   }
 
   -- nothing was read
-  pub read_none : (file : F) → OnlyRead state passed_over unsynced file file
+  pub read_none : (file : F) → OnlyReadFile state passed_over unsynced file file
   read_none file = record { rested = rested_none file; adds_none = λ honest place written. written }
 
   -- reads behind others
-  pub read_then : (old mid new : F) → OnlyRead state passed_over unsynced old mid
-      → OnlyRead state passed_over unsynced mid new → OnlyRead state passed_over unsynced old new
+  pub read_then : (old mid new : F) → OnlyReadFile state passed_over unsynced old mid
+      → OnlyReadFile state passed_over unsynced mid new → OnlyReadFile state passed_over unsynced old new
   read_then old mid new first second = record {
     rested = rested_then old mid new first.rested second.rested;
     adds_none = λ honest place written. first.adds_none honest place
@@ -104,19 +104,19 @@ module _ {F : Type 0} (state : F → DiskState) (passed_over unsynced : F → �
   }
 
   -- what reads of the disk over it leave of a file
-  pub read_all_of : (old new : Looked F) → OnlyReads (Looks state passed_over unsynced) old new
-      → OnlyRead state passed_over unsynced old.file new.file
+  pub read_all_of : (old new : Looked F) → OnlyReads (ReadsOnly state passed_over unsynced) old new
+      → OnlyReadFile state passed_over unsynced old.file new.file
   read_all_of old new reads = by reads.calls new reads.reads
     where
-      by : (calls : ℕ) (last : Looked F) → ReadsInRow (Looks state passed_over unsynced) calls old last
-          → OnlyRead state passed_over unsynced old.file last.file
+      by : (calls : ℕ) (last : Looked F) → ReadsInRow (ReadsOnly state passed_over unsynced) calls old last
+          → OnlyReadFile state passed_over unsynced old.file last.file
       by zero last same =
-          subst (λ (l : Looked F). OnlyRead state passed_over unsynced old.file l.file) (sym same)
+          subst (λ (l : Looked F). OnlyReadFile state passed_over unsynced old.file l.file) (sym same)
           (read_none old.file)
       by (suc calls) last more = read_then old.file more.0.file last.file (by calls more.0 more.4) more.5
 
 -- a write behind such calls
-pub writes_behind : (old mid new : DiskState) → Rests old mid → (at : ℕ) (bytes : List ℕ)
+pub writes_behind : (old mid new : DiskState) → FileRests old mid → (at : ℕ) (bytes : List ℕ)
     (result : Result Unit DevFault) → Writes at bytes result mid new → Writes at bytes result old new
 writes_behind old mid new first at bytes result writes = subst
     (λ (s : List ℕ). Writes at bytes result (record old { seen = s }) new) first.seen (record {
@@ -126,7 +126,7 @@ writes_behind old mid new first at bytes result writes = subst
     })
 
 -- a cut behind them
-pub cuts_behind : (old mid new : DiskState) → Rests old mid → (len : ℕ) (result : Result Unit DevFault)
+pub cuts_behind : (old mid new : DiskState) → FileRests old mid → (len : ℕ) (result : Result Unit DevFault)
     → Cuts len result mid new → Cuts len result old new
 cuts_behind old mid new first len result cuts = subst
     (λ (s : List ℕ). Cuts len result (record old { seen = s }) new) first.seen (record {
@@ -136,7 +136,7 @@ cuts_behind old mid new first len result cuts = subst
     })
 
 -- a sync behind them
-pub syncs_behind : (old mid new : DiskState) → Rests old mid → (result : Result Unit DevFault)
+pub syncs_behind : (old mid new : DiskState) → FileRests old mid → (result : Result Unit DevFault)
     → Syncs result mid new → Syncs result old new
 syncs_behind old mid new first result syncs = subst
     (λ (s : List ℕ). Syncs result (record old { seen = s }) new) first.seen (record {

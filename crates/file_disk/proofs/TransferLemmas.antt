@@ -5,7 +5,7 @@ use Rattle.std.proofs.lemmas.List.{append-nil, drop-drop, drop-take, drop_at, le
 use Rattle.tape_disk.specs.CallLog.{smears}
 use Rattle.tape_disk.specs.Disk.{Cuts, DiskState, Elapses, Follows, IsDisk, Same, Smeared, Writes, overwritten}
 use Rattle.vtl_base.specs.declared.faults.DevFault.{DevFault}
-use Rattle.file_disk.specs.Inner.Transfers.{HasRead, HasWritten}
+use Rattle.file_disk.specs.Inner.Transfers.{HasRead, HasTransferred}
 use Rattle.file_disk.proofs.RunLemmas.{ran_none, ran_on}
 use Rattle.file_disk.specs.Smears.{smeared_same, smeared_twice, smeared_wider}
 
@@ -127,7 +127,7 @@ module _ (at done : ℕ) (bytes : List ℕ) (within : done ≤ length bytes) whe
       (overwritten (at + done) part old) (smears (at + done) part old))
 
 -- nothing was written yet
-pub written_none : (at : ℕ) (bytes : List ℕ) (state : DiskState) → HasWritten 0 at 0 bytes state state
+pub written_none : (at : ℕ) (bytes : List ℕ) (state : DiskState) → HasTransferred 0 at 0 bytes state state
 written_none at bytes state = record {
   ran = ran_none state;
   seen = sym (take-append-drop at state.seen)
@@ -140,11 +140,11 @@ written_none at bytes state = record {
 
 module _ (calls at done : ℕ) (bytes : List ℕ) (old mid new : DiskState) where
   -- what one call more leaves, whatever it answered
-  pub smeared_more : HasWritten calls at done bytes old mid → Smeared at (length bytes) mid.seen new.seen
+  pub smeared_more : HasTransferred calls at done bytes old mid → Smeared at (length bytes) mid.seen new.seen
       → Smeared at (length bytes) old.seen new.seen
   smeared_more so_far torn = smeared_twice at (length bytes) old.seen mid.seen new.seen so_far.smeared torn
 
-  pub crash_more : HasWritten calls at done bytes old mid
+  pub crash_more : HasTransferred calls at done bytes old mid
       → Follows (Smeared at (length bytes)) mid.may_leave new.may_leave
       → Follows (Smeared at (length bytes)) old.may_leave new.may_leave
   crash_more so_far crash image left =
@@ -154,12 +154,12 @@ module _ (calls at done : ℕ) (bytes : List ℕ) (old mid new : DiskState) wher
 
   -- one call more
   pub written_more : (count : ℕ) → at ≤ length old.seen → done ≤ count → count ≤ length bytes
-      → HasWritten calls at done bytes old mid → Elapses mid new
+      → HasTransferred calls at done bytes old mid → Elapses mid new
       → new.seen ≡ overwritten (at + done) (slice_range bytes done count) mid.seen
       → Smeared at (length bytes) mid.seen new.seen
       → Follows (Smeared at (length bytes)) mid.may_leave new.may_leave
       → ((image : List ℕ) → mid.may_leave image → new.may_leave image)
-      → HasWritten (calls + 1) at count bytes old new
+      → HasTransferred (calls + 1) at count bytes old new
   written_more count inside more within so_far time written torn crash keeps = record {
     ran = ran_on calls old mid new so_far.ran time (λ t image le leaves. inr (keeps image leaves));
     seen = written

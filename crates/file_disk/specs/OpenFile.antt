@@ -12,7 +12,7 @@ pub record OpenFile (F : Type 0) : Type 0 where
   pub failures : ℕ
 
 module _ {F : Type 0} where
-  -- the state of the disk: that of the file, but for the failures (own)
+  -- the state of the disk: that of the file, except for the failures (own)
   abbrev pub file_disk_state : (F → DiskState) → OpenFile F → DiskState
   file_disk_state state disk = with_failures (state disk.file) disk.failures
 

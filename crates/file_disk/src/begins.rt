@@ -3,7 +3,7 @@ ghost use Rattle.std.specs.Prelude.{◌≡◌, ◌↔◌, ◌++◌, ℕ, List, l
 ghost use Rattle.gate_journal.specs.Side.{mark};
 ghost use Rattle.gate_journal.specs.declared.header.SideKind.TheVariants.{Cartridge};
 ghost use Rattle.file_disk.specs.Inner.Doubts.{BeginsSo};
-ghost use Rattle.file_disk.specs.Inner.Rested.{OnlyRead};
+ghost use Rattle.file_disk.specs.Inner.Rested.{OnlyReadFile};
 
 use crate::looked::Looked;
 use crate::raw::RawFile;
@@ -52,7 +52,7 @@ fn begins_with(start: &[u8; START_BYTES]) -> Begins
 
 /// How a file begins. None where it can't be read.
 pub(crate) fn beginning_of<F: RawFile>(looked: &mut Looked<F>) -> Option<Begins>
-    ensures read { OnlyRead F.state F.passed_over F.unsynced looked.old.file looked.new.file }
+    ensures read { OnlyReadFile F.state F.passed_over F.unsynced looked.old.file looked.new.file }
     ensures begins { (F.state looked.old.file).honest →
         IfSome result (λ begins. BeginsSo begins (F.state looked.old.file).seen) }
 {

@@ -4,7 +4,7 @@ ghost use Rattle.tape_disk.specs.Disk.{Elapses, Same};
 ghost use Rattle.file_disk.specs.Opening.{IsLeftWell};
 ghost use Rattle.file_disk.specs.RawFile.{AddsNone, IsAsHonest, NoneOf, ReachesAll, ReachesStill};
 ghost use Rattle.file_disk.specs.Inner.Doubts.{IsInDoubt, IsLookedAt, LieIn};
-ghost use Rattle.file_disk.specs.Inner.Rested.{OnlyRead, Rested};
+ghost use Rattle.file_disk.specs.Inner.Rested.{OnlyReadFile, Rested};
 
 use crate::doubt::{Doubt, begun, settled};
 use crate::looked::Looked;
@@ -22,7 +22,7 @@ pub const MAX_FILE: u64 = 9_223_372_036_854_775_807;
 #[derive(Clone, Copy)]
 struct Size {
     bytes: u64,
-    is_told: bool,
+    is_known: bool,
 }
 
 /// A disk over an open file, honest where the file is. A short read or write is continued, an interrupted call is made
@@ -53,7 +53,7 @@ impl<F: RawFile> Model for DiskOver<F> {
     ghost view = { λ d. record { file = d.looked.file; failures = failure_count d.failures } };
 
     ghost invariant = { λ d. (F.state d.looked.file).honest →
-        (d.size.is_told ≡ true) × (d.size.bytes ≡ length (F.state d.looked.file).seen)
+        (d.size.is_known ≡ true) × (d.size.bytes ≡ length (F.state d.looked.file).seen)
         × IsInDoubt d.doubt d.written (F.state d.looked.file).seen
         (F.passed_over d.looked.file) (F.unsynced d.looked.file) };
 }
@@ -61,16 +61,16 @@ impl<F: RawFile> Model for DiskOver<F> {
 // The length that the system gives for a file, or else the one that it gave last.
 fn measured<F: RawFile>(file: &F, last: u64) -> Size
     ensures { (F.state file.now).honest →
-        (result.is_told ≡ true) × (result.bytes ≡ length (F.state file.now).seen) }
+        (result.is_known ≡ true) × (result.bytes ≡ length (F.state file.now).seen) }
 {
     match file.size() {
         Some(bytes) => Size {
             bytes,
-            is_told: true,
+            is_known: true,
         },
         None => Size {
             bytes: last,
-            is_told: false,
+            is_known: false,
         },
     }
 }
@@ -131,10 +131,10 @@ impl<F: RawFile> DiskOver<F> {
         ensures same { self.new ≡ self.old }
         ensures known { (F.state self.old.file).honest → result ≡ true }
     {
-        if !self.size.is_told {
+        if !self.size.is_known {
             self.size = measured(&self.looked.file, self.size.bytes);
         }
-        self.size.is_told
+        self.size.is_known
     }
 
     // Refuses a call and counts a failure. Reading no bytes moves the file's clock on.
@@ -145,7 +145,7 @@ impl<F: RawFile> DiskOver<F> {
         ensures same { (F.state self.old.file).honest →
             Same (F.state self.old.file) (F.state self.new.file) }
         ensures count { self.new.failures ≡ self.old.failures + 1 }
-        ensures told { result.failures ≡ min self.new.failures (2 ^ 64 - 1) }
+        ensures reported { result.failures ≡ min self.new.failures (2 ^ 64 - 1) }
     {
         let _ = self.looked.file.read_some(0, &mut []);
         self.failures.rise()

@@ -3,7 +3,7 @@ ghost use Rattle.std.specs.Prelude.{◌≡◌, ◌≢◌, ◌⊎◌, ◌<◌, �
 ghost use Rattle.file_disk.specs.Opening.{IsLeftWell};
 ghost use Rattle.file_disk.specs.RawFile.{ReachesAll};
 ghost use Rattle.file_disk.specs.Inner.Doubts.{BeginsSo, Covers, InSpan, IsInDoubt, IsLookedAt, LieIn};
-ghost use Rattle.file_disk.specs.Inner.Rested.{OnlyRead, Rested};
+ghost use Rattle.file_disk.specs.Inner.Rested.{OnlyReadFile, Rested};
 
 use crate::again::write_again;
 use crate::begins::{Begins, START_BYTES, beginning_of};
@@ -67,7 +67,7 @@ fn look_at_gates<F: RawFile>(
     bytes: u64,
 ) -> Option<(Doubt, Written)>
     requires { begins ≢ Begins.Unfinished }
-    ensures read { OnlyRead F.state F.passed_over F.unsynced looked.old.file looked.new.file }
+    ensures read { OnlyReadFile F.state F.passed_over F.unsynced looked.old.file looked.new.file }
     ensures found { (F.state looked.old.file).honest → bytes ≡ length (F.state looked.old.file).seen →
         BeginsSo begins (F.state looked.old.file).seen →
         IsLeftWell (F.state looked.old.file).seen (F.passed_over looked.old.file) (F.unsynced looked.old.file) →
@@ -89,7 +89,7 @@ fn look_at_gates<F: RawFile>(
 // Reads what a file of this length holds that was just opened. Returns what is in doubt of it, and what was written
 // since its last good sync. None where a call failed.
 fn look<F: RawFile>(looked: &mut Looked<F>, bytes: u64) -> Option<(Doubt, Written)>
-    ensures read { OnlyRead F.state F.passed_over F.unsynced looked.old.file looked.new.file }
+    ensures read { OnlyReadFile F.state F.passed_over F.unsynced looked.old.file looked.new.file }
     ensures found { (F.state looked.old.file).honest → bytes ≡ length (F.state looked.old.file).seen →
         IsLeftWell (F.state looked.old.file).seen (F.passed_over looked.old.file) (F.unsynced looked.old.file) →
         IfSome result (λ found. IsInDoubt found.0 found.1 (F.state looked.new.file).seen

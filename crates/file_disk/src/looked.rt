@@ -16,7 +16,7 @@ pub(crate) struct Looked<F> {
 }
 
 impl<F: RawFile> Looked<F> {
-    ghost use Rattle.file_disk.specs.Inner.Rested.{OnlyRead, looked_state};
+    ghost use Rattle.file_disk.specs.Inner.Rested.{OnlyReadFile, looked_state};
     ghost use Rattle.tape_disk.specs.Disk.{Elapses, Passes, Same};
     ghost use Rattle.std.specs.Prelude.{Err};
 
@@ -37,7 +37,7 @@ impl<F: RawFile> Looked<F> {
             Elapses (looked_state F.state self.old) (looked_state F.state self.new) }
         ensures same { (F.state self.old.file).honest →
             Same (looked_state F.state self.old) (looked_state F.state self.new) }
-        ensures looks { OnlyRead F.state F.passed_over F.unsynced self.old.file self.new.file }
+        ensures looks { OnlyReadFile F.state F.passed_over F.unsynced self.old.file self.new.file }
     {
         let _ = self.file.read_some(0, &mut []);
         self.failures.rise()
@@ -46,11 +46,11 @@ impl<F: RawFile> Looked<F> {
 
 impl<F: RawFile> Disk for Looked<F> {
     ghost use Rattle.tape_disk.specs.Faults.{is_disk_over};
-    ghost use Rattle.file_disk.specs.Inner.Rested.{Looks, looked_state};
+    ghost use Rattle.file_disk.specs.Inner.Rested.{ReadsOnly, looked_state};
 
     ghost state = { looked_state F.state };
 
-    ghost effect = { Looks F.state F.passed_over F.unsynced };
+    ghost effect = { ReadsOnly F.state F.passed_over F.unsynced };
 
     ghost is_disk = { λ looked honest. is_disk_over (F.state looked.file)
         (looked_state F.state looked).failures (F.is_file looked.file honest) };

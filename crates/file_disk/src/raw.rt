@@ -92,7 +92,7 @@ pub trait RawFile {
             ReachesStill (passed_over self.old) (passed_over self.new) }
         ensures unsynced { (state self.old).honest → AddsNone (unsynced self.old) (unsynced self.new) };
 
-    /// Makes bytes and length sure, but for the places that it passes over. After a fault it may also pass over the
+    /// Makes bytes and length sure, except for the places that it passes over. After a fault it may also pass over the
     /// places that were written since the last good sync.
     fn sync(&mut self) -> Result<(), CallFailed>
         ensures honesty { IsAsHonest (state self.old) (state self.new) }

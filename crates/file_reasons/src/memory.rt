@@ -12,7 +12,7 @@ use std::fmt;
 pub enum MemoryReason {
     /// It opened or read the file of this name, or worked with what it had read.
     File(String),
-    /// It read the script, of which it had this many bytes, or carried it out.
+    /// It read the script and had this many bytes of it, or it carried it out.
     Script(u64),
 }
 

@@ -16,8 +16,8 @@ use Rattle.gate_journal.specs.Inner.Sides.{never_ours, stands}
 use Rattle.gate_journal.specs.Side.{Front, IsDamagedAt, IsNotOurs, StandsFor, base_of, frame, spell_front}
 use Rattle.gate_journal.specs.State.{extents_from}
 use Rattle.gate_journal.specs.Heads.{base_in}
-use Rattle.gate_journal.specs.Inner.Reading.{TellsFront}
-use Rattle.gate_journal.specs.declared.fronts.ToldFront.{ToldFront}
+use Rattle.gate_journal.specs.Inner.Reading.{ParsesFront}
+use Rattle.gate_journal.specs.declared.fronts.ParsedFront.{ParsedFront}
 use Rattle.gate_journal.proofs.Extents.{extents_count}
 use Rattle.gate_journal.proofs.Parts.{place_of}
 use Rattle.gate_journal.proofs.Walks.{damaged_there, fault_since, far_is, stands_for}
@@ -53,11 +53,11 @@ gate_pushed extents at size =
     ∙ ap (λ (p : ℕ × ℕ). p.0 - 5) (get_or_push extents (at + 5, size) (0, 0) (length extents) refl)
     ∙ (let less : at + 5 - 5 ≡ at = omega arith in less)
 
-module _ (d0 d1 d2 : DiskState) (none : NoneFailed d0 d1) (told : ToldFront) (base : ℕ)
-    (same : base ≡ base_in told.copied) (stays : d0.honest → d1.honest)
-    (begins : d0.honest → TellsFront d0.seen (Some told)) (unwritten : d0.honest → Unwritten d0 d1) where
+module _ (d0 d1 d2 : DiskState) (none : NoneFailed d0 d1) (parsed : ParsedFront) (base : ℕ)
+    (same : base ≡ base_in parsed.copied) (stays : d0.honest → d1.honest)
+    (begins : d0.honest → ParsesFront d0.seen (Some parsed)) (unwritten : d0.honest → Unwritten d0 d1) where
   -- the frames after a front are a side, or break off
-  pub whole_found : (result : Result Gates JournalError) → FindsLast result told.size base d1 d2 →
+  pub whole_found : (result : Result Gates JournalError) → FindsLast result parsed.size base d1 d2 →
       FindsWhole result d0 d2
   whole_found (Ok gates) found = (
     found.0 ∙ none,
@@ -70,14 +70,14 @@ module _ (d0 d1 d2 : DiskState) (none : NoneFailed d0 d1) (told : ToldFront) (ba
         let extents = walk.0.1 in
         let is : d1.seen ≡ spell_front f ++ side.1 = seen ∙ side.3 in
         let enough : base_of f.head ≤ length bodies = omega (arith, walk.0.4, same, ap base_in side.4.copied) in
-        let there = stands_for d1.seen told.size bodies extents gates.end walk.0.2 f side.2 side.1 is side.4.size
+        let there = stands_for d1.seen parsed.size bodies extents gates.end walk.0.2 f side.2 side.1 is side.4.size
         enough walk.1.0 walk.1.1 walk.1.2 walk.1.3 in (
           f,
           bodies,
           subst (λ (l : List ℕ). StandsFor f bodies l) seen there,
           walk.0.3 ∙ ap gate_before walk.0.2.extents_are
               ∙ ap (λ (n : ℕ). gate_before (extents_from n bodies)) side.4.size ∙ gate_place f bodies,
-          sym (far_is d1.seen told.size bodies extents gates.end walk.0.2 f side.2 side.1 is side.4.size),
+          sym (far_is d1.seen parsed.size bodies extents gates.end walk.0.2 f side.2 side.1 is side.4.size),
         ),
   )
   whole_found (Err NotOurs) found = absurd found.1
@@ -88,7 +88,8 @@ module _ (d0 d1 d2 : DiskState) (none : NoneFailed d0 d1) (told : ToldFront) (ba
         let side = begins honest in
         let broken = found.1 (stays honest) in
         subst (λ (l : List ℕ). IsDamagedAt l at) seen
-        (damaged_there d1.seen told.size broken.0 broken.1 at broken.2 side.0 side.2 side.1 (seen ∙ side.3) side.4.size
+        (damaged_there d1.seen parsed.size broken.0 broken.1 at broken.2 side.0 side.2 side.1 (seen ∙ side.3)
+        side.4.size
         base (same ∙ ap base_in side.4.copied) broken.3),
   )
   whole_found (Err (Device fault)) found = fault_since d0 d1 d2 fault none found

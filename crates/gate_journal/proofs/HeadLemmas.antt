@@ -8,7 +8,7 @@ use Rattle.byteorder.specs.Endian.{big_number}
 use Rattle.gate_journal.specs.declared.header.SideKind.TheVariants.{Cartridge}
 use Rattle.gate_journal.specs.declared.heads.Copied.{Copied}
 use Rattle.gate_journal.specs.Side.{Heading, IsHeading}
-use Rattle.gate_journal.specs.Heads.{Head, IsHead, IsCopied, BeginsWithHead, TellsHead, count_byte, spell_copied, spell_side_head}
+use Rattle.gate_journal.specs.Heads.{Head, IsHead, IsCopied, BeginsWithHead, ParsesHead, count_byte, spell_copied, spell_side_head}
 use Rattle.gate_journal.specs.Inner.Heads.{is_copy, count_in, copied_in, head_as, heading_in}
 use Rattle.gate_journal.specs.Inner.HeadsRead.{copied_size, head_is, length_head}
 use Rattle.gate_journal.specs.Inner.Headings.{few_capacities}
@@ -20,22 +20,22 @@ pub counted : (bytes : List ℕ) (n : ℕ) → length bytes ≡ 17 + 8 * n → l
 counted bytes n sized = numbers_count n (drop 17 bytes) (omega (arith, sized, length-drop 17 bytes))
 
 -- what the first byte says
-told_plain : (copied : Option Copied) (n byte : ℕ) → byte ≡ count_byte copied n → byte < 128 →
+parse_plain : (copied : Option Copied) (n byte : ℕ) → byte ≡ count_byte copied n → byte < 128 →
     (is_copy copied ≡ false) × (byte ≡ n) × (copied_size copied ≡ 0)
-told_plain None n byte is few = (refl, is, refl)
-told_plain (Some copied) n byte is few = absurd (omega (arith, is, few))
+parse_plain None n byte is few = (refl, is, refl)
+parse_plain (Some copied) n byte is few = absurd (omega (arith, is, few))
 
-told_copy : (copied : Option Copied) (n byte : ℕ) → n ≤ 4 → byte ≡ count_byte copied n → 128 ≤ byte →
+parse_copy : (copied : Option Copied) (n byte : ℕ) → n ≤ 4 → byte ≡ count_byte copied n → 128 ≤ byte →
     (is_copy copied ≡ true) × (byte - 128 ≡ n) × (copied_size copied ≡ 12)
-told_copy None n byte short is many = absurd (omega (arith, is, many, short))
-told_copy (Some copied) n byte short is many = (refl, omega (arith, is), refl)
+parse_copy None n byte short is many = absurd (omega (arith, is, many, short))
+parse_copy (Some copied) n byte short is many = (refl, omega (arith, is), refl)
 
 -- twelve bytes spell the epoch and the base that are read from them
 twelve_bytes : (bytes : List ℕ) (copied : Copied) → 12 ≤ length bytes → AreBytes bytes →
     Some copied ≡ copied_in true bytes → take 12 bytes ≡ spell_copied (Some copied)
 twelve_bytes bytes copied long fits is =
-    let epoch : copied.epoch ≡ big_number 8 bytes = ap (λ (c : Option Copied). epoch_told c) is in
-    let base : copied.base ≡ big_number 4 (drop 8 bytes) = ap (λ (c : Option Copied). base_told c) is in
+    let epoch : copied.epoch ≡ big_number 8 bytes = ap (λ (c : Option Copied). epoch_parsed c) is in
+    let base : copied.base ≡ big_number 4 (drop 8 bytes) = ap (λ (c : Option Copied). base_parsed c) is in
     let rest : 4 ≤ length (drop 8 bytes) = omega (arith, long, length-drop 8 bytes) in
     sym (take-append-drop 8 (take 12 bytes))
     ∙ (λ i. take-take 8 12 bytes (omega arith) i ++ drop-take 8 4 bytes i)
@@ -43,13 +43,13 @@ twelve_bytes bytes copied long fits is =
     (bytes_behind 8 bytes fits)) i)
     ∙ (λ i. to_be_bytes w64 (sym epoch i) ++ to_be_bytes w32 (sym base i))
   where
-    epoch_told : Option Copied → ℕ
-    epoch_told None = 0
-    epoch_told (Some c) = c.epoch
+    epoch_parsed : Option Copied → ℕ
+    epoch_parsed None = 0
+    epoch_parsed (Some c) = c.epoch
 
-    base_told : Option Copied → ℕ
-    base_told None = 0
-    base_told (Some c) = c.base
+    base_parsed : Option Copied → ℕ
+    base_parsed None = 0
+    base_parsed (Some c) = c.base
 
 module _ (bytes : List ℕ) where
   abbrev byte : ℕ
@@ -84,20 +84,20 @@ module _ (bytes : List ℕ) where
       ⊥) →
       BeginsWithHead bytes → ⊥
   not_plain few never w =
-      let told = told_plain w.0.copied (length w.0.heading.capacities) byte (byte_is w) few in
-      never (omega (arith, long w, told.1))
+      let parsed = parse_plain w.0.copied (length w.0.heading.capacities) byte (byte_is w) few in
+      never (omega (arith, long w, parsed.1))
       (subst (λ (h : Heading). IsHeading h)
-      (sym (front_is false byte refl ∙ ap (λ (h : Head). h.heading) (guess_is false w told.0))) w.3.heading)
+      (sym (front_is false byte refl ∙ ap (λ (h : Head). h.heading) (guess_is false w parsed.0))) w.3.heading)
 
   pub not_copy : 128 ≤ byte →
       (17 + 8 * (byte - 128) + 12 ≤ length bytes → IsHeading (heading_in (take (17 + 8 * (byte - 128)) bytes)) → ⊥) →
       BeginsWithHead bytes → ⊥
   not_copy many never w =
-      let told = told_copy w.0.copied (length w.0.heading.capacities) byte
+      let parsed = parse_copy w.0.copied (length w.0.heading.capacities) byte
       (few_capacities w.0.heading w.3.heading) (byte_is w) many in
-      never (omega (arith, long w, told.1, told.2))
+      never (omega (arith, long w, parsed.1, parsed.2))
       (subst (λ (h : Heading). IsHeading h)
-      (sym (front_is true (byte - 128) refl ∙ ap (λ (h : Head). h.heading) (guess_is true w told.0))) w.3.heading)
+      (sym (front_is true (byte - 128) refl ∙ ap (λ (h : Head). h.heading) (guess_is true w parsed.0))) w.3.heading)
 
   module _ (fits : AreBytes bytes) where
     abbrev numbers_at : ℕ → List ℕ
@@ -123,7 +123,7 @@ module _ (bytes : List ℕ) where
         (last_at n)))
 
     pub found_plain : byte < 128 → 17 + 8 * byte ≤ length bytes → IsHeading (heading_in (take (17 + 8 * byte) bytes)) →
-        TellsHead bytes (Some (record { copied = None; size = 17 + 8 * byte }))
+        ParsesHead bytes (Some (record { copied = None; size = 17 + 8 * byte }))
     found_plain few enough ok =
         let count : length (numbers_of (numbers_at byte)) ≡ byte =
         numbers_count byte (numbers_at byte) (many byte enough) in
@@ -148,14 +148,14 @@ module _ (bytes : List ℕ) where
     pub found_copy : (copied : Copied) → 128 ≤ byte → 17 + 8 * (byte - 128) + 12 ≤ length bytes →
         IsHeading (heading_in (take (17 + 8 * (byte - 128)) bytes)) →
         Some copied ≡ copied_in true (drop (17 + 8 * (byte - 128)) bytes) → IsCopied Cartridge (Some copied) →
-        TellsHead bytes (Some (record { copied = Some copied; size = 17 + 8 * (byte - 128) + 12 }))
+        ParsesHead bytes (Some (record { copied = Some copied; size = 17 + 8 * (byte - 128) + 12 }))
     found_copy copied big enough ok is well =
         let n : ℕ = byte - 128 in
         let short : 17 + 8 * n ≤ length bytes = omega (arith, enough) in
         let count : length (numbers_of (numbers_at n)) ≡ n = numbers_count n (numbers_at n) (many n short) in
         let there : drop (17 + 8 * n) bytes ≡ last_at n =
         sym (drop-drop (8 * n) 17 bytes) in
-        let told : Some copied ≡ copied_in true (last_at n) = is ∙ ap (λ (l : List ℕ). copied_in true l) there in
+        let parsed : Some copied ≡ copied_in true (last_at n) = is ∙ ap (λ (l : List ℕ). copied_in true l) there in
         let head : Head = record { heading = (head_as Cartridge true bytes).heading; copied = Some copied } in
         let right : IsHead head = record {
           heading = subst (λ (h : Heading). IsHeading h) (front_is true n refl) ok;
@@ -166,7 +166,7 @@ module _ (bytes : List ℕ) where
         omega (arith, enough, length-drop 17 bytes, length-drop (8 * n) (drop 17 bytes)) in
         let twelve : last_at n ≡ spell_copied (Some copied) ++ drop 12 (last_at n) =
         sym (take-append-drop 12 (last_at n))
-        ∙ ap (λ (l : List ℕ). l ++ drop 12 (last_at n)) (twelve_bytes (last_at n) copied room fits' told) in
+        ∙ ap (λ (l : List ℕ). l ++ drop 12 (last_at n)) (twelve_bytes (last_at n) copied room fits' parsed) in
         let marked : byte ≡ 128 + length (numbers_of (numbers_at n)) = omega (arith, big, count) in
         let front : List ℕ = (128 + length (numbers_of (numbers_at n))) ∷ take 16 (drop 1 bytes)
         ++ flat_map (to_be_bytes w64) (numbers_of (numbers_at n)) in

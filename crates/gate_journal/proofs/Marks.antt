@@ -45,13 +45,13 @@ module _ (seen : List ℕ) (at : ℕ) (inside : at < length seen) where
         ∙ get_or_append_left mark (drop (at + 5) seen) 0 0 (omega (arith, sized)))
 
     module _ (size : ℕ) (fits : size < 2 ^ 32) (is : mark ≡ OPEN ∷ to_be_bytes w32 size) where
-      pub told : drop at seen ≡ OPEN ∷ (to_be_bytes w32 size ++ drop (at + 5) seen)
-      told = split ∙ ap (λ (l : List ℕ). l ++ drop (at + 5) seen) is
+      pub parsed : drop at seen ≡ OPEN ∷ (to_be_bytes w32 size ++ drop (at + 5) seen)
+      parsed = split ∙ ap (λ (l : List ℕ). l ++ drop (at + 5) seen) is
 
       -- the length that a frame there would have
       pub would_have : (w : BeginsWithFrame (drop at seen)) → length w.0 ≡ size
       would_have w =
-          sym (is_length (drop at seen) w) ∙ ap (λ (l : List ℕ). big_from 0 4 (drop 1 l)) told
+          sym (is_length (drop at seen) w) ∙ ap (λ (l : List ℕ). big_from 0 4 (drop 1 l)) parsed
           ∙ big_number-reads_back 4 size (drop (at + 5) seen) (omega (arith, fits))
 
       pub whole : at + 5 + size < length seen →
@@ -64,7 +64,7 @@ module _ (seen : List ℕ) (at : ℕ) (inside : at < length seen) where
             body,
             drop size (drop (at + 5) seen),
             sized,
-            told
+            parsed
                 ∙ ap (λ (l : List ℕ). OPEN ∷ (to_be_bytes w32 size ++ l))
                 (sym (take-append-drop size (drop (at + 5) seen)))
                 ∙ ap (λ (n : ℕ). OPEN ∷ (to_be_bytes w32 n ++ (body ++ drop size (drop (at + 5) seen)))) (sym sized)

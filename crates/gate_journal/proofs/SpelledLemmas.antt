@@ -4,24 +4,24 @@ use Rattle.std.specs.Prelude.{IsTrue, Option, None, Some, slice_range}
 use Rattle.std.proofs.lemmas.List.{append-nil, drop-drop, drop_more, get_or-drop, get_or-take, get_or_append_left, length-take-le, take_at}
 use Rattle.std.proofs.lemmas.List.Elements.{All-nil}
 use Rattle.vtl_base.specs.Limits.{is_capacity}
-use Rattle.gate_journal.specs.declared.fronts.ToldFront.{ToldFront}
+use Rattle.gate_journal.specs.declared.fronts.ParsedFront.{ParsedFront}
 use Rattle.gate_journal.specs.declared.header.SideKind.{SideKind}
 use Rattle.gate_journal.specs.declared.reading.ReadFront.{ReadFront}
 use Rattle.gate_journal.specs.declared.header.SideKind.TheVariants.{Cartridge, Store}
 use Rattle.gate_journal.specs.declared.heads.Copied.{Copied}
-use Rattle.gate_journal.specs.declared.heads.ToldHead.{ToldHead}
-use Rattle.gate_journal.specs.Heads.{Head, TellsHead, count_byte, spell_side_head}
+use Rattle.gate_journal.specs.declared.heads.ParsedHead.{ParsedHead}
+use Rattle.gate_journal.specs.Heads.{Head, ParsesHead, count_byte, spell_side_head}
 use Rattle.gate_journal.specs.Side.{OPEN, Front, Heading, IsCount, IsFront, IsName, IsNotOurs, IsPairGate, heading_of, mark, plain, spell_front, start}
 use Rattle.gate_journal.specs.Inner.Found.{front_read}
 use Rattle.gate_journal.specs.Inner.Fronts.{behind_start, count_there, front_as, front_is, front_there, length_front, length_start, letter_is, pair_there, plain_front, sized_by, store_is_plain}
 use Rattle.gate_journal.specs.Inner.Heads.{count_in, is_copy}
 use Rattle.gate_journal.specs.Inner.HeadsRead.{count_again}
-use Rattle.gate_journal.specs.Inner.Reading.{BeginsWithFront, TellsFront, copied_size, heading_told, kind_by_letter, numbers_of, size_behind}
+use Rattle.gate_journal.specs.Inner.Reading.{BeginsWithFront, ParsesFront, copied_size, heading_parsed, kind_by_letter, numbers_of, size_behind}
 
 -- the letter of the mark decides the kind
-letter_tells : (kind : SideKind) → kind_by_letter (get_or (mark kind) 3 0) ≡ kind
-letter_tells Cartridge = refl
-letter_tells Store = refl
+letter_parses : (kind : SideKind) → kind_by_letter (get_or (mark kind) 3 0) ≡ kind
+letter_parses Cartridge = refl
+letter_parses Store = refl
 
 start_of : (kind : SideKind) (pair : ℕ) (head rest : List ℕ) →
     take 10 (start OPEN kind pair ++ head ++ rest) ≡ start OPEN kind pair
@@ -44,29 +44,29 @@ module _ (bytes : List ℕ) where
     length-append (spell_front w.0) w.1,
   ))
 
-  kind_told : (w : BeginsWithFront bytes) → kind_by_letter (get_or bytes 4 0) ≡ w.0.head.heading.kind
-  kind_told w = ap kind_by_letter (letter_is w.0 w.1 bytes w.3) ∙ letter_tells w.0.head.heading.kind
+  kind_decoded : (w : BeginsWithFront bytes) → kind_by_letter (get_or bytes 4 0) ≡ w.0.head.heading.kind
+  kind_decoded w = ap kind_by_letter (letter_is w.0 w.1 bytes w.3) ∙ letter_parses w.0.head.heading.kind
 
   -- the parts of a front
   reads : (w : BeginsWithFront bytes) → front_as w.0.head.heading.kind (is_copy w.0.head.copied) bytes ≡ w.0
   reads w =
       ap (λ (l : List ℕ). front_as w.0.head.heading.kind (is_copy w.0.head.copied) l) w.3 ∙ front_is w.0 w.1 w.2
 
-  pub name_told : (w : BeginsWithFront bytes) → take 16 (drop 11 bytes) ≡ w.0.head.heading.name
-  name_told w = ap (λ (l : List ℕ). take 16 l) (sym (drop-drop 1 10 bytes))
+  pub name_parsed : (w : BeginsWithFront bytes) → take 16 (drop 11 bytes) ≡ w.0.head.heading.name
+  name_parsed w = ap (λ (l : List ℕ). take 16 l) (sym (drop-drop 1 10 bytes))
       ∙ ap (λ (f : Front). f.head.heading.name) (reads w)
 
-  count_told : (w : BeginsWithFront bytes) →
+  count_parsed : (w : BeginsWithFront bytes) →
       count_in (is_copy w.0.head.copied) (get_or (drop 10 bytes) 0 0) ≡ length w.0.head.heading.capacities
-  count_told w =
+  count_parsed w =
       ap (λ (n : ℕ). count_in (is_copy w.0.head.copied) n) (get_or-drop 10 bytes 0 0 ∙ count_there w.0 w.1 bytes w.3)
       ∙ count_again w.0.head.copied (length w.0.head.heading.capacities)
 
-  capacities_told : (w : BeginsWithFront bytes) (end : ℕ) → end ≡ 27 + 8 * length w.0.head.heading.capacities →
+  capacities_parsed : (w : BeginsWithFront bytes) (end : ℕ) → end ≡ 27 + 8 * length w.0.head.heading.capacities →
       numbers_of (slice_range bytes 27 end) ≡ w.0.head.heading.capacities
-  capacities_told w end there =
+  capacities_parsed w end there =
       let width : end - 27 ≡ 8 * count_in (is_copy w.0.head.copied) (get_or (drop 10 bytes) 0 0) =
-      omega (arith, there, count_told w) in
+      omega (arith, there, count_parsed w) in
       ap (λ (n : ℕ). numbers_of (take n (drop 27 bytes))) width
       ∙ ap (λ (l : List ℕ). numbers_of (take (8 * count_in (is_copy w.0.head.copied) (get_or (drop 10 bytes) 0 0)) l))
       (sym (drop-drop 17 10 bytes))
@@ -80,7 +80,7 @@ module _ (bytes : List ℕ) where
       let head = spell_side_head f.head in
       let pair : get_or bytes 9 0 ≡ f.pair =
       ap (λ (l : List ℕ). get_or l 9 0) w.3 ∙ pair_there f.head.heading.kind f.pair head w.1 in
-      let same : kind ≡ f.head.heading.kind = tells ∙ kind_told w in
+      let same : kind ≡ f.head.heading.kind = tells ∙ kind_decoded w in
       ap (λ (l : List ℕ). take 10 l) w.3 ∙ start_of f.head.heading.kind f.pair head w.1
       ∙ (λ i. start OPEN (sym same i) (sym pair i))
 
@@ -91,9 +91,9 @@ module _ (bytes : List ℕ) where
 
     kind_is : (w : BeginsWithFront bytes) → w.0.head.heading.kind ≡ kind
     kind_is w =
-        sym (kind_told w)
+        sym (kind_decoded w)
         ∙ ap kind_by_letter (ap (λ (l : List ℕ). get_or l 4 0) whole
-        ∙ letter_in kind (get_or bytes 9 0) (drop 10 bytes)) ∙ letter_tells kind
+        ∙ letter_in kind (get_or bytes 9 0) (drop 10 bytes)) ∙ letter_parses kind
 
     behind : (w : BeginsWithFront bytes) → drop 10 bytes ≡ spell_side_head w.0.head ++ w.1
     behind w = ap (λ (l : List ℕ). drop 10 l) w.3
@@ -101,14 +101,14 @@ module _ (bytes : List ℕ) where
 
   -- a cartridge's front, given what was read from its head
   module _ (begins : take 10 bytes ≡ start OPEN Cartridge (get_or bytes 9 0)) where
-    pub front_told : (head : ToldHead) → TellsHead (drop 10 bytes) (Some head) →
-        TellsFront bytes (Some (record {
+    pub front_parsed : (head : ParsedHead) → ParsesHead (drop 10 bytes) (Some head) →
+        ParsesFront bytes (Some (record {
           kind = Cartridge;
           pair = get_or bytes 9 0;
           copied = head.copied;
           size = 10 + head.size;
         }))
-    front_told told (h, rest, kind, ok, is, same) =
+    front_parsed parsed (h, rest, kind, ok, is, same) =
         let pair = get_or bytes 9 0 in
         let f : Front = record { head = h; pair = pair } in
         let any : (k : SideKind) → k ≡ Cartridge → IsPairGate k pair =
@@ -131,7 +131,7 @@ module _ (bytes : List ℕ) where
           },
         )
 
-    pub headless : TellsHead (drop 10 bytes) None → BeginsWithFront bytes → ⊥
+    pub headless : ParsesHead (drop 10 bytes) None → BeginsWithFront bytes → ⊥
     headless never w = never (w.0.head, w.1, kind_is Cartridge begins w, w.2.head, behind Cartridge begins w)
 
   -- a store's front
@@ -158,12 +158,12 @@ module _ (bytes : List ℕ) where
 
     pub named : (w : BeginsWithFront bytes) → IsName Store name
     named w =
-        subst (λ (l : List ℕ). IsName Store l) (sym (name_told w))
+        subst (λ (l : List ℕ). IsName Store l) (sym (name_parsed w))
         (subst (λ (k : SideKind). IsName k w.0.head.heading.name) (kind_is Store begins w) w.2.head.heading.name)
 
-    pub store_told : get_or bytes 9 0 ≡ 0 → get_or bytes 10 0 ≡ 0 → IsName Store name →
-        TellsFront bytes (Some (record { kind = Store; pair = get_or bytes 9 0; copied = None; size = 27 }))
-    store_told shut none ok =
+    pub store_shown : get_or bytes 9 0 ≡ 0 → get_or bytes 10 0 ≡ 0 → IsName Store name →
+        ParsesFront bytes (Some (record { kind = Store; pair = get_or bytes 9 0; copied = None; size = 27 }))
+    store_shown shut none ok =
         let heading : Heading = record { kind = Store; name = name; capacities = [] } in
         let f : Front = plain heading in
         let well : IsFront f =
@@ -183,33 +183,33 @@ module _ (bytes : List ℕ) where
         )
 
 -- the heading in the bytes is that of the front
-pub heading_is_told : (bytes : List ℕ) (told : ToldFront) (w : TellsFront bytes (Some told)) →
-    heading_told told bytes ≡ w.0.head.heading
-heading_is_told bytes told (f, rest, ok, is, same) =
+pub heading_is_parsed : (bytes : List ℕ) (parsed : ParsedFront) (w : ParsesFront bytes (Some parsed)) →
+    heading_parsed parsed bytes ≡ w.0.head.heading
+heading_is_parsed bytes parsed (f, rest, ok, is, same) =
     let w : BeginsWithFront bytes = (f, rest, ok, is) in
-    let cut : copied_size told.copied ≡ copied_size f.head.copied = ap copied_size same.copied in
-    let end : told.size - copied_size told.copied ≡ 27 + 8 * length f.head.heading.capacities =
+    let cut : copied_size parsed.copied ≡ copied_size f.head.copied = ap copied_size same.copied in
+    let end : parsed.size - copied_size parsed.copied ≡ 27 + 8 * length f.head.heading.capacities =
     omega (arith, cut, same.size, length_front f ok) in
     λ i. record {
       kind = same.kind i;
-      name = name_told bytes w i;
-      capacities = capacities_told bytes w (told.size - copied_size told.copied) end i;
+      name = name_parsed bytes w i;
+      capacities = capacities_parsed bytes w (parsed.size - copied_size parsed.copied) end i;
     }
 
 -- a front in memory is the one that was read
-module _ (bytes : List ℕ) (told : ToldFront) (read : ReadFront) (w : TellsFront bytes (Some told))
-    (heading : heading_of read.header ≡ heading_told told bytes) (copied : read.copied ≡ told.copied)
-    (pair : read.pair ≡ told.pair) where
+module _ (bytes : List ℕ) (parsed : ParsedFront) (read : ReadFront) (w : ParsesFront bytes (Some parsed))
+    (heading : heading_of read.header ≡ heading_parsed parsed bytes) (copied : read.copied ≡ parsed.copied)
+    (pair : read.pair ≡ parsed.pair) where
   same_read : front_read read ≡ w.0
   same_read = λ i. record {
-    head = record { heading = (heading ∙ heading_is_told bytes told w) i; copied = (copied ∙ w.4.copied) i };
+    head = record { heading = (heading ∙ heading_is_parsed bytes parsed w) i; copied = (copied ∙ w.4.copied) i };
     pair = (pair ∙ w.4.pair) i;
   }
 
   pub read_well : IsFront (front_read read)
   read_well = subst IsFront (sym same_read) w.2
 
-  pub read_start : read.start ≡ told.size → read.start ≡ length (spell_front (front_read read))
+  pub read_start : read.start ≡ parsed.size → read.start ≡ length (spell_front (front_read read))
   read_start start = start ∙ w.4.size ∙ ap (λ (f : Front). length (spell_front f)) (sym same_read)
 
   pub read_begins : (seen rest : List ℕ) → seen ≡ bytes ++ rest →
@@ -242,6 +242,6 @@ module _ (image bytes rest : List ℕ) (sized : length bytes ≡ 27 + size_behin
 -- the front of a buffer is as long as the byte of its count says
 pub front_sized : (buffer : List ℕ) (len : ℕ) → len ≡ 27 + size_behind (get_or buffer 10 0) → len ≤ length buffer →
     length (take len buffer) ≡ 27 + size_behind (get_or (take len buffer) 10 0)
-front_sized buffer len told fits =
-    length-take-le len buffer fits ∙ told
-    ∙ ap (λ (n : ℕ). 27 + size_behind n) (sym (get_or-take len buffer 10 0 (omega (arith, told))))
+front_sized buffer len parsed fits =
+    length-take-le len buffer fits ∙ parsed
+    ∙ ap (λ (n : ℕ). 27 + size_behind n) (sym (get_or-take len buffer 10 0 (omega (arith, parsed))))

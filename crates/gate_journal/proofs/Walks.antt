@@ -32,7 +32,7 @@ module _ (d0 d1 d2 : DiskState) where
 
   -- a fault of a later call is a fault since the start
   pub fault_since : (fault : DevFault) → NoneFailed d0 d1 → IsFault fault d1 d2 → IsFault fault d0 d2
-  fault_since fault none is = record { cause = omega (arith, none, is.cause); told = is.told }
+  fault_since fault none is = record { cause = omega (arith, none, is.cause); reported = is.reported }
 
   module _ (none : NoneFailed d0 d1) where
     pub not_read_since : (e : JournalError) (P Q : ℕ → Type 0) (M N : Type 0) → ((at : ℕ) → P at → Q at) → (M → N) →

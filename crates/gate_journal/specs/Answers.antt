@@ -16,7 +16,7 @@ NoneFailed old new = new.failures ≡ old.failures
 -- a call of the disk failed since the old moment, and the fault has the count of failures so far (own)
 pub record IsFault (fault : DevFault) (old new : DiskState) : Type 0 where
   pub cause : old.failures < new.failures
-  pub told : fault.failures ≡ min new.failures (2 ^ 64 - 1)
+  pub reported : fault.failures ≡ min new.failures (2 ^ 64 - 1)
 
 -- A fact for each result of a call on an open side: Ok, out of memory, a full side, a fault, or a fault in an earlier
 -- call (own).

@@ -5,7 +5,7 @@ use Rattle.std.specs.Int.{to_be_bytes, w32, w64}
 use Rattle.gate_journal.specs.declared.header.SideKind.{SideKind}
 use Rattle.gate_journal.specs.declared.header.SideKind.TheVariants.{Cartridge, Store}
 use Rattle.gate_journal.specs.declared.heads.Copied.{Copied}
-use Rattle.gate_journal.specs.declared.heads.ToldHead.{ToldHead}
+use Rattle.gate_journal.specs.declared.heads.ParsedHead.{ParsedHead}
 use Rattle.gate_journal.specs.Headings.{Heading, IsHeading}
 
 -- The heading of a side, and for a copy its epoch and base. The gates in the ten bytes before it have no part in it
@@ -66,12 +66,12 @@ BeginsWithHead bytes =
     × (bytes ≡ spell_side_head head ++ rest)
 
 -- what is read from a head: its epoch and base, if it is of a copy, and its length in bytes (own)
-abbrev pub IsToldHead : ToldHead → Head → Type 0
-IsToldHead told head = (told.size ≡ length (spell_side_head head)) × (told.copied ≡ head.copied)
+abbrev pub IsParsedHead : ParsedHead → Head → Type 0
+IsParsedHead parsed head = (parsed.size ≡ length (spell_side_head head)) × (parsed.copied ≡ head.copied)
 
 -- what is read from the head of a cartridge's side at the start of the bytes; None where they begin with no head (own)
-abbrev pub TellsHead : List ℕ → Option ToldHead → Type 0
-TellsHead bytes None = BeginsWithHead bytes → ⊥
-TellsHead bytes (Some told) =
+abbrev pub ParsesHead : List ℕ → Option ParsedHead → Type 0
+ParsesHead bytes None = BeginsWithHead bytes → ⊥
+ParsesHead bytes (Some parsed) =
     (head : Head) × (rest : List ℕ) × (head.heading.kind ≡ Cartridge) × IsHead head
-    × (bytes ≡ spell_side_head head ++ rest) × IsToldHead told head
+    × (bytes ≡ spell_side_head head ++ rest) × IsParsedHead parsed head

@@ -1,4 +1,4 @@
-//! The trait of what decodes the bodies of a side while it is opened.
+//! The trait of a decoder, which reads the bodies of a side while the side is opened.
 ghost use Rattle.std.specs.Prelude.{◌≡◌, ◌≤◌, ◌++◌, ℕ, List, [], length, false, IfOk};
 ghost use Rattle.gate_journal.specs.Decoding.{IsUnderWay, TakesBody, TakesPiece};
 ghost use Rattle.gate_journal.specs.Side.{Heading, IsHeading, heading_of};
@@ -45,7 +45,7 @@ pub trait Decodes: Drop {
         true
     }
 
-    /// Begins the next body, of which no byte has come.
+    /// Begins the next body. None of its bytes was read yet.
     fn begin_body(&mut self)
         ensures { (at : ℕ) → is_within self.old self.new at [] };
 
@@ -64,7 +64,7 @@ pub trait Decodes: Drop {
     /// is bad, whatever follows.
     fn pass(&mut self, at: u64, count: usize) -> Result<bool, NoMemory>
         requires unseen { count ≤ unseen self.old }
-        requires under_way { IsUnderWay is_within self.old at count }
+        requires in_flight { IsUnderWay is_within self.old at count }
         ensures { IfOk result (λ good. (start : Self) (so_far bytes : List ℕ) → length bytes ≡ count →
             is_within start self.old at so_far →
             TakesPiece has_read refuses is_within good start self.new at (so_far ++ bytes)) };

@@ -2,15 +2,15 @@
 ghost use Rattle.std.specs.Prelude.{◌≡◌, ◌↔◌, ◌≤◌, IsTrue, Option, Some, length, take, slice_index};
 ghost use Rattle.gate_journal.specs.Heads.{base_in};
 ghost use Rattle.gate_journal.specs.Side.{CLOSED, IsName, OPEN, start};
-ghost use Rattle.gate_journal.specs.Inner.Reading.{TellsFront, copied_size};
+ghost use Rattle.gate_journal.specs.Inner.Reading.{ParsesFront, copied_size};
 
 use crate::header::{NAME_BYTES, SideKind, is_name};
-use crate::heads::{COPIED_BYTES, Copied, told_head};
+use crate::heads::{COPIED_BYTES, Copied, parse_head};
 use crate::spelling::{BEGUN_BYTES, CLOSED, START_BYTES, kind_by_letter, name_in, start};
 
 // What is read from a front: where the frames begin, and how many there are at least.
 #[derive(Clone, Copy)]
-pub(crate) struct ToldFront {
+pub(crate) struct ParsedFront {
     pub kind: SideKind,
     // The byte of its pair gate.
     pub pair: u8,
@@ -40,8 +40,8 @@ pub(crate) fn copied_size(copied: Option<Copied>) -> usize
 }
 
 // The front at the start of these bytes, if there is one. It takes no memory.
-pub(crate) fn told_front(bytes: &[u8]) -> Option<ToldFront>
-    ensures { TellsFront bytes.now result }
+pub(crate) fn parse_front(bytes: &[u8]) -> Option<ParsedFront>
+    ensures { ParsesFront bytes.now result }
 {
     if bytes.len() < START_BYTES {
         return None;
@@ -51,8 +51,8 @@ pub(crate) fn told_front(bytes: &[u8]) -> Option<ToldFront>
         return None;
     }
     match kind {
-        SideKind::Cartridge => told_cartridge(bytes),
-        SideKind::Store => told_store(bytes),
+        SideKind::Cartridge => parse_cartridge(bytes),
+        SideKind::Store => parse_store(bytes),
     }
 }
 
@@ -67,13 +67,13 @@ fn begin_as(kind: SideKind, bytes: &[u8]) -> bool
 }
 
 // The front of a cartridge's side, whose ten bytes are there.
-fn told_cartridge(bytes: &[u8]) -> Option<ToldFront>
+fn parse_cartridge(bytes: &[u8]) -> Option<ParsedFront>
     requires some { 27 ≤ length bytes.now }
     requires begins { take 10 bytes.now ≡ start OPEN SideKind.Cartridge (slice_index bytes.now 9) }
-    ensures { TellsFront bytes.now result }
+    ensures { ParsesFront bytes.now result }
 {
-    match told_head(&bytes[BEGUN_BYTES..]) {
-        Some(head) => Some(ToldFront {
+    match parse_head(&bytes[BEGUN_BYTES..]) {
+        Some(head) => Some(ParsedFront {
             kind: SideKind::Cartridge,
             pair: bytes[9],
             copied: head.copied,
@@ -84,16 +84,16 @@ fn told_cartridge(bytes: &[u8]) -> Option<ToldFront>
 }
 
 // The front of a store's side, whose ten bytes are there.
-fn told_store(bytes: &[u8]) -> Option<ToldFront>
+fn parse_store(bytes: &[u8]) -> Option<ParsedFront>
     requires some { 27 ≤ length bytes.now }
     requires begins { take 10 bytes.now ≡ start OPEN SideKind.Store (slice_index bytes.now 9) }
-    ensures { TellsFront bytes.now result }
+    ensures { ParsesFront bytes.now result }
 {
     let pair = bytes[9];
     if !are_of_store(pair, bytes[10], &name_in(bytes)) {
         return None;
     }
-    Some(ToldFront {
+    Some(ParsedFront {
         kind: SideKind::Store,
         pair,
         copied: None,

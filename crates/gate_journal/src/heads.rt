@@ -12,7 +12,7 @@
 //! store is never a copy.
 ghost use Rattle.std.specs.Prelude.{◌≡◌, ◌↔◌, ◌+◌, ◌*◌, ◌≤◌, ◌<◌, IsTrue, Some, true, length, take, drop, slice_index};
 ghost use Rattle.gate_journal.specs.Side.{IsHeading};
-ghost use Rattle.gate_journal.specs.Heads.{IsCopied, TellsHead, base_in, epoch_in};
+ghost use Rattle.gate_journal.specs.Heads.{IsCopied, ParsesHead, base_in, epoch_in};
 ghost use Rattle.gate_journal.specs.Inner.Heads.{copied_in, heading_in};
 
 use crate::header::{NAME_BYTES, SideKind, is_count, is_name};
@@ -30,14 +30,14 @@ pub struct Copied {
 
 /// What is read from a head: where the frames begin, and which of two sides counts.
 #[derive(Clone, Copy, Debug, PartialEq, Eq)]
-pub struct ToldHead {
+pub struct ParsedHead {
     /// Epoch and base, where it is the head of a copy.
     pub copied: Option<Copied>,
     /// Its length in bytes.
     pub size: usize,
 }
 
-impl ToldHead {
+impl ParsedHead {
     /// How often the cartridge was reclaimed.
     pub fn epoch(&self) -> u64
         ensures { result ≡ epoch_in self.now.copied }
@@ -69,45 +69,45 @@ pub(crate) const COPIED_BYTES: usize = 12;
 pub(crate) const COPY_BIT: u8 = 0x80;
 
 /// The head of a cartridge's side at the start of these bytes, if there is one. It takes no memory.
-pub fn told_head(bytes: &[u8]) -> Option<ToldHead>
-    ensures { TellsHead bytes.now result }
+pub fn parse_head(bytes: &[u8]) -> Option<ParsedHead>
+    ensures { ParsesHead bytes.now result }
 {
     if bytes.is_empty() {
         return None;
     }
     let byte = bytes[0];
     if byte < COPY_BIT {
-        told_plain(bytes)
+        parse_plain(bytes)
     } else {
-        told_copy(bytes)
+        parse_copy(bytes)
     }
 }
 
 // The head of a side that is no copy.
-fn told_plain(bytes: &[u8]) -> Option<ToldHead>
+fn parse_plain(bytes: &[u8]) -> Option<ParsedHead>
     requires some { 1 ≤ length bytes.now }
     requires plain { slice_index bytes.now 0 < 128 }
-    ensures { TellsHead bytes.now result }
+    ensures { ParsesHead bytes.now result }
 {
     let size = FRONT_BYTES + 8 * bytes[0] as usize;
     if bytes.len() < size || !are_fields(&bytes[..size], bytes[0]) {
         return None;
     }
-    Some(ToldHead { copied: None, size })
+    Some(ParsedHead { copied: None, size })
 }
 
 // The head of a copy.
-fn told_copy(bytes: &[u8]) -> Option<ToldHead>
+fn parse_copy(bytes: &[u8]) -> Option<ParsedHead>
     requires some { 1 ≤ length bytes.now }
     requires copy { 128 ≤ slice_index bytes.now 0 }
-    ensures { TellsHead bytes.now result }
+    ensures { ParsesHead bytes.now result }
 {
     let count = bytes[0] - COPY_BIT;
     let size = FRONT_BYTES + 8 * count as usize;
     if bytes.len() < size + COPIED_BYTES || !are_fields(&bytes[..size], count) {
         return None;
     }
-    Some(ToldHead {
+    Some(ParsedHead {
         copied: Some(copied_at(&bytes[size..])),
         size: size + COPIED_BYTES,
     })

@@ -195,7 +195,7 @@ impl<D: Disk> Journal<D> {
         }
     }
 
-    /// Whether the disk has failed: then nothing more is read or written.
+    /// Whether the disk has failed. Then nothing more is read or written.
     pub fn has_failed(&self) -> bool
         ensures { result ≡ self.now.failed }
     {

@@ -26,6 +26,6 @@ pub use error::{JournalError, NotDecoded, OpenError, Refused};
 pub use frame::Frame;
 pub use gates::{Gates, last_gates};
 pub use header::{Header, SideKind};
-pub use heads::{Copied, ToldHead, told_head};
+pub use heads::{Copied, ParsedHead, parse_head};
 pub use journal::Journal;
 pub use noted::NotedBytes;

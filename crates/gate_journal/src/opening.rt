@@ -13,9 +13,9 @@ use std::alloc::Global;
 use tape_disk::Disk;
 
 impl<D: Disk> Journal<D> {
-    /// Opens the side on the disk. It begins with a sync, and writes nothing: at every moment of it, and
-    /// after every error, the disk stands for what it stood for. After `NotOurs`, `Damaged` and `NoMemory`
-    /// that is sure too.
+    /// Opens the side on the disk. The call begins with a sync, and writes nothing. At every moment of the call, and
+    /// after every error, the disk stands for the same as before. After `NotOurs`, `Damaged` and `NoMemory` that is
+    /// sure too.
     pub fn open(alloc: Global, disk: D) -> Result<Journal<D>, Refused<D>>
         ensures disk { Keeps (D.state disk) (D.state (disk_after result)) }
         ensures ok { IfOk result (λ journal. (journal.failed ≡ false)

@@ -2,15 +2,15 @@
 ghost use Rattle.std.specs.Prelude.{◌≡◌, ◌+◌, ◌<◌, ◌≤◌, ◌∷◌, length, IfOk, slice_index};
 ghost use Rattle.tape_disk.specs.Disk.{Elapses, Keeps, Passes, Syncs};
 ghost use Rattle.gate_journal.specs.Side.{OPEN, heading_of};
-ghost use Rattle.gate_journal.specs.Inner.Reading.{copied_size, heading_told, numbers_of, size_behind};
+ghost use Rattle.gate_journal.specs.Inner.Reading.{copied_size, heading_parsed, numbers_of, size_behind};
 ghost use Rattle.std.specs.Int.{to_be_bytes, w32};
 ghost use Rattle.gate_journal.specs.Crash.{Unwritten};
 ghost use Rattle.gate_journal.specs.Reads.{OnlyReads};
-ghost use Rattle.gate_journal.specs.Inner.Found.{FindsBytes, FindsTold, FindsStart, FindsFront, FindsAsked, FindsMark, FindsFrames, FindsSide};
+ghost use Rattle.gate_journal.specs.Inner.Found.{FindsBytes, FindsParsed, FindsStart, FindsFront, FindsAsked, FindsMark, FindsFrames, FindsSide};
 ghost use Rattle.tape_disk.specs.Moments.{LeavesOnly};
 
 use crate::error::JournalError;
-use crate::fronts::{ToldFront, base_in, copied_size, told_front};
+use crate::fronts::{ParsedFront, base_in, copied_size, parse_front};
 use crate::header::{Header, SideKind};
 use crate::heads::{COPIED_BYTES, COPY_BIT, Copied};
 use crate::spelling::{HEADER_BYTES, OPEN, START_BYTES, name_in};
@@ -97,39 +97,39 @@ fn read_front<D: Disk>(alloc: Global, disk: &mut D) -> Result<ReadFront, Journal
     ensures reads { OnlyReads D.effect disk.old disk.new }
     ensures answer { FindsFront result (D.state disk.old) (D.state disk.new) }
 {
-    let (found, told) = read_told(disk)?;
-    let header = header_told(alloc, &found.bytes[..found.len], told)?;
+    let (found, parsed) = find_front(disk)?;
+    let header = header_parsed(alloc, &found.bytes[..found.len], parsed)?;
     Ok(ReadFront {
         header,
-        copied: told.copied,
-        pair: told.pair,
-        start: told.size as u64,
+        copied: parsed.copied,
+        pair: parsed.pair,
+        start: parsed.size as u64,
     })
 }
 
 // What is read from the front at the start of the disk, of either kind. It takes no memory.
-pub(crate) fn find_start<D: Disk>(disk: &mut D) -> Result<ToldFront, JournalError>
+pub(crate) fn find_start<D: Disk>(disk: &mut D) -> Result<ParsedFront, JournalError>
     ensures disk { Keeps (D.state disk.old) (D.state disk.new) }
     ensures unwritten { (D.state disk.old).honest →
         Unwritten (D.state disk.old) (D.state disk.new) }
     ensures reads { OnlyReads D.effect disk.old disk.new }
     ensures answer { FindsStart result (D.state disk.old) (D.state disk.new) }
 {
-    let (_, told) = read_told(disk)?;
-    Ok(told)
+    let (_, parsed) = find_front(disk)?;
+    Ok(parsed)
 }
 
 // The bytes of the front at the start of the disk, and what is read from them.
-fn read_told<D: Disk>(disk: &mut D) -> Result<(FrontBytes, ToldFront), JournalError>
+fn find_front<D: Disk>(disk: &mut D) -> Result<(FrontBytes, ParsedFront), JournalError>
     ensures disk { Keeps (D.state disk.old) (D.state disk.new) }
     ensures unwritten { (D.state disk.old).honest →
         Unwritten (D.state disk.old) (D.state disk.new) }
     ensures reads { OnlyReads D.effect disk.old disk.new }
-    ensures answer { FindsTold result (D.state disk.old) (D.state disk.new) }
+    ensures answer { FindsParsed result (D.state disk.old) (D.state disk.new) }
 {
     let found = read_bytes(disk)?;
-    match told_front(&found.bytes[..found.len]) {
-        Some(told) => Ok((found, told)),
+    match parse_front(&found.bytes[..found.len]) {
+        Some(parsed) => Ok((found, parsed)),
         None => Err(JournalError::NotOurs),
     }
 }
@@ -172,14 +172,14 @@ fn size_behind(count: u8) -> usize
 }
 
 // The header in the bytes of a front, given what was read from it.
-fn header_told(alloc: Global, bytes: &[u8], told: ToldFront) -> Result<Header, AllocError>
-    requires some { 27 + copied_size told.copied ≤ told.size }
-    requires inside { told.size ≤ length bytes.now }
-    ensures { IfOk result (λ header. heading_of header ≡ heading_told told bytes.now) }
+fn header_parsed(alloc: Global, bytes: &[u8], parsed: ParsedFront) -> Result<Header, AllocError>
+    requires some { 27 + copied_size parsed.copied ≤ parsed.size }
+    requires inside { parsed.size ≤ length bytes.now }
+    ensures { IfOk result (λ header. heading_of header ≡ heading_parsed parsed bytes.now) }
 {
-    let end = told.size - copied_size(told.copied);
+    let end = parsed.size - copied_size(parsed.copied);
     Ok(Header {
-        kind: told.kind,
+        kind: parsed.kind,
         name: name_in(bytes),
         capacities: numbers(alloc, &bytes[START_BYTES..end])?,
     })

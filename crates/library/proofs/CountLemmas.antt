@@ -7,13 +7,13 @@ use Rattle.volume_core.specs.declared.changes.Change.{Change}
 use Rattle.ledgers.specs.Ledgers.{SeatState}
 use Rattle.drive_core.specs.Counted.{counted_up}
 use Rattle.drive_core.specs.Execute.{Answers}
-use Rattle.drive_core.specs.Told.{TellsChanges}
+use Rattle.drive_core.specs.ShownChanges.{ShowsChanges}
 use Rattle.drive_core.specs.Work.{Request}
 use Rattle.drive_core.specs.State.{DriveState}
 use Rattle.pr_core.specs.declared.states.PrState.{PrState}
 use Rattle.pr_core.specs.Keepers.{KeeperState}
 use Rattle.volume_core.specs.Medium.{MediumState}
-use Rattle.library.specs.Served.{GrowsAsTold, SeatGrows}
+use Rattle.library.specs.Served.{GrowsAsShown, SeatGrows}
 
 -- below the limit a count rises by the one change that is made, if one is
 pub count_rises : (old new : ℕ) (changes : List Change) → length changes ≤ 1 → new ≡ counted_up old changes
@@ -45,14 +45,14 @@ few_changes before after (suc zero) is few = inr (omega (arith, is))
 few_changes before after (suc (suc n)) is few = absurd (omega (arith, few))
 
 -- a seat that grew by the changes that were made grew as the reply says
-pub grows_as_told : (cdb : List ℕ) (reply : Reply) (changes : List Change) (before after : ℕ)
-    → TellsChanges cdb reply changes → after ≡ before + length changes → GrowsAsTold cdb reply before after
-grows_as_told cdb reply changes before after told grown =
+pub grows_as_shown : (cdb : List ℕ) (reply : Reply) (changes : List Change) (before after : ℕ)
+    → ShowsChanges cdb reply changes → after ≡ before + length changes → GrowsAsShown cdb reply before after
+grows_as_shown cdb reply changes before after reported grown =
     record {
-      few = few_changes before after (length changes) grown told.few;
-      one = λ changing acknowledged. omega (arith, grown, told.one changing acknowledged);
-      none = λ plain fine. omega (arith, grown, nothing changes (told.none plain fine));
-      other = λ plain. omega (arith, grown, nothing changes (told.other plain));
+      few = few_changes before after (length changes) grown reported.few;
+      one = λ changing acknowledged. omega (arith, grown, reported.one changing acknowledged);
+      none = λ plain fine. omega (arith, grown, nothing changes (reported.none plain fine));
+      other = λ plain. omega (arith, grown, nothing changes (reported.other plain));
     }
 
 module _ {M K : Type 0} (state : M → MediumState) (below : Below M Change) (kept : K → KeeperState)
@@ -61,49 +61,49 @@ module _ {M K : Type 0} (state : M → MediumState) (below : Below M Change) (ke
   pub seat_grows : (old : DriveState M K) (request : Request) (before : SeatState) (reply : Reply)
       (new : DriveState M K) (after : SeatState) (low high : ℕ)
       → (step : Answers state below kept keeps old request reply new)
-      → TellsChanges request.cdb reply step.taken.made.changes → request.nexus ≡ before.nexus
+      → ShowsChanges request.cdb reply step.taken.made.changes → request.nexus ≡ before.nexus
       → low ≡ old.accepted → high ≡ new.accepted → low + 1 < 2 ^ 64
       → (low ≡ high → after ≡ before) → (low ≢ high → after ≡ record before { amount = before.amount + 1 })
       → SeatGrows request before reply step.taken.made.changes after
-  seat_grows old request before reply new after low high step told host is was below_limit same risen =
+  seat_grows old request before reply new after low high step reported host is was below_limit same risen =
       let changes = step.taken.made.changes in
       let rose : high ≡ low + length changes =
       omega (
         arith,
         is,
         was,
-        count_rises old.accepted new.accepted changes told.few step.taken.counted
+        count_rises old.accepted new.accepted changes reported.few step.taken.counted
             (omega (arith, is, below_limit)),
       ) in
       let grown : after.amount ≡ before.amount + length changes =
-      rises_by low high before.amount after.amount (length changes) rose told.few
+      rises_by low high before.amount after.amount (length changes) rose reported.few
       (λ alike. ap (λ (s : SeatState). s.amount) (same alike))
       (λ apart. ap (λ (s : SeatState). s.amount) (risen apart)) in
       record {
         host = host;
         nexus =
-            stays_by low high before.nexus after.nexus (length changes) rose told.few
+            stays_by low high before.nexus after.nexus (length changes) rose reported.few
             (λ alike. ap (λ (s : SeatState). s.nexus) (same alike))
             (λ apart. ap (λ (s : SeatState). s.nexus) (risen apart));
         grown = grown;
-        told = grows_as_told request.cdb reply changes before.amount after.amount told grown;
+        reported = grows_as_shown request.cdb reply changes before.amount after.amount reported grown;
       }
 
   -- the share of the drive then
   pub share_stands : (old : DriveState M K) (request : Request) (reply : Reply) (new : DriveState M K)
       (low high held held' : ℕ)
       → (step : Answers state below kept keeps old request reply new)
-      → TellsChanges request.cdb reply step.taken.made.changes
+      → ShowsChanges request.cdb reply step.taken.made.changes
       → low ≡ old.accepted → high ≡ new.accepted → low + 1 < 2 ^ 64 → held ≡ old.accepted
       → (low ≡ high → held' ≡ held) → (low ≢ high → held' ≡ held + 1) → held' ≡ new.accepted
-  share_stands old request reply new low high held held' step told was is below_limit stood same risen =
+  share_stands old request reply new low high held held' step reported was is below_limit stood same risen =
       let changes = step.taken.made.changes in
       let rose : high ≡ low + length changes =
       omega (
         arith,
         is,
         was,
-        count_rises old.accepted new.accepted changes told.few step.taken.counted
+        count_rises old.accepted new.accepted changes reported.few step.taken.counted
             (omega (arith, was, below_limit)),
       ) in
-      omega (arith, rises_by low high held held' (length changes) rose told.few same risen, rose, is, was, stood)
+      omega (arith, rises_by low high held held' (length changes) rose reported.few same risen, rose, is, was, stood)

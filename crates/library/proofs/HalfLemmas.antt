@@ -12,11 +12,11 @@ use Rattle.drive_core.specs.Alone.{AnswersAlone}
 use Rattle.drive_core.specs.Execute.{Answers}
 use Rattle.drive_core.specs.State.{machine_of}
 use Rattle.drive_core.specs.Synchronize.{Acknowledges, IsSynchronizing}
-use Rattle.drive_core.specs.Told.{TellsChanges}
+use Rattle.drive_core.specs.ShownChanges.{ShowsChanges}
 use Rattle.drive_core.specs.Work.{Request}
 use Rattle.split_bay.specs.Backs.{BackState}
 use Rattle.split_bay.specs.Fronts.{FrontState, KeepsHostsHalf, LeavesOrders}
-use Rattle.split_bay.specs.Halves.{ExecutesBoth, TellsBoth}
+use Rattle.split_bay.specs.Halves.{ExecutesBoth, ReportsBoth}
 use Rattle.split_bay.specs.Nears.{alone_near, near_below, state_near}
 use Rattle.split_bay.specs.Rings.{SendingState}
 use Rattle.library.specs.Halves.{EndsHeld, HasShare, HoldsBoth, JoinsHeld, PartsHeld}
@@ -38,7 +38,7 @@ module _ {D : Type 0} (state : D → DiskState) where
       → KeepsHostsHalf state old → KeepsHostsHalf state new → request.nexus ≡ before.nexus
       → ((reply : Reply)
       → (step : Answers state_near near_below store_kept (store_below state) old.drive request reply new.drive)
-      → TellsChanges request.cdb reply step.taken.made.changes)
+      → ShowsChanges request.cdb reply step.taken.made.changes)
       → low ≡ old.drive.accepted → high ≡ new.drive.accepted → low + 1 < 2 ^ 64
       → (low ≡ high → after ≡ before) → (low ≢ high → after ≡ record before { amount = before.amount + 1 })
       → ServesFront state old request before reply new left after
@@ -70,7 +70,7 @@ module _ {D : Type 0} (state : D → DiskState) where
       left
       → ((reply : Reply)
       → (step : Answers state_near near_below store_kept (store_below state) old.drive request reply new.drive)
-      → TellsChanges request.cdb reply step.taken.made.changes)
+      → ShowsChanges request.cdb reply step.taken.made.changes)
       → low ≡ old.drive.accepted → high ≡ new.drive.accepted → low + 1 < 2 ^ 64 → held ≡ old.drive.accepted
       → (low ≡ high → held' ≡ held) → (low ≢ high → held' ≡ held + 1) → held' ≡ new.drive.accepted
   front_share old new request (Some reply) left low high held held' step law was is below stood same risen =
@@ -87,7 +87,7 @@ module _ {D : Type 0} (state : D → DiskState) where
       → request.nexus ≡ before.nexus
       → ((old new : BayState D)
       → (step : Answers (state_of state) (buffer_below state) store_kept (store_below state) old request reply new)
-      → TellsChanges request.cdb reply step.taken.made.changes)
+      → ShowsChanges request.cdb reply step.taken.made.changes)
       → low ≡ front.drive.accepted → high ≡ front'.drive.accepted → low + 1 < 2 ^ 64
       → (low ≡ high → after ≡ before) → (low ≢ high → after ≡ record before { amount = before.amount + 1 })
       → ServesHalves state front back request before reply front' back' left after
@@ -108,7 +108,7 @@ module _ {D : Type 0} (state : D → DiskState) where
       → (both : ExecutesBoth state front back request reply left front' back')
       → ((old new : BayState D)
       → (step : Answers (state_of state) (buffer_below state) store_kept (store_below state) old request reply new)
-      → TellsChanges request.cdb reply step.taken.made.changes)
+      → ShowsChanges request.cdb reply step.taken.made.changes)
       → low ≡ front.drive.accepted → high ≡ front'.drive.accepted → low + 1 < 2 ^ 64 → held ≡ front.drive.accepted
       → (low ≡ high → held' ≡ held) → (low ≢ high → held' ≡ held + 1) → held' ≡ front'.drive.accepted
   halves_share front front' back back' request reply left low high held held' both law was is below stood same risen =
@@ -143,10 +143,10 @@ module _ {D : Type 0} (state : D → DiskState) where
   front_there None share has = absurd has
 
   -- a fault that is reported leaves the count
-  pub told_share : (fault : Bool) (front front' : FrontState D) (back back' : BackState D)
-      → TellsBoth state fault front back front' back' → front'.drive.accepted ≡ front.drive.accepted
-  told_share true front front' back back' tells = tells.parts.accepted ∙ tells.joins.accepted
-  told_share false front front' back back' tells = ap (λ front. front.drive.accepted) tells.0
+  pub reported_share : (fault : Bool) (front front' : FrontState D) (back back' : BackState D)
+      → ReportsBoth state fault front back front' back' → front'.drive.accepted ≡ front.drive.accepted
+  reported_share true front front' back back' reports = reports.parts.accepted ∙ reports.joins.accepted
+  reported_share false front front' back back' reports = ap (λ front. front.drive.accepted) reports.0
 
   -- both halves were held, by what their places are seen as
   pub holds_both : (front seen : Option (FrontState D)) (back other : Option (BackState D)) (bay bay' : BayState D)

@@ -17,11 +17,12 @@ module _ (P : Type 0) where
   of_unwritten (Ok done) counts (Err missing) is failed = absurd (cc)
 
   -- where not all is written out, that is reported
-  pub tells_unwritten : (written : Result Unit Unwritten) (counts : List (Option ℕ)) (compared : Result ℕ SeatsMissing)
+  pub reports_unwritten : (written : Result Unit Unwritten) (counts : List (Option ℕ))
+      (compared : Result ℕ SeatsMissing)
       (result : Result (List (Option ℕ)) FinishError) → result ≡ outcome_of written counts compared
       → OnErr written P → result ≡ Err Errors.Unwritten → P
-  tells_unwritten written counts compared result is failed told =
-      of_unwritten written counts compared (sym is ∙ told) failed
+  reports_unwritten written counts compared result is failed reported =
+      of_unwritten written counts compared (sym is ∙ reported) failed
 
   of_written : (written : Result Unit Unwritten) (counts : List (Option ℕ)) (compared : Result ℕ SeatsMissing)
       → outcome_of written counts compared ≢ Err Errors.Unwritten → OnOk written P → P
@@ -29,11 +30,11 @@ module _ (P : Type 0) where
   of_written (Ok done) counts compared differs fine = fine
 
   -- and else all is written out
-  pub tells_written : (written : Result Unit Unwritten) (counts : List (Option ℕ)) (compared : Result ℕ SeatsMissing)
+  pub reports_written : (written : Result Unit Unwritten) (counts : List (Option ℕ)) (compared : Result ℕ SeatsMissing)
       (result : Result (List (Option ℕ)) FinishError) → result ≡ outcome_of written counts compared
       → OnOk written P → result ≢ Err Errors.Unwritten → P
-  tells_written written counts compared result is fine differs =
-      of_written written counts compared (λ told. differs (is ∙ told)) fine
+  reports_written written counts compared result is fine differs =
+      of_written written counts compared (λ reported. differs (is ∙ reported)) fine
 
 module _ {D : Type 0} (bays : List (Option (BayState D))) (total sum : ℕ)
     (all : sum_of_counts (counts_of bays) ≡ total) where
@@ -45,11 +46,11 @@ module _ {D : Type 0} (bays : List (Option (BayState D))) (total sum : ℕ)
       (are, ap sum_of_counts are ∙ all ∙ sym same.1)
   of_counts (Ok done) counts (Err missing) are same = tt
 
-  pub tells_counts : (written : Result Unit Unwritten) (counts : List (Option ℕ)) (compared : Result ℕ SeatsMissing)
+  pub reports_counts : (written : Result Unit Unwritten) (counts : List (Option ℕ)) (compared : Result ℕ SeatsMissing)
       (result : Result (List (Option ℕ)) FinishError) → result ≡ outcome_of written counts compared
       → counts ≡ counts_of bays → IfOk compared (λ found. (found ≡ total) × (sum ≡ total))
       → IfOk result (λ c. (c ≡ counts_of bays) × (sum_of_counts c ≡ sum))
-  tells_counts written counts compared result is are same =
+  reports_counts written counts compared result is are same =
       subst (λ (r : Result (List (Option ℕ)) FinishError). IfOk r (λ c. (c ≡ counts_of bays) × (sum_of_counts c ≡ sum)))
       (sym is) (of_counts written counts compared are same)
 
@@ -61,11 +62,11 @@ module _ {D : Type 0} (bays : List (Option (BayState D))) (total sum : ℕ)
   of_missing (Ok done) counts (Err missing) short =
       (short.0 ∙ sym all, short.1, omega (arith, short.0, short.1, short.2, all))
 
-  pub tells_missing : (written : Result Unit Unwritten) (counts : List (Option ℕ)) (compared : Result ℕ SeatsMissing)
+  pub reports_missing : (written : Result Unit Unwritten) (counts : List (Option ℕ)) (compared : Result ℕ SeatsMissing)
       (result : Result (List (Option ℕ)) FinishError) → result ≡ outcome_of written counts compared
       → IfErr compared (λ m. (m.total ≡ total) × (m.seats ≡ sum) × (m.seats < m.total))
       → IfErr result (λ e. IsShort e (sum_of_counts (counts_of bays)) sum)
-  tells_missing written counts compared result is short =
+  reports_missing written counts compared result is short =
       subst (λ (r : Result (List (Option ℕ)) FinishError).
       IfErr r (λ e. IsShort e (sum_of_counts (counts_of bays)) sum))
       (sym is) (of_missing written counts compared short)
@@ -80,12 +81,12 @@ of_all total sum (Ok done) counts (Ok found) same short = tt
 of_all total sum (Ok done) counts (Err missing) same short =
     absurd (omega (arith, same, short.0, short.1, short.2))
 
-tells_all : (total sum : ℕ) (written : Result Unit Unwritten) (counts : List (Option ℕ))
+reports_all : (total sum : ℕ) (written : Result Unit Unwritten) (counts : List (Option ℕ))
     (compared : Result ℕ SeatsMissing) (result : Result (List (Option ℕ)) FinishError)
     → result ≡ outcome_of written counts compared → sum ≡ total
     → IfErr compared (λ m. (m.total ≡ total) × (m.seats ≡ sum) × (m.seats < m.total))
     → IfErr result (λ e. e ≡ Errors.Unwritten)
-tells_all total sum written counts compared result is same short =
+reports_all total sum written counts compared result is same short =
     subst (λ (r : Result (List (Option ℕ)) FinishError). IfErr r (λ e. e ≡ Errors.Unwritten)) (sym is)
     (of_all total sum written counts compared same short)
 
@@ -99,11 +100,11 @@ pub balances : (seats hosts counted held total sum : ℕ) (written : Result Unit
 balances seats hosts counted held total sum written counts compared result is all summed within same short = record {
   within = omega (arith, all, summed, within);
   same = λ every. all ∙ sym (same every) ∙ summed;
-  all = λ every. tells_all total sum written counts compared result is (same every) short;
+  all = λ every. reports_all total sum written counts compared result is (same every) short;
 }
 
 -- a good end reports the counts alone
-pub told_of : (result : Result (List (Option ℕ)) FinishError) (counts : List (Option ℕ)) (sum : ℕ)
+pub reported_of : (result : Result (List (Option ℕ)) FinishError) (counts : List (Option ℕ)) (sum : ℕ)
     → IfOk result (λ c. (c ≡ counts) × (sum_of_counts c ≡ sum)) → IfOk result (λ c. c ≡ counts)
-told_of (Ok found) counts sum both = both.0
-told_of (Err error) counts sum both = tt
+reported_of (Ok found) counts sum both = both.0
+reported_of (Err error) counts sum both = tt

@@ -5,7 +5,7 @@ use Rattle.volume_core.specs.declared.media.Turn.{Turn}
 use Rattle.bays.specs.Elements.{BayState}
 use Rattle.split_bay.specs.Backs.{BackState, TurnsBack, works_in}
 use Rattle.split_bay.specs.Fronts.{FrontState}
-use Rattle.split_bay.specs.Halves.{Joins, Parts, TellsBoth, is_untold}
+use Rattle.split_bay.specs.Halves.{Joins, Parts, ReportsBoth, is_unreported}
 use Rattle.split_bay.specs.Rings.{SendingState}
 use Rattle.library.specs.Kept.{IsLeftBy}
 
@@ -21,7 +21,7 @@ module _ {D : Type 0} where
   IsAccepted (Some front) count = count ≡ front.drive.accepted
 
 module _ {D : Type 0} (state : D → DiskState) where
-  -- the halves behind two locks are put together so (own)
+  -- the halves behind two locks are put together into this drive (own)
   abbrev pub JoinsHeld : Option (FrontState D) → Option (BackState D) → BayState D → SendingState → Type 0
   JoinsHeld (Some front) (Some back) bay ends = Joins state front back bay ends
   JoinsHeld _ _ bay ends = ⊥
@@ -45,11 +45,11 @@ module _ {D : Type 0} (state : D → DiskState) where
   TurnsHeld _ turn _ = ⊥
 
   -- a fault of the disk's half behind a lock is reported to hosts, if there is one that was not (own)
-  abbrev pub TellsHeld :
+  abbrev pub ReportsHeld :
       Option (FrontState D) → Option (BackState D) → Option (FrontState D) → Option (BackState D) → Type 0
-  TellsHeld (Some front) (Some back) (Some front') (Some back') =
-      TellsBoth state (is_untold state front back) front back front' back'
-  TellsHeld _ _ _ _ = ⊥
+  ReportsHeld (Some front) (Some back) (Some front') (Some back') =
+      ReportsBoth state (is_unreported state front back) front back front' back'
+  ReportsHeld _ _ _ _ = ⊥
 
   -- The halves behind two locks are put together at the end, and the drive takes a turn (own).
   pub record EndsHeld

@@ -40,8 +40,8 @@ module _ {D : Type 0} (state : D → DiskState) where
     pub at_source : KeepsAt source
     pub at_destination : KeepsAt destination
 
-  -- A drive is what a flusher's turn has left of a drive with its invariant. At each moment of the turn a crash leaves
-  -- what the turn's event says. The drive still has its invariant (own).
+  -- A flusher's turn of a drive with its invariant has left this drive. At each moment of the turn a crash leaves what
+  -- the turn's event says. The drive still has its invariant (own).
   pub record IsLeftBy (old bay : BayState D) : Type 0 where
     pub kept : KeepsDrive old
     pub turns : TurnsAt state (Some old) (Some bay)

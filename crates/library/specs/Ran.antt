@@ -26,7 +26,7 @@ module _ {D : Type 0} (state : D → DiskState) where
         RunsScript (has_drive (which_are_there bays)) (AnswersCrew state)
         (record { drives = which_are_there bays; seats = map new_seat hosts }) left before
         (record { drives = which_are_there bays; seats = seats }) now outcome
-    pub told : IfOk counts (λ counted. counted ≡ counts_of bays')
+    pub reported : IfOk counts (λ counted. counted ≡ counts_of bays')
     pub sums : sum_of_counts (counts_of bays') ≡ sum_of_seats seats
 
   -- A library with the same drives as before ended with these slots and drives. Each drive took a turn at the end, and

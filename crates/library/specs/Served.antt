@@ -9,7 +9,7 @@ use Rattle.bays.specs.Bays.{SavesIn}
 use Rattle.drive_core.specs.Alone.{AnswersAlone}
 use Rattle.drive_core.specs.State.{machine_of}
 use Rattle.drive_core.specs.Synchronize.{Acknowledges, IsSynchronizing}
-use Rattle.drive_core.specs.Told.{IsChanging, TellsWriteError}
+use Rattle.drive_core.specs.ShownChanges.{IsChanging, ShowsWriteError}
 use Rattle.drive_core.specs.Work.{Request}
 use Rattle.split_bay.specs.Backs.{BackState}
 use Rattle.split_bay.specs.Fronts.{FrontState, KeepsHostsHalf, LeavesOrders}
@@ -18,10 +18,10 @@ use Rattle.split_bay.specs.Nears.{alone_near, near_below, state_near}
 
 -- A seat grows as the reply to its host's command says. An acknowledged WRITE of at least one byte, WRITE FILEMARKS of
 -- at least one, or ERASE adds one; a write error adds one or nothing; every other reply adds nothing (own).
-pub record GrowsAsTold (cdb : List ℕ) (reply : Reply) (before after : ℕ) : Type 0 where
+pub record GrowsAsShown (cdb : List ℕ) (reply : Reply) (before after : ℕ) : Type 0 where
   pub few : (after ≡ before) ⊎ (after ≡ before + 1)
   pub one : IsChanging cdb → Acknowledges reply → after ≡ before + 1
-  pub none : (IsChanging cdb → Acknowledges reply → ⊥) → (TellsWriteError reply → ⊥) → after ≡ before
+  pub none : (IsChanging cdb → Acknowledges reply → ⊥) → (ShowsWriteError reply → ⊥) → after ≡ before
   pub other : (IsChanging cdb → ⊥) → after ≡ before
 
 -- The seat of the host that gave a command grows by one for each change that a drive accepted with it, as the reply
@@ -31,12 +31,12 @@ pub record SeatGrows (request : Request) (before : SeatState) (reply : Reply) (m
   pub host : request.nexus ≡ before.nexus
   pub nexus : after.nexus ≡ before.nexus
   pub grown : after.amount ≡ before.amount + length made
-  pub told : GrowsAsTold request.cdb reply before.amount after.amount
+  pub reported : GrowsAsShown request.cdb reply before.amount after.amount
 
 module _ {D : Type 0} (state : D → DiskState) where
   -- The hosts' half of a drive answers a host, without the disk's half. What its type keeps holds before and after, and
   -- at each moment inside the command a crash leaves of the reservations what the command's event says. An order is
-  -- saved by the steps of one event. No synchronizing command is acknowledged so (own).
+  -- saved by the steps of one event. No synchronizing command is acknowledged by this half alone (own).
   pub record AnswersFront
       (old : FrontState D) (request : Request) (reply : Reply) (made : List Change) (new : FrontState D) (left : List ℕ)
       : Type 0 where
@@ -61,14 +61,14 @@ module _ {D : Type 0} (state : D → DiskState) where
     pub both : ExecutesBoth state front back request reply left front' back'
     pub made_is : made ≡ both.answers.step.step.taken.made.changes
 
-  -- the hosts' half of some drive answers so (own)
+  -- the hosts' half of some drive gives this answer (own)
   pub record IsAnsweredAlone (request : Request) (reply : Reply) (made : List Change) : Type 0 where
     pub old : FrontState D
     pub new : FrontState D
     pub left : List ℕ
     pub answers : AnswersFront old request reply made new left
 
-  -- both halves of some drive answer so (own)
+  -- both halves of some drive give this answer (own)
   pub record IsAnsweredByBoth (request : Request) (reply : Reply) (made : List Change) : Type 0 where
     pub front : FrontState D
     pub back : BackState D

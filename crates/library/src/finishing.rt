@@ -1,4 +1,4 @@
-//! The end of a library: every buffer is written out, and the drives' counts are compared with the seats.
+//! The end of a library: every buffer is written out, and the drives' counts are compared with the seats' amounts.
 ghost use Rattle.std.specs.Prelude.{◌≡◌, ◌≢◌, ◌+◌, ℕ, Err, Some, IfOk, IfErr, OnOk, OnErr, is_some, length, vec_len};
 ghost use Rattle.vtl_base.specs.declared.limits.TheConstants.{DRIVES};
 ghost use Rattle.ledgers.specs.Ledgers.{no_share};
@@ -27,7 +27,7 @@ use vtl_base::limits::DRIVES;
 /// Why a library did not end well.
 #[derive(Clone, Copy, PartialEq, Eq, Debug, Error)]
 pub enum FinishError {
-    /// The loaded medium of a drive has failed, before it was written out or in that, so not all is stored.
+    /// The loaded medium of a drive has failed, before the last turn or in it. So not all is stored.
     #[error("not all is written out")]
     Unwritten,
     /// The returned seats have fewer changes than the drives accepted, so at least one seat is missing.
@@ -42,20 +42,19 @@ pub struct Finished<D: Disk> {
     pub slots: Slots<Parked<D>>,
     /// The drives, from number 1 on.
     pub bays: Vec<Option<Bay<D>>>,
-    /// How many changes each drive accepted, from number 1 on; the seats have the same sum.
+    /// How many changes each drive accepted, from number 1 on. The seats' amounts have the same sum.
     pub counts: Result<[Option<u64>; 16], FinishError>,
 }
 
 impl<D: Disk + Drop, B: Parties + Rings, H: Parties> Library<D, B, H> {
-    /// Writes every buffer out, by a turn of each drive, and compares the drives' counts with the seats. It
-    /// is for the end, when nobody else shares the library, and takes no memory. A failed medium is reported
-    /// before missing seats.
+    /// Writes every buffer out, by a turn of each drive, and compares the drives' counts with the seats. Call it at the
+    /// end, when nobody else shares the library. It takes no memory. A failed medium is reported before missing seats.
     pub fn finish<R: Wait>(self, rt: &R, seats: Vec<Seat<H>>) -> Finished<D>
         ensures drives { which_are_there result.bays.items ≡ self }
         ensures counts { IfOk result.counts (λ counts. (counts ≡ counts_of result.bays.items)
             × (sum_of_counts counts ≡ sum_of_seats seats.items)) }
 
-        // An error has its cause: a medium has failed, or else the seats have less than the drives.
+        // An error has its cause: a medium has failed, or else the seats have fewer changes than the drives.
         ensures unwritten { result.counts ≡ Err FinishError.Unwritten
             → (number : ℕ) × HasFailedAt D.state (bay_at result.bays.items number) }
         ensures written { result.counts ≢ Err FinishError.Unwritten
@@ -91,7 +90,7 @@ impl<D: Disk + Drop, B: Parties + Rings, H: Parties> Library<D, B, H> {
     }
 }
 
-// The result at the end of a library: what is not written out comes first.
+// The result at the end of a library: a buffer that is not written out is reported first.
 fn outcome(
     written: Result<(), Unwritten>,
     counts: [Option<u64>; 16],

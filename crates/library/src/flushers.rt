@@ -8,7 +8,7 @@ use tape_disk::Disk;
 use volume_core::Turn;
 use vtl_base::DriveNo;
 
-/// What a flusher asks before each turn, and informs after it.
+/// The trait of a gate, which a flusher asks before each turn and informs after it.
 pub trait Gate {
     /// Whether there is to be another turn. No lock is held.
     fn before_turn(&self) -> bool;

@@ -85,7 +85,7 @@ pub(crate) trait Hosts {
     /// The same for a phase without commands.
     ghost answers_empty: { (crew : CrewState) → answers crew (Kinds.Phase [] ∷ []) [] crew };
 
-    /// A run from the end of another extends it.
+    /// A run that starts where another ended extends that run.
     ghost answers_on: { (old mid new : CrewState) (first rest : List Item) (replies others : List Reply)
         → answers old first replies mid → answers mid rest others new
         → answers old (first ++ rest) (replies ++ others) new };

@@ -62,7 +62,7 @@ impl<H: Parties> Job<H> {
         self.replies.clear();
     }
 
-    /// Takes a line, with room for its reply.
+    /// Adds a line, and room for its reply.
     pub(crate) fn add(&mut self, line: &mut Line) -> Result<(), NoMemory>
         requires { self.old.replies ≡ [] }
         ensures same { (self.new.seat ≡ self.old.seat) × (self.new.replies ≡ self.old.replies) }
@@ -98,7 +98,7 @@ impl<H: Parties> Job<H> {
         library.session(rt, seat, lines.as_mut_slice(), replies);
     }
 
-    /// Carries out one line at once. A block takes its data without copying.
+    /// Carries out one line directly. A written block takes the line's data without copying.
     pub(crate) fn serve_line<D: Disk + Drop, B: Parties + Rings, R: Wait>(
         &mut self,
         rt: &R,

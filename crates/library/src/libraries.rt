@@ -20,10 +20,10 @@ use std::sync::{Mutex, Wait};
 use tape_disk::Disk;
 use vtl_base::{Bytes, DriveNo};
 
-/// Slots and drives, and two ledgers of the changes that the drives accepted. Each half of a drive is behind a lock
-/// of its own, the slots are behind one, and the ledgers behind one. The last is taken inside the lock of a drive's
-/// hosts' half, for one entry. The number of drives is `B::all`, that of hosts `H::all`. A contract sees for each drive
-/// number whether there is a drive.
+/// Slots and drives, and two ledgers of the changes that the drives accepted. Each half of a drive is behind a lock of
+/// its own, the slots are behind one, and the ledgers behind one. The lock of the ledgers is taken inside the lock of a
+/// drive's hosts' half, for one entry. The number of drives is `B::all`, that of hosts `H::all`. A contract sees for
+/// each drive number whether there is a drive.
 #[derive(Drop)]
 pub struct Library<D: Disk, B: Parties + Rings, H: Parties> {
     pub(crate) alloc: Global,
@@ -55,9 +55,9 @@ impl<D: Disk + Drop, B: Parties + Rings, H: Parties> Library<D, B, H> {
         self.bays[drive.place()].is_some()
     }
 
-    /// Answers a command of a seat's host to a configured drive. Its data are lent: a block takes them without
-    /// copying; else they stay. The change that the command made, if any, is entered for the drive and for the
-    /// seat.
+    /// Answers a command of a seat's host to a configured drive. The command's data are lent: a written block takes
+    /// them without copying; else the caller still has them. The change that the command made, if any, is entered for
+    /// the drive and for the seat.
     pub fn command<R: Wait>(
         &self,
         rt: &R,

@@ -28,7 +28,7 @@ fn between_slots<D: Disk + Drop>(
 {
     let mut none = None;
     let mut nor = None;
-    // The facts before and after, here and below, for the proof alone.
+    // The facts before and after the call, here and below, for the proof alone.
     known_slots(slots);
     let reply = move_lent(alloc, slots, none.as_mut(), nor.as_mut(), from, to);
     known_slots(slots);

@@ -37,10 +37,10 @@ pub struct NotOpened<D: Disk> {
 }
 
 impl<D: Disk + Drop, B: Parties + Rings, H: Parties> Library<D, B, H> {
-    /// A library with these slots, and these drives, each in the place of its number, and with a seat for
-    /// each host. The drives have accepted no change yet, and the hosts differ; either may be empty. Each
-    /// ledger has a party for each of them, and each drive a ring. Where memory runs out, all parts but the
-    /// rings are returned.
+    /// A library with these slots, and these drives, each in the place of its number, and with a seat for each host.
+    /// The drives have accepted no change yet, and the hosts differ. There may be no drive, and no host. The ledgers
+    /// have a party for each drive and for each host, and each drive has a ring. Where memory runs out, all parts but
+    /// the rings are returned.
     pub fn new(
         alloc: Global,
         bays: Vec<Option<Bay<D>>>,

@@ -14,8 +14,8 @@ use std::sync::Wait;
 use std::thread::Threads;
 use tape_disk::Disk;
 
-/// Carries out the lines of each host. Each host that has lines has a thread of its own; the last has the
-/// caller's.
+/// Carries out the lines of each host. Each host that has lines has a thread of its own. The last host runs in the
+/// caller's thread.
 pub(crate) fn serve_all<
     'a,
     D: Disk + Drop + Send,

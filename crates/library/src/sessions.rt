@@ -17,8 +17,8 @@ use vtl_base::NoMemory;
 use vtl_script::Line;
 
 impl<D: Disk + Drop, B: Parties + Rings, H: Parties> Library<D, B, H> {
-    /// Carries out the commands of these lines for the host of a seat, in order, each on the drive that it
-    /// names, and returns their replies. A block takes its data without copying. Where memory runs out, no
+    /// Carries out the commands of these lines for the host of a seat, in order, each on the drive that it names, and
+    /// returns their replies. A written block takes the data of its line without copying. Where memory runs out, no
     /// line is carried out.
     pub fn host_session<R: Wait>(
         &self,
@@ -57,7 +57,8 @@ impl<D: Disk + Drop, B: Parties + Rings, H: Parties> Library<D, B, H> {
         }
     }
 
-    // Carries out the command of a line, on the drive that it names. A block takes its data without copying.
+    // Carries out the command of a line, on the drive that it names. A written block takes the line's data without
+    // copying.
     pub(crate) fn serve_line<R: Wait>(&self, rt: &R, seat: &mut Seat<H>, line: &mut Line) -> Reply
         requires host { line.old.host ≡ seat.old.nexus }
         requires configured { has_drive self.now line.old.drive ≡ true }

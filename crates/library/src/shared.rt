@@ -15,8 +15,8 @@ use tape_disk::Disk;
 use volume_core::Turn;
 use vtl_base::Bytes;
 
-/// A drive in two halves, each behind a lock, and the condition variable that wakes its flusher after a change. Who
-/// takes both locks takes that of the hosts' half first.
+/// A drive in two halves, each behind a lock, and the condition variable that wakes its flusher after a change. A
+/// thread that takes both locks takes that of the hosts' half first.
 #[derive(Drop)]
 pub struct SharedBay<D: Disk, B: Parties + Rings> {
     pub(crate) front: Mutex<FrontPlace<D, B>>,
@@ -80,8 +80,8 @@ impl<D: Disk + Drop, B: Parties + Rings> SharedBay<D, B> {
         }
     }
 
-    // Takes a flusher's turn, with the disk's half alone locked. The count of changes is that before the turn, so a
-    // change that comes meanwhile is one more.
+    // Takes a flusher's turn, with the disk's half alone locked. Returns the count of changes before the turn, so that
+    // a change during the turn raises the count.
     pub(crate) fn take_turn<R: Wait, G: Gate>(&self, rt: &R, gate: &G) -> (Turn, u64) {
         let count = self.front.lock(rt).accepted();
         let turn = self.turn(rt, gate);
@@ -100,8 +100,8 @@ impl<D: Disk + Drop, B: Parties + Rings> SharedBay<D, B> {
         back.turn()
     }
 
-    // Lets hosts send as much again as the buffer takes, under both locks. No turn is under way then, so that a host
-    // which sends less than that during a turn never waits for one.
+    // Lets hosts send as much again as the buffer takes, under both locks. No turn runs meanwhile. So a host that sends
+    // less than that during a turn never waits for the turn.
     fn renew<R: Wait>(&self, rt: &R) {
         let mut front = self.front.lock(rt);
         let mut back = self.back.lock(rt);
@@ -123,8 +123,8 @@ impl<D: Disk + Drop, B: Parties + Rings> SharedBay<D, B> {
         });
     }
 
-    // Wakes the thread that waits for a change. The lock is taken first, so that no thread is between look
-    // and sleep.
+    // Wakes the thread that waits for a change. The lock is taken first, so that no thread stands between its test and
+    // its sleep.
     pub(crate) fn ring<R: Wait>(&self, rt: &R) {
         let _held = self.front.lock(rt);
         self.bell.notify_all();

@@ -22,8 +22,7 @@ use tape_disk::Disk;
 use vtl_base::{DriveNo, NoMemory};
 use vtl_script::Line;
 
-/// The hosts of a library, from number 1 on. A contract sees which drives there are, and the job of each
-/// host.
+/// The hosts of a library, from number 1 on. A contract sees which drives are configured, and the job of each host.
 #[derive(Drop)]
 pub(crate) struct Stage<'a, D: Disk, B: Parties + Rings, H: Parties, R> {
     pub(crate) rt: &'a R,

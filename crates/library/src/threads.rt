@@ -14,8 +14,8 @@ pub(crate) trait Idle {
     fn is_idle(&self) -> bool;
 }
 
-/// Calls a function on each of these, in order of their places. Each that has something to do has a thread of
-/// its own; the last has the caller's.
+/// Calls a function on each of these values, in the order of their places. Each value that has something to do has a
+/// thread of its own. The last one runs in the caller's thread.
 #[cycle(each)]
 pub(crate) fn each_beside<R: Threads + Sync, T: Idle + Send, F: Fn(usize, &mut T) + Sync>(
     rt: &R,
@@ -37,7 +37,7 @@ pub(crate) fn each_beside<R: Threads + Sync, T: Idle + Send, F: Fn(usize, &mut T
     }
 }
 
-// Calls it on the first one in a new thread, and on the others beside it.
+// Calls the function on the first value in a new thread, and on the others beside it.
 #[cycle(each)]
 fn first_beside<R: Threads + Sync, T: Idle + Send, F: Fn(usize, &mut T) + Sync>(
     rt: &R,
@@ -62,7 +62,7 @@ fn first_beside<R: Threads + Sync, T: Idle + Send, F: Fn(usize, &mut T) + Sync>(
     thread::join_mut(rt, &mut one, &mut others);
 }
 
-// Calls it on the only one of these.
+// Calls the function on the only one of these values.
 fn at_first<T, F: Fn(usize, &mut T)>(f: &F, first: &mut [T])
     requires one { length first.old ≡ 1 }
     requires first { All (AcceptsAt F.Fn f.now 0) first.old }
@@ -71,7 +71,7 @@ fn at_first<T, F: Fn(usize, &mut T)>(f: &F, first: &mut [T])
     at_one(f, &mut first[0]);
 }
 
-// Calls it in this thread.
+// Calls the function on this value, in this thread.
 fn at_one<T, F: Fn(usize, &mut T)>(f: &F, item: &mut T)
     requires { AcceptsAt F.Fn f.now 0 item.old }
     ensures { ChangesAt F.Fn f.now 0 item.old item.new }

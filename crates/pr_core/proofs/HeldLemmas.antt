@@ -97,9 +97,9 @@ held_of new keys (Some made) same held = held_as_of (is_for_all made.kind) new k
 
 -- the next state of an effect that meets the rules is sound
 pub sound_of :
-    (effect : Effect) (answer : PrAnswer) (told : List AttentionSet) (new : PrState)
-    → Kept effect → Brings effect answer told new → IsSound new
-sound_of effect answer told new kept brings = record {
+    (effect : Effect) (answer : PrAnswer) (established : List AttentionSet) (new : PrState)
+    → Kept effect → Brings effect answer established new → IsSound new
+sound_of effect answer established new kept brings = record {
   all = brings.keys.all;
   keys =
       none_in (has_key new 0) (λ nexus is.

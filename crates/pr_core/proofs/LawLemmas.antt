@@ -29,13 +29,15 @@ same_states one other keys reservation aptpl generation =
     ∙ ap (λ (count : ℕ). state_of other.keys other.reservation other.aptpl count) generation))
 
 pub one_end :
-    (old : PrState) (nexus : ℕ) (order : PrOut) (answer other_answer : PrAnswer) (told other_told : List AttentionSet)
+    (old : PrState) (nexus : ℕ) (order : PrOut) (answer other_answer : PrAnswer)
+    (established other_established : List AttentionSet)
     (new other : PrState)
-    → Orders old nexus order answer told new → Orders old nexus order other_answer other_told other
-    → (answer ≡ other_answer) × (told ≡ other_told) × (new ≡ other)
-one_end old nexus order answer other_answer told other_told new other first second = (
+    → Orders old nexus order answer established new → Orders old nexus order other_answer other_established other
+    → (answer ≡ other_answer) × (established ≡ other_established) × (new ≡ other)
+one_end old nexus order answer other_answer established other_established new other first second = (
   first.answered ∙ sym second.answered,
-  same_rows no_attentions told other_told (effect_of old nexus order).told first.tells second.tells,
+  same_rows no_attentions established other_established (effect_of old nexus order).established first.establishes
+      second.establishes,
   same_states new other
       (same_rows None new.keys other.keys (effect_of old nexus order).keys first.keys second.keys)
       (first.reservation ∙ sym second.reservation) (first.aptpl ∙ sym second.aptpl)
@@ -45,10 +47,10 @@ one_end old nexus order answer other_answer told other_told new other first seco
 -- each effect has an answer, conditions and a next state
 some_end :
     (effect : Effect)
-    → (answer : PrAnswer) × (told : List AttentionSet) × (new : PrState) × Brings effect answer told new
+    → (answer : PrAnswer) × (established : List AttentionSet) × (new : PrState) × Brings effect answer established new
 some_end effect = (
   effect.answer,
-  map effect.told (range_with_len 1 NEXUSES),
+  map effect.established (range_with_len 1 NEXUSES),
   state_of (map effect.keys (range_with_len 1 NEXUSES)) effect.reservation effect.aptpl effect.generation,
   record {
     answered = refl;
@@ -56,13 +58,14 @@ some_end effect = (
     reservation = refl;
     aptpl = refl;
     generation = refl;
-    tells = row_shows no_attentions effect.told;
+    establishes = row_shows no_attentions effect.established;
   },
 )
 
 pub an_end :
     (old : PrState) (nexus : ℕ) (order : PrOut)
-    → (answer : PrAnswer) × (told : List AttentionSet) × (new : PrState) × Orders old nexus order answer told new
+    → (answer : PrAnswer) × (established : List AttentionSet) × (new : PrState)
+    × Orders old nexus order answer established new
 an_end old nexus order = some_end (effect_of old nexus order)
 
 -- a second loss of power of a state, by its fields

@@ -246,10 +246,10 @@ keeps state nexus (Preempt key preempted kind) sound =
 keeps state nexus (RegisterAndIgnoreExistingKey new_key aptpl) sound = ignore_keeps state nexus new_key aptpl sound
 
 pub orders_keep :
-    (old : PrState) (nexus : ℕ) (order : PrOut) (answer : PrAnswer) (told : List AttentionSet) (new : PrState)
-    → IsSound old → Orders old nexus order answer told new → IsSound new
-orders_keep old nexus order answer told new sound orders =
-    sound_of (effect_of old nexus order) answer told new (keeps old nexus order sound) orders
+    (old : PrState) (nexus : ℕ) (order : PrOut) (answer : PrAnswer) (established : List AttentionSet) (new : PrState)
+    → IsSound old → Orders old nexus order answer established new → IsSound new
+orders_keep old nexus order answer established new sound orders =
+    sound_of (effect_of old nexus order) answer established new (keeps old nexus order sound) orders
 
 pub empty_is_sound : IsSound empty_state
 empty_is_sound =

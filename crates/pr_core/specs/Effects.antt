@@ -16,28 +16,28 @@ pub record Effect : Type 0 where
   pub reservation : Option Reservation
   pub aptpl : Bool
   pub generation : ℕ
-  pub told : ℕ → AttentionSet
+  pub established : ℕ → AttentionSet
 
 -- the answer, the conditions for each nexus and the next state are those of an effect (own)
-pub record Brings (effect : Effect) (answer : PrAnswer) (told : List AttentionSet) (new : PrState) : Type 0 where
+pub record Brings (effect : Effect) (answer : PrAnswer) (established : List AttentionSet) (new : PrState) : Type 0 where
   pub answered : answer ≡ effect.answer
   pub keys : Shows None new.keys effect.keys
   pub reservation : new.reservation ≡ effect.reservation
   pub aptpl : new.aptpl ≡ effect.aptpl
   pub generation : new.generation ≡ effect.generation
-  pub tells : Shows no_attentions told effect.told
+  pub establishes : Shows no_attentions established effect.established
 
 -- this unit attention condition and no other (own)
 abbrev pub only : Attention → AttentionSet
 only attention = with_attention attention no_attentions
 
 -- no condition for any nexus (own)
-abbrev pub tells_nobody : ℕ → AttentionSet
-tells_nobody nexus = no_attentions
+abbrev pub establishes_none : ℕ → AttentionSet
+establishes_none nexus = no_attentions
 
 -- this condition for the nexuses of a set, and none for any other (own)
-abbrev pub tells : Nexuses → Attention → ℕ → AttentionSet
-tells set attention nexus = if set nexus then only attention else no_attentions
+abbrev pub establishes : Nexuses → Attention → ℕ → AttentionSet
+establishes set attention nexus = if set nexus then only attention else no_attentions
 
 -- nothing changes, and no condition is established (SPC-4, PERSISTENT RESERVE OUT)
 abbrev pub stays : PrAnswer → PrState → Effect
@@ -47,7 +47,7 @@ stays answer state = record {
   reservation = state.reservation;
   aptpl = state.aptpl;
   generation = state.generation;
-  told = tells_nobody;
+  established = establishes_none;
 }
 
 -- the generation plus one; it wraps at 32 bits (SPC-4, PRGENERATION)

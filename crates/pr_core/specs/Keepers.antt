@@ -9,7 +9,7 @@ use Rattle.pr_core.specs.declared.keepers.KeeperError.TheVariants.{NoMemory, Sid
 pub record KeeperState : Type 0 where
   -- the state that was saved last; None for a keeper that saves nothing
   pub saved : Option PrState
-  -- for a keeper that has failed, the state whose save was under way: it may have been saved or not
+  -- for a keeper that has failed, the state whose save was in flight: it may have been saved or not
   pub torn : Option PrState
   pub failed : Bool
   -- the bytes that may still be added; None for no bound

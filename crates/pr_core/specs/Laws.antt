@@ -13,21 +13,23 @@ use Rattle.pr_core.specs.Saves.{AreSavedAlike, needs_save}
 abbrev pub EachOrderEnds : Type 0
 EachOrderEnds =
     (old : PrState) (nexus : ℕ) (order : PrOut)
-    → (answer : PrAnswer) × (told : List AttentionSet) × (new : PrState) × Orders old nexus order answer told new
+    → (answer : PrAnswer) × (established : List AttentionSet) × (new : PrState)
+    × Orders old nexus order answer established new
 
 -- each order has at most one answer, one set of conditions for each nexus, and one next state (own)
 abbrev pub NoOrderEndsTwice : Type 0
 NoOrderEndsTwice =
-    (old : PrState) (nexus : ℕ) (order : PrOut) (answer other_answer : PrAnswer) (told other_told : List AttentionSet)
+    (old : PrState) (nexus : ℕ) (order : PrOut) (answer other_answer : PrAnswer)
+    (established other_established : List AttentionSet)
     (new other : PrState)
-    → Orders old nexus order answer told new → Orders old nexus order other_answer other_told other
-    → (answer ≡ other_answer) × (told ≡ other_told) × (new ≡ other)
+    → Orders old nexus order answer established new → Orders old nexus order other_answer other_established other
+    → (answer ≡ other_answer) × (established ≡ other_established) × (new ≡ other)
 
 -- a state that meets the rules leads to another that meets them (own)
 abbrev pub OrdersKeepRules : Type 0
 OrdersKeepRules =
-    (old : PrState) (nexus : ℕ) (order : PrOut) (answer : PrAnswer) (told : List AttentionSet) (new : PrState)
-    → IsSound old → Orders old nexus order answer told new → IsSound new
+    (old : PrState) (nexus : ℕ) (order : PrOut) (answer : PrAnswer) (established : List AttentionSet) (new : PrState)
+    → IsSound old → Orders old nexus order answer established new → IsSound new
 
 -- the state with no registration and no reservation meets the rules (own)
 abbrev pub EmptyKeepsRules : Type 0

@@ -21,4 +21,4 @@ effect_of state nexus (RegisterAndIgnoreExistingKey new_key aptpl) = register_an
 
 -- the answer, the conditions and the next state are those of this order of a nexus (SPC-4, PERSISTENT RESERVE OUT)
 abbrev pub Orders : PrState → ℕ → PrOut → PrAnswer → List AttentionSet → PrState → Type 0
-Orders old nexus order answer told new = Brings (effect_of old nexus order) answer told new
+Orders old nexus order answer established new = Brings (effect_of old nexus order) answer established new

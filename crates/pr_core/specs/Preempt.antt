@@ -8,7 +8,7 @@ use Rattle.pr_core.specs.declared.states.PrState.{PrState}
 use Rattle.pr_core.specs.declared.states.PrAnswer.TheVariants.{Good, Conflict, BadType, BadKey}
 use Rattle.pr_core.specs.Sets.{Nexuses, but, is_named_in, is_some_in, minus}
 use Rattle.pr_core.specs.States.{others, has_key, made_by, is_for_all}
-use Rattle.pr_core.specs.Effects.{Effect, stays, only, tells, raised, keys_without}
+use Rattle.pr_core.specs.Effects.{Effect, stays, only, establishes, raised, keys_without}
 use Rattle.pr_core.specs.Reserve.{is_same_type}
 
 -- the nexuses registered with the key, without the requester (SPC-4, PREEMPT; the requester own)
@@ -16,14 +16,14 @@ abbrev pub preempted_by : PrState → ℕ → ℕ → Nexuses
 preempted_by state nexus key = but (has_key state key) nexus
 
 -- the other nexuses that stay registered, where the type changes: the release is reported to them (own)
-abbrev pub told_of_type : PrState → ℕ → Nexuses → PrType → PrType → Nexuses
-told_of_type state nexus removed was kind other =
+abbrev pub released_by_type : PrState → ℕ → Nexuses → PrType → PrType → Nexuses
+released_by_type state nexus removed was kind other =
     not (is_same_type was kind) && minus (others state nexus) removed other
 
 -- The conditions of a preemption: registrations preempted for the removed nexuses, reservations released for some
 -- others (SPC-4, PREEMPT).
-abbrev pub told_of_preemption : Nexuses → Nexuses → ℕ → AttentionSet
-told_of_preemption removed released nexus =
+abbrev pub established_by_preemption : Nexuses → Nexuses → ℕ → AttentionSet
+established_by_preemption removed released nexus =
     if removed nexus then only RegistrationsPreempted
     else if released nexus then only ReservationsReleased else no_attentions
 
@@ -34,7 +34,7 @@ takes_over state nexus removed was kind = record (stays Good state) {
   keys = keys_without state removed;
   reservation = Some (made_by nexus kind);
   generation = raised state.generation;
-  told = told_of_preemption removed (told_of_type state nexus removed was kind);
+  established = established_by_preemption removed (released_by_type state nexus removed was kind);
 }
 
 -- the same by the block's scope and type: it is refused where no reservation has these (own)
@@ -63,7 +63,7 @@ abbrev pub preempt_registrants : PrState → ℕ → ℕ → Effect
 preempt_registrants state nexus key = record (stays Good state) {
   keys = keys_without state (preempted_by state nexus key);
   generation = raised state.generation;
-  told = tells (preempted_by state nexus key) RegistrationsPreempted;
+  established = establishes (preempted_by state nexus key) RegistrationsPreempted;
 }
 
 -- the key is that of the single holder of this reservation (SPC-4, PREEMPT)

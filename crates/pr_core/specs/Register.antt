@@ -7,7 +7,7 @@ use Rattle.pr_core.specs.declared.states.PrState.{PrState}
 use Rattle.pr_core.specs.declared.states.PrAnswer.TheVariants.{Good, Conflict}
 use Rattle.pr_core.specs.Sets.{is_some_in}
 use Rattle.pr_core.specs.States.{key_of, others, is_for_all, is_for_registrants_only, is_number}
-use Rattle.pr_core.specs.Effects.{Effect, stays, tells, tells_nobody, raised, keys_without, with_key}
+use Rattle.pr_core.specs.Effects.{Effect, stays, establishes, establishes_none, raised, keys_without, with_key}
 
 -- a nexus is registered with a key, which replaces the old one (SPC-4, REGISTER)
 abbrev pub registers : PrState → ℕ → ℕ → Bool → Effect
@@ -28,11 +28,11 @@ left_without (Some reservation) state nexus =
 
 -- where a reservation of types 5 or 6 ends because its holder unregisters, the release is reported to the others
 -- (SPC-4, unregistering)
-abbrev pub told_without : Option Reservation → PrState → ℕ → ℕ → AttentionSet
-told_without None state nexus = tells_nobody
-told_without (Some reservation) state nexus =
+abbrev pub established_without : Option Reservation → PrState → ℕ → ℕ → AttentionSet
+established_without None state nexus = establishes_none
+established_without (Some reservation) state nexus =
     if is_for_registrants_only reservation.kind && ends_without reservation state nexus
-    then tells (others state nexus) ReservationsReleased else tells_nobody
+    then establishes (others state nexus) ReservationsReleased else establishes_none
 
 -- a registered nexus is unregistered (SPC-4, unregistering)
 abbrev pub unregisters : PrState → ℕ → Bool → Effect
@@ -42,7 +42,7 @@ unregisters state nexus aptpl = record {
   reservation = left_without state.reservation state nexus;
   aptpl = aptpl;
   generation = raised state.generation;
-  told = told_without state.reservation state nexus;
+  established = established_without state.reservation state nexus;
 }
 
 -- the key 0 unregisters a nexus; where the nexus is not registered, nothing changes (SPC-4, REGISTER)

@@ -8,7 +8,7 @@ use Rattle.pr_core.specs.declared.states.Reservation.{Reservation}
 use Rattle.pr_core.specs.declared.states.PrState.{PrState}
 use Rattle.pr_core.specs.declared.states.PrAnswer.TheVariants.{Good, Conflict, BadRelease}
 use Rattle.pr_core.specs.States.{others, holds_this, made_by, is_for_registrants}
-use Rattle.pr_core.specs.Effects.{Effect, stays, tells, tells_nobody, raised}
+use Rattle.pr_core.specs.Effects.{Effect, stays, establishes, establishes_none, raised}
 
 -- two types are the same (own)
 abbrev pub is_same_type : PrType → PrType → Bool
@@ -30,15 +30,15 @@ abbrev pub reserve : PrState → ℕ → PrType → Effect
 reserve state nexus kind = reserve_under state.reservation state nexus kind
 
 -- for types 5 to 8 the release is reported to the other registered nexuses (SPC-4, RELEASE)
-abbrev pub told_of_release : Reservation → PrState → ℕ → ℕ → AttentionSet
-told_of_release held state nexus =
-    if is_for_registrants held.kind then tells (others state nexus) ReservationsReleased else tells_nobody
+abbrev pub established_by_release : Reservation → PrState → ℕ → ℕ → AttentionSet
+established_by_release held state nexus =
+    if is_for_registrants held.kind then establishes (others state nexus) ReservationsReleased else establishes_none
 
 -- a holder releases its reservation; another type is refused (SPC-4, RELEASE)
 abbrev pub release_held : Reservation → PrState → ℕ → PrType → Effect
 release_held held state nexus kind =
     if is_same_type held.kind kind
-    then record (stays Good state) { reservation = None; told = told_of_release held state nexus }
+    then record (stays Good state) { reservation = None; established = established_by_release held state nexus }
     else stays BadRelease state
 
 -- a registered nexus releases a reservation; where there is none, or another holds it, nothing changes (SPC-4, RELEASE)
@@ -58,5 +58,5 @@ clear state nexus = record (stays Good state) {
   keys = λ other. None;
   reservation = None;
   generation = raised state.generation;
-  told = tells (others state nexus) ReservationsPreempted;
+  established = establishes (others state nexus) ReservationsPreempted;
 }

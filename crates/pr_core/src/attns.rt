@@ -3,7 +3,7 @@ ghost use Rattle.std.specs.Prelude.{◌≡◌, length};
 ghost use Rattle.vtl_base.specs.declared.limits.TheConstants.{NEXUSES};
 ghost use Rattle.scsi_attention.specs.AttentionSets.{no_attentions};
 ghost use Rattle.pr_core.specs.Sets.{Shows, row_at};
-ghost use Rattle.pr_core.specs.Effects.{only, tells_nobody};
+ghost use Rattle.pr_core.specs.Effects.{only, establishes_none};
 
 use crate::rows::place_of;
 use scsi_attention::{Attention, AttnSet};
@@ -43,7 +43,7 @@ pub(crate) fn only(attention: Attention) -> AttnSet
 impl Attns {
     /// No condition for any nexus.
     pub fn none() -> Self
-        ensures { Shows no_attentions result tells_nobody }
+        ensures { Shows no_attentions result establishes_none }
     {
         Attns {
             sets: [AttnSet::empty(); 64],

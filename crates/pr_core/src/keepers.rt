@@ -1,4 +1,4 @@
-//! Where the reservations of a drive are saved to outlive a loss of power.
+//! The keeper of a drive's reservations, which saves them so that they outlive a loss of power.
 ghost use Rattle.std.specs.Prelude.{◌≡◌, [], ◌++◌, List, Ok, false};
 ghost use Rattle.vtl_base.specs.Below.{Below, Advances};
 ghost use Rattle.pr_core.specs.declared.states.PrState.{PrState};

@@ -4,7 +4,7 @@ ghost use Rattle.vtl_base.specs.declared.limits.TheConstants.{NEXUSES};
 ghost use Rattle.scsi_attention.specs.AttentionSets.{no_attentions};
 ghost use Rattle.pr_core.specs.Sets.{Shows, row_at};
 ghost use Rattle.pr_core.specs.States.{others};
-ghost use Rattle.pr_core.specs.Effects.{Brings, raised, stays, tells, keys_without};
+ghost use Rattle.pr_core.specs.Effects.{Brings, raised, stays, establishes, keys_without};
 ghost use Rattle.pr_core.specs.Orders.{Orders};
 
 use crate::attns::{Attns, only};
@@ -19,7 +19,7 @@ use vtl_base::Nexus;
 pub(crate) struct Outcome {
     pub(crate) answer: PrAnswer,
     pub(crate) state: PrState,
-    pub(crate) told: Attns,
+    pub(crate) established: Attns,
 }
 
 pub(crate) fn raised(generation: u32) -> u32
@@ -32,7 +32,7 @@ impl PrState {
     // Carries out an order of a nexus.
     pub(crate) fn ordered(&self, nexus: Nexus, order: &PrOut) -> Outcome
         requires { length self.now.keys ≡ NEXUSES }
-        ensures { Orders self.now nexus order.now result.answer result.told result.state }
+        ensures { Orders self.now nexus order.now result.answer result.established result.state }
     {
         match *order {
             PrOut::Register {
@@ -61,18 +61,18 @@ impl PrState {
     // Nothing changes, and no condition is established.
     pub(crate) fn stays(&self, answer: PrAnswer) -> Outcome
         requires { length self.now.keys ≡ NEXUSES }
-        ensures { Brings (stays answer self.now) result.answer result.told result.state }
+        ensures { Brings (stays answer self.now) result.answer result.established result.state }
     {
         Outcome {
             answer,
             state: *self,
-            told: Attns::none(),
+            established: Attns::none(),
         }
     }
 
     // The conditions for another nexus, where this one is established for the other registered nexuses.
-    fn tells_other(&self, nexus: Nexus, attention: Attention, other: Nexus) -> AttnSet
-        ensures { result ≡ tells (others self.now nexus) attention other }
+    fn established_for(&self, nexus: Nexus, attention: Attention, other: Nexus) -> AttnSet
+        ensures { result ≡ establishes (others self.now nexus) attention other }
     {
         if self.is_other(nexus, other) {
             only(attention)
@@ -82,11 +82,11 @@ impl PrState {
     }
 
     // This condition for the other registered nexuses.
-    pub(crate) fn tells_others(&self, nexus: Nexus, attention: Attention) -> Attns
-        ensures { Shows no_attentions result (tells (others self.now nexus) attention) }
+    pub(crate) fn establishes_for_others(&self, nexus: Nexus, attention: Attention) -> Attns
+        ensures { Shows no_attentions result (establishes (others self.now nexus) attention) }
     {
         Attns::from_row(row_of(AttnSet::empty(), |other| {
-            self.tells_other(nexus, attention, other)
+            self.established_for(nexus, attention, other)
         }))
     }
 

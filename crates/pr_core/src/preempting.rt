@@ -5,7 +5,7 @@ ghost use Rattle.scsi_attention.specs.AttentionSets.{no_attentions};
 ghost use Rattle.pr_core.specs.Sets.{Shows, minus, row_at};
 ghost use Rattle.pr_core.specs.States.{others};
 ghost use Rattle.pr_core.specs.Effects.{Brings};
-ghost use Rattle.pr_core.specs.Preempt.{is_key_of_holder, preempt, preempt_registrants, preempt_zero, preempted_by, takes_over_as, told_of_preemption, told_of_type};
+ghost use Rattle.pr_core.specs.Preempt.{is_key_of_holder, preempt, preempt_registrants, preempt_zero, preempted_by, takes_over_as, established_by_preemption, released_by_type};
 
 use crate::attns::{Attns, only};
 use crate::machine::{Outcome, is_in, raised};
@@ -17,8 +17,8 @@ use scsi_lists::PrType;
 use vtl_base::Nexus;
 
 // The conditions that a preemption establishes for a nexus: it is removed, or the reservation was released.
-fn told_by_preemption(removed: &[bool; 64], released: &[bool; 64], nexus: Nexus) -> AttnSet
-    ensures { result ≡ told_of_preemption (row_at false removed.now) (row_at false released.now) nexus }
+fn preemption_establishes(removed: &[bool; 64], released: &[bool; 64], nexus: Nexus) -> AttnSet
+    ensures { result ≡ established_by_preemption (row_at false removed.now) (row_at false released.now) nexus }
 {
     if is_in(removed, nexus) {
         only(Attention::RegistrationsPreempted)
@@ -30,19 +30,19 @@ fn told_by_preemption(removed: &[bool; 64], released: &[bool; 64], nexus: Nexus)
 }
 
 // The conditions that a preemption establishes for each nexus.
-fn told_of_preemption(removed: &[bool; 64], released: &[bool; 64]) -> Attns
+fn established_by_preemption(removed: &[bool; 64], released: &[bool; 64]) -> Attns
     ensures { (gone freed : _) → Shows false removed.now gone → Shows false released.now freed
-        → Shows no_attentions result (told_of_preemption gone freed) }
+        → Shows no_attentions result (established_by_preemption gone freed) }
 {
     Attns::from_row(row_of(AttnSet::empty(), |nexus| {
-        told_by_preemption(removed, released, nexus)
+        preemption_establishes(removed, released, nexus)
     }))
 }
 
 impl PrState {
     pub(crate) fn preempt(&self, nexus: Nexus, key: u64, kind: Option<PrType>) -> Outcome
         requires { length self.now.keys ≡ NEXUSES }
-        ensures { Brings (preempt self.now nexus key kind) result.answer result.told result.state }
+        ensures { Brings (preempt self.now nexus key kind) result.answer result.established result.state }
     {
         if key == 0 {
             return self.preempt_zero(nexus, kind);
@@ -65,7 +65,7 @@ impl PrState {
     fn preempt_zero(&self, nexus: Nexus, kind: Option<PrType>) -> Outcome
         requires { length self.now.keys ≡ NEXUSES }
         ensures { Brings (preempt_zero self.now.reservation self.now nexus kind)
-            result.answer result.told result.state }
+            result.answer result.established result.state }
     {
         let Some(held) = &self.reservation else {
             return self.stays(PrAnswer::BadKey);
@@ -80,7 +80,7 @@ impl PrState {
 
     // The registrations with the key are removed, and the reservation stays.
     fn preempt_registrants(&self, nexus: Nexus, key: u64) -> Outcome
-        ensures { Brings (preempt_registrants self.now nexus key) result.answer result.told result.state }
+        ensures { Brings (preempt_registrants self.now nexus key) result.answer result.established result.state }
     {
         let removed = self.preempted_by(nexus, key);
         Outcome {
@@ -91,7 +91,7 @@ impl PrState {
                 aptpl: self.aptpl,
                 generation: raised(self.generation),
             },
-            told: told_of_preemption(&removed, &[false; 64]),
+            established: established_by_preemption(&removed, &[false; 64]),
         }
     }
 
@@ -105,12 +105,12 @@ impl PrState {
     ) -> Outcome
         requires { length self.now.keys ≡ NEXUSES }
         ensures { (set : _) → Shows false removed.now set
-            → Brings (takes_over_as kind self.now nexus set was) result.answer result.told result.state }
+            → Brings (takes_over_as kind self.now nexus set was) result.answer result.established result.state }
     {
         let Some(kind) = kind else {
             return self.stays(PrAnswer::BadType);
         };
-        let released = self.told_of_type(nexus, removed, was, kind);
+        let released = self.released_by_type(nexus, removed, was, kind);
         Outcome {
             answer: PrAnswer::Good,
             state: PrState {
@@ -119,12 +119,12 @@ impl PrState {
                 aptpl: self.aptpl,
                 generation: raised(self.generation),
             },
-            told: told_of_preemption(removed, &released),
+            established: established_by_preemption(removed, &released),
         }
     }
 
     // Whether the release is reported to another nexus: it stays registered, and the type changes.
-    fn is_told_of_type(
+    fn is_released_by_type(
         &self,
         nexus: Nexus,
         removed: &[bool; 64],
@@ -137,7 +137,7 @@ impl PrState {
     }
 
     // The other nexuses that stay registered, where the type changes.
-    fn told_of_type(
+    fn released_by_type(
         &self,
         nexus: Nexus,
         removed: &[bool; 64],
@@ -145,12 +145,12 @@ impl PrState {
         kind: PrType,
     ) -> [bool; 64]
         ensures { (set : _) → Shows false removed.now set
-            → Shows false result (told_of_type self.now nexus set was kind) }
+            → Shows false result (released_by_type self.now nexus set was kind) }
     {
         let changed = !is_same_type(was, kind);
         row_of(
             false,
-            |other| self.is_told_of_type(nexus, removed, changed, other),
+            |other| self.is_released_by_type(nexus, removed, changed, other),
         )
     }
 

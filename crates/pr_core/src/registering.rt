@@ -5,7 +5,7 @@ ghost use Rattle.scsi_attention.specs.AttentionSets.{no_attentions};
 ghost use Rattle.pr_core.specs.Sets.{Shows};
 ghost use Rattle.pr_core.specs.States.{key_of};
 ghost use Rattle.pr_core.specs.Effects.{Brings, with_key};
-ghost use Rattle.pr_core.specs.Register.{ends_without, left_without, register, register_and_ignore, registers, shows_key, told_without, unregisters};
+ghost use Rattle.pr_core.specs.Register.{ends_without, left_without, register, register_and_ignore, registers, shows_key, established_without, unregisters};
 
 use crate::attns::Attns;
 use crate::machine::{Outcome, raised};
@@ -24,7 +24,7 @@ fn is_same(nexus: Nexus, other: Nexus) -> bool
 impl PrState {
     pub(crate) fn register(&self, nexus: Nexus, key: u64, new_key: u64, aptpl: bool) -> Outcome
         requires { length self.now.keys ≡ NEXUSES }
-        ensures { Brings (register self.now nexus key new_key aptpl) result.answer result.told result.state }
+        ensures { Brings (register self.now nexus key new_key aptpl) result.answer result.established result.state }
     {
         if !self.shows_key(nexus, key) {
             return self.stays(PrAnswer::Conflict);
@@ -34,7 +34,8 @@ impl PrState {
 
     pub(crate) fn register_and_ignore(&self, nexus: Nexus, new_key: u64, aptpl: bool) -> Outcome
         requires { length self.now.keys ≡ NEXUSES }
-        ensures { Brings (register_and_ignore self.now nexus new_key aptpl) result.answer result.told result.state }
+        ensures { Brings (register_and_ignore self.now nexus new_key aptpl) result.answer result.established
+            result.state }
     {
         if new_key != 0 {
             return self.registers(nexus, new_key, aptpl);
@@ -46,7 +47,7 @@ impl PrState {
     }
 
     fn registers(&self, nexus: Nexus, key: u64, aptpl: bool) -> Outcome
-        ensures { Brings (registers self.now nexus key aptpl) result.answer result.told result.state }
+        ensures { Brings (registers self.now nexus key aptpl) result.answer result.established result.state }
     {
         Outcome {
             answer: PrAnswer::Good,
@@ -56,7 +57,7 @@ impl PrState {
                 aptpl,
                 generation: raised(self.generation),
             },
-            told: Attns::none(),
+            established: Attns::none(),
         }
     }
 
@@ -112,21 +113,21 @@ impl PrState {
     }
 
     // The conditions for each nexus when one unregisters.
-    fn told_without(&self, nexus: Nexus) -> Attns
-        ensures { Shows no_attentions result (told_without self.now.reservation self.now nexus) }
+    fn established_without(&self, nexus: Nexus) -> Attns
+        ensures { Shows no_attentions result (established_without self.now.reservation self.now nexus) }
     {
         let Some(held) = &self.reservation else {
             return Attns::none();
         };
         if is_for_registrants_only(held.kind) && self.ends_without(held, nexus) {
-            self.tells_others(nexus, Attention::ReservationsReleased)
+            self.establishes_for_others(nexus, Attention::ReservationsReleased)
         } else {
             Attns::none()
         }
     }
 
     fn unregisters(&self, nexus: Nexus, aptpl: bool) -> Outcome
-        ensures { Brings (unregisters self.now nexus aptpl) result.answer result.told result.state }
+        ensures { Brings (unregisters self.now nexus aptpl) result.answer result.established result.state }
     {
         let removed = row_of(false, |other| is_same(nexus, other));
         Outcome {
@@ -137,7 +138,7 @@ impl PrState {
                 aptpl,
                 generation: raised(self.generation),
             },
-            told: self.told_without(nexus),
+            established: self.established_without(nexus),
         }
     }
 }

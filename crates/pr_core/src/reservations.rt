@@ -72,10 +72,10 @@ impl Reservations {
     {
         let outcome = self.state.ordered(nexus, order);
         self.state = outcome.state;
-        (outcome.answer, outcome.told)
+        (outcome.answer, outcome.established)
     }
 
-    /// Whether the commands of a nexus are let through, under a reservation of any type (own).
+    /// Whether the reservation lets the commands of a nexus through, one rule for all types (own).
     pub fn allowed(&self, nexus: Nexus) -> bool
         ensures { result ≡ is_allowed self.now nexus }
     {

@@ -5,7 +5,7 @@ ghost use Rattle.scsi_attention.specs.AttentionSets.{no_attentions};
 ghost use Rattle.pr_core.specs.Sets.{Shows};
 ghost use Rattle.pr_core.specs.States.{made_by};
 ghost use Rattle.pr_core.specs.Effects.{Brings};
-ghost use Rattle.pr_core.specs.Reserve.{clear, is_same_type, makes, release, release_held, reserve, told_of_release};
+ghost use Rattle.pr_core.specs.Reserve.{clear, is_same_type, makes, release, release_held, reserve, established_by_release};
 
 use crate::attns::Attns;
 use crate::machine::{Outcome, raised};
@@ -35,7 +35,7 @@ impl Reservation {
 impl PrState {
     pub(crate) fn reserve(&self, nexus: Nexus, kind: PrType) -> Outcome
         requires { length self.now.keys ≡ NEXUSES }
-        ensures { Brings (reserve self.now nexus kind) result.answer result.told result.state }
+        ensures { Brings (reserve self.now nexus kind) result.answer result.established result.state }
     {
         let Some(held) = &self.reservation else {
             return self.makes(Reservation::made_by(nexus, kind));
@@ -50,7 +50,7 @@ impl PrState {
     // A reservation is made, and nothing else changes.
     fn makes(&self, made: Reservation) -> Outcome
         requires { length self.now.keys ≡ NEXUSES }
-        ensures { Brings (makes made self.now) result.answer result.told result.state }
+        ensures { Brings (makes made self.now) result.answer result.established result.state }
     {
         let generation = self.generation;
         Outcome {
@@ -61,13 +61,13 @@ impl PrState {
                 aptpl: self.aptpl,
                 generation,
             },
-            told: Attns::none(),
+            established: Attns::none(),
         }
     }
 
     pub(crate) fn release(&self, nexus: Nexus, kind: PrType) -> Outcome
         requires { length self.now.keys ≡ NEXUSES }
-        ensures { Brings (release self.now nexus kind) result.answer result.told result.state }
+        ensures { Brings (release self.now nexus kind) result.answer result.established result.state }
     {
         let Some(held) = &self.reservation else {
             return self.stays(PrAnswer::Good);
@@ -82,7 +82,7 @@ impl PrState {
     // A holder releases its reservation.
     fn release_held(&self, held: &Reservation, nexus: Nexus, kind: PrType) -> Outcome
         requires { length self.now.keys ≡ NEXUSES }
-        ensures { Brings (release_held held.now self.now nexus kind) result.answer result.told result.state }
+        ensures { Brings (release_held held.now self.now nexus kind) result.answer result.established result.state }
     {
         if !is_same_type(held.kind, kind) {
             return self.stays(PrAnswer::BadRelease);
@@ -95,23 +95,23 @@ impl PrState {
                 aptpl: self.aptpl,
                 generation: self.generation,
             },
-            told: self.told_of_release(held, nexus),
+            established: self.established_by_release(held, nexus),
         }
     }
 
     // The conditions for each nexus when this reservation is released.
-    fn told_of_release(&self, held: &Reservation, nexus: Nexus) -> Attns
-        ensures { Shows no_attentions result (told_of_release held.now self.now nexus) }
+    fn established_by_release(&self, held: &Reservation, nexus: Nexus) -> Attns
+        ensures { Shows no_attentions result (established_by_release held.now self.now nexus) }
     {
         if is_for_registrants(held.kind) {
-            self.tells_others(nexus, Attention::ReservationsReleased)
+            self.establishes_for_others(nexus, Attention::ReservationsReleased)
         } else {
             Attns::none()
         }
     }
 
     pub(crate) fn clear(&self, nexus: Nexus) -> Outcome
-        ensures { Brings (clear self.now nexus) result.answer result.told result.state }
+        ensures { Brings (clear self.now nexus) result.answer result.established result.state }
     {
         let aptpl = self.aptpl;
         Outcome {
@@ -122,7 +122,7 @@ impl PrState {
                 aptpl,
                 generation: raised(self.generation),
             },
-            told: self.tells_others(nexus, Attention::ReservationsPreempted),
+            established: self.establishes_for_others(nexus, Attention::ReservationsPreempted),
         }
     }
 }

@@ -12,9 +12,9 @@ use Rattle.volume_core.specs.declared.changes.Change.TheVariants as Changes
 use Rattle.record_index.specs.declared.records.Record.{Record}
 use Rattle.record_index.specs.declared.records.Record.TheVariants.{Put, Marks, Erase}
 use Rattle.record_index.specs.Records.{BeginsWithRecord, IsAtFront, IsRecord, record_length, record_of, spell_change, spell_head}
-use Rattle.record_index.specs.Inner.Told.{kind_told}
+use Rattle.record_index.specs.Inner.Decoded.{kind_decoded}
 use Rattle.record_index.specs.Readers.{IsHeadOf, head_item}
-use Rattle.record_index.proofs.Reading.{Tells, found_cells, kind_tells}
+use Rattle.record_index.proofs.Reading.{Decodes, found_cells, kind_decodes}
 
 -- ten bytes, and what follows
 module _ (a b c d e f g h i j : ℕ) (tail : List ℕ) where
@@ -31,18 +31,18 @@ module _ (a b c d e f g h i j : ℕ) (tail : List ℕ) where
   ten = a ∷ b ∷ c ∷ d ∷ e ∷ f ∷ g ∷ h ∷ i ∷ j ∷ []
 
   module _ (fits : (k : ℕ) → get_or ten k 0 < 256) where
-    enough_for : (item : Record) → Tells a b at number MAX_BLOCK item → record_length item ≤ length tail
-        → Tells a b at number (length tail) item
-    enough_for (Put p n s) (kind, part, where_at, told, some, few, all) enough =
-        (kind, part, where_at, told, some, few, enough)
-    enough_for (Marks p n s) tells enough = tells
-    enough_for (Erase p n) tells enough = tells
+    enough_for : (item : Record) → Decodes a b at number MAX_BLOCK item → record_length item ≤ length tail
+        → Decodes a b at number (length tail) item
+    enough_for (Put p n s) (kind, part, where_at, decoded, some, few, all) enough =
+        (kind, part, where_at, decoded, some, few, enough)
+    enough_for (Marks p n s) decodes enough = decodes
+    enough_for (Erase p n) decodes enough = decodes
 
     -- a head that gives a record begins it, if enough bytes follow
     head_cells : (item : Record) → head_item ten ≡ Some item → record_length item ≤ length tail → IsAtFront item cells
     head_cells item is enough =
         found_cells a b c d e f g h i j tail fits item
-        (enough_for item (kind_tells a b at number MAX_BLOCK item is) enough)
+        (enough_for item (kind_decodes a b at number MAX_BLOCK item is) enough)
 
 -- the ten bytes of a head, each a byte
 pub head_found : (head : List ℕ) → length head ≡ 10 → ((k : ℕ) → get_or head k 0 < 256) → (item : Record)
@@ -88,26 +88,26 @@ block_long (Changes.Put part place block) = refl
 block_long (Changes.Marks part place count) = refl
 block_long (Changes.Erase part place) = refl
 
-head_told : (kind part at number : ℕ) → at < 2 ^ 32 → number < 2 ^ 32
-    → head_item (spell_head kind part at number) ≡ kind_told kind part at number MAX_BLOCK
-head_told kind part at number at_fits number_fits =
-    λ i. kind_told kind part (big_number-reads_back 4 at (to_be_bytes w32 number) at_fits i)
+head_decoded : (kind part at number : ℕ) → at < 2 ^ 32 → number < 2 ^ 32
+    → head_item (spell_head kind part at number) ≡ kind_decoded kind part at number MAX_BLOCK
+head_decoded kind part at number at_fits number_fits =
+    λ i. kind_decoded kind part (big_number-reads_back 4 at (to_be_bytes w32 number) at_fits i)
     (big_number-reads_back 4 number [] number_fits i) MAX_BLOCK
 
 -- the head of a change's spelling gives the record of the change
 pub head_again : (change : Change) → IsRecord change → head_item (head_spelled change) ≡ Some (record_of change)
 head_again (Changes.Put part place block) ok =
-    head_told 1 part place (length block) ok.0.1 (omega (arith, ok.2))
+    head_decoded 1 part place (length block) ok.0.1 (omega (arith, ok.2))
     ∙ cond-true
     (nat_le 1 (length block) && nat_le (length block) MAX_BLOCK && nat_le (length block) MAX_BLOCK)
     (Some (Put part place (length block))) None
     (and_from _ _ (and_from _ _ (le-leb 1 (length block) ok.1) (le-leb (length block) MAX_BLOCK ok.2))
     (le-leb (length block) MAX_BLOCK ok.2))
 head_again (Changes.Marks part place count) ok =
-    head_told 2 part place count ok.0.1 (omega (arith, ok.2))
+    head_decoded 2 part place count ok.0.1 (omega (arith, ok.2))
     ∙ cond-true (nat_le 1 count && nat_le count MAX_OBJECTS) (Some (Marks part place count)) None
     (and_from _ _ (le-leb 1 count ok.1) (le-leb count MAX_OBJECTS ok.2))
-head_again (Changes.Erase part place) ok = head_told 3 part place 0 ok.1 (omega arith)
+head_again (Changes.Erase part place) ok = head_decoded 3 part place 0 ok.1 (omega arith)
 
 -- bytes that begin with a record have its head first, and then the bytes of its block
 pub begins_item : (head tail : List ℕ) → length head ≡ 10 → (w : BeginsWithRecord (head ++ tail))

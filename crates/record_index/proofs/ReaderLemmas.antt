@@ -9,18 +9,18 @@ use Rattle.volume_core.specs.declared.changes.Change.{Change}
 use Rattle.record_index.specs.declared.records.Record.{Record}
 use Rattle.record_index.specs.declared.records.Record.TheVariants as Records
 use Rattle.record_index.specs.Records.{BeginsWithRecord, IsAtFront, IsBadAt, IsRecord, SpellsAll, change_in, record_length, record_of, size_of, spell_all, spell_change}
-use Rattle.record_index.specs.Readers.{Finds, IsAfter, IsHeadOf, IsLeft, IsTold, ReaderState, Stands, head_item}
+use Rattle.record_index.specs.Readers.{Finds, IsAfter, IsHeadOf, IsLeft, IsDecoded, ReaderState, Stands, head_item}
 use Rattle.record_index.proofs.HeadLemmas.{begins_item, none_short}
 use Rattle.record_index.proofs.StandLemmas.{after_it, bad_for_ever, bad_head, bad_short, bad_under, head_short, rest_exact, rest_has, stands_filled, stands_over}
 
 -- where bytes of a block are still to come, the head is whole
-pub under_way : (bytes : List ℕ) (changes : List Change) (reader : ReaderState) → IsAfter bytes changes reader
+pub in_flight : (bytes : List ℕ) (changes : List Change) (reader : ReaderState) → IsAfter bytes changes reader
     → 1 ≤ reader.left
     → (length reader.head ≡ 10) × (length bytes - reader.begin - 10 + reader.left ≡ record_length reader.item)
-under_way bytes changes reader after some = (
+in_flight bytes changes reader after some = (
   whole,
   (subst (λ (t : Option Record). IsLeft t (length bytes - reader.begin - 10) reader.left)
-      (after.told some).item_is (after.under whole)).1,
+      (after.decoded some).item_is (after.under whole)).1,
 )
   where
     whole : length reader.head ≡ 10
@@ -44,16 +44,16 @@ passed before bytes changes old new after some left at begin head item = record 
   under =
       λ long.
       subst (λ (t : Option Record). IsLeft t (length (before ++ bytes) - new.begin - 10) new.left)
-      (sym (ap head_item head ∙ told.item_is)) (some, counted);
-  told = λ any. subst (λ (i : Record). IsTold i new.head) (sym item)
-      (subst (λ (h : List ℕ). IsTold old.item h) (sym head) told);
+      (sym (ap head_item head ∙ decoded.item_is)) (some, counted);
+  decoded = λ any. subst (λ (i : Record). IsDecoded i new.head) (sym item)
+      (subst (λ (h : List ℕ). IsDecoded old.item h) (sym head) decoded);
 }
   where
     way : (length old.head ≡ 10) × (length before - old.begin - 10 + old.left ≡ record_length old.item)
-    way = under_way before changes old after (omega (arith, some, left))
+    way = in_flight before changes old after (omega (arith, some, left))
 
-    told : IsTold old.item old.head
-    told = after.told (omega (arith, some, left))
+    decoded : IsDecoded old.item old.head
+    decoded = after.decoded (omega (arith, some, left))
 
     counted : length (before ++ bytes) - new.begin - 10 + new.left ≡ record_length old.item
     counted =
@@ -75,10 +75,10 @@ pub ended : (before bytes : List ℕ) (changes : List Change) (old new : ReaderS
 ended before bytes changes old new after some all none at begin head =
     after_it (before ++ bytes) changes old.begin new.at old.head
     (stands_over before changes old.begin old.at old.head after.stands bytes new.at way.0 at) old.item way.0
-    (after.told some).front counted new head none begin refl
+    (after.decoded some).front counted new head none begin refl
   where
     way : (length old.head ≡ 10) × (length before - old.begin - 10 + old.left ≡ record_length old.item)
-    way = under_way before changes old after some
+    way = in_flight before changes old after some
 
     counted : length (before ++ bytes) - old.begin - 10 ≡ record_length old.item
     counted =
@@ -103,19 +103,19 @@ bad_more before piece changes old new after none whole still at begin head = (
     starts = λ short. still;
     under =
         λ long. subst (λ (t : Option Record). IsLeft t (length (before ++ piece) - new.begin - 10) new.left)
-        (sym (ap head_item head ∙ tells)) still;
-    told = λ some. absurd (omega (arith, some, still));
+        (sym (ap head_item head ∙ decodes)) still;
+    decoded = λ some. absurd (omega (arith, some, still));
   },
   λ more. bad_for_ever (before ++ piece) changes new.begin new.at new.head stands (ap length head ∙ whole)
-      (ap head_item head ∙ tells) more,
+      (ap head_item head ∙ decodes) more,
 )
   where
-    none_told : (told : Option Record) → IsLeft told (length before - old.begin - 10) old.left → told ≡ None
-    none_told None left = refl
-    none_told (Some item) left = absurd (omega (arith, left, none))
+    none_decoded : (decoded : Option Record) → IsLeft decoded (length before - old.begin - 10) old.left → decoded ≡ None
+    none_decoded None left = refl
+    none_decoded (Some item) left = absurd (omega (arith, left, none))
 
-    tells : head_item old.head ≡ None
-    tells = none_told (head_item old.head) (after.under whole)
+    decodes : head_item old.head ≡ None
+    decodes = none_decoded (head_item old.head) (after.under whole)
 
     stands : Stands (before ++ piece) changes new.begin new.at new.head
     stands =
@@ -150,23 +150,23 @@ module _ (before piece : List ℕ) (changes : List Change) (old new : ReaderStat
         (filled new.at at));
     starts = λ any. still;
     under = λ long. absurd (omega (arith, short, long));
-    told = λ some. absurd (omega (arith, some, still));
+    decoded = λ some. absurd (omega (arith, some, still));
   }
 
   -- a whole head that gives no record
   pub filled_bad : length new.head ≡ 10 → head_item new.head ≡ None → new.left ≡ 0
       → new.at ≡ old.at + length piece → new.begin ≡ old.begin
       → IsAfter (before ++ piece) changes new × ((more : List ℕ) → IsBadAt ((before ++ piece) ++ more) new.begin)
-  filled_bad whole tells still at begin = (
+  filled_bad whole decodes still at begin = (
     record {
       stands = stands;
       starts = λ any. still;
       under =
           λ long. subst (λ (t : Option Record). IsLeft t (length (before ++ piece) - new.begin - 10) new.left)
-          (sym tells) still;
-      told = λ some. absurd (omega (arith, some, still));
+          (sym decodes) still;
+      decoded = λ some. absurd (omega (arith, some, still));
     },
-    λ more. bad_for_ever (before ++ piece) changes new.begin new.at new.head stands whole tells more,
+    λ more. bad_for_ever (before ++ piece) changes new.begin new.at new.head stands whole decodes more,
   )
     where
       parts : (before ++ take count piece) ++ drop count piece ≡ before ++ piece
@@ -195,18 +195,18 @@ module _ (before piece : List ℕ) (changes : List Change) (old new : ReaderStat
       )
 
   -- a whole head that gives a record with a block
-  pub filled_told : length new.head ≡ 10 → head_item new.head ≡ Some new.item → IsHeadOf new.item new.head
+  pub filled_decoded : length new.head ≡ 10 → head_item new.head ≡ Some new.item → IsHeadOf new.item new.head
       → new.left ≡ record_length new.item → 1 ≤ new.left → new.at ≡ old.at + count → new.begin ≡ old.begin
       → IsAfter (before ++ take count piece) changes new
-  filled_told whole tells front left some at begin = record {
+  filled_decoded whole decodes front left some at begin = record {
     stands =
         subst (λ (b : ℕ). Stands (before ++ take count piece) changes b new.at new.head) (sym begin)
         (filled new.at at);
     starts = λ short. absurd (omega (arith, short, whole));
     under =
         λ long. subst (λ (t : Option Record). IsLeft t (length (before ++ take count piece) - new.begin - 10) new.left)
-        (sym tells) (some, omega (arith, left, there_none whole, begin));
-    told = λ any. record { item_is = tells; front = front };
+        (sym decodes) (some, omega (arith, left, there_none whole, begin));
+    decoded = λ any. record { item_is = decodes; front = front };
   }
 
   -- a whole head that gives a record without a block
@@ -255,12 +255,12 @@ ends_badly bytes changes reader after some = elim (cases_lt (length reader.head)
         omega (arith, short, least)
 
     by_head : length reader.head ≡ 10 → IsBadAt bytes reader.begin
-    by_head ten = told (head_item reader.head) refl (after.under ten)
+    by_head ten = decoded (head_item reader.head) refl (after.under ten)
       where
-        told : (t : Option Record) → head_item reader.head ≡ t
+        decoded : (t : Option Record) → head_item reader.head ≡ t
             → IsLeft t (length bytes - reader.begin - 10) reader.left → IsBadAt bytes reader.begin
-        told None is left = bad_head bytes changes reader.begin reader.at reader.head after.stands ten is
-        told (Some item) is left =
+        decoded None is left = bad_head bytes changes reader.begin reader.at reader.head after.stands ten is
+        decoded (Some item) is left =
             bad_under bytes changes reader.begin reader.at reader.head after.stands item ten is
             (omega (arith, left.0, left.1))
 

@@ -9,7 +9,7 @@ use Rattle.volume_core.specs.declared.changes.Change.{Change}
 use Rattle.record_index.specs.declared.records.Record.{Record}
 use Rattle.record_index.specs.declared.records.Record.TheVariants as Records
 use Rattle.record_index.specs.Records.{BeginsWithRecord, IsAtFront, IsBadAt, IsRecord, SpellsAll, change_in, record_length, record_of, size_of, spell_all, spell_change}
-use Rattle.record_index.specs.Readers.{Finds, IsAfter, IsHeadOf, IsLeft, IsTold, ReaderState, Stands, head_item}
+use Rattle.record_index.specs.Readers.{Finds, IsAfter, IsHeadOf, IsLeft, IsDecoded, ReaderState, Stands, head_item}
 use Rattle.record_index.proofs.HeadLemmas.{begins_item, none_short}
 
 pub take_of_take : (n : ℕ) (xs ys : List ℕ) → take n (take n xs ++ ys) ≡ take n (xs ++ ys)
@@ -148,7 +148,7 @@ module _ (bytes : List ℕ) (changes : List Change) (begin at : ℕ) (head : Lis
         };
         starts = λ short. none;
         under = λ long. absurd (omega (arith, long, ap length no_head));
-        told = λ some. absurd (omega (arith, some, none));
+        decoded = λ some. absurd (omega (arith, some, none));
       };
     }
 

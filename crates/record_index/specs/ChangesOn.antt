@@ -3,10 +3,10 @@ use Rattle.std.specs.Prelude.{◌≡◌, ℕ, List, Option, None, Some}
 use Rattle.std.proofs.Common.{inl, inr, ap, subst}
 use Rattle.volume_core.specs.declared.changes.Change.{Change}
 use Rattle.record_index.specs.Records.{SpellsAll, IsBadAt}
-use Rattle.record_index.specs.Inner.Decided.{IsDecided, decided, same_list, never_both}
+use Rattle.record_index.specs.Inner.Decided.{DecidesBody, decided, same_list, never_both}
 
 -- the changes, where it was decided that the bytes spell some (own)
-abbrev pub changes_decided : {bytes : List ℕ} → IsDecided bytes → Option (List Change)
+abbrev pub changes_decided : {bytes : List ℕ} → DecidesBody bytes → Option (List Change)
 changes_decided (inl list) = Some list.0
 changes_decided (inr bad) = None
 
@@ -18,7 +18,7 @@ changes_on bytes = changes_decided (decided bytes)
 pub changes_on_is : (bytes : List ℕ) (changes : List Change) → SpellsAll bytes changes → changes_on bytes ≡ Some changes
 changes_on_is bytes changes spells = by (decided bytes)
   where
-    by : (d : IsDecided bytes) → changes_decided d ≡ Some changes
+    by : (d : DecidesBody bytes) → changes_decided d ≡ Some changes
     by (inl list) = ap Some (same_list bytes list.0 changes list.1 spells)
     by (inr bad) = absurd (never_both bytes changes bad.0 spells bad.1)
 
@@ -31,7 +31,7 @@ changes_on_spelled bytes changes = by (decided bytes)
     pick None = changes
     pick (Some found) = found
 
-    by : (d : IsDecided bytes) → changes_decided d ≡ Some changes → SpellsAll bytes changes
+    by : (d : DecidesBody bytes) → changes_decided d ≡ Some changes → SpellsAll bytes changes
     by (inl list) e = subst (λ (l : List Change). SpellsAll bytes l) (ap pick e) list.1
     by (inr bad) e = absurd (cc)
 
@@ -39,6 +39,6 @@ changes_on_spelled bytes changes = by (decided bytes)
 pub no_changes_on : (bytes : List ℕ) → changes_on bytes ≡ None → (at : ℕ) × IsBadAt bytes at
 no_changes_on bytes = by (decided bytes)
   where
-    by : (d : IsDecided bytes) → changes_decided d ≡ None → (at : ℕ) × IsBadAt bytes at
+    by : (d : DecidesBody bytes) → changes_decided d ≡ None → (at : ℕ) × IsBadAt bytes at
     by (inl list) e = absurd (cc)
     by (inr bad) e = bad

@@ -22,7 +22,7 @@ use Rattle.record_index.specs.Places as places
 use Rattle.record_index.specs.Places.{PlacedPart, Reading, blank, change_by, filled, filled_part, outline, placed_after, placed_by, placed_objects, placed_objects_in, volume_by, with_objects, with_objects_in}
 use Rattle.record_index.specs.Shapes.{IsIndexOf, blanked, shape_of, shape_of_change, shape_of_part}
 
--- a list of one value, of which each is mapped
+-- a list of one value, each element mapped
 pub map-replicate : {A B : Type 0} (f : A → B) (n : ℕ) (a : A) → map f (replicate n a) ≡ replicate n (f a)
 map-replicate f zero a = refl
 map-replicate f (suc n) a = ap (λ l. f a ∷ l) (map-replicate f n a)

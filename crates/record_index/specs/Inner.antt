@@ -1,6 +1,6 @@
 -- Definitions for private contracts and the proofs of laws alone.
 pub mod Deciding
-pub mod Told
+pub mod Decoded
 pub mod Spelled
 pub mod Decided
 pub mod Table

@@ -10,7 +10,7 @@ use Rattle.record_index.specs.declared.reader.Found.{Found}
 use Rattle.record_index.specs.declared.reader.Fed.{Fed}
 use Rattle.record_index.specs.declared.reader.Fed.TheVariants as Feds
 use Rattle.record_index.specs.Records.{IsAtFront, IsBadAt, IsRecord, SpellsAll, change_in, record_length, spell_all}
-use Rattle.record_index.specs.Inner.Told.{head_told}
+use Rattle.record_index.specs.Inner.Decoded.{head_decoded}
 
 -- A reader: the bytes so far of the present record's head, what they give, how many bytes of its block are still to
 -- come, where in the body it begins, and how many bytes of the body came (own).
@@ -23,7 +23,7 @@ pub record ReaderState : Type 0 where
 
 -- the record that ten bytes give, however many bytes follow (own)
 abbrev pub head_item : List ℕ → Option Record
-head_item head = head_told head MAX_BLOCK
+head_item head = head_decoded head MAX_BLOCK
 
 -- whatever follows, the record stands there, if enough bytes for its block follow (own)
 abbrev pub IsHeadOf : Record → List ℕ → Type 0
@@ -45,7 +45,7 @@ IsLeft None there left = left ≡ 0
 IsLeft (Some item) there left = (1 ≤ left) × (there + left ≡ record_length item)
 
 -- the head gives the record, which stands there wherever enough bytes follow (own)
-pub record IsTold (item : Record) (head : List ℕ) : Type 0 where
+pub record IsDecoded (item : Record) (head : List ℕ) : Type 0 where
   pub item_is : head_item head ≡ Some item
   pub front : IsHeadOf item head
 
@@ -56,7 +56,7 @@ pub record IsAfter (bytes : List ℕ) (changes : List Change) (reader : ReaderSt
   pub starts : length reader.head < 10 → reader.left ≡ 0
   pub under : length reader.head ≡ 10 →
       IsLeft (head_item reader.head) (length bytes - reader.begin - 10) reader.left
-  pub told : 1 ≤ reader.left → IsTold reader.item reader.head
+  pub decoded : 1 ≤ reader.left → IsDecoded reader.item reader.head
 
 -- the last of the bytes ends a record, which begins at that place (own)
 pub record Finds (bytes : List ℕ) (changes : List Change) (item : Record) (at : ℕ) (new : ReaderState)

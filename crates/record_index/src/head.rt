@@ -2,7 +2,7 @@
 ghost use Rattle.std.specs.Prelude.{◌≡◌, ◌≤◌, ◌-◌, ◌++◌, [], IfSome, length, min, take};
 ghost use Rattle.record_index.specs.Readers.{IsHeadOf, head_item};
 
-use crate::records::{HEAD_BYTES, Record, head_told};
+use crate::records::{HEAD_BYTES, Record, head_decoded};
 use std::marker::Model;
 use vtl_base::limits::MAX_BLOCK;
 
@@ -74,5 +74,5 @@ fn item_of(head: &[u8]) -> Option<Record>
     ensures item { result ≡ head_item head.now }
     ensures front { IfSome result (λ item. IsHeadOf item head.now) }
 {
-    head_told(head, MAX_BLOCK as usize)
+    head_decoded(head, MAX_BLOCK as usize)
 }

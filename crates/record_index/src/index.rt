@@ -126,8 +126,8 @@ impl Index {
         }
     }
 
-    /// The last run of filemarks of a partition that begins before object number n; None where no filemark
-    /// comes before it. It is found by binary search, in at most 24 steps.
+    /// The last run of filemarks of a partition that begins before object number n; None where no filemark stands
+    /// before object n. A binary search finds the run, in at most 24 steps.
     pub fn run_upto(&self, part: PartNo, n: ObjNo, steps: &mut Steps) -> Option<MarkRun>
         ensures found { IsRunUpto (placed_objects self.now part) n result }
         ensures steps { AddsDigitsOfRuns (placed_objects self.now part) steps.old steps.new }

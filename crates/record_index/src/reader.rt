@@ -91,7 +91,7 @@ impl RecordReader {
         self.left as usize
     }
 
-    /// Passes over bytes that it need not see. Whatever these are, the result is that of feeding them.
+    /// Passes over bytes that it need not see. The result is as if they had been fed, whatever they are.
     pub fn pass(&mut self, count: usize) -> Option<Found>
         requires some { 1 ≤ self.old.left }
         requires unseen { count ≤ self.old.left }

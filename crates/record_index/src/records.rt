@@ -13,7 +13,7 @@ ghost use Rattle.record_index.specs.Records.{BeginsWithRecord, IsAtFront, IsReco
 ghost use Rattle.volume_core.specs.Volume.{added_by, is_well_formed, used_of};
 ghost use Rattle.record_index.specs.Places.{record_kept, outlined, record_part};
 ghost use Rattle.record_index.specs.Inner.Tables.{AddsRun};
-ghost use Rattle.record_index.specs.Inner.Told.{block_told, erase_told, head_told, marks_told, told};
+ghost use Rattle.record_index.specs.Inner.Decoded.{block_decoded, erase_decoded, head_decoded, marks_decoded, decoded};
 
 use crate::places::Run;
 use byteorder::{BigEndian, ByteOrder};
@@ -118,7 +118,7 @@ impl Record {
         ensures found { IfSome result (λ item. IsAtFront item bytes.now) }
         ensures none { IfNone result (BeginsWithRecord bytes.now → ⊥) }
     {
-        told(bytes)
+        decoded(bytes)
     }
 
     /// Its length in bytes, with its block.
@@ -214,34 +214,34 @@ impl Record {
 }
 
 // The record at the start of the bytes, by its head and by how many bytes there are.
-fn told(bytes: &[u8]) -> Option<Record>
-    ensures { result ≡ told bytes.now }
+fn decoded(bytes: &[u8]) -> Option<Record>
+    ensures { result ≡ decoded bytes.now }
 {
     if bytes.len() < HEAD_BYTES {
         return None;
     }
-    head_told(bytes, bytes.len() - HEAD_BYTES)
+    head_decoded(bytes, bytes.len() - HEAD_BYTES)
 }
 
 // The record whose head begins these bytes, if the `there` bytes after it suffice for its block.
-pub(crate) fn head_told(head: &[u8], there: usize) -> Option<Record>
+pub(crate) fn head_decoded(head: &[u8], there: usize) -> Option<Record>
     requires { 10 ≤ length head.now }
-    ensures { result ≡ head_told head.now there }
+    ensures { result ≡ head_decoded head.now there }
 {
     let part = head[1];
     let at = BigEndian::read_u32(&head[2..]);
     let number = BigEndian::read_u32(&head[6..]);
     match head[0] {
-        BLOCK => block_told(part, at, number, there),
-        MARKS => marks_told(part, at, number),
-        ERASE => erase_told(part, at, number),
+        BLOCK => block_decoded(part, at, number, there),
+        MARKS => marks_decoded(part, at, number),
+        ERASE => erase_decoded(part, at, number),
         _ => None,
     }
 }
 
 // A block of 1 to 1,048,576 bytes, all of which are present.
-fn block_told(part: PartNo, at: ObjNo, length: u32, there: usize) -> Option<Record>
-    ensures { result ≡ block_told part at length there }
+fn block_decoded(part: PartNo, at: ObjNo, length: u32, there: usize) -> Option<Record>
+    ensures { result ≡ block_decoded part at length there }
 {
     if 1 <= length && length <= MAX_BLOCK && length as usize <= there {
         Some(Record::Put { part, at, length })
@@ -251,8 +251,8 @@ fn block_told(part: PartNo, at: ObjNo, length: u32, there: usize) -> Option<Reco
 }
 
 // Marks, 1 to 16,000,000.
-fn marks_told(part: PartNo, at: ObjNo, count: u32) -> Option<Record>
-    ensures { result ≡ marks_told part at count }
+fn marks_decoded(part: PartNo, at: ObjNo, count: u32) -> Option<Record>
+    ensures { result ≡ marks_decoded part at count }
 {
     if 1 <= count && count <= MAX_OBJECTS {
         Some(Record::Marks { part, at, count })
@@ -262,8 +262,8 @@ fn marks_told(part: PartNo, at: ObjNo, count: u32) -> Option<Record>
 }
 
 // An erase, which has no number.
-fn erase_told(part: PartNo, at: ObjNo, number: u32) -> Option<Record>
-    ensures { result ≡ erase_told part at number }
+fn erase_decoded(part: PartNo, at: ObjNo, number: u32) -> Option<Record>
+    ensures { result ≡ erase_decoded part at number }
 {
     if number == 0 {
         Some(Record::Erase { part, at })

@@ -11,7 +11,7 @@ use Rattle.script_reasons.specs.declared.fields.Part.{Part}
 use Rattle.script_reasons.specs.declared.reasons.Fault.{Fault}
 use Rattle.script_reasons.specs.declared.reasons.Fault.TheVariants as faults
 use Rattle.script_reasons.specs.declared.reasons.LineReason.{LineReason}
-use Rattle.script_reasons.specs.declared.reasons.Wrong.{Wrong}
+use Rattle.script_reasons.specs.declared.wrong_fields.Wrong.{Wrong}
 
 -- At true, the line has none of the forms of a line. At false nothing is known, since memory may have run out (own).
 abbrev pub IsLineRefused : (ℕ → Bool) → List ℕ → Bool → Type 0

@@ -7,8 +7,7 @@ use std::alloc::Global;
 use vtl_base::{DriveNo, NoMemory};
 use vtl_script::{Item, Runner};
 
-/// The drives that are configured. With them a line can be read as for a runner that has these drives; they run
-/// nothing.
+/// The drives that are configured. With them a line is parsed as for a runner with these drives. They run nothing.
 #[derive(Clone, Copy, Debug)]
 pub struct Drives {
     // by place, from 0 on
@@ -23,7 +22,7 @@ impl Drives {
         Drives { are: [false; 16] }
     }
 
-    /// Every drive that there may be.
+    /// Every drive that a library may have.
     pub fn all() -> Self
         ensures { AreAll result }
     {

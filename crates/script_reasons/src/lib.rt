@@ -5,6 +5,7 @@ mod drives;
 mod fields;
 pub mod reasons;
 mod texts;
+mod wrong_fields;
 
 pub use drives::Drives;
 pub use reasons::{Fault, LineReason};

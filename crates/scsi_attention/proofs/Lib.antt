@@ -1,2 +1,2 @@
 pub mod BitLemmas
-pub mod ToldLemmas
+pub mod EstablishedLemmas

@@ -8,7 +8,7 @@ abbrev pub attention_in : Option AttentionSet → Option Attention
 attention_in None = None
 attention_in (Some set) = first_of set
 
--- the condition that is reported next to a nexus (own)
+-- the condition that is reported to a nexus next (own)
 abbrev pub attention_of : List AttentionSet → ℕ → Option Attention
 attention_of sets nexus = attention_in (slice_get sets (nexus - 1))
 
@@ -39,5 +39,5 @@ established_for_others sets nexus attention =
 -- (SAM-5, unit attention condition)
 abbrev pub established_by : List AttentionSet → List AttentionSet → List AttentionSet
 established_by sets [] = sets
-established_by [] (more ∷ told) = []
-established_by (set ∷ sets) (more ∷ told) = union set more ∷ established_by sets told
+established_by [] (more ∷ established) = []
+established_by (set ∷ sets) (more ∷ established) = union set more ∷ established_by sets established

@@ -33,31 +33,31 @@ UnionHasBoth =
     → contains attention (union one other) ≡ (contains attention one || contains attention other)
 
 -- the conditions of a nexus are joined with its own set (own)
-abbrev pub EachIsToldItsOwn : Type 0
-EachIsToldItsOwn =
-    (sets told : List AttentionSet) (place : ℕ) (set more : AttentionSet)
-    → slice_get sets place ≡ Some set → slice_get told place ≡ Some more
-    → slice_get (established_by sets told) place ≡ Some (union set more)
+abbrev pub EachGetsItsOwn : Type 0
+EachGetsItsOwn =
+    (sets established : List AttentionSet) (place : ℕ) (set more : AttentionSet)
+    → slice_get sets place ≡ Some set → slice_get established place ≡ Some more
+    → slice_get (established_by sets established) place ≡ Some (union set more)
 
 -- the set of a nexus without conditions stays (own)
-abbrev pub TheUntoldStay : Type 0
-TheUntoldStay =
-    (sets told : List AttentionSet) (place : ℕ)
-    → slice_get told place ≡ None → slice_get (established_by sets told) place ≡ slice_get sets place
+abbrev pub TheOthersStay : Type 0
+TheOthersStay =
+    (sets established : List AttentionSet) (place : ℕ)
+    → slice_get established place ≡ None → slice_get (established_by sets established) place ≡ slice_get sets place
 
 -- there are as many sets as before (own)
 abbrev pub NoNexusIsLost : Type 0
-NoNexusIsLost = (sets told : List AttentionSet) → length (established_by sets told) ≡ length sets
+NoNexusIsLost = (sets established : List AttentionSet) → length (established_by sets established) ≡ length sets
 
 -- where a condition is established for every nexus but one, each other one has it beside its own (own)
-abbrev pub EachOtherIsTold : Type 0
-EachOtherIsTold =
+abbrev pub EachOtherGetsIt : Type 0
+EachOtherGetsIt =
     (sets : List AttentionSet) (nexus place : ℕ) (attention : Attention) → place ≢ nexus - 1
     → slice_get (established_for_others sets nexus attention) place
     ≡ option_map (with_attention attention) (slice_get sets place)
 
 -- and the set of that one stays (own)
-abbrev pub TheOneIsNotTold : Type 0
-TheOneIsNotTold =
+abbrev pub TheOneGetsNone : Type 0
+TheOneGetsNone =
     (sets : List AttentionSet) (nexus : ℕ) (attention : Attention)
     → slice_get (established_for_others sets nexus attention) (nexus - 1) ≡ slice_get sets (nexus - 1)

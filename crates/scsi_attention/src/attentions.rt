@@ -31,7 +31,7 @@ impl Attentions {
         Attentions { sets: [set; 64] }
     }
 
-    /// The condition that is reported next to a nexus, if any is established.
+    /// The condition that is reported to a nexus next, if any is established.
     pub fn first(&self, nexus: Nexus) -> Option<Attention>
         ensures { result ≡ attention_of self.now nexus }
     {
@@ -64,10 +64,10 @@ impl Attentions {
 
     /// Establishes conditions for each nexus: one set for each, by rising nexus. The set of a nexus without
     /// new conditions stays.
-    pub fn establish_each(&mut self, told: &[AttnSet])
-        ensures { self.new ≡ established_by self.old told.now }
+    pub fn establish_each(&mut self, established: &[AttnSet])
+        ensures { self.new ≡ established_by self.old established.now }
     {
-        join_each(&mut self.sets, told);
+        join_each(&mut self.sets, established);
     }
 }
 
@@ -79,10 +79,10 @@ fn insert_in_each(sets: &mut [AttnSet], attention: Attention)
     }
 }
 
-fn join_each(sets: &mut [AttnSet], told: &[AttnSet])
-    ensures { sets.new ≡ established_by sets.old told.now }
+fn join_each(sets: &mut [AttnSet], established: &[AttnSet])
+    ensures { sets.new ≡ established_by sets.old established.now }
 {
-    for place in 0..sets.len().min(told.len()) {
-        sets[place] = sets[place].join(told[place]);
+    for place in 0..sets.len().min(established.len()) {
+        sets[place] = sets[place].join(established[place]);
     }
 }

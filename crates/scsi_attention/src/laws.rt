@@ -1,5 +1,5 @@
 //! Laws of the definitions, which no code calls.
-ghost use Rattle.scsi_attention.specs.Laws.{EachIsToldItsOwn, EachOtherIsTold, HasWhatIsPutIn, LacksWhatIsTakenOut, MembersDecide, NoNexusIsLost, OthersStay, TheOneIsNotTold, TheUntoldStay, UnionHasBoth};
+ghost use Rattle.scsi_attention.specs.Laws.{EachGetsItsOwn, EachOtherGetsIt, HasWhatIsPutIn, LacksWhatIsTakenOut, MembersDecide, NoNexusIsLost, OthersStay, TheOneGetsNone, TheOthersStay, UnionHasBoth};
 
 /// A set has a condition that was put in, and lacks one that was taken out. Neither touches another
 /// condition.
@@ -12,15 +12,15 @@ pub fn sets_are_sets()
 {}
 
 /// The conditions of each nexus go into its own set, and into no other.
-pub fn each_is_told_its_own()
-    ensures told { EachIsToldItsOwn }
-    ensures untold { TheUntoldStay }
+pub fn each_gets_its_own()
+    ensures established { EachGetsItsOwn }
+    ensures others { TheOthersStay }
     ensures all { NoNexusIsLost }
 {}
 
 /// Where a condition is established for every nexus but one, each other one has it, and the set of that one
 /// stays.
-pub fn all_but_one_are_told()
-    ensures others { EachOtherIsTold }
-    ensures one { TheOneIsNotTold }
+pub fn all_but_one_get_it()
+    ensures others { EachOtherGetsIt }
+    ensures one { TheOneGetsNone }
 {}

@@ -31,8 +31,8 @@ pub enum PrOut {
     Clear {
         key: u64,
     },
-    /// Removes the registrations with `preempted`. `kind` is the type of a reservation that is made; None
-    /// where scope or type belong to no reservation.
+    /// Removes the registrations with the key `preempted`. `kind` is the type of a new reservation, or None where scope
+    /// or type are those of no reservation.
     Preempt {
         key: u64,
         preempted: u64,

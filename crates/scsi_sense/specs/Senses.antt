@@ -78,21 +78,21 @@ insufficient_resources = plain_sense AbortedCommand 0x55 0x03
 abbrev pub early_warning : Sense
 early_warning = record (plain_sense NoSense 0x00 0x02) { end_of_medium = true; information = Some 0 }
 
--- the data do not fit, and nothing changed; residue is what was not written, if it is reported (SSC-4, WRITE(6); that
--- nothing changed own)
+-- the data do not fit, and nothing changed; residue is how much was not written, if it is reported (SSC-4, WRITE(6);
+-- that nothing changed own)
 abbrev pub volume_overflow : Option ℕ → Sense
 volume_overflow residue = record (plain_sense VolumeOverflow 0x00 0x02) { end_of_medium = true; information = residue }
 
--- the end of data was met; residue is what was not passed or read, if it is reported (SSC-4, READ(6), SPACE(6),
+-- the end of data was met; residue is how much was not passed or read, if it is reported (SSC-4, READ(6), SPACE(6),
 -- LOCATE(10))
 abbrev pub end_of_data : Option ℕ → Sense
 end_of_data residue = record (plain_sense BlankCheck 0x00 0x05) { information = residue }
 
--- a filemark was met; residue is what was not passed or read (SSC-4, READ(6), SPACE(6))
+-- a filemark was met; residue is how much was not passed or read (SSC-4, READ(6), SPACE(6))
 abbrev pub filemark_detected : ℕ → Sense
 filemark_detected residue = record (plain_sense NoSense 0x00 0x01) { filemark = true; information = Some residue }
 
--- the beginning of a partition was met; residue is what was not passed (SSC-4, SPACE(6))
+-- the beginning of a partition was met; residue is how much was not passed (SSC-4, SPACE(6))
 abbrev pub beginning : ℕ → Sense
 beginning residue = record (plain_sense NoSense 0x00 0x04) { end_of_medium = true; information = Some residue }
 

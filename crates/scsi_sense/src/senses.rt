@@ -146,7 +146,7 @@ impl Sense {
         }
     }
 
-    /// The data do not fit, and nothing changed (END-OF-PARTITION/MEDIUM DETECTED). `residue` is what was not
+    /// The data do not fit, and nothing changed (END-OF-PARTITION/MEDIUM DETECTED). `residue` is how much was not
     /// written, if it is reported.
     pub fn volume_overflow(residue: Option<u32>) -> Self
         ensures { result ≡ volume_overflow residue }
@@ -158,8 +158,7 @@ impl Sense {
         }
     }
 
-    /// The end of data was met (END-OF-DATA DETECTED). `residue` is what was not passed
-    /// or read, if it is reported.
+    /// The end of data was met (END-OF-DATA DETECTED). `residue` is how much was not passed or read, if it is reported.
     pub fn end_of_data(residue: Option<u32>) -> Self
         ensures { result ≡ end_of_data residue }
     {
@@ -169,8 +168,7 @@ impl Sense {
         }
     }
 
-    /// A filemark was met (FILEMARK DETECTED). `residue` is what was not passed or
-    /// read.
+    /// A filemark was met (FILEMARK DETECTED). `residue` is how much was not passed or read.
     pub fn filemark_detected(residue: u32) -> Self
         ensures { result ≡ filemark_detected residue }
     {
@@ -181,8 +179,8 @@ impl Sense {
         }
     }
 
-    /// The beginning of a partition was met (BEGINNING-OF-PARTITION/MEDIUM DETECTED).
-    /// `residue` is what was not passed.
+    /// The beginning of a partition was met (BEGINNING-OF-PARTITION/MEDIUM DETECTED). `residue` is how much was not
+    /// passed.
     pub fn beginning(residue: u32) -> Self
         ensures { result ≡ beginning residue }
     {

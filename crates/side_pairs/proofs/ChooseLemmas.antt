@@ -3,7 +3,7 @@ use Rattle.std.proofs.Common.{◌≡◌, ◌≢◌, inl, inr, ℕ, ◌<◌, ◌�
 use Rattle.std.specs.Prelude.{Option, None, Some}
 use Rattle.std.proofs.lemmas.List.{drop-drop, drop_more}
 use Rattle.gate_journal.specs.declared.heads.Copied.{Copied}
-use Rattle.gate_journal.specs.declared.heads.ToldHead.{ToldHead}
+use Rattle.gate_journal.specs.declared.heads.ParsedHead.{ParsedHead}
 use Rattle.gate_journal.specs.Heads.{Head, epoch_in, epoch_of, spell_side_head}
 use Rattle.gate_journal.specs.Side.{OPEN}
 use Rattle.side_pairs.specs.declared.choosing.Begins.TheVariants.{Closed, Open, Headless}
@@ -12,15 +12,15 @@ use Rattle.side_pairs.specs.declared.which.Which.TheVariants.{First, Second}
 use Rattle.side_pairs.specs.Pairs.{begun, IsNoPair, IsOpenSide, IsClosedSide}
 use Rattle.side_pairs.specs.Choosing.{Chooses}
 use Rattle.side_pairs.specs.Passes.{HasStart}
-use Rattle.side_pairs.specs.Inner.{HasOpenPair, IsGreater, Opens}
+use Rattle.side_pairs.specs.Inner.{HasOpenPair, IsGreater, OpensImage}
 use Rattle.side_pairs.proofs.CutLemmas.{front, less_counts, more_counts}
 use Rattle.side_pairs.specs.Inner.Decided.{both_closed, both_open, first_headless, headless_open, no_first, no_second, not_alone, one_side, open_shut, same_epochs, second_headless}
 
 -- what the first bytes of two images show holds of the images
 pub chooses_whole : (first second : List ℕ) (found : Option Counted) → Chooses (front first) (front second) found →
     Chooses first second found
-chooses_whole first second (Some counted) (h, rest, counts, told) =
-    let all = more_counts counted.which h rest first second counts in (h, all.0, all.1, told)
+chooses_whole first second (Some counted) (h, rest, counts, parsed) =
+    let all = more_counts counted.which h rest first second counts in (h, all.0, all.1, parsed)
 chooses_whole first second None never = λ which h rest counts.
     let some = less_counts which h rest first second counts in never which h some.0 some.1
 
@@ -51,19 +51,20 @@ module _ (first second : List ℕ) where
     nay : (p side : ℕ) (rest : List ℕ) → first ≡ begun side p ++ rest → p ≢ OPEN
     nay p side rest is e = shut (side, rest, is ∙ ap (λ (n : ℕ). begun side n ++ rest) e)
 
-    pub alone_closed : Opens first Closed → IsNoPair first second
+    pub alone_closed : OpensImage first Closed → IsNoPair first second
     alone_closed (p, (gate, rest, closed, is)) =
         not_alone first second p (nay p gate rest is) (gate, rest, is)
         (λ h r side none. open_shut p p h r first side (gate, rest, closed, is))
 
-    pub alone_headless : Opens first Headless → IsNoPair first second
+    pub alone_headless : OpensImage first Headless → IsNoPair first second
     alone_headless (p, (rest, is, never)) =
         not_alone first second p (nay p OPEN rest is) (OPEN, rest, is)
         (λ h r side none. headless_open p p h r first (rest, is, never) side)
 
-    pub alone_copy : (told : ToldHead) (copied : Copied) → told.copied ≡ Some copied → Opens first (Open told) →
+    pub alone_copy : (parsed : ParsedHead) (copied : Copied) → parsed.copied ≡ Some copied
+        → OpensImage first (Open parsed) →
         IsNoPair first second
-    alone_copy told copied says (p, h, rest, side, tells) =
+    alone_copy parsed copied says (p, h, rest, side, tells) =
         not_alone first second p (nay p OPEN (spell_side_head h ++ rest) side.image_is)
         (OPEN, spell_side_head h ++ rest, side.image_is)
         (λ k s other none.
@@ -71,9 +72,9 @@ module _ (first second : List ℕ) where
         let clash : Some copied ≡ None =
         sym says ∙ tells.1 ∙ ap (λ (g : Head). g.copied) same ∙ none in cc)
 
-    pub alone_plain : (told : ToldHead) → told.copied ≡ None → Opens first (Open told) →
-        Chooses first second (Some (record { which = First; head = told }))
-    alone_plain told says (p, h, rest, side, tells) =
+    pub alone_plain : (parsed : ParsedHead) → parsed.copied ≡ None → OpensImage first (Open parsed) →
+        Chooses first second (Some (record { which = First; head = parsed }))
+    alone_plain parsed says (p, h, rest, side, tells) =
         (h, rest, (p, side, inl (nay p OPEN (spell_side_head h ++ rest) side.image_is, sym tells.1 ∙ says)), tells)
 
 -- where the pair gate is open
@@ -88,19 +89,19 @@ module _ (first second : List ℕ) (paired : HasOpenPair first) where
   pair_both (side, p, rest, is) e = both_open first second paired
       (side, rest, is ∙ ap (λ (n : ℕ). begun side n ++ rest) (sym (ap (λ (l : List ℕ). get_or l 9 0) is) ∙ e))
 
-  pub pair_first_headless : Opens first Headless → IsNoPair first second
+  pub pair_first_headless : OpensImage first Headless → IsNoPair first second
   pair_first_headless (p, headless) = first_headless first second paired p headless
 
-  pub pair_second_headless : Opens second Headless → IsNoPair first second
+  pub pair_second_headless : OpensImage second Headless → IsNoPair first second
   pair_second_headless (q, headless) = second_headless first second paired q headless
 
-  pub pair_closed : Opens first Closed → Opens second Closed → IsNoPair first second
+  pub pair_closed : OpensImage first Closed → OpensImage second Closed → IsNoPair first second
   pair_closed (p, one) (q, two) = both_closed first second paired p q one two
 
   module _ (shut : get_or second 9 0 ≢ OPEN) where
-    pub first_counts : (told : ToldHead) → Opens first (Open told) → Opens second Closed →
-        Chooses first second (Some (record { which = First; head = told }))
-    first_counts told (p, h, rest, side, tells) (q, two) = (
+    pub first_counts : (parsed : ParsedHead) → OpensImage first (Open parsed) → OpensImage second Closed →
+        Chooses first second (Some (record { which = First; head = parsed }))
+    first_counts parsed (p, h, rest, side, tells) (q, two) = (
       h,
       rest,
       (
@@ -114,9 +115,9 @@ module _ (first second : List ℕ) (paired : HasOpenPair first) where
       tells,
     )
 
-    pub second_counts : (told : ToldHead) → Opens first Closed → Opens second (Open told) →
-        Chooses first second (Some (record { which = Second; head = told }))
-    second_counts told (p, one) (q, h, rest, side, tells) = (
+    pub second_counts : (parsed : ParsedHead) → OpensImage first Closed → OpensImage second (Open parsed) →
+        Chooses first second (Some (record { which = Second; head = parsed }))
+    second_counts parsed (p, one) (q, h, rest, side, tells) = (
       h,
       rest,
       (
@@ -128,16 +129,16 @@ module _ (first second : List ℕ) (paired : HasOpenPair first) where
       tells,
     )
 
-    pub greater_counts : (one two : ToldHead) (found : Option Counted) → Opens first (Open one) →
-        Opens second (Open two) → IsGreater one two found → Chooses first second found
-    greater_counts one two (Some chosen) (p, h, r, a, told) (q, k, s, b, tells) (inl (is, less)) =
+    pub greater_counts : (one two : ParsedHead) (found : Option Counted) → OpensImage first (Open one) →
+        OpensImage second (Open two) → IsGreater one two found → Chooses first second found
+    greater_counts one two (Some chosen) (p, h, r, a, parsed) (q, k, s, b, tells) (inl (is, less)) =
         let p_is : p ≡ OPEN = sym (gate_at p h r first a) ∙ paired_at in
-        let lesser : epoch_of k < epoch_of h = omega (arith, less, ap epoch_in told.1, ap epoch_in tells.1) in
+        let lesser : epoch_of k < epoch_of h = omega (arith, less, ap epoch_in parsed.1, ap epoch_in tells.1) in
         subst (λ (x : Counted). Chooses first second (Some x)) (sym is)
-        (h, r, (p, a, inr (p_is, (q, (λ e. shut (gate_at q k s second b ∙ e)), inr (k, s, b, lesser)))), told)
-    greater_counts one two (Some chosen) (p, h, r, a, told) (q, k, s, b, tells) (inr (is, less)) =
+        (h, r, (p, a, inr (p_is, (q, (λ e. shut (gate_at q k s second b ∙ e)), inr (k, s, b, lesser)))), parsed)
+    greater_counts one two (Some chosen) (p, h, r, a, parsed) (q, k, s, b, tells) (inr (is, less)) =
         let p_is : p ≡ OPEN = sym (gate_at p h r first a) ∙ paired_at in
-        let lesser : epoch_of h < epoch_of k = omega (arith, less, ap epoch_in told.1, ap epoch_in tells.1) in
+        let lesser : epoch_of h < epoch_of k = omega (arith, less, ap epoch_in parsed.1, ap epoch_in tells.1) in
         subst (λ (x : Counted). Chooses first second (Some x)) (sym is) (
           k,
           s,
@@ -149,5 +150,5 @@ module _ (first second : List ℕ) (paired : HasOpenPair first) where
           ),
           tells,
         )
-    greater_counts one two None (p, h, r, a, told) (q, k, s, b, tells) same =
-        same_epochs first second paired p q h k r s a b (sym (ap epoch_in told.1) ∙ same ∙ ap epoch_in tells.1)
+    greater_counts one two None (p, h, r, a, parsed) (q, k, s, b, tells) same =
+        same_epochs first second paired p q h k r s a b (sym (ap epoch_in parsed.1) ∙ same ∙ ap epoch_in tells.1)

@@ -50,7 +50,7 @@ module _ {S : Type 0} (gives : S → List ℕ → S → Type 0) where
       (d0 d1 d2 : DiskState) → NoneFailed d0 d1 → GivesAll gives s0 bodies s1 →
       NotCopied gives fails fault s1 s2 d1 d2 → NotCopied gives fails fault s0 s2 d0 d2
   not_since fails fault bodies s0 s1 s2 d0 d1 d2 none gave (inl (is, (more, given))) = inl (
-    record { cause = omega (arith, none, is.cause); told = is.told },
+    record { cause = omega (arith, none, is.cause); reported = is.reported },
     (bodies ++ more, gives_then s0 s1 s2 bodies more gave given),
   )
   not_since fails fault bodies s0 s1 s2 d0 d1 d2 none gave (inr (nor, (more, mid, given, failed))) =

@@ -234,9 +234,9 @@ module _ (h : Head) (copies : List (List ℕ)) (ok : IsOfCartridge h) (copy : Is
       )
 
 -- the ten bytes at the start of a side have the pair gate with which it yields
-pair_told : (epoch q g p : ℕ) (xs spare : List ℕ) → spare ≡ begun g p ++ xs → YieldsTo epoch q spare → q ≡ p
-pair_told epoch q g p xs spare is (inl (gate, rest, shut, was)) = same_pair gate g q p rest xs (sym was ∙ is)
-pair_told epoch q g p xs spare is (inr (k, rest, side, less)) =
+pair_parsed : (epoch q g p : ℕ) (xs spare : List ℕ) → spare ≡ begun g p ++ xs → YieldsTo epoch q spare → q ≡ p
+pair_parsed epoch q g p xs spare is (inl (gate, rest, shut, was)) = same_pair gate g q p rest xs (sym was ∙ is)
+pair_parsed epoch q g p xs spare is (inr (k, rest, side, less)) =
     same_pair OPEN g q p (spell_side_head k ++ rest) xs (sym side.image_is ∙ is)
 
 head_of_side : (which : Which) (h : Head) (rest first second : List ℕ) → SideCounts which h rest first second →
@@ -259,7 +259,8 @@ module _ (which : Which) (h : Head) (bodies copies : List (List ℕ)) (counts sp
           written.2 ++ tail,
           (λ (e : CLOSED ≡ OPEN). absurd (omega (arith, e))),
           copy_counts h copies ok copy which rest counts spare image written.1 (written.2 ++ tail) stands.1.3 paired
-              (λ epoch q y. pair_told epoch q written.0 written.1 (spell_copy h copies ++ written.2) spare written.4 y)
+              (λ epoch q y. pair_parsed epoch q written.0 written.1 (spell_copy h copies ++ written.2) spare written.4
+              y)
               (image_with h copies ok copy OPEN written.1 written.2 tail image is),
         ),
       )
@@ -281,6 +282,6 @@ module _ (which : Which) (h : Head) (bodies copies : List (List ℕ)) (counts sp
             (w.2 ∙ ap (λ (g : ℕ). begun g written.1 ++ ((spell_copy h copies ++ written.2) ++ w.1)) e))
         | inr nay ↦ inl (stands_beside which h bodies counts spare image
             (λ epoch q y. inl (subst (λ (x : ℕ). IsClosedSide x image)
-            (sym (pair_told epoch q written.0 written.1 (spell_copy h copies ++ written.2) spare written.4 y))
+            (sym (pair_parsed epoch q written.0 written.1 (spell_copy h copies ++ written.2) spare written.4 y))
             (w.0, (spell_copy h copies ++ written.2) ++ w.1, nay, w.2))) stands)
       ]

@@ -28,15 +28,15 @@ moments_then d0 d1 d2 disk first second =
 pub fault_since : (fault : DevFault) (f0 f1 f2 s0 s1 s2 : DiskState) → NoneFailed f0 f1 → NoneFailed s0 s1 →
     IsFaultOfOne fault f1 f2 s1 s2 → IsFaultOfOne fault f0 f2 s0 s2
 fault_since fault f0 f1 f2 s0 s1 s2 first second (inl (is, none)) =
-    inl (record { cause = omega (arith, first, is.cause); told = is.told }, none ∙ second)
+    inl (record { cause = omega (arith, first, is.cause); reported = is.reported }, none ∙ second)
 fault_since fault f0 f1 f2 s0 s1 s2 first second (inr (none, is)) =
-    inr (none ∙ first, record { cause = omega (arith, second, is.cause); told = is.told })
+    inr (none ∙ first, record { cause = omega (arith, second, is.cause); reported = is.reported })
 
 -- only the second disk is called
 pub faults_second : (f0 f1 s0 s1 : DiskState) (r : Result Unit DevFault) → NoneFailed f0 f1 → Passes s0 s1 r →
     FaultsOfOne r f0 f1 s0 s1
 faults_second f0 f1 s0 s1 (Ok done) none p = (none, p.none_failed)
-faults_second f0 f1 s0 s1 (Err fault) none p = inr (none, record { cause = p.cause; told = p.told })
+faults_second f0 f1 s0 s1 (Err fault) none p = inr (none, record { cause = p.cause; reported = p.reported })
 
 -- two disks were made sure, and then read
 module _ (f0 f1 f2 s0 s1 s2 : DiskState) (first : NoneFailed f0 f1) (second : NoneFailed s0 s1)

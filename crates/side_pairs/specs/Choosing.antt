@@ -3,14 +3,14 @@ use Rattle.std.specs.Prelude.{◌⊎◌, ℕ, List, Option, None, Some, Result, 
 use Rattle.vtl_base.specs.declared.faults.DevFault.{DevFault}
 use Rattle.tape_disk.specs.Disk.{DiskState, Only}
 use Rattle.gate_journal.specs.Answers.{IsFault, NoneFailed}
-use Rattle.gate_journal.specs.Heads.{Head, IsToldHead}
+use Rattle.gate_journal.specs.Heads.{Head, IsParsedHead}
 use Rattle.side_pairs.specs.declared.choosing.Counted.{Counted}
 use Rattle.side_pairs.specs.Pairs.{SideCounts, IsNoPair}
 
 -- the side that counts, and what is read from its head; None where none counts (own)
 abbrev pub Chooses : List ℕ → List ℕ → Option Counted → Type 0
 Chooses first second (Some counted) =
-    (head : Head) × (rest : List ℕ) × SideCounts counted.which head rest first second × IsToldHead counted.head head
+    (head : Head) × (rest : List ℕ) × SideCounts counted.which head rest first second × IsParsedHead counted.head head
 Chooses first second None = IsNoPair first second
 
 -- a fault of one disk, while no call of the other failed (own)

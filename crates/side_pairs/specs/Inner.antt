@@ -3,8 +3,8 @@ use Rattle.std.specs.Prelude.{◌≡◌, ◌⊎◌, ◌<◌, ℕ, List, ◌++◌
 use Rattle.vtl_base.specs.declared.faults.DevFault.{DevFault}
 use Rattle.tape_disk.specs.Disk.{DiskState}
 use Rattle.gate_journal.specs.Answers.{NoneFailed}
-use Rattle.gate_journal.specs.declared.heads.ToldHead.{ToldHead}
-use Rattle.gate_journal.specs.Heads.{Head, IsToldHead, epoch_in, spell_side_head}
+use Rattle.gate_journal.specs.declared.heads.ParsedHead.{ParsedHead}
+use Rattle.gate_journal.specs.Heads.{Head, IsParsedHead, epoch_in, spell_side_head}
 use Rattle.gate_journal.specs.Side.{OPEN}
 use Rattle.side_pairs.specs.declared.choosing.Begins.{Begins}
 use Rattle.side_pairs.specs.declared.choosing.Begins.TheVariants.{Closed, Open, Headless}
@@ -32,13 +32,14 @@ abbrev pub IsHeadless : ℕ → List ℕ → Type 0
 IsHeadless pair image = (rest : List ℕ) × (image ≡ begun OPEN pair ++ rest) × (HasHead rest → ⊥)
 
 -- an image with the ten bytes of a side is closed, open with a head, or open without one (own)
-abbrev pub Opens : List ℕ → Begins → Type 0
-Opens image Closed = (pair : ℕ) × IsClosedSide pair image
-Opens image (Open told) = (pair : ℕ) × (h : Head) × (rest : List ℕ) × IsOpenSide pair h rest image × IsToldHead told h
-Opens image Headless = (pair : ℕ) × IsHeadless pair image
+abbrev pub OpensImage : List ℕ → Begins → Type 0
+OpensImage image Closed = (pair : ℕ) × IsClosedSide pair image
+OpensImage image (Open parsed) = (pair : ℕ) × (h : Head) × (rest : List ℕ) × IsOpenSide pair h rest image
+    × IsParsedHead parsed h
+OpensImage image Headless = (pair : ℕ) × IsHeadless pair image
 
 -- the side with the greater epoch; None where the epochs are the same (own)
-abbrev pub IsGreater : ToldHead → ToldHead → Option Counted → Type 0
+abbrev pub IsGreater : ParsedHead → ParsedHead → Option Counted → Type 0
 IsGreater one two (Some chosen) =
     ((chosen ≡ record { which = First; head = one }) × (epoch_in two.copied < epoch_in one.copied))
     ⊎ ((chosen ≡ record { which = Second; head = two }) × (epoch_in one.copied < epoch_in two.copied))

@@ -100,8 +100,8 @@ pub record IsPairedNow (old new : DiskState) : Type 0 where
   pub behind : drop 10 new.seen ≡ drop 10 old.seen
   pub sure : Only new.seen new.may_leave
 
--- The side gate is closed: 00h where it was open, else unchanged. All bytes after it are unchanged, and that is sure
--- (own).
+-- The side gate is closed: 00h where it was open, else unchanged. All bytes after it are unchanged. A crash leaves
+-- exactly these bytes (own).
 pub record IsClosedNow (old new : DiskState) : Type 0 where
   pub closed : ReadsClosed new.seen
   pub written : ReadsOpen old.seen → new.seen ≡ CLOSED ∷ drop 1 old.seen

@@ -6,12 +6,12 @@ ghost use Rattle.gate_journal.specs.Side.{OPEN};
 ghost use Rattle.gate_journal.specs.Crash.{Unwritten};
 ghost use Rattle.side_pairs.specs.Choosing.{Chooses, FindsCounted};
 ghost use Rattle.side_pairs.specs.Passes.{HasStart};
-ghost use Rattle.side_pairs.specs.Inner.{FindsRead, HasOpenPair, IsGreater, Opens};
+ghost use Rattle.side_pairs.specs.Inner.{FindsRead, HasOpenPair, IsGreater, OpensImage};
 
 use crate::fronts::{FRONT_BYTES, read_front};
 use crate::gates::OPEN;
 use crate::which::Which;
-use gate_journal::{ToldHead, told_head};
+use gate_journal::{ParsedHead, parse_head};
 use tape_disk::Disk;
 use vtl_base::DevFault;
 
@@ -27,7 +27,7 @@ pub struct Counted {
     /// Its disk.
     pub which: Which,
     /// What is read from its head.
-    pub head: ToldHead,
+    pub head: ParsedHead,
 }
 
 // The beginning of an image with the ten bytes of a side.
@@ -36,7 +36,7 @@ enum Begins {
     // Its gate is closed.
     Closed,
     // Its gate is open, and it has this head.
-    Open(ToldHead),
+    Open(ParsedHead),
     // Its gate is open, and it has no head.
     Headless,
 }
@@ -106,9 +106,9 @@ fn choose_alone(first: &[u8]) -> Option<Counted>
 }
 
 // The first side, where it is no copy.
-fn plain_alone(first: &[u8], head: ToldHead) -> Option<Counted>
+fn plain_alone(first: &[u8], head: ParsedHead) -> Option<Counted>
     requires shut { HasOpenPair first.now → ⊥ }
-    requires head { Opens first.now (Begins.Open head) }
+    requires head { OpensImage first.now (Begins.Open head) }
     ensures { (second : List ℕ) → Chooses first.now second result }
 {
     match head.copied {
@@ -139,9 +139,9 @@ fn choose_of_two(first: &[u8], second: &[u8]) -> Option<Counted>
 }
 
 // The side that counts where the first side is open.
-fn beside_open(first: &[u8], second: &[u8], one: ToldHead) -> Option<Counted>
+fn beside_open(first: &[u8], second: &[u8], one: ParsedHead) -> Option<Counted>
     requires pair { HasOpenPair first.now }
-    requires first { Opens first.now (Begins.Open one) }
+    requires first { OpensImage first.now (Begins.Open one) }
     requires second { HasStart second.now × (slice_index second.now 9 ≢ OPEN) }
     ensures { Chooses first.now second.now result }
 {
@@ -158,7 +158,7 @@ fn beside_open(first: &[u8], second: &[u8], one: ToldHead) -> Option<Counted>
 // The side that counts where the first side is closed.
 fn beside_closed(first: &[u8], second: &[u8]) -> Option<Counted>
     requires pair { HasOpenPair first.now }
-    requires first { Opens first.now Begins.Closed }
+    requires first { OpensImage first.now Begins.Closed }
     requires second { HasStart second.now × (slice_index second.now 9 ≢ OPEN) }
     ensures { Chooses first.now second.now result }
 {
@@ -173,7 +173,7 @@ fn beside_closed(first: &[u8], second: &[u8]) -> Option<Counted>
 }
 
 // The side with the greater epoch.
-fn greater(one: ToldHead, two: ToldHead) -> Option<Counted>
+fn greater(one: ParsedHead, two: ParsedHead) -> Option<Counted>
     ensures { IsGreater one two result }
 {
     let first = one.epoch();
@@ -210,12 +210,12 @@ fn has_open_pair(image: &[u8]) -> bool
 // The beginning of an image with the ten bytes of a side.
 fn beginning(image: &[u8]) -> Begins
     requires { HasStart image.now }
-    ensures { Opens image.now result }
+    ensures { OpensImage image.now result }
 {
     if image[0] != OPEN {
         return Begins::Closed;
     }
-    match told_head(&image[START_BYTES..]) {
+    match parse_head(&image[START_BYTES..]) {
         Some(head) => Begins::Open(head),
         None => Begins::Headless,
     }

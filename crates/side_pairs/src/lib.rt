@@ -1,4 +1,4 @@
-//! Two sides of a cartridge, of which one counts, and the passes that copy it to the other.
+//! Two sides of a cartridge, one of which counts, and the passes that copy it to the other.
 #![tactic(auto)]
 
 pub mod choosing;

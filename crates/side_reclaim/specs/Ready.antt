@@ -29,7 +29,7 @@ module _ {D : Type 0} (state : D → DiskState) where
     pub first : Only (state disks.first).seen (state disks.first).may_leave
     pub second : Only (state disks.second).seen (state disks.second).may_leave
 
-  -- the disks still do so, and all bytes after the first ten of the side that counts stay (own)
+  -- the disks still give the side surely, and all bytes after the first ten of the side that counts stay (own)
   pub record StillGives (old new : TwoDisks D) (which : Which) (head : Head) (bodies : List (List ℕ)) : Type 0 where
     pub gives : GivesSurely new which head bodies
     pub same : drop 10 (counting which (seen_of_two state new)) ≡ drop 10 (counting which (seen_of_two state old))

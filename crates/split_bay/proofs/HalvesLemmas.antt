@@ -135,27 +135,27 @@ module _ {D : Type 0} (state : D → DiskState) where
       })
 
 -- all else of a drive, once a fault was looked for
-abbrev pub rest_told : {K : Type 0} → Bool → RestState K → RestState K
-rest_told fails rest = record rest { deferred = deferred_after fails rest.deferred }
+abbrev pub rest_reported : {K : Type 0} → Bool → RestState K → RestState K
+rest_reported fails rest = record rest { deferred = deferred_after fails rest.deferred }
 
 module _ {D : Type 0} (state : D → DiskState) (drive : DriveState SendingState (OpenStore D)) (old : Bay SendingState)
     (rest rest' : RestState (OpenStore D)) (fails : Bool) (bay : Bay (BufferState D)) (apart : old ≡ drive.bay)
-    (rest_is : rest ≡ rest_of_drive drive) (told : rest' ≡ rest_told fails rest) where
-  told_is : rest' ≡ rest_told fails (rest_of_drive drive)
-  told_is = told ∙ ap (rest_told fails) rest_is
+    (rest_is : rest ≡ rest_of_drive drive) (told : rest' ≡ rest_reported fails rest) where
+  reported_is : rest' ≡ rest_reported fails (rest_of_drive drive)
+  reported_is = told ∙ ap (rest_reported fails) rest_is
 
   -- the position is on what is put together
   pub positioned_whole : LookedIn (bay_of state_near old) (bay_of (state_of state) bay)
       → IsBayPositioned state_near drive.bay drive.position → IsBayPositioned (state_of state) bay rest'.position
   positioned_whole looked on =
       subst (λ (p : Pos). IsBayPositioned (state_of state) bay p)
-      (sym (ap (λ (r : RestState (OpenStore D)). r.position) told_is))
+      (sym (ap (λ (r : RestState (OpenStore D)). r.position) reported_is))
       (positioned_still state drive.bay bay drive.position
       (subst (λ (b : Bay SendingState). LookedIn (bay_of state_near b) (bay_of (state_of state) bay)) apart looked) on)
 
   module _ (new : BayState D) (is : new ≡ drive_with bay rest') where
-    new_is : new ≡ drive_with bay (rest_told fails (rest_of_drive drive))
-    new_is = is ∙ ap (λ (r : RestState (OpenStore D)). drive_with bay r) told_is
+    new_is : new ≡ drive_with bay (rest_reported fails (rest_of_drive drive))
+    new_is = is ∙ ap (λ (r : RestState (OpenStore D)). drive_with bay r) reported_is
 
     -- what is known of its reservations
     pub holding_joined : KeepsOrders state drive → IsHolding (state_of state) (buffer_below state) state new

@@ -28,11 +28,11 @@ use Rattle.split_bay.specs.Nears.{IsRoomSeen, KnowsSpan, ShowsSpanIn}
 use Rattle.split_bay.specs.Rings.{ReceivingState, SendingState}
 use Rattle.split_bay.specs.Spans.{KeepsLimits, Span, medium_begun, medium_seen, new_span, span_of, spans_in}
 use Rattle.split_bay.specs.Taken.{TakesKnown}
-use Rattle.split_bay.specs.Untold.{AcceptsUntold}
+use Rattle.split_bay.specs.Unreported.{AcceptsUnreported}
 use Rattle.split_bay.proofs.JoinedLemmas.{nothing_waits, spans_behind}
 use Rattle.split_bay.proofs.LookLemmas.{looked_same, not_both}
 use Rattle.split_bay.proofs.SpanLemmas.{span_more}
-use Rattle.split_bay.proofs.UntoldLemmas.{accepts_waiting}
+use Rattle.split_bay.proofs.UnreportedLemmas.{accepts_waiting}
 
 module _ {D : Type 0} (state : D → DiskState) where
   -- a catalog of what is seen is one of what is found
@@ -80,7 +80,7 @@ module _ {D : Type 0} (state : D → DiskState) where
               all_received follows.looked;
           advances = takes.takes.advances;
           accepts =
-              subst (λ (b : BufferState D). AcceptsUntold state medium.buffer takes.takes.found b)
+              subst (λ (b : BufferState D). AcceptsUnreported state medium.buffer takes.takes.found b)
               (sym takes.takes.pending)
               (accepts_waiting state is_disk (span_of old.received) medium.buffer takes.takes.found
               before.looked.volume before.looked.awake before.rests

@@ -17,7 +17,7 @@ use Rattle.drive_core.specs.Checks.{verdict}
 use Rattle.drive_core.specs.Execute.{AdvancesIn, Answers, HonestIn, StoresIn}
 use Rattle.drive_core.specs.State.{DriveState, IsBayPositioned, Machine, bay_of, has_failed_in, machine_of, medium_in}
 use Rattle.drive_core.specs.Step.{Answered, Execute, Step}
-use Rattle.drive_core.specs.Told.{RepliesTellChanges}
+use Rattle.drive_core.specs.ShownChanges.{RepliesShowChanges}
 use Rattle.drive_core.specs.Work.{Request}
 use Rattle.aptpl_store.specs.State.{OpenStore}
 use Rattle.bays.specs.Reservations.{Call, IsHolding, LeavesHeld}
@@ -349,11 +349,11 @@ module _ {M K : Type 0} (state : M → MediumState) (below : Below M Change) (ke
             };
       }
 
-  -- so its replies tell of its changes
-  pub tells_alone : RepliesTellChanges (state_hosts state) (hosts_below below) kept keeps
-      → RepliesTellChanges state_near near_below kept keeps
+  -- so its replies show its changes
+  pub shows_alone : RepliesShowChanges (state_hosts state) (hosts_below below) kept keeps
+      → RepliesShowChanges state_near near_below kept keeps
   unfolding answers_hosts
-  tells_alone law old new request reply answers =
+  shows_alone law old new request reply answers =
       law (drive_hosts old) (drive_hosts new) request reply (answers_hosts old new request reply answers)
 
 -- what the type of the hosts' half keeps

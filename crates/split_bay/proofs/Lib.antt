@@ -9,5 +9,5 @@ pub mod NearLemmas
 pub mod RingLemmas
 pub mod SpanLemmas
 pub mod TakenLemmas
-pub mod UntoldLemmas
-pub mod TellLemmas
+pub mod UnreportedLemmas
+pub mod ReportLemmas

@@ -38,8 +38,8 @@ abbrev pub with_changes : {D : Type 0} → BufferState D → List Change → Buf
 with_changes medium changes = record medium { pending = medium.pending ++ changes }
 
 module _ {D : Type 0} (state : D → DiskState) where
-  -- The medium of the disk's half stands as the span says: it is what hosts see, as far as it was stored; it takes what
-  -- may still be sent; and to one that is not awake nothing is sent (own).
+  -- The medium of the disk's half stands as the span says: it is as hosts see it, as far as it was stored; it takes
+  -- what may still be sent; and to one that is not awake nothing is sent (own).
   pub record FollowsSpan (medium : LentState D) (span : Span) : Type 0 where
     pub there : is_some span.begin.seen ≡ true
     pub looked : Looked (medium_seen span) (state_of state medium.buffer)
@@ -51,8 +51,8 @@ module _ {D : Type 0} (state : D → DiskState) where
   FollowsIn None span = span.begin.seen ≡ None
   FollowsIn (Some medium) span = FollowsSpan medium span
 
-  -- What the type of a disk's half keeps: over honest disks each pair of images that a crash now may leave gives what
-  -- is safe, or what is stored; the medium is what hosts see, as far as it was received and stored; and no more was
+  -- The invariant of a disk's half. Over honest disks each pair of images that a crash now may leave gives what is
+  -- safe, or what is stored. The medium is as hosts see it, as far as its changes were received and stored. No more was
   -- received than the span allows (own).
   pub record KeepsDiskHalf (back : BackState D) : Type 0 where
     pub cartridge : KeepsCartridgeIn state (option_map (λ m. m.buffer) back.medium)

@@ -16,8 +16,8 @@ abbrev pub having_pending : MediumState → List Change → MediumState
 having_pending medium changes = record medium { pending = changes }
 
 -- What was pending are changes that a flusher's turn found, and changes that were accepted after it. The turn left a
--- medium that stored a first part of what it found, and with the later changes pending too it is the one that is found
--- now (own).
+-- medium that stored a first part of what it found. With the later changes pending too, that is the medium that is
+-- found now (own).
 pub record TurnedBefore (old new : MediumState) : Type 0 where
   pub first : List Change
   pub since : List Change
@@ -28,9 +28,9 @@ pub record TurnedBefore (old new : MediumState) : Type 0 where
   pub stores : Stores (having_pending old first) [] left
   pub found : new ≡ having_pending left (left.pending ++ since)
 
--- A drive is found so: before the last of these changes were accepted it took a flusher's turn, as a step of its
--- machine from whatever else that was in then, and they are pending behind what the turn left. Several turns count as
--- one (own).
+-- A drive is found as follows. Before the last of these changes were accepted it took a flusher's turn, as a step of
+-- its machine, whatever the rest of the machine was then. The last changes are pending behind what the turn left.
+-- Several turns count as one (own).
 pub record TurnedDrive (medium : MediumState) (old new : Machine) : Type 0 where
   pub first : List Change
   pub since : List Change
@@ -44,8 +44,8 @@ pub record TurnedDrive (medium : MediumState) (old new : Machine) : Type 0 where
       FlushTurn (Unanswered (turn_outcome turn)) made_nothing (after_turn turn left was)
   pub found : new ≡ record (after_turn turn left old) { bay = Loaded (having_pending left (left.pending ++ since)) }
 
--- What is found with both halves of a drive in which a medium is loaded and awake is what a flusher's turn of the whole
--- drive leaves (own).
+-- A drive with a medium that is loaded and awake is found, with both halves, as a flusher's turn of the whole drive
+-- leaves it (own).
 abbrev pub FoundIsTurned : Type 0
 FoundIsTurned =
     (old new : Machine) (medium : MediumState) → Looks old new → old.bay ≡ Loaded medium → medium.awake ≡ true

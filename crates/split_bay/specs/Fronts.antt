@@ -19,8 +19,8 @@ pub record FrontState (D : Type 0) : Type 0 where
   pub drive : DriveState SendingState (OpenStore D)
   pub end : Option SendingState
 
--- The end of the ring is that of the medium, or where nothing is in the drive it stands beside it; and then the span
--- began so (own).
+-- The end of the ring is in the medium. Where nothing is in the drive, the end stands beside it, and the span began
+-- with nothing in the drive (own).
 abbrev pub HasEnd : Bay SendingState → Option SendingState → Type 0
 HasEnd Empty None = ⊥
 HasEnd Empty (Some end) = span_of end.sent ≡ no_span

@@ -25,15 +25,15 @@ use Rattle.split_bay.specs.Looks.{LookedIn, Looks, fails_anew}
 use Rattle.split_bay.specs.Nears.{state_near}
 use Rattle.split_bay.specs.Rings.{SendingState}
 use Rattle.split_bay.specs.Spans.{span_of}
-use Rattle.split_bay.specs.Untold.{AcceptsUntold}
+use Rattle.split_bay.specs.Unreported.{AcceptsUnreported}
 
 module _ {D : Type 0} (state : D → DiskState) where
-  -- Exactly these changes are accepted by a medium: by one that works, and, with no call of a disk, by one whose fault
-  -- hosts were not told of (own).
+  -- A medium accepts exactly these changes: one that works, and, with no call of a disk, one whose fault was not
+  -- reported (own).
   pub record AcceptsAll (old : LentState D) (made : List Change) (new : BufferState D) : Type 0 where
     pub advances :
         (state_of state old.buffer).failed ≡ false → Advances (buffer_below state) old.buffer made false new
-    pub accepts : AcceptsUntold state old.buffer made new
+    pub accepts : AcceptsUnreported state old.buffer made new
 
   -- the same of a medium that may be there; by none, none (own)
   abbrev pub AcceptsIn : Option (LentState D) → List Change → Option (BufferState D) → Type 0
@@ -46,8 +46,8 @@ module _ {D : Type 0} (state : D → DiskState) where
   JoinsThere near received None new = ⊥
   JoinsThere near received (Some old) new = JoinsMedium state near received old new
 
-  -- What is in a drive is put together: what was received begins what was sent, and what was not is pending now; the
-  -- medium is what hosts see of it, as far as it is stored; exactly these changes are accepted (own).
+  -- What is in a drive is put together. What was received begins what was sent, and the rest is pending now. The medium
+  -- is as hosts see it, as far as it is stored. Exactly these changes are accepted (own).
   pub record JoinsBay
       (old : Bay SendingState) (end : Option SendingState) (received : List Item) (medium : Option (LentState D))
       (new : Bay (BufferState D)) (ends : SendingState) (fails : Bool) : Type 0 where
@@ -59,8 +59,8 @@ module _ {D : Type 0} (state : D → DiskState) where
     pub advances : AcceptsIn medium waiting (medium_in new)
     pub fails_is : fails ≡ fails_anew (bay_of state_near old) (bay_of (state_of state) new)
 
-  -- The two halves of a bay are put together. What was received begins what was sent; what was not received is pending
-  -- now, and exactly that is accepted. The bay is what the hosts' half is found to be (own).
+  -- The two halves of a bay are put together. What was received begins what was sent; the rest is pending now, and
+  -- exactly that is accepted. The bay is the hosts' half, as it is found (own).
   pub record Joins (front : FrontState D) (back : BackState D) (bay : BayState D) (ends : SendingState) : Type 0 where
     pub waiting : List Change
     pub ends_are : ends ≡ end_of front
@@ -96,7 +96,7 @@ module _ {D : Type 0} (state : D → DiskState) where
     pub allowed : IsAllowedIn near
 
   -- A bay parts into its halves, and a span begins: all that was sent is received. The hosts' half is the same machine;
-  -- the medium of the disk's half is as it was, but for the memory that is reserved (own).
+  -- the medium of the disk's half is as it was, except for the memory that is reserved (own).
   pub record Parts (bay : BayState D) (ends : SendingState) (front : FrontState D) (back : BackState D) : Type 0 where
     pub begins : BeginsNext ends (end_of front)
     pub number : back.number ≡ (end_of front).number
@@ -133,13 +133,13 @@ module _ {D : Type 0} (state : D → DiskState) where
     pub positioned : IsBayPositioned (state_of state) answered.bay answered.position
     pub parts : Parts answered ends front' back'
 
-  -- a fault of the disk's half that hosts were not told of: what is loaded has failed, and is not seen to have (own)
-  abbrev pub is_untold : FrontState D → BackState D → Bool
-  is_untold front back = is_stuck_in state back.medium && not (has_failed_in state_near front.drive.bay)
+  -- a fault of the disk's half that was not reported: what is loaded has failed, and hosts do not see that yet (own)
+  abbrev pub is_unreported : FrontState D → BackState D → Bool
+  is_unreported front back = is_stuck_in state back.medium && not (has_failed_in state_near front.drive.bay)
 
-  -- Hosts are told of a fault of the disk's half: both are looked at and part again. A deferred error is established,
-  -- and what is loaded is seen to have failed (own).
-  pub record TellsFault (front : FrontState D) (back : BackState D) (front' : FrontState D) (back' : BackState D)
+  -- A fault of the disk's half is reported: the halves are joined, looked at and parted again. A deferred error is
+  -- established, and hosts see that what is loaded has failed (own).
+  pub record ReportsFault (front : FrontState D) (back : BackState D) (front' : FrontState D) (back' : BackState D)
       : Type 0 where
     pub joined : BayState D
     pub ends : SendingState
@@ -149,6 +149,6 @@ module _ {D : Type 0} (state : D → DiskState) where
     pub failed : has_failed_in state_near front'.drive.bay ≡ true
 
   -- the same where there is such a fault; else nothing has changed (own)
-  abbrev pub TellsBoth : Bool → FrontState D → BackState D → FrontState D → BackState D → Type 0
-  TellsBoth false front back front' back' = (front' ≡ front) × (back' ≡ back)
-  TellsBoth true front back front' back' = TellsFault front back front' back'
+  abbrev pub ReportsBoth : Bool → FrontState D → BackState D → FrontState D → BackState D → Type 0
+  ReportsBoth false front back front' back' = (front' ≡ front) × (back' ≡ back)
+  ReportsBoth true front back front' back' = ReportsFault front back front' back'

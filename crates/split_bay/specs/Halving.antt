@@ -17,7 +17,7 @@ use Rattle.split_bay.specs.Looks.{Looked}
 use Rattle.split_bay.specs.Nears.{IsRoomSeen, IsThere, state_near}
 use Rattle.split_bay.specs.Rings.{SendingState}
 use Rattle.split_bay.specs.Spans.{span_of}
-use Rattle.split_bay.specs.Untold.{AcceptsUntold}
+use Rattle.split_bay.specs.Unreported.{AcceptsUnreported}
 
 -- the ends of a ring, where one began a span more: all that was sent is received (own)
 pub record BeginsNext (old new : SendingState) : Type 0 where
@@ -36,9 +36,9 @@ pub record IsAllowed (medium : MediumState) (begin : Beginning) : Type 0 where
   pub rests : medium.awake ≡ false → begin.left ≡ 0
 
 module _ {D : Type 0} (state : D → DiskState) where
-  -- What was received begins what was sent, and what was not is pending now. The medium is what hosts see of it, as far
-  -- as it is stored. Exactly these changes are accepted, by a medium that works and by one whose fault hosts were not
-  -- told of (own).
+  -- What was received is a first part of what was sent, and the rest is pending now. As far as the medium is stored,
+  -- hosts see it as it is. A medium that works, and one whose fault was not reported, accepts exactly these changes
+  -- (own).
   pub record JoinsMedium (near : SendingState) (received : List Item) (old : LentState D) (new : BufferState D)
       : Type 0 where
     pub waiting : List Change
@@ -47,16 +47,16 @@ module _ {D : Type 0} (state : D → DiskState) where
     pub looked : Looked (state_near near) (state_of state new)
     pub advances :
         (state_of state old.buffer).failed ≡ false → Advances (buffer_below state) old.buffer waiting false new
-    pub accepts : AcceptsUntold state old.buffer waiting new
+    pub accepts : AcceptsUnreported state old.buffer waiting new
 
-  -- A medium is lent, as it was but for the memory that is reserved. Nothing was called (own).
+  -- A medium is lent, as it was except for the memory that is reserved. Nothing was called (own).
   pub record IsLent (old : BufferState D) (new : LentState D) : Type 0 where
     pub lends : LendsFrom old new
     pub state_is : state_of state new.buffer ≡ state_of state old
     pub advances : Advances (buffer_below state) old [] false new.buffer
 
-  -- A span begins with this medium, which is as it was, but for the memory that is reserved: its hosts' half sees it as
-  -- just what it is (own).
+  -- A span begins with this medium, which is as it was, except for the memory that is reserved: its hosts' half sees it
+  -- as just what it is (own).
   pub record PartsMedium (ends : SendingState) (old : BufferState D) (near : SendingState) (back : BackState D)
       : Type 0 where
     pub begins : BeginsNext ends near

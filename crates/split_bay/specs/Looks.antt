@@ -7,15 +7,15 @@ use Rattle.drive_core.specs.declared.bays.Bay.{Bay}
 use Rattle.drive_core.specs.declared.bays.Bay.TheVariants.{Empty, Unloaded, Loaded}
 use Rattle.drive_core.specs.State.{Machine}
 
--- the frame that was under way when the device failed: a first part of what is pending, of which there is some (own)
+-- the frame that was in flight when the device failed: a first part of what is pending, of which there is some (own)
 pub record IsTorn (new : MediumState) : Type 0 where
   pub some_pending : 1 ≤ length new.pending
   pub rest : List Change
   pub torn : new.pending ≡ new.torn ++ rest
 
--- A medium that hosts see so is found so: a first part of what was pending is stored, and the volume is the same. Or
--- its device has failed while something was stored. One that has failed, or is not awake, is as it was; so is one that
--- works and of which nothing was stored (own).
+-- Hosts see the old medium, and both halves find the new one. A first part of what was pending is stored, and the
+-- volume is the same; or the device has failed while something was stored. A medium that has failed, or is not awake,
+-- is found unchanged. So is one that works and of which nothing was stored (own).
 pub record Looked (old new : MediumState) : Type 0 where
   pub stores : Stores old [] new
   pub volume : volume_of new ≡ volume_of old
@@ -47,8 +47,8 @@ abbrev pub deferred_after : Bool → Bool → Bool
 deferred_after true deferred = true
 deferred_after false deferred = deferred
 
--- A drive is looked at once both halves of its medium are held: the medium is as it is found; a fault that hosts were
--- not told of establishes a deferred error; and nothing else has changed (own).
+-- A drive is looked at once both halves of its medium are held. The medium is as it is found, and a fault that was not
+-- reported establishes a deferred error. Nothing else has changed (own).
 pub record Looks (old new : Machine) : Type 0 where
   pub bay : LookedIn old.bay new.bay
   pub others :

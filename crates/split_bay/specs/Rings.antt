@@ -39,8 +39,8 @@ pub record ReceivingState : Type 0 where
   pub received : List Item
   pub waiting : List Item
 
--- the two ends are those of one drive's ring, and in each as many spans began, of which the numbers of 64 bits tell
--- (own)
+-- The two ends belong to one drive's ring, and the same number of spans began in each. The numbers of 64 bits show this
+-- (own).
 pub record AreEnds (sending : SendingState) (number : ℕ) (received : List Item) : Type 0 where
   pub number_is : sending.number ≡ number
   pub spans : spans_in sending.sent % 2 ^ 64 ≡ spans_in received % 2 ^ 64

@@ -17,7 +17,7 @@ pub record Span : Type 0 where
 abbrev pub no_span : Span
 no_span = record { begin = nothing_begins; since = [] }
 
--- a span that begins so (own)
+-- a span with this beginning (own)
 abbrev pub new_span : Beginning → Span
 new_span begin = record { begin = begin; since = [] }
 

@@ -12,9 +12,9 @@ use tape_buffer::Lent;
 use tape_disk::Disk;
 use volume_core::Turn;
 
-/// The disk's half of a bay: the medium that is in the drive, if one is, with what is pending of it; and the end of the
-/// ring from which changes come that the hosts' half accepted. After a device fault it is stuck, and stores nothing
-/// more.
+/// The disk's half of a bay: the medium in the drive, if there is one, with its pending changes; and the receiving end
+/// of the ring, which brings the changes that the hosts' half accepted. After a device fault the half is stuck, and
+/// stores nothing more.
 #[derive(Drop)]
 pub struct Back<D: Disk, R: Rings> {
     pub(crate) receiving: Receiving<R>,
@@ -38,9 +38,9 @@ impl<D: Disk, R: Rings> Model for Back<D, R> {
 }
 
 impl<D: Disk, R: Rings> Back<D, R> {
-    /// A flusher's turn: the changes that it finds in the ring are stored, with what was pending, as one frame. It
-    /// answers `Idle` where nothing is pending then, where no medium is loaded, or where it is stuck. After `Device` it
-    /// is stuck. It takes no memory.
+    /// Takes a flusher's turn: stores what was pending and the changes that it finds in the ring, as one frame. Returns
+    /// `Idle` where nothing is pending then, where no medium is loaded, or where the half is stuck. After `Device` the
+    /// half is stuck. The call takes no memory.
     pub fn turn(&mut self) -> Turn
         ensures { TurnsBack D.state (works_in D.state self.old.medium) self.old result self.new }
     {
@@ -75,8 +75,8 @@ impl<D: Disk, R: Rings> Back<D, R> {
         }
     }
 
-    /// What the type keeps: over honest disks each pair of images that a crash now may leave gives what is safe, or
-    /// what is stored; and the medium is what hosts see, as far as it was received and stored.
+    /// The type's invariant. Over honest disks each pair of images that a crash now may leave gives what is safe, or
+    /// what is stored. The medium is as hosts see it, as far as its changes were received and stored.
     pub fn known(&self)
         ensures cartridge { KeepsCartridgeIn D.state (option_map (λ m. m.buffer) self.now.medium) }
         ensures follows { FollowsIn D.state self.now.medium (span_of self.now.received) }
@@ -88,7 +88,7 @@ impl<D: Disk, R: Rings> Back<D, R> {
         }
     }
 
-    /// The disk of the side that counts, of the medium that is in the drive, to be looked at; of a parked one the first
+    /// The disk of the side that counts, of the medium in the drive, for reading. Of a parked medium it is the first
     /// disk.
     pub fn disk(&self) -> Option<&D>
         ensures disk { IfSome result (λ disk. IfSome self.now.medium (λ medium.

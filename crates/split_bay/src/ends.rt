@@ -18,12 +18,13 @@ use std::marker::{Brand, Model, PhantomData};
 use volume_core::Change;
 use vtl_base::DriveNo;
 
-/// Which ring each drive has, by its number. One name gives all of them, so all bays have one type.
+/// The ring of each drive, by the drive's number. One implementation gives the rings of all drives, so all bays have
+/// one type.
 pub trait Rings {
     ghost use Rattle.std.specs.Prelude.{ℕ, Option};
     ghost use Rattle.split_bay.specs.Rings.{Sender};
 
-    /// The ring of a drive, by the end that sends.
+    /// The ring of the drive with this number, given as the end that sends.
     ghost ring: { ℕ → Option Sender };
 }
 
@@ -126,7 +127,7 @@ impl<R: Rings> Sending<R> {
         let _ = &self.producer;
     }
 
-    /// Whether a frame more, with a block of so many bytes, has room in this span.
+    /// Whether this span has room for one more frame, with a block of this many bytes.
     pub(crate) fn has_room(&self, bytes: u32) -> bool
         ensures { IsTrue result
             ↔ sum_by frame_size (span_of self.now.sent).since + (15 + bytes) ≤ (span_of self.now.sent).begin.room }
@@ -134,7 +135,7 @@ impl<R: Rings> Sending<R> {
         15 + bytes as u64 <= self.room
     }
 
-    /// Whether a change is sent within the limits of its span whose block has so many bytes, 0 for a change with no
+    /// Whether the limits of this span allow one more change, whose block has this many bytes, 0 for a change with no
     /// block.
     pub(crate) fn takes(&self, bytes: u32) -> bool
         ensures { result ≡ takes_more (span_of self.now.sent) bytes }
@@ -187,7 +188,7 @@ impl<R: Rings> Receiving<R> {
         let _ = &self.consumer;
     }
 
-    /// Looks at what waits.
+    /// Looks at what waits in the ring.
     pub(crate) fn look(&mut self)
         ensures same { self.new ≡ record self.old { waiting = self.new.waiting } }
         ensures more { IsPrefix self.old.waiting self.new.waiting }
@@ -195,7 +196,7 @@ impl<R: Rings> Receiving<R> {
         let _ = self.consumer.slots();
     }
 
-    /// Whether a change is known to wait, in front of all else.
+    /// Whether a change is known to wait as the first item.
     pub(crate) fn has_change(&self) -> bool
         ensures yes { IsTrue result → IsChangeFirst self.now.waiting }
         ensures no { (IsTrue result → ⊥) → NoChangeFirst self.now.waiting }
@@ -209,7 +210,7 @@ impl<R: Rings> Receiving<R> {
         }
     }
 
-    /// Receives the change that waits in front.
+    /// Receives the change that waits as the first item.
     pub(crate) fn receive(&mut self) -> Change
         requires { IsChangeFirst self.old.waiting }
         ensures number { self.new.number ≡ self.old.number }

@@ -26,7 +26,7 @@ use tape_disk::Disk;
 use vtl_base::{Bytes, Nexus};
 
 /// The hosts' half of a bay: the drive, over the hosts' half of its medium, with its store of reservations. Where
-/// nothing is in the drive its end of the ring stands beside it.
+/// nothing is in the drive, `end` has its end of the ring.
 #[derive(Drop)]
 pub struct Front<D: Disk, R: Rings> {
     pub(crate) drive: Drive<Hosts<Near<R>, Cataloged<D>>, AptplStore<D>>,
@@ -46,18 +46,18 @@ impl<D: Disk, R: Rings> Model for Front<D, R> {
 }
 
 impl<D: Disk, R: Rings> Front<D, R> {
-    /// Answers a command of a host whose data are lent, where it needs no disk. Where both halves are needed there is
-    /// no answer, and nothing has changed: the data are there still.
+    /// Answers a command of a host, whose data are lent, if it needs no disk. Where both halves are needed the result
+    /// is None, and nothing has changed: the data are still there.
     pub fn execute_lent(&mut self, nexus: Nexus, cdb: &[u8], sent: &mut Bytes) -> Option<Reply>
         ensures step { AnswersAlone state_near store_kept alone_near near_below (store_below D.state)
             self.old.drive (asked nexus cdb.now sent.old) result self.new.drive sent.new }
         ensures end { self.new.end ≡ self.old.end }
 
-        // A synchronizing command is never acknowledged so.
+        // A synchronizing command is never acknowledged by this half alone.
         ensures waits { IsSynchronizing (machine_of state_near store_kept self.old.drive) cdb.now
             → IfSome result (λ reply. Acknowledges reply → ⊥) }
 
-        // At every moment inside the call a crash leaves these of the reservations.
+        // What a crash leaves of the reservations at every moment inside the call.
         ensures moments { LeavesOrders D.state self.old.drive (asked nexus cdb.now sent.old) result self.new.drive }
     {
         // The law, for the proof alone.
@@ -65,7 +65,7 @@ impl<D: Disk, R: Rings> Front<D, R> {
         self.drive.execute_alone(nexus, cdb, sent)
     }
 
-    /// Whether the two are halves of one bay, in each of which as many spans began.
+    /// Whether these are the two halves of one bay, and the same number of spans began in both.
     pub fn fits(&self, back: &Back<D, R>) -> bool
         ensures { IsTrue result ↔ AreEnds (end_of self.now) back.now.number back.now.received }
     {
@@ -90,22 +90,22 @@ impl<D: Disk, R: Rings> Front<D, R> {
         self.drive.held()
     }
 
-    /// How many changes were accepted since it was switched on, as `Drive::accepted` says.
+    /// How many changes were accepted since the drive was switched on, as `Drive::accepted` says.
     pub fn accepted(&self) -> u64
         ensures { result ≡ self.now.drive.accepted }
     {
         self.drive.accepted()
     }
 
-    /// Whether hosts see what is loaded as failed.
+    /// Whether hosts see the loaded medium as failed.
     pub fn has_failed(&self) -> bool
         ensures { result ≡ has_failed_in state_near self.now.drive.bay }
     {
         self.drive.has_failed()
     }
 
-    /// How many changes are pending, as hosts see it: those that were when both halves were last held, and all that
-    /// were accepted since. A turn may have stored some of them. Without a cartridge there are none.
+    /// How many changes are pending, as hosts see it: those that were pending when both halves were last held, and all
+    /// that were accepted since. A turn may have stored some of them. Without a cartridge there are none.
     pub fn pending(&self) -> usize
         ensures { result ≡ pending_of (medium_in self.now.drive.bay) }
     {
@@ -116,7 +116,7 @@ impl<D: Disk, R: Rings> Front<D, R> {
         }
     }
 
-    /// What keeps its reservations, to be looked at.
+    /// The store of its reservations, for reading.
     pub fn keeper(&self) -> &AptplStore<D>
         ensures { result.now ≡ self.now.drive.keeper }
     {
@@ -134,9 +134,9 @@ impl<D: Disk, R: Rings> Front<D, R> {
         }
     }
 
-    /// What the type keeps: over an honest disk each image that a crash now may leave of the store gives the
-    /// reservations as a loss of power leaves them, or those of the order whose save failed; no more was sent than may
-    /// be; and the position is on what hosts see.
+    /// The type's invariant. Over an honest disk each image of the store that a crash now may leave gives the
+    /// reservations as a loss of power leaves them, or those of the order whose save failed. No more was sent than the
+    /// span allows. The position is on the volume that hosts see.
     pub fn known(&self)
         ensures kept { KeepsHostsHalf D.state self.now }
         ensures opens { GivesOrders D.state self.now.drive }

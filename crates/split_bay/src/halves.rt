@@ -1,4 +1,4 @@
-//! The two halves of a bay are put together, and part again.
+//! Puts the two halves of a bay together, and parts them again.
 ghost use Rattle.std.specs.Prelude.{◌≡◌, ◌&&◌, None, not};
 ghost use Rattle.drive_core.specs.declared.bays.Bay.TheVariants as Bays;
 ghost use Rattle.tape_buffer.specs.State.{state_of};
@@ -10,7 +10,7 @@ ghost use Rattle.split_bay.specs.Hosts.{IsApartIn, near_of};
 ghost use Rattle.split_bay.specs.Looks.{deferred_after, is_broken};
 ghost use Rattle.split_bay.specs.Nears.{IsThere, state_near};
 ghost use Rattle.split_bay.specs.Backs.{FollowsIn};
-ghost use Rattle.split_bay.specs.Halves.{ExecutesBoth, Joins, JoinsBay, JoinsThere, Parts, PartsBay, TellsBoth, is_untold};
+ghost use Rattle.split_bay.specs.Halves.{ExecutesBoth, Joins, JoinsBay, JoinsThere, Parts, PartsBay, ReportsBoth, is_unreported};
 ghost use Rattle.split_bay.specs.Rings.{AreEnds};
 ghost use Rattle.split_bay.specs.Spans.{span_of};
 
@@ -30,8 +30,8 @@ use tape_disk::Disk;
 use volume_core::Medium;
 use vtl_base::{Bytes, Nexus};
 
-/// Puts the two halves of a bay together. What waits in the ring is taken into what is pending; a fault of the disk's
-/// half that was not reported yet establishes a deferred error. It takes no memory, and calls no device.
+/// Puts the two halves of a bay together. The changes that wait in the ring become pending. A fault of the disk's half
+/// that was not reported yet establishes a deferred error. The call takes no memory, and calls no device.
 pub fn join<D: Disk, R: Rings>(front: Front<D, R>, back: Back<D, R>) -> (Bay<D>, Ends<R>)
     requires { AreEnds (end_of front) back.number back.received }
     ensures { Joins D.state front back result.0 result.1 }
@@ -46,8 +46,8 @@ pub fn join<D: Disk, R: Rings>(front: Front<D, R>, back: Back<D, R>) -> (Bay<D>,
     (Bay::of_drive(drive), ends)
 }
 
-/// Parts a bay into its halves. Memory is taken for as many records as may be pending; where it runs out, none may be
-/// sent until the halves part again.
+/// Parts a bay into its halves. The call takes memory for as many records as may be pending. Where memory runs out, no
+/// record may be sent until the halves part again.
 pub fn part<D: Disk, R: Rings>(bay: Bay<D>, ends: Ends<R>) -> (Front<D, R>, Back<D, R>)
     ensures { Parts D.state bay ends result.0 result.1 }
 {
@@ -59,7 +59,7 @@ pub fn part<D: Disk, R: Rings>(bay: Bay<D>, ends: Ends<R>) -> (Front<D, R>, Back
     (Front { drive, end }, back)
 }
 
-/// Answers a command of a host whose data are lent, with both halves.
+/// Answers a command of a host, whose data are lent, with both halves.
 pub fn execute_both<D: Disk, R: Rings>(
     front: Front<D, R>,
     back: Back<D, R>,
@@ -85,7 +85,7 @@ pub fn execute_both<D: Disk, R: Rings>(
 /// on. Where there is no fault, or it was reported, nothing changes.
 pub fn tell<D: Disk, R: Rings>(front: Front<D, R>, back: Back<D, R>) -> (Front<D, R>, Back<D, R>)
     requires { AreEnds (end_of front) back.number back.received }
-    ensures { TellsBoth D.state (is_untold D.state front back) front back result.0 result.1 }
+    ensures { ReportsBoth D.state (is_unreported D.state front back) front back result.0 result.1 }
 {
     if !back.is_stuck() || front.has_failed() {
         return (front, back);
@@ -96,7 +96,7 @@ pub fn tell<D: Disk, R: Rings>(front: Front<D, R>, back: Back<D, R>) -> (Front<D
     part(bay, ends)
 }
 
-// All else of a drive; a deferred error where a fault is to be reported.
+// The rest of a drive, with a deferred error where a fault is to be reported.
 fn rest_after<K: Keeper>(rest: Rest<K>, fails: bool) -> Rest<K>
     ensures { result ≡ record rest { deferred = deferred_after fails rest.deferred } }
 {
@@ -108,22 +108,22 @@ fn rest_after<K: Keeper>(rest: Rest<K>, fails: bool) -> Rest<K>
     rest
 }
 
-// What is in a drive, once its halves are put together.
+// The content of a drive, put together from its halves.
 struct JoinedBay<D: Disk, R: Rings> {
     bay: Place<Cataloged<D>>,
     ends: Ends<R>,
-    // Whether its device has failed, and that was not reported.
+    // Whether its device has failed, and the fault was not reported.
     fails: bool,
 }
 
-// What is in a drive, in halves.
+// The content of a drive, in halves.
 struct PartedBay<D: Disk, R: Rings> {
     bay: Place<Near<R>>,
     end: Option<Sending<R>>,
     back: Back<D, R>,
 }
 
-// What is in a drive is put together of its halves.
+// Puts the content of a drive together from its halves.
 fn join_bay<D: Disk, R: Rings>(
     bay: Place<Near<R>>,
     end: Option<Sending<R>>,
@@ -192,7 +192,7 @@ fn join_empty<D: Disk, R: Rings>(
     }
 }
 
-// A medium that is in a drive is put together of its halves.
+// Puts the medium of a drive together from its halves.
 fn join_there<D: Disk, R: Rings>(
     near: Near<R>,
     receiving: Receiving<R>,
@@ -209,7 +209,7 @@ fn join_there<D: Disk, R: Rings>(
     match medium {
         Some(medium) => join_medium(near, receiving, medium),
         None => {
-            // Looked at for the proof's sake: no span begins in what waits, so the medium is there to both halves.
+            // Looked at for the proof's sake: no span begins among the waiting items, so both halves have the medium.
             let Near { mut sending, .. } = near;
             let mut receiving = receiving;
             look_both(&mut sending, &mut receiving);
@@ -218,7 +218,7 @@ fn join_there<D: Disk, R: Rings>(
     }
 }
 
-// What is in a drive parts into its halves.
+// Parts the content of a drive into its halves.
 fn part_bay<D: Disk, R: Rings>(bay: Place<Cataloged<D>>, ends: Ends<R>) -> PartedBay<D, R>
     ensures { PartsBay D.state bay ends result.bay result.end result.back }
 {
@@ -250,7 +250,7 @@ fn part_bay<D: Disk, R: Rings>(bay: Place<Cataloged<D>>, ends: Ends<R>) -> Parte
     }
 }
 
-// What is in the drive of a hosts' half.
+// The content of the drive in a hosts' half, as the hosts' half of its medium.
 fn near_bay<R: Rings, M: Medium>(bay: Place<Hosts<Near<R>, M>>) -> Place<Near<R>>
     requires { IsApartIn bay }
     ensures { result ≡ bay_of near_of bay }
@@ -264,7 +264,7 @@ fn near_bay<R: Rings, M: Medium>(bay: Place<Hosts<Near<R>, M>>) -> Place<Near<R>
     }
 }
 
-// The same, for the drive.
+// The same content, as the medium type of the drive.
 fn hosts_bay<R: Rings, M: Medium>(bay: Place<Near<R>>) -> Place<Hosts<Near<R>, M>>
     ensures { result ≡ bay_of Variants.Apart bay }
 {

@@ -1,4 +1,4 @@
-//! The two halves of a medium are put together, and part again.
+//! Puts the two halves of a medium together, and parts them again.
 ghost use Rattle.std.specs.Prelude.{◌≡◌, ◌≤◌, ◌⊎◌, ◌&&◌, None, length, not};
 ghost use Rattle.vtl_base.specs.declared.limits.TheConstants.{BUFFER_RECORDS};
 ghost use Rattle.cartridge.specs.Shown.{HasEntriesIn, IsGrownIn};
@@ -44,7 +44,7 @@ impl<R: Rings> Model for Ends<R> {
 }
 
 impl<R: Rings> Ends<R> {
-    /// Both ends of the ring of a drive, of which as much was received as was sent.
+    /// Both ends of the ring of a drive. All that was sent is received.
     pub fn new(sending: Sending<R>, receiving: Receiving<R>) -> Self
         requires number { receiving.number ≡ sending.number }
         requires level { receiving.received ≡ sending.sent }
@@ -54,17 +54,17 @@ impl<R: Rings> Ends<R> {
     }
 }
 
-/// A medium, once its halves are put together.
+/// A medium, put together from its halves.
 pub(crate) struct Joined<D: Disk, R: Rings> {
     /// The medium.
     pub(crate) medium: Cataloged<D>,
     /// Both ends of its ring.
     pub(crate) ends: Ends<R>,
-    /// Whether its device has failed, and that was not reported.
+    /// Whether its device has failed, and the fault was not reported.
     pub(crate) fails: bool,
 }
 
-/// The halves of a medium are put together. It takes no memory, and calls no device.
+/// Puts the halves of a medium together. The call takes no memory, and calls no device.
 pub(crate) fn join_medium<D: Disk, R: Rings>(
     near: Near<R>,
     receiving: Receiving<R>,
@@ -114,7 +114,7 @@ pub(crate) fn join_ends<R: Rings>(sending: Sending<R>, receiving: Receiving<R>) 
     Ends { sending, receiving }
 }
 
-/// A medium parts into its halves, and a span begins.
+/// Parts a medium into its halves, and begins a span.
 pub(crate) fn part_medium<D: Disk, R: Rings>(
     medium: Cataloged<D>,
     ends: Ends<R>,
@@ -148,7 +148,7 @@ pub(crate) fn part_medium<D: Disk, R: Rings>(
     (near, Back { receiving, medium })
 }
 
-/// The ends of the ring part, with nothing in the drive.
+/// Parts the two ends of the ring of a drive with nothing in it.
 pub(crate) fn part_ends<D: Disk, R: Rings>(ends: Ends<R>) -> (Sending<R>, Back<D, R>)
     ensures begins { BeginsNext ends result.0 }
     ensures none { span_of result.0.sent ≡ no_span }
@@ -165,7 +165,7 @@ pub(crate) fn part_ends<D: Disk, R: Rings>(ends: Ends<R>) -> (Sending<R>, Back<D
     (sending, Back { receiving, medium })
 }
 
-// Whether a medium has failed, and how many changes are pending in it; of one that is not awake none.
+// Whether a medium has failed, and how many changes are pending in it: none where it is not awake.
 fn seen_of<D: Disk>(buffered: &Buffered<D>, catalog: &Option<Index>) -> (bool, usize)
     requires { IsCataloged D.state buffered.now catalog.now }
     ensures failed { result.0 ≡ (state_of D.state buffered.now).failed }
@@ -179,7 +179,7 @@ fn seen_of<D: Disk>(buffered: &Buffered<D>, catalog: &Option<Index>) -> (bool, u
     }
 }
 
-// How much may be sent, of what a medium takes: all of it, or no record where memory runs out for the catalog.
+// How much may be sent: all that the medium takes, or no record where memory for the catalog runs out.
 fn allow(catalog: Option<Index>, left: Budget) -> (Option<Index>, Budget)
     requires { left.records ≤ BUFFER_RECORDS }
     ensures grown { IsGrownIn catalog result.0 }

@@ -7,8 +7,8 @@ use crate::near::Near;
 use volume_core::{Catalog, Change, Kind, Medium, MediumError, NotAccepted, Turn};
 use vtl_base::{ObjNo, PartNo};
 
-/// A medium of which hosts see one and the same, whether its device is at hand or not: the hosts' half, whose device
-/// stands behind a lock of its own, or the medium whole. What no device is needed for is done by either.
+/// The medium of a drive: the hosts' half, whose device stands behind a lock of its own, or the whole medium. Hosts see
+/// the same in both. Both do all that needs no device.
 #[derive(Drop)]
 pub enum Hosts<N, M> {
     /// The hosts' half. Its device is not at hand.

@@ -2,7 +2,7 @@
 use crate::noted::NotedBeginning;
 use volume_core::Change;
 
-/// The places of a drive's ring, and the records that may be sent until memory is taken for more.
+/// How many places a drive's ring has. So many records may be sent until memory is taken for more.
 pub const RING_RECORDS: usize = 256;
 
 /// What the hosts' half of a bay sends to the disk's half.

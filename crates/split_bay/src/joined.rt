@@ -1,4 +1,4 @@
-//! What is done with both ends of a ring.
+//! Steps that need both ends of a ring.
 ghost use Rattle.std.specs.Prelude.{◌≡◌, ◌≤◌, ◌↔◌, ◌++◌, [], ◌∷◌, IsTrue};
 ghost use Rattle.split_bay.specs.declared.items.TheConstants.{RING_RECORDS};
 ghost use Rattle.split_bay.specs.declared.items.Item.TheVariants as Items;
@@ -9,7 +9,7 @@ use crate::ends::{Receiving, Rings, Sending};
 use crate::items::Item;
 use crate::noted::NotedBeginning;
 
-// Whether the two are the ends of one drive's ring, in each of which as many spans began.
+// Whether these are the two ends of one drive's ring, and the same number of spans began in both.
 pub(crate) fn are_ends<R: Rings>(sending: &Sending<R>, receiving: &Receiving<R>) -> bool
     ensures { IsTrue result ↔ AreEnds sending.now receiving.now.number receiving.now.received }
 {
@@ -28,7 +28,7 @@ pub(crate) fn look_both<R: Rings>(sending: &mut Sending<R>, receiving: &mut Rece
     receiving.consumer.slots_beside(&mut sending.producer);
 }
 
-// A span begins, where all that was sent is received.
+// Begins a span. All that was sent is received.
 pub(crate) fn begin_span<R: Rings>(
     sending: &mut Sending<R>,
     receiving: &mut Receiving<R>,

@@ -1,6 +1,6 @@
 //! Laws of the halves of a bay.
 ghost use Rattle.aptpl_store.specs.Kept.{store_below, store_kept};
-ghost use Rattle.drive_core.specs.Told.{RepliesTellChanges};
+ghost use Rattle.drive_core.specs.ShownChanges.{RepliesShowChanges};
 ghost use Rattle.split_bay.specs.Found.{FoundAsItWas, FoundIsTurned};
 ghost use Rattle.split_bay.specs.Nears.{near_below, state_near};
 
@@ -8,16 +8,16 @@ use crate::ends::Rings;
 use crate::hosts::Hosts;
 use crate::near::Near;
 use aptpl_store::AptplStore;
-use drive_laws::replies_tell_changes;
+use drive_laws::replies_show_changes;
 use tape_buffer::Cataloged;
 use tape_disk::Disk;
 
-/// How many changes the hosts' half accepted with a command, by its reply, as `drive_laws::replies_tell_changes` says
+/// A reply shows how many changes the hosts' half accepted with the command, as `drive_laws::replies_show_changes` says
 /// of a drive.
-pub fn replies_tell_changes_alone<D: Disk, R: Rings>()
-    ensures { RepliesTellChanges state_near near_below store_kept (store_below D.state) }
+pub fn replies_show_changes_alone<D: Disk, R: Rings>()
+    ensures { RepliesShowChanges state_near near_below store_kept (store_below D.state) }
 {
-    replies_tell_changes::<Hosts<Near<R>, Cataloged<D>>, AptplStore<D>>();
+    replies_show_changes::<Hosts<Near<R>, Cataloged<D>>, AptplStore<D>>();
 }
 
 /// Where both halves are held, the drive is in the state that a flusher's turn of the whole drive leaves, taken before

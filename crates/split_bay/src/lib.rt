@@ -24,6 +24,6 @@ pub use halves::{execute_both, join, part, tell};
 pub use halving::Ends;
 pub use hosts::Hosts;
 pub use items::{Item, RING_RECORDS};
-pub use laws::replies_tell_changes_alone;
+pub use laws::replies_show_changes_alone;
 pub use near::Near;
 pub use new_rings::NewRing;

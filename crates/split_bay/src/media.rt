@@ -108,7 +108,7 @@ impl<R: Rings> Near<R> {
         }
     }
 
-    /// Whether the two are halves of one drive's medium, in each of which as many spans began.
+    /// Whether these are the two halves of one drive's medium, and the same number of spans began in both.
     pub fn fits<D: Disk>(&self, back: &Back<D, R>) -> bool
         ensures { IsTrue result ↔ AreEnds self.now back.now.number back.now.received }
     {

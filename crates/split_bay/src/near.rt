@@ -7,14 +7,14 @@ use crate::ends::{Rings, Sending};
 use record_index::Index;
 use std::marker::Model;
 
-/// The hosts' half of a medium: a catalog of the volume that hosts see, while it is awake, and the end of the ring into
-/// which the changes go that are accepted. No byte of a block is in it once it was sent.
+/// The hosts' half of a medium: a catalog of the volume that hosts see, while the medium is awake, and the sending end
+/// of the ring, into which accepted changes go. The half has no byte of a block that was sent.
 #[derive(Drop)]
 pub struct Near<R: Rings> {
     pub(crate) sending: Sending<R>,
     pub(crate) catalog: Option<Index>,
     pub(crate) failed: bool,
-    // How many changes are pending: what was when the span began, and all that was sent since.
+    // How many changes are pending: those that were pending when the span began, and all that were sent since.
     pub(crate) waiting: usize,
 }
 

@@ -41,7 +41,7 @@ impl NewRing {
         Ok(NewRing { producer, consumer })
     }
 
-    /// Both of its ends, as those of this drive, whose ring it is.
+    /// Both ends of the ring. It is the ring of this drive.
     pub fn into_ends<R: Rings>(self, number: DriveNo) -> Ends<R>
         requires { R.ring number ≡ Some self }
         ensures { result ≡ record { number = number; sent = [] } }

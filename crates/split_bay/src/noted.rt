@@ -1,4 +1,4 @@
-//! What proofs alone note of a span, which takes no bytes: the stored volume is in no memory of the hosts' half.
+//! A note of a span, for proofs alone. It takes no bytes: the hosts' half has no stored volume in memory.
 ghost use Rattle.std.specs.Prelude.{◌≡◌, option_map};
 ghost use Rattle.tape_buffer.specs.State.{state_of};
 ghost use Rattle.split_bay.specs.Beginnings.{Beginning, beginning_code};
@@ -22,7 +22,7 @@ impl Model for NotedBeginning {
 }
 
 impl NotedBeginning {
-    /// Over what is in the drive, so many records, bytes of blocks and bytes of room may be sent.
+    /// Notes the medium in the drive, and how many records, bytes of blocks and bytes of room may be sent.
     pub(crate) fn of<D: Disk>(
         medium: &Option<Lent<D>>,
         left: &usize,
@@ -40,7 +40,7 @@ impl NotedBeginning {
     }
 }
 
-// What the caller names, which may speak of a medium and of numbers.
+// The beginning that the caller names, in terms of a medium and of numbers.
 fn by_medium<D: Disk>(
     _medium: &Option<Lent<D>>,
     _left: &usize,
@@ -53,7 +53,7 @@ fn by_medium<D: Disk>(
     made(&0)
 }
 
-// What the caller names.
+// The beginning that the caller names.
 fn made(_any: &u64) -> NotedBeginning
     ghost begin: { Beginning }
     ensures { result.begin ≡ begin }

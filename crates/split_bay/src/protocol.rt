@@ -1,8 +1,8 @@
-//! What holds of each item in a drive's ring.
+//! What is true of each item in a drive's ring.
 use crate::items::Item;
 use rtrb::Protocol;
 
-/// Behind those before it, each item keeps the limits of its span.
+/// With each item, after the items before it, the span keeps its limits.
 #[derive(Clone, Copy)]
 pub struct InSpans;
 

@@ -1,4 +1,4 @@
-//! What waits in the ring is taken into the medium of the disk's half.
+//! Takes what waits in the ring into the medium of the disk's half.
 ghost use Rattle.std.specs.Prelude.{◌≡◌};
 ghost use Rattle.split_bay.specs.Backs.{FollowsSpan};
 ghost use Rattle.split_bay.specs.Taken.{TakesKnown};
@@ -9,7 +9,7 @@ use tape_buffer::Lent;
 use tape_disk::Disk;
 
 // Receives all changes that are known to wait, up to where the next span begins, and takes them into what is pending.
-// It takes no memory, and calls no device.
+// The call takes no memory, and calls no device.
 pub(crate) fn take_known<D: Disk, R: Rings>(receiving: &mut Receiving<R>, medium: &mut Lent<D>)
     requires { FollowsSpan D.state medium.old (span_of receiving.old.received) }
     ensures follows { FollowsSpan D.state medium.new (span_of receiving.new.received) }

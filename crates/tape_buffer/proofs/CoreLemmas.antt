@@ -69,7 +69,7 @@ module _ {D : Type 0} (c : OpenCartridge D) (pending : List Change) where
   torn_is : (frame : List Change) → c.torn ≡ frame ∷ [] → changes_of c.torn ≡ frame
   torn_is frame all = ap changes_of all ∙ one_frame frame
 
-  -- of what is pending a first part was under way
+  -- of what is pending a first part was in flight
   torn_length : IsTornFrom c.torn pending → length (changes_of c.torn) ≤ length pending
   torn_length (inl none) = omega (arith, ap (λ (t : List (List Change)). length (changes_of t)) none)
   torn_length (inr some) =
@@ -116,7 +116,7 @@ module _ {D : Type 0} (c : OpenCartridge D) (pending : List Change) where
       (take (length stored_changes + length (changes_of c.torn)) (stored_changes ++ pending)) image
       (sym (stored_front torn)) (gives_more c.contents c.torn image copied g)))
 
-  -- where it works nothing is under way
+  -- where it works nothing is in flight
   at_rest : c.torn ≡ [] → length (changes_of c.torn) ≡ 0
   at_rest none = ap (λ (t : List (List Change)). length (changes_of t)) none
 
@@ -165,7 +165,7 @@ module _ {D : Type 0} (c : OpenCartridge D) (pending : List Change) where
           recovering = false;
         }
 
-    -- the disk failed, and all that is pending was under way
+    -- the disk failed, and all that is pending was in flight
     broken_core : c.torn ≡ [] → HasBroken c pending c'
         → open_core c' pending ≡ broken_in (length pending) (open_core c pending)
     broken_core none broken =

@@ -18,7 +18,7 @@ use Rattle.cartridge.specs.State.{OpenCartridge}
 use Rattle.accepting.specs.Device.{two_disks, two_is_device, two_keep, two_rest}
 use Rattle.accepting.specs.Events.{ShowsCore}
 use Rattle.accepting.specs.Kinds.{moves_faulting, moves_resting}
-use Rattle.tape_buffer.specs.Inner.Fetching.{IsCopied, IsFetched, IsPut}
+use Rattle.tape_buffer.specs.Inner.Fetching.{IsCopyOfBlock, IsFetched, IsPut}
 use Rattle.tape_buffer.specs.Moves.{buffer_below}
 use Rattle.tape_buffer.specs.Rules.{medium_rules}
 use Rattle.tape_buffer.specs.State.{open_buffer, open_core}
@@ -55,35 +55,35 @@ module _ (volume : List Part) (pending : List Change) (part at i : ℕ) (all : A
     can_copy = subst IsPut (sym is_put) tt
 
     pub copied_block : (capacity : ℕ) (result : Result Unit MediumError) (bytes : List ℕ)
-        → IsCopied change capacity result bytes
+        → IsCopyOfBlock change capacity result bytes
         → OnOk result (block_at (after volume pending) part at ≡ Some bytes)
     copied_block capacity result bytes copied =
-        by result (subst (λ (c : Change). IsCopied c capacity result bytes) is_put copied)
+        by result (subst (λ (c : Change). IsCopyOfBlock c capacity result bytes) is_put copied)
       where
-        by : (result : Result Unit MediumError) → IsCopied (Put seen.0 seen.1 seen.2) capacity result bytes
+        by : (result : Result Unit MediumError) → IsCopyOfBlock (Put seen.0 seen.1 seen.2) capacity result bytes
             → OnOk result (block_at (after volume pending) part at ≡ Some bytes)
         by (Ok done) same = seen.4 ∙ ap Some (sym same)
         by (Err error) same = tt
 
     pub copied_short : (capacity : ℕ) (result : Result Unit MediumError) (bytes : List ℕ)
-        → IsCopied change capacity result bytes
+        → IsCopyOfBlock change capacity result bytes
         → OnOk result (length bytes ≤ MAX_BLOCK)
     copied_short capacity result bytes copied =
-        by result (subst (λ (c : Change). IsCopied c capacity result bytes) is_put copied)
+        by result (subst (λ (c : Change). IsCopyOfBlock c capacity result bytes) is_put copied)
       where
-        by : (result : Result Unit MediumError) → IsCopied (Put seen.0 seen.1 seen.2) capacity result bytes
+        by : (result : Result Unit MediumError) → IsCopyOfBlock (Put seen.0 seen.1 seen.2) capacity result bytes
             → OnOk result (length bytes ≤ MAX_BLOCK)
         by (Ok done) same =
             omega (arith, ap length same, short_block volume pending i seen.0 seen.1 seen.2 all seen.3)
         by (Err error) same = tt
 
     pub copied_well : (capacity : ℕ) (result : Result Unit MediumError) (bytes : List ℕ)
-        → IsCopied change capacity result bytes
+        → IsCopyOfBlock change capacity result bytes
         → met_fault result ≡ false
     copied_well capacity result bytes copied =
-        by result (subst (λ (c : Change). IsCopied c capacity result bytes) is_put copied)
+        by result (subst (λ (c : Change). IsCopyOfBlock c capacity result bytes) is_put copied)
       where
-        by : (result : Result Unit MediumError) → IsCopied (Put seen.0 seen.1 seen.2) capacity result bytes
+        by : (result : Result Unit MediumError) → IsCopyOfBlock (Put seen.0 seen.1 seen.2) capacity result bytes
             → met_fault result ≡ false
         by (Ok done) same = refl
         by (Err NoMemory) same = refl
@@ -94,12 +94,12 @@ module _ (volume : List Part) (pending : List Change) (part at i : ℕ) (all : A
         by (Err Device) same = absurd same
 
     pub copied_lack : (capacity : ℕ) (result : Result Unit MediumError) (bytes : List ℕ)
-        → IsCopied change capacity result bytes → result ≡ Err NoMemory
+        → IsCopyOfBlock change capacity result bytes → result ≡ Err NoMemory
         → IfSome (block_at (after volume pending) part at) (λ block. capacity < length block)
     copied_lack capacity result bytes copied none =
         subst (λ (o : Option (List ℕ)). IfSome o (λ block. capacity < length block)) (sym seen.4)
-        (subst (λ (r : Result Unit MediumError). IsCopied (Put seen.0 seen.1 seen.2) capacity r bytes) none
-        (subst (λ (c : Change). IsCopied c capacity result bytes) is_put copied))
+        (subst (λ (r : Result Unit MediumError). IsCopyOfBlock (Put seen.0 seen.1 seen.2) capacity r bytes) none
+        (subst (λ (c : Change). IsCopyOfBlock c capacity result bytes) is_put copied))
 
 -- memory ran out for its cause
 pub fetched_lack : (memory : Type 0) (failed : Bool) (before now : ℕ) (result : Result Unit MediumError)

@@ -190,7 +190,7 @@ last_part : (bodies more : List (List ℕ)) → All IsBody (bodies ++ more) → 
 last_part [] more all = all
 last_part (body ∷ bodies) more all = last_part bodies more (All-tail IsBody body (bodies ++ more) all)
 
--- What is found on a side that showed contents: these, or these with the frame that was under way. Its room is less by
+-- What is found on a side that showed contents: these, or these with the frame that was in flight. Its room is less by
 -- that frame at most.
 module _ (one : GivesOne) (contents : Contents) (torn : List (List Change)) (found : Contents) (seen : Images)
     (gives : GivesContents found seen) where

@@ -23,7 +23,7 @@ GivesChanges start changes images =
     × (changes_since contents ≡ changes)
 
 -- These changes, carried out from the first beginning, go into the second, as in a reclaim: the heading stays, the
--- epoch is one more, and the volume is what they make of it (own).
+-- epoch is one more, and the changes make the second volume out of the first (own).
 pub record GoesInto (start : Start) (changes : List Change) (next : Start) : Type 0 where
   pub heading : next.heading ≡ start.heading
   pub epoch : next.epoch ≡ start.epoch + 1

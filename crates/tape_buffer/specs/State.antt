@@ -36,7 +36,7 @@ room_found (Some contents) = room_of contents
 abbrev pub no_start : Start
 no_start = record { heading = record { kind = Store; name = []; capacities = [] }; epoch = 0; volume = [] }
 
--- a closed cartridge that may give these contents, or these with the frame that was under way: stopped, and what it
+-- a closed cartridge that may give these contents, or these with the frame that was in flight: stopped, and what it
 -- then gives is found when it is opened (own)
 abbrev pub found_core : Option Contents → List Change → Core Start Change
 found_core None torn =
@@ -58,7 +58,7 @@ pub record IsReservedFor (reserved : Reserved) (changes : List Change) : Type 0 
   pub body : length (spell_all changes) ≤ reserved.body
   pub entries : (part : ℕ) → sum_by (entries_of part) changes ≤ slice_index_or reserved.entries part 0
 
--- no frame was under way, or one of a first part of these changes (own)
+-- no frame was in flight, or one of a first part of these changes (own)
 abbrev pub IsTornFrom : List (List Change) → List Change → Type 0
 IsTornFrom torn pending =
     (torn ≡ []) ⊎ ((frame : List Change) × (torn ≡ frame ∷ []) × IsPrefix frame pending)
@@ -98,7 +98,7 @@ module _ {D : Type 0} where
       }
 
   -- what was accepted by an open cartridge since it was made or last reclaimed, and what is pending over it: what its
-  -- side holds is safe, and a frame under way when the disk failed is stored (own)
+  -- side holds is safe, and a frame in flight when the disk failed is stored (own)
   abbrev pub open_core : OpenCartridge D → List Change → Core Start Change
   open_core cartridge pending =
       record {
@@ -112,7 +112,7 @@ module _ {D : Type 0} where
       }
 
   -- What is pending applies to what is stored, fits the side a frame each, and its storing takes no memory. Where the
-  -- disk failed, the frame that was under way is none, or that of a first part of what is pending (own).
+  -- disk failed, the frame that was in flight is none, or that of a first part of what is pending (own).
   pub record IsPendingOver (cartridge : OpenCartridge D) (pending : List Change) : Type 0 where
     pub apply : AllApply (volume_made cartridge.contents) pending
     pub torn : IsTornFrom cartridge.torn pending
@@ -125,7 +125,7 @@ module _ {D : Type 0} where
     found_in cartridge =
         if cartridge.known then Some cartridge.contents else contents_on (seen_of_two state cartridge.disks)
 
-    -- the changes of the frame that was under way in a closed cartridge when its disk failed (own)
+    -- the changes of the frame that was in flight in a closed cartridge when its disk failed (own)
     abbrev pub torn_in : ClosedCartridge D → List Change
     torn_in cartridge = if cartridge.known then changes_of cartridge.torn else []
 

@@ -58,8 +58,8 @@ pub record IsSeenAs (seen stored waiting : List Object) (kept : ℕ) : Type 0 wh
   pub objects : seen ≡ take kept stored ++ waiting
   pub front : (kept ≤ length stored) ⊎ (waiting ≡ [])
 
--- What waits is what these changes put behind the objects that are stored: it names each block's change, and on
--- whatever volume the changes apply, it shows what they make of it (own).
+-- The tail has the objects that these changes put behind the stored ones. It names each block's change. With any volume
+-- to which the changes apply, it shows the volume that they make of it (own).
 pub record IsTailOf (changes : List Change) (tail : TailState) : Type 0 where
   pub waiting : List Part
   pub named : Indexes (IsBlockOf changes) waiting tail.parts

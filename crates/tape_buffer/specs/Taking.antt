@@ -40,8 +40,8 @@ module _ {D : Type 0} where
   LendsRecords cartridge pending records =
       ((cartridge.failed ≡ false) × (records + length pending ≡ BUFFER_RECORDS)) ⊎ (records ≡ 0)
 
-  -- an open cartridge is lent, but for what is reserved as it was: what is left of the bytes of the buffer and of the
-  -- room of the side, and how many records may be taken (own)
+  -- an open cartridge is lent, as it was except for what is reserved; `left` is what is left of the bytes of the buffer
+  -- and of the room of the side, and how many records may be taken (own)
   pub record LendsOpen (old : OpenCartridge D) (pending : List Change) (new : OpenCartridge D) (left : Budget)
       : Type 0 where
     pub same : new ≡ record old { reserved = new.reserved }

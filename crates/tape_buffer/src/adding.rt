@@ -9,7 +9,7 @@ ghost use Rattle.tape_buffer.specs.Frames.{AcceptsInFrames};
 ghost use Rattle.tape_buffer.specs.Limits.{FitsBuffer};
 ghost use Rattle.tape_buffer.specs.State.{IsPendingOver, open_buffer, open_state};
 ghost use Rattle.tape_buffer.specs.Moves.{buffer_below};
-ghost use Rattle.tape_buffer.specs.Inner.Adding.{IsReady, IsWay};
+ghost use Rattle.tape_buffer.specs.Inner.Adding.{IsReadyToAdd, IsWay};
 
 use crate::pending::Pending;
 use crate::seen::refusal_seen;
@@ -92,7 +92,7 @@ fn make_way<D: Disk>(
     requires alone { FitsBuffer (change.now ∷ []) }
     requires room { sum_by frame_size (pending.old ++ change.now ∷ []) ≤ cartridge.old.room }
     ensures held { IsPendingOver cartridge.new pending.new }
-    ensures answer { IsReady (open_state cartridge.old pending.old) result (open_state cartridge.new pending.new) }
+    ensures answer { IsReadyToAdd (open_state cartridge.old pending.old) result (open_state cartridge.new pending.new) }
     ensures way { OnOk result (FitsBuffer (pending.new ++ change.now ∷ [])
         × (sum_by frame_size (pending.new ++ change.now ∷ []) ≤ cartridge.new.room)) }
     ensures frames { IsWay change.now result cartridge.old.contents.frames pending.old
@@ -127,7 +127,8 @@ fn add_over<D: Disk>(
     ensures ok { OnOk result (pending.new ≡ pending.old ++ change ∷ []) }
     ensures err { IfErr result (λ back. (back ≡ change) × (pending.new ≡ pending.old)) }
 {
-    // Called for the proof: at rest nothing is under way, and the partition is there, within its limits.
+    // Called for the proof: in a cartridge that has not failed nothing is in flight, and the partition is there, within
+    // its limits.
     cartridge.known();
     let _ = cartridge.parts();
     let _ = cartridge.count(change.part());

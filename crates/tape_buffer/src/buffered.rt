@@ -74,10 +74,10 @@ impl<D: Disk> Buffered<D> {
         }
     }
 
-    /// What holds of every buffered medium. What is safe is stored, and what is stored was accepted; while it is open
-    /// and has not failed, all that is stored is safe, and the rest is pending. Each pair of images that a crash now
-    /// may leave gives what is safe, or what is stored; of a parked medium where its side gives a volume, and where it
-    /// was opened before, or a crash leaves just what a read gives.
+    /// The invariant of every buffered medium. What is safe is stored, and what is stored was accepted. While the
+    /// medium is open and has not failed, all that is stored is safe, and the rest is pending. Each pair of images that
+    /// a crash now may leave gives what is safe, or what is stored. For a parked medium this needs a side that gives a
+    /// volume, and that the medium was opened before or a crash leaves just what a read gives.
     pub fn known(&self)
         ensures core { IsCore (medium_core D.state self.now) }
         ensures whole { IsSafeOrPending (medium_core D.state self.now) self.now.pending }

@@ -1,4 +1,4 @@
-//! A buffered medium with a catalog of the volume that it is seen as.
+//! A buffered medium with a catalog of the volume that a caller sees.
 ghost use Rattle.std.specs.Prelude.{◌≡◌, ◌⊎◌, List, Some, false};
 ghost use Rattle.volume_core.specs.Volume.{Part};
 ghost use Rattle.accepting.specs.Core.{IsCore};
@@ -16,7 +16,7 @@ use std::alloc::Global;
 use std::marker::Model;
 use tape_disk::Disk;
 
-/// A buffered medium, and while it is awake a catalog of the volume that it is seen as. The two can be taken apart.
+/// A buffered medium, and while it is awake a catalog of the volume that a caller sees. The two can be taken apart.
 #[derive(Drop)]
 pub struct Cataloged<D: Disk> {
     pub(crate) buffered: Buffered<D>,
@@ -82,7 +82,7 @@ impl<D: Disk> Cataloged<D> {
         Cataloged { buffered, catalog }
     }
 
-    /// What `Buffered::known` says.
+    /// The same as `Buffered::known`.
     pub fn known(&self)
         ensures core { IsCore (medium_core D.state self.now) }
         ensures whole { IsSafeOrPending (medium_core D.state self.now) self.now.pending }

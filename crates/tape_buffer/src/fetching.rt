@@ -2,7 +2,7 @@
 ghost use Rattle.std.specs.Prelude.{◌≡◌, ◌<◌, ◌≤◌, [], Some, Err, OnOk, IfSome, length, vec_capacity, false};
 ghost use Rattle.tape_disk.specs.TwoDisks.{AreHonest, KeepsDisks, failures_of};
 ghost use Rattle.cartridge.specs.Disks.{UnwrittenTwo};
-ghost use Rattle.tape_buffer.specs.Inner.Fetching.{IsCopied, IsFetched, IsPut};
+ghost use Rattle.tape_buffer.specs.Inner.Fetching.{IsCopyOfBlock, IsFetched, IsPut};
 ghost use Rattle.vtl_base.specs.Below.{Advances};
 ghost use Rattle.vtl_base.specs.declared.limits.TheConstants.{MAX_BLOCK};
 ghost use Rattle.volume_core.specs.declared.objects.Kind.TheVariants as Kinds;
@@ -64,7 +64,7 @@ pub(crate) fn fetch_over<D: Disk>(
 // Copies the block of a change.
 fn copy_block(change: &Change, into: &mut Vec<u8>) -> Result<(), MediumError>
     requires { IsPut change.now }
-    ensures { IsCopied change.now (vec_capacity into.old) result into.new.items }
+    ensures { IsCopyOfBlock change.now (vec_capacity into.old) result into.new.items }
 {
     into.clear();
     match change {

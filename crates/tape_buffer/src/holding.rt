@@ -9,7 +9,7 @@ use std::mem;
 pub enum Holding<C, S> {
     Open(C),
     Closed(S),
-    /// Neither, for a moment inside a call. Between two calls no medium is so.
+    /// Neither, for a moment inside a call. Between two calls a medium holds an open or a closed cartridge.
     Between,
 }
 

@@ -47,14 +47,14 @@ pub(crate) struct Taking<D: Disk> {
 }
 
 impl<D: Disk> Model for Lent<D> {
-    ghost use Rattle.tape_buffer.specs.Inner.Lending.{IsLent, buffer_lent};
+    ghost use Rattle.tape_buffer.specs.Inner.Lending.{MayBeLent, buffer_lent};
     ghost use Rattle.tape_buffer.specs.Taking.{LentState};
 
     ghost Value = { LentState D };
 
     ghost view = { λ l. record { buffer = buffer_lent l.lending; left = l.left } };
 
-    ghost invariant = { λ l. IsLent l.lending l.left };
+    ghost invariant = { λ l. MayBeLent l.lending l.left };
 }
 
 impl<D: Disk> Lent<D> {
@@ -66,7 +66,7 @@ impl<D: Disk> Lent<D> {
     }
 
     /// Accepts a change that its volume does not refuse, within its budget. It takes no memory, and calls no disk.
-    /// Where the device has failed, it accepts the change all the same, and never stores it.
+    /// Where the device has failed, the medium accepts the change too, but never stores it.
     pub fn take(&mut self, change: Change)
         requires applies { refusal_of (volume_of (state_of D.state self.old.buffer)) change ≡ None }
         requires within { KeepsBudget self.old.left (change ∷ []) }
@@ -152,7 +152,7 @@ impl<D: Disk> Lent<D> {
         }
     }
 
-    /// What `Buffered::known` says, of the medium that is lent.
+    /// The same as `Buffered::known`, for the medium that is lent.
     pub fn known(&self)
         ensures core { IsCore (medium_core D.state self.now.buffer) }
         ensures whole { IsSafeOrPending (medium_core D.state self.now.buffer) self.now.buffer.pending }

@@ -85,7 +85,8 @@ impl<D: Disk> Medium for Buffered<D> {
         }
     }
 
-    // The trait's clauses, and that all that is pending is stored as one frame, or nothing of one that has failed.
+    // The trait's clauses, and one more: all that is pending is stored as one frame, or nothing where the medium has
+    // failed.
     fn park(&mut self) -> Result<(), MediumError>
         requires { (state_of D.state self.old).awake ≡ true }
         ensures answer { Parks (HonestOn D.state (disks_in self.old.held)) (state_of D.state self.old) result
@@ -112,8 +113,8 @@ impl<D: Disk> Medium for Buffered<D> {
     }
 
     /// Opens the medium. A medium that is awake stays as it is, and the result says whether it has failed. Nothing is
-    /// written, whatever the result: at every moment a crash leaves what it might have left before, also of one honest
-    /// disk beside one that is not. Unless a device fails, what stands on the disks is then sure.
+    /// written, whatever the result is. At every moment a crash leaves what it might have left before; that holds of
+    /// one honest disk beside a dishonest one too. Unless a device fails, what stands on the disks is then sure.
     fn wake(&mut self) -> Result<(), MediumError>
         ensures answer { Wakes ((buffer_below D.state).honest self.old) (state_of D.state self.old) result
             (state_of D.state self.new) }

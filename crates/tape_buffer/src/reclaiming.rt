@@ -12,8 +12,8 @@ use tape_disk::Disk;
 pub fn reclaim<D: Disk>(alloc: Global, shelved: Shelved<D>) -> Result<Shelved<D>, NotReclaimed<D>>
     ensures { ReclaimsShelved D.state shelved result }
 {
-    // Called for the proof: a pair of images gives one cartridge's contents at most, and the volume of these is what
-    // the changes since then make of the volume before.
+    // Called for the proof: a pair of images gives one cartridge's contents at most, and the changes since then make
+    // their volume out of the volume before.
     a_pair_gives_one_volume();
     a_volume_is_made_since();
     match Cartridge::reclaim(alloc, shelved) {

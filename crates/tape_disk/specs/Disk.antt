@@ -75,7 +75,7 @@ pub record Passes {T : Type 0} (old new : DiskState) (result : Result T DevFault
   pub was_honest : new.honest → old.honest
   pub none_failed : OnOk result (new.failures ≡ old.failures)
   pub cause : OnErr result (old.failures < new.failures)
-  pub told : IfErr result (λ fault. fault.failures ≡ min new.failures (2 ^ 64 - 1))
+  pub reported : IfErr result (λ fault. fault.failures ≡ min new.failures (2 ^ 64 - 1))
 
 -- A call that writes nothing (own).
 pub record Same (old new : DiskState) : Type 0 where

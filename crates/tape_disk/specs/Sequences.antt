@@ -35,12 +35,12 @@ module _ (old mid new : DiskState) where
     was_honest = λ honest. first.was_honest (second.was_honest honest);
     none_failed = second.none_failed ∙ first.none_failed;
     cause = tt;
-    told = tt;
+    reported = tt;
   }
   passes_in_sequence value (Err fault) first second = record {
     stays_honest = λ honest. second.stays_honest (first.stays_honest honest);
     was_honest = λ honest. first.was_honest (second.was_honest honest);
     none_failed = tt;
     cause = omega (arith, first.none_failed, second.cause);
-    told = second.told;
+    reported = second.reported;
   }

@@ -37,7 +37,7 @@ impl<D: Disk> Failing<D> {
         ensures same { (D.state self.old.disk).honest →
             Same (D.state self.old.disk) (D.state self.new.disk) }
         ensures count { self.new.failures.count.value ≡ self.old.failures.count.value + 1 }
-        ensures told { result.failures ≡ min self.new.failures.count.value (2 ^ 64 - 1) }
+        ensures reported { result.failures ≡ min self.new.failures.count.value (2 ^ 64 - 1) }
     {
         let _ = self.disk.read_at(0, &mut []);
         self.failures.rise()

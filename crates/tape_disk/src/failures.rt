@@ -7,9 +7,9 @@ use vtl_base::DevFault;
 /// The failures of a disk. Their count has no bound; the number in a fault stops at 2^64 - 1.
 #[derive(Drop)]
 pub struct Failures {
-    told: u64,
+    known: u64,
     pub(crate) count: Count,
-    ghost counted: { told ≡ min count.value (2 ^ 64 - 1) },
+    ghost counted: { known ≡ min count.value (2 ^ 64 - 1) },
 }
 
 impl Failures {
@@ -20,7 +20,7 @@ impl Failures {
         ensures { failure_count result ≡ 0 }
     {
         Failures {
-            told: 0,
+            known: 0,
             count: Count::new(),
         }
     }
@@ -28,19 +28,19 @@ impl Failures {
     /// One more failure, and the fault that reports it.
     pub fn rise(&mut self) -> DevFault
         ensures count { failure_count self.new ≡ failure_count self.old + 1 }
-        ensures told { result.failures ≡ min (failure_count self.new) (2 ^ 64 - 1) }
+        ensures reported { result.failures ≡ min (failure_count self.new) (2 ^ 64 - 1) }
     {
-        let Failures { told, count } = self;
+        let Failures { known, count } = self;
         *count = count.after();
-        *told = told.saturating_add(1);
-        DevFault { failures: *told }
+        *known = known.saturating_add(1);
+        DevFault { failures: *known }
     }
 
     pub(crate) fn copy(&self) -> Failures
         ensures { failure_count result ≡ failure_count self.now }
     {
         Failures {
-            told: self.told,
+            known: self.known,
             count: self.count.copy(),
         }
     }

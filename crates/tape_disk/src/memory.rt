@@ -123,7 +123,7 @@ impl MemDisk {
     fn fail(&mut self) -> DevFault
         ensures log { mem_log self.new ≡ idled (mem_log self.old) }
         ensures count { mem_failures self.new ≡ mem_failures self.old + 1 }
-        ensures told { result.failures ≡ min (mem_failures self.new) (2 ^ 64 - 1) }
+        ensures reported { result.failures ≡ min (mem_failures self.new) (2 ^ 64 - 1) }
         ensures widest { mem_widest self.new ≡ mem_widest self.old }
     {
         self.log.rest();

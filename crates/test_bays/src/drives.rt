@@ -18,7 +18,7 @@ const POWERED_ON: Answer = (Status::Check, 6, 0x29, 0);
 const MEDIUM_CHANGED: Answer = (Status::Check, 6, 0x28, 0);
 
 // TEST UNIT READY of host 1 gets this answer.
-fn is_told<D: Disk>(rt: &impl Abort, bay: &mut Bay<D>, wanted: Answer, at: usize) {
+fn is_reported<D: Disk>(rt: &impl Abort, bay: &mut Bay<D>, wanted: Answer, at: usize) {
     let host = Nexus::new(1).expect(rt, "a nexus");
     is_answer(rt, &bay.execute(host, READY, b""), wanted, at);
 }
@@ -43,12 +43,12 @@ fn is_taken_back<D: Disk + Drop>(alloc: Global, bay: &mut Bay<D>) -> bool {
 
 // Blocks that were written before are read afterwards.
 fn keeps<D: Disk + Drop>(rt: &impl Abort, alloc: Global, bay: &mut Bay<D>) {
-    is_told(rt, bay, POWERED_ON, 0);
+    is_reported(rt, bay, POWERED_ON, 0);
     gives(rt, bay, &[0x0a, 0, 0, 0, 5, 0], b"hello", b"");
     assert_equal!(rt; bay.accepted(), 1);
     assert_holds!(rt; is_taken_back(alloc, bay));
     assert_equal!(rt; bay.accepted(), 1);
-    is_told(rt, bay, MEDIUM_CHANGED, 1);
+    is_reported(rt, bay, MEDIUM_CHANGED, 1);
     gives(rt, bay, &[0x08, 0, 0, 0, 5, 0], b"", b"hello");
 }
 

@@ -140,7 +140,7 @@ pub fn library(alloc: Global, fails: u64) -> Result<Held<Once>, Fail> {
 }
 
 // The key, code and qualifier in a reply.
-fn told(reply: &Reply) -> (u8, u8, u8) {
+fn codes_of(reply: &Reply) -> (u8, u8, u8) {
     match reply.sense {
         Some(sense) => {
             let bytes = sense.bytes();
@@ -155,7 +155,7 @@ pub fn is_answer(rt: &impl Abort, reply: &Reply, wanted: Answer, at: usize) {
     let (status, key, code, qualifier) = wanted;
     assert_equal!(rt; reply.status, status; at);
     assert_equal!(rt; reply.bytes.as_slice().len(), 0; at);
-    assert_equal!(rt; told(reply), (key, code, qualifier); at);
+    assert_equal!(rt; codes_of(reply), (key, code, qualifier); at);
 }
 
 /// A move, and its answer.

@@ -70,7 +70,7 @@ pub fn is_unwritten<D: Disk + Drop>(rt: &impl Abort, held: &mut Held<D>) -> bool
 
 // A frame takes four calls of the disk.
 #[test]
-fn what_is_not_written_is_told(rt: HostRuntime) -> Result<(), Fail> {
+fn what_is_not_written_is_reported(rt: HostRuntime) -> Result<(), Fail> {
     assert_equal!(rt; met(&rt, rt.alloc(), Work::Ends)?, 4);
     Ok(())
 }

@@ -147,7 +147,7 @@ fn a_fault_at_each_call_of_a_storing(rt: HostRuntime) -> Result<(), Fail> {
 }
 
 // A turn failed. That is reported to one host in place of its command, and to no other.
-static TOLD_ONCE: &'static [Row<'static>] = &[
+static REPORTED_ONCE: &'static [Row<'static>] = &[
     (1, INQUIRY, NONE, INQUIRED),
     (2, TEST_UNIT_READY, NONE, LATE_ERROR),
     (1, TEST_UNIT_READY, NONE, FAILED),
@@ -157,7 +157,7 @@ static TOLD_ONCE: &'static [Row<'static>] = &[
 
 // The same, reported at a command that would clear it all: one with an unknown code comes first and clears
 // nothing.
-static TOLD_TO_A_READ: &'static [Row<'static>] = &[
+static REPORTED_TO_A_READ: &'static [Row<'static>] = &[
     (1, &[0xa5; 12], NONE, (Some((0x70, 5, 0, 0x20, 0)), &[])),
     (1, READ_1, NONE, LATE_ERROR),
     (1, WRITE_1, b"c", FAILED),
@@ -165,7 +165,7 @@ static TOLD_TO_A_READ: &'static [Row<'static>] = &[
 ];
 
 // The same, returned as data.
-static TOLD_AS_DATA: &'static [Row<'static>] = &[
+static REPORTED_AS_DATA: &'static [Row<'static>] = &[
     (
         2,
         REQUEST_SENSE,
@@ -177,7 +177,7 @@ static TOLD_AS_DATA: &'static [Row<'static>] = &[
 ];
 
 // The same, reported at UNLOAD, which is then sent again.
-static TOLD_TO_AN_UNLOADING: &'static [Row<'static>] = &[
+static REPORTED_TO_AN_UNLOADING: &'static [Row<'static>] = &[
     (1, UNLOAD, NONE, LATE_ERROR),
     (2, TEST_UNIT_READY, NONE, FAILED),
 ];
@@ -185,19 +185,24 @@ static TOLD_TO_AN_UNLOADING: &'static [Row<'static>] = &[
 static WAITING: &'static [Row<'static>] = ONE_WAITS;
 
 // A turn fails, which is reported to hosts, and the tape is found to hold this.
-fn turn_fails<D: Disk + Drop>(rt: &impl Abort, drive: &mut Tape<D>, told: &[Row], holds: &[u8]) {
+fn turn_fails<D: Disk + Drop>(
+    rt: &impl Abort,
+    drive: &mut Tape<D>,
+    wanted_of: &[Row],
+    holds: &[u8],
+) {
     asks(rt, drive, WAITING);
     assert_turn(rt, drive, Turn::Device);
     assert_turn(rt, drive, Turn::Idle);
-    asks(rt, drive, told);
+    asks(rt, drive, wanted_of);
     asks(rt, drive, FOUND_AGAIN);
     reads(rt, drive, holds);
 }
 
-fn turns(rt: &impl Abort, alloc: Global, calls: u64, told: &[Row]) -> Result<(), Fail> {
+fn turns(rt: &impl Abort, alloc: Global, calls: u64, wanted_of: &[Row]) -> Result<(), Fail> {
     let mut drive = failing(rt, alloc, EMPTY, calls, NEVER)?;
     let holds: &[u8] = if calls == 13 { b"ab" } else { b"a" };
-    turn_fails(rt, &mut drive, told, holds);
+    turn_fails(rt, &mut drive, wanted_of, holds);
     Ok(())
 }
 
@@ -205,10 +210,10 @@ fn turns(rt: &impl Abort, alloc: Global, calls: u64, told: &[Row]) -> Result<(),
 fn a_fault_at_each_call_of_a_turn(rt: HostRuntime) -> Result<(), Fail> {
     let alloc = rt.alloc();
     for calls in 10..14 {
-        turns(&rt, alloc, calls, TOLD_ONCE)?;
-        turns(&rt, alloc, calls, TOLD_TO_A_READ)?;
-        turns(&rt, alloc, calls, TOLD_AS_DATA)?;
-        turns(&rt, alloc, calls, TOLD_TO_AN_UNLOADING)?;
+        turns(&rt, alloc, calls, REPORTED_ONCE)?;
+        turns(&rt, alloc, calls, REPORTED_TO_A_READ)?;
+        turns(&rt, alloc, calls, REPORTED_AS_DATA)?;
+        turns(&rt, alloc, calls, REPORTED_TO_AN_UNLOADING)?;
     }
     Ok(())
 }

@@ -212,7 +212,7 @@ fn writes_wait_for_one_frame(rt: HostRuntime) -> Result<(), Fail> {
 }
 
 #[test]
-fn a_turn_tells_how_many_waited(rt: HostRuntime) -> Result<(), Fail> {
+fn a_turn_reports_how_many_waited(rt: HostRuntime) -> Result<(), Fail> {
     course(&rt, rt.alloc(), TURNS, &[b'x'; 267])
 }
 

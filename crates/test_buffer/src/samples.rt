@@ -97,9 +97,9 @@ pub enum Sending {
 }
 
 // The expected status, 18 bytes of sense data and bytes.
-type Told<'a> = (Status, Option<[u8; 18]>, &'a [u8]);
+type Heard<'a> = (Status, Option<[u8; 18]>, &'a [u8]);
 
-fn told(wanted: Wanted) -> Told {
+fn wanted_of(wanted: Wanted) -> Heard {
     let (sense, bytes) = wanted;
     let Some((response, key, information, code, qualifier)) = sense else {
         return (Status::Good, None, bytes);
@@ -112,7 +112,7 @@ fn told(wanted: Wanted) -> Told {
 }
 
 // The status, sense data and bytes of a reply.
-fn heard(reply: &Reply) -> Told<'_> {
+fn heard(reply: &Reply) -> Heard<'_> {
     let sense = match &reply.sense {
         Some(sense) => Some(sense.bytes()),
         None => None,
@@ -125,7 +125,7 @@ pub fn ask<D: Disk + Drop>(rt: &impl Abort, drive: &mut Tape<D>, row: Row, at: u
     let (host, cdb, sent, wanted) = row;
     let nexus = Nexus::new(host).expect(rt, "a nexus");
     let reply = drive.execute(nexus, cdb, sent);
-    assert_equal!(rt; heard(&reply), told(wanted); at);
+    assert_equal!(rt; heard(&reply), wanted_of(wanted); at);
 }
 
 // The same for a command with lent data.
@@ -140,7 +140,7 @@ fn ask_lent<D: Disk + Drop>(
     let nexus = Nexus::new(host).expect(rt, "a nexus");
     let mut lent = Bytes::from_slice(alloc, sent).expect(rt, "memory");
     let reply = drive.execute_lent(nexus, cdb, &mut lent);
-    assert_equal!(rt; heard(&reply), told(wanted); at);
+    assert_equal!(rt; heard(&reply), wanted_of(wanted); at);
 }
 
 /// The same for a command whose data are sent in this way.
@@ -171,7 +171,7 @@ pub fn answered<D: Disk + Drop>(drive: &mut Tape<D>, rows: &[Row]) -> bool {
             return false;
         };
         let reply = drive.execute(nexus, cdb, sent);
-        if heard(&reply) != told(wanted) {
+        if heard(&reply) != wanted_of(wanted) {
             return false;
         }
     }

@@ -1,5 +1,5 @@
 //! Partitions, long blocks and many frames.
-use crate::samples::{block, has, made, marks, store_block, told};
+use crate::samples::{block, extent_of, has, made, marks, store_block};
 use cartridge::{Cartridge, CartridgeError};
 use std::alloc::Global;
 use std::process::Abort;
@@ -50,13 +50,13 @@ fn are_parts<D: Disk>(rt: &impl Abort, cartridge: &Cartridge<D>, parts: PartNo) 
     assert_equal!(rt; (cartridge.parts(), cartridge.frames()), (parts, 2));
     for part in 0..5u8 {
         let count = cartridge.count(part);
-        let told = (cartridge.capacity(part), count, cartridge.used(part, count));
+        let extent_of = (cartridge.capacity(part), count, cartridge.used(part, count));
         let expected = match parts.saturating_sub(1) {
             last if part > last => (0, 0, 0),
             last if part == last => (4_194_304, 5, 1_048_658),
             _ => (4_194_304, 0, 0),
         };
-        assert_equal!(rt; told, expected; (part, parts));
+        assert_equal!(rt; extent_of, expected; (part, parts));
     }
 }
 
@@ -112,7 +112,7 @@ fn store_longest(alloc: Global, known: &mut Known<MemDisk>, long: &[u8]) -> Resu
 }
 
 fn holds_all(rt: &impl Abort, alloc: Global, cartridge: &mut Cartridge<MemDisk>, long: &[u8]) {
-    assert_equal!(rt; told(cartridge), (301, 308, 8_393_456));
+    assert_equal!(rt; extent_of(cartridge), (301, 308, 8_393_456));
     assert_equal!(rt; has(alloc, cartridge, 0, 307, long), Ok(true));
 }
 

@@ -178,8 +178,8 @@ fn opened_as(alloc: Global, size: usize, kind: SideKind) -> Result<Frames, NoMem
 
 #[test]
 fn a_side_is_opened_as_its_kind(rt: HostRuntime) -> Result<(), Fail> {
-    for &(size, kind, told) in OPENED {
-        assert_equal!(rt; opened_as(rt.alloc(), size, kind)?, told; (size, kind));
+    for &(size, kind, extent_of) in OPENED {
+        assert_equal!(rt; opened_as(rt.alloc(), size, kind)?, extent_of; (size, kind));
     }
     Ok(())
 }

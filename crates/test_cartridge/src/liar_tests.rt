@@ -27,7 +27,7 @@ fn is_opened_again(alloc: Global, shelved: Shelved<Liar>) {
     let _ = opened(alloc, first, second);
 }
 
-// Whether two such disks are taken for a cartridge's.
+// Whether two such disks are opened as a cartridge.
 fn is_opened(rt: &impl Abort, alloc: Global, shift: usize, step: usize) -> bool {
     let Ok(mut cartridge) = opened(alloc, Liar { shift, step }, Liar { shift, step }) else {
         return false;

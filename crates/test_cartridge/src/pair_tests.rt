@@ -1,5 +1,5 @@
 //! Which of two sides counts, and that a cartridge calls only the disk of that side.
-use crate::samples::{FAULT, SIDE, erased, opened, told};
+use crate::samples::{FAULT, SIDE, erased, extent_of, opened};
 use cartridge::{Cartridge, CartridgeError};
 use side_pairs::Which;
 use std::alloc::Global;
@@ -127,7 +127,7 @@ fn disk_of(alloc: Global, side: Side) -> Result<MemDisk, NoMemory> {
 
 fn found(alloc: Global, first: MemDisk, second: MemDisk) -> Found {
     let cartridge = opened(alloc, first, second)?;
-    let (frames, count, used) = told(&cartridge);
+    let (frames, count, used) = extent_of(&cartridge);
     Ok((cartridge.which(), frames, count, used))
 }
 

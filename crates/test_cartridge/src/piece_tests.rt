@@ -1,5 +1,5 @@
 //! The bodies of a cartridge are read in pieces while it is opened, and long blocks are passed over.
-use crate::samples::{FAULT, block, has, made, opened, spare, told};
+use crate::samples::{FAULT, block, extent_of, has, made, opened, spare};
 use cartridge::{Cartridge, CartridgeError};
 use std::alloc::Global;
 use std::process::Abort;
@@ -26,7 +26,7 @@ fn holds_two(
     used: u64,
     blocks: (&[u8], &[u8]),
 ) {
-    assert_equal!(rt; told(cartridge), (1, 2, used));
+    assert_equal!(rt; extent_of(cartridge), (1, 2, used));
     assert_equal!(rt; cartridge.disk().widest_read(), 65_536);
     assert_equal!(rt; has(alloc, cartridge, 0, 0, blocks.0), Ok(true));
     assert_equal!(rt; has(alloc, cartridge, 0, 1, blocks.1), Ok(true));

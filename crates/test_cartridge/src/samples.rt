@@ -80,7 +80,7 @@ pub fn store_two<D: Disk + Drop>(
 }
 
 /// Frames, the objects of the first partition and what they take.
-pub fn told<D: Disk>(cartridge: &Cartridge<D>) -> (usize, ObjNo, u64) {
+pub fn extent_of<D: Disk>(cartridge: &Cartridge<D>) -> (usize, ObjNo, u64) {
     let count = cartridge.count(0);
     (cartridge.frames(), count, cartridge.used(0, count))
 }
@@ -88,7 +88,7 @@ pub fn told<D: Disk>(cartridge: &Cartridge<D>) -> (usize, ObjNo, u64) {
 /// The same for the cartridge on a disk with an empty second one, or why there is none.
 pub fn found(alloc: Global, disk: MemDisk) -> Result<(usize, ObjNo, u64), CartridgeError> {
     let cartridge = opened(alloc, disk, MemDisk::new(alloc))?;
-    Ok(told(&cartridge))
+    Ok(extent_of(&cartridge))
 }
 
 /// An empty disk that never fails.

@@ -1,6 +1,6 @@
 //! The vector byte by byte, and changed copies of it.
 use crate::samples::{
-    FAULT, SIDE, STORE, block, changed, cut, found, has, made, marks, opened, store_side, told,
+    FAULT, SIDE, STORE, block, changed, cut, extent_of, found, has, made, marks, opened, store_side,
 };
 use cartridge::{Cartridge, CartridgeError, Shelved};
 use std::alloc::Global;
@@ -50,7 +50,7 @@ static CHANGED: &'static [(usize, u8, Found)] = &[
 
 // What an open cartridge reports of itself and of its objects.
 fn is_vector<D: Disk>(rt: &impl Abort, cartridge: &Cartridge<D>) {
-    assert_equal!(rt; told(cartridge), (2, 2, 37));
+    assert_equal!(rt; extent_of(cartridge), (2, 2, 37));
     assert_equal!(rt; *cartridge.barcode(), *b"T00001L6        ");
     assert_equal!(rt;
         (
@@ -70,7 +70,7 @@ fn is_vector<D: Disk>(rt: &impl Abort, cartridge: &Cartridge<D>) {
 fn reserves<D: Disk + Drop>(rt: &impl Abort, cartridge: &mut Cartridge<D>) {
     assert_equal!(rt; cartridge.reserve(0, 100, 4), Ok(()));
     assert_equal!(rt; cartridge.reserve(9, 0, 4), Ok(()));
-    assert_equal!(rt; told(cartridge), (2, 2, 37));
+    assert_equal!(rt; extent_of(cartridge), (2, 2, 37));
 }
 
 // The first disk of a closed cartridge has the vector, both when borrowed and when returned.

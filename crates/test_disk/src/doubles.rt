@@ -5,11 +5,11 @@ use file_disk::{CallFailed, RawFile, Stop};
 
 /// A file whose length the system returns only after a call that reads.
 #[derive(Drop)]
-pub struct Untold {
+pub struct Unmeasured {
     pub calls: u64,
 }
 
-impl RawFile for Untold {
+impl RawFile for Unmeasured {
     ghost use Rattle.std.specs.Prelude.{[]};
 
     ghost state = { λ file. record {

@@ -1,5 +1,5 @@
 //! Disks over files in memory whose calls move fewer bytes than requested, are interrupted, fail or forget.
-use crate::doubles::Untold;
+use crate::doubles::Unmeasured;
 use crate::steps::{Step, act, fails, failures, get, put};
 use file_disk::{DiskOver, RawFile, Stop};
 use std::alloc::Global;
@@ -143,7 +143,7 @@ static ERRORS: &'static [Turn] = &[
 
 // A call, the failures that it reports, and the length after it.
 static COUNTED: &'static [(Step, u64, u64)] = &[
-    // Two of the bytes are there, and the length is what the file has.
+    // Two of the bytes are there, and the length is the file's.
     (Step::Put(3, b"defg"), 1, 5),
     // A call that moves none is an error, too.
     (Step::Put(5, b"x"), 2, 5),
@@ -174,7 +174,7 @@ fn each_error_is_counted(rt: HostRuntime) -> Result<(), Fail> {
     Ok(())
 }
 
-static UNTOLD: &'static [(Step, u64)] = &[
+static UNMEASURED: &'static [(Step, u64)] = &[
     (Step::Get(0), 1),
     (Step::Put(0, b"xyz"), 3),
     (Step::Cut(0), 0),
@@ -183,9 +183,9 @@ static UNTOLD: &'static [(Step, u64)] = &[
 
 // The first call is refused, and asks the file for no bytes.
 #[test]
-fn a_length_that_is_not_told(rt: HostRuntime) {
-    for &(step, len) in UNTOLD {
-        let mut disk = DiskOver::new(Untold { calls: 0 });
+fn a_length_that_is_not_reported(rt: HostRuntime) {
+    for &(step, len) in UNMEASURED {
+        let mut disk = DiskOver::new(Unmeasured { calls: 0 });
         counts(&rt, &mut disk, &[(step, 1, 0), (step, 0, len)]);
     }
 }
@@ -202,7 +202,7 @@ static ROOM: &'static [(u64, usize, bool)] = &[
     (u64::MAX, 1, false),
 ];
 
-fn has_room(rt: &impl Abort, disk: &mut DiskOver<Untold>, at: u64, count: usize, fit: bool) {
+fn has_room(rt: &impl Abort, disk: &mut DiskOver<Unmeasured>, at: u64, count: usize, fit: bool) {
     let read = disk.read_at(at, &mut [0][..count.min(1)]);
     assert_equal!(rt; read.is_ok(), fit; (count, at));
     let written = disk.write_at(at, &[0][..count.min(1)]);
@@ -212,7 +212,7 @@ fn has_room(rt: &impl Abort, disk: &mut DiskOver<Untold>, at: u64, count: usize,
 #[test]
 fn what_a_file_has_room_for(rt: HostRuntime) {
     for &(at, count, fit) in ROOM {
-        let mut disk = DiskOver::new(Untold { calls: 1 });
+        let mut disk = DiskOver::new(Unmeasured { calls: 1 });
         has_room(&rt, &mut disk, at, count, fit);
     }
 }

@@ -1,5 +1,5 @@
 //! Commands of hosts to a drive, as rows, and orders to its reservations.
-use crate::samples::{assert_told, sense_bytes};
+use crate::samples::{assert_established, sense_bytes};
 use crate::tables::{NONE, SOUND, TEST_UNIT_READY};
 use drive_core::Drive;
 use pr_core::Keeper;
@@ -70,12 +70,12 @@ pub const A_WITH_APTPL: &'static [u8] = b"\0\0\0\0\0\0\0\0\0\0\0\0\0\0\0\xa1\0\0
 
 pub fn assert_answer(rt: &impl Abort, reply: &Reply, wanted: Answer, at: usize) {
     match wanted {
-        Answer::Good(bytes) => assert_told(rt, reply, Status::Good, None, bytes, at),
+        Answer::Good(bytes) => assert_established(rt, reply, Status::Good, None, bytes, at),
         Answer::Check(key, code, qualifier) => {
             let sense = Some(sense_bytes(0x70, key, 0, code, qualifier));
-            assert_told(rt, reply, Status::Check, sense, NONE, at);
+            assert_established(rt, reply, Status::Check, sense, NONE, at);
         }
-        Answer::Conflict => assert_told(rt, reply, Status::Conflict, None, NONE, at),
+        Answer::Conflict => assert_established(rt, reply, Status::Conflict, None, NONE, at),
     }
 }
 

@@ -5,7 +5,7 @@ use crate::tables::{
     SOUND, TEST_UNIT_READY, WRITE_5, WRITE_ERROR, WRITE_MARK, Wanted,
 };
 use drive_core::Drive;
-use drive_laws::{counts_are_held, replies_tell_changes};
+use drive_laws::{counts_are_held, replies_show_changes};
 use pr_core::NoKeeper;
 use scsi_sense::Reply;
 use std::alloc::Global;
@@ -104,7 +104,7 @@ fn what_is_accepted_is_counted(rt: HostRuntime) -> Result<(), Fail> {
         assert_equal!(&rt; drive.accepted(), 0);
         assert_counts(&rt, alloc, &mut drive, COUNTS, lends)?;
     }
-    replies_tell_changes::<PlainMedium, NoKeeper>();
+    replies_show_changes::<PlainMedium, NoKeeper>();
     counts_are_held();
     Ok(())
 }

@@ -195,7 +195,7 @@ fn assert_moves(rt: &impl Abort, alloc: Global, room: u64, rows: &[Row]) -> Resu
 }
 
 #[test]
-fn a_drive_moves_and_tells(rt: HostRuntime) -> Result<(), Fail> {
+fn a_drive_moves_and_reports(rt: HostRuntime) -> Result<(), Fail> {
     let alloc = rt.alloc();
     assert_moves(&rt, alloc, 1_000, MOVES)?;
     assert_moves(&rt, alloc, 20, NO_ERASURE)

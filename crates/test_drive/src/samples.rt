@@ -21,7 +21,7 @@ fn sense_of(reply: &Reply) -> Option<[u8; 18]> {
     Some(reply.sense?.bytes())
 }
 
-pub fn assert_told(
+pub fn assert_established(
     rt: &impl Abort,
     reply: &Reply,
     status: Status,
@@ -39,9 +39,9 @@ pub fn assert_reply(rt: &impl Abort, reply: &Reply, wanted: Wanted, at: usize) {
     match sense {
         Some((response, key, information, code, qualifier)) => {
             let sense = Some(sense_bytes(response, key, information, code, qualifier));
-            assert_told(rt, reply, Status::Check, sense, bytes, at);
+            assert_established(rt, reply, Status::Check, sense, bytes, at);
         }
-        None => assert_told(rt, reply, Status::Good, None, bytes, at),
+        None => assert_established(rt, reply, Status::Good, None, bytes, at),
     }
 }
 

@@ -26,7 +26,7 @@ pub const FAILED: Answer = (
 const WRITES: Act = Act::Asks(&[(1, READY, b"", POWERED_ON), (1, WRITE_1, b"x", GOOD)]);
 
 // The reports after a failed turn: the turn once, and then the cartridge.
-const IS_TOLD: Act = Act::Asks(&[
+const IS_REPORTED: Act = Act::Asks(&[
     (1, READY, b"", DEFERRED),
     (1, READY, b"", FAILED),
     (1, WRITE_1, b"y", FAILED),
@@ -68,7 +68,7 @@ static FAILS: Day = Day {
         &[
             WRITES,
             Act::Awaits(Sign::Failed(1), 1),
-            IS_TOLD,
+            IS_REPORTED,
             Act::Closes,
             Act::Awaits(Sign::Ended, 1),
             Act::Counts(Sign::Stored(1), 0),
@@ -86,7 +86,7 @@ static LOADED_AGAIN: Day = Day {
         &[
             WRITES,
             Act::Awaits(Sign::Failed(1), 1),
-            IS_TOLD,
+            IS_REPORTED,
             LOADS_AGAIN,
             Act::Either(READ_BACK, END_OF_DATA),
             Act::Closes,

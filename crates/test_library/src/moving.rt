@@ -5,7 +5,7 @@ use crate::days::{Day, spend, spend_well};
 use crate::ends::are_back;
 use crate::numbers::are_all_there;
 use crate::replies::{
-    Answer, CHANGED, GOOD, NOT_PRESENT, POWERED_ON, READY, Told, WRITE_1, is_answer, is_one_of,
+    Answer, CHANGED, Codes, GOOD, NOT_PRESENT, POWERED_ON, READY, WRITE_1, is_answer, is_one_of,
 };
 use crate::samples::shelved;
 use crate::stages::Stage;
@@ -70,7 +70,7 @@ static AROUND: &'static [(u32, u32)] = &[
 ];
 
 // A move: GOOD, the source is empty, or the destination is full.
-static OF_A_MOVE: &'static [Told] = &[
+static OF_A_MOVE: &'static [Codes] = &[
     (Status::Good, 0, 0, 0),
     (Status::Check, 5, 0x3b, 0x0e),
     (Status::Check, 5, 0x3b, 0x0d),
@@ -98,7 +98,7 @@ pub fn moves_about<D: Disk + Drop, B: Parties + Rings, H: Parties, R: Wait + Abo
 }
 
 // A WRITE: GOOD, no cartridge, a new one in the drive, or a drive that was switched on.
-static OF_A_WRITE: &'static [Told] = &[
+static OF_A_WRITE: &'static [Codes] = &[
     (Status::Good, 0, 0, 0),
     (Status::Check, 2, 0x3a, 0),
     (Status::Check, 6, 0x28, 0),

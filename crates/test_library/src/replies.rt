@@ -73,9 +73,9 @@ pub fn is_answer(rt: &impl Abort, reply: &Reply, wanted: Answer, at: usize) {
 }
 
 /// The status of a reply, and its key, code and qualifier, which are 0 without sense data.
-pub type Told = (Status, u8, u8, u8);
+pub type Codes = (Status, u8, u8, u8);
 
-fn told_by(reply: &Reply) -> Told {
+fn codes_of(reply: &Reply) -> Codes {
     match reply.sense {
         Some(sense) => {
             let bytes = sense.bytes();
@@ -86,7 +86,7 @@ fn told_by(reply: &Reply) -> Told {
 }
 
 // Whether it is one of these.
-fn is_allowed(told: Told, allowed: &[Told]) -> bool {
+fn is_allowed(told: Codes, allowed: &[Codes]) -> bool {
     for one in allowed {
         if *one == told {
             return true;
@@ -96,7 +96,7 @@ fn is_allowed(told: Told, allowed: &[Told]) -> bool {
 }
 
 /// The status and codes of a reply are one of these.
-pub fn is_one_of(rt: &impl Abort, reply: &Reply, allowed: &[Told]) {
-    let told = told_by(reply);
+pub fn is_one_of(rt: &impl Abort, reply: &Reply, allowed: &[Codes]) {
+    let told = codes_of(reply);
     assert_holds!(rt; is_allowed(told, allowed); told);
 }

@@ -180,7 +180,7 @@ opens_without old = (
   record { volume = inl refl; first = λ unread. cc; readable = λ none. search rules; room_is = omega arith },
 )
 
--- or with the frame that was under way
+-- or with the frame that was in flight
 pub opens_with : (old : Staged) → old.is_torn ≡ true
     → IsFresh (staged_state (opened (all_stored old)))
     × Opens (staged_state old) (staged_state (opened (all_stored old)))

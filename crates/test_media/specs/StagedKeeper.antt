@@ -15,7 +15,7 @@ use Rattle.pr_core.specs.Keepers.{KeeperState, last_saved, state_frame_size}
 pub record StagedKept : Type 0 where
   -- the state that was saved last
   pub saved : PrState
-  -- the state whose save was under way when the device failed
+  -- the state whose save was in flight when the device failed
   pub torn : Option PrState
   pub failed : Bool
   -- the bytes that may still be added

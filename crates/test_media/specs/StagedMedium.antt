@@ -1,4 +1,4 @@
--- A medium for tests, to a contract.
+-- A medium for tests, as contracts see it.
 use Rattle.std.specs.Prelude.{◌≡◌, ◌≤◌, ◌++◌, ℕ, Some, List, [], Bool, false, if◌then◌else◌}
 use Rattle.std.proofs.Common.{refl, ap, sym, ◌∙◌, arith, append_assoc}
 use Rattle.std.proofs.lemmas.List.{append-nil}
@@ -14,7 +14,7 @@ pub record Staged : Type 0 where
   pub stored : List Change
   -- the changes that were accepted since: pending, or of a parked medium given up
   pub rest : List Change
-  -- the frame of all these was under way when the device failed
+  -- the frame of all these was in flight when the device failed
   pub is_torn : Bool
   pub awake : Bool
   pub failed : Bool

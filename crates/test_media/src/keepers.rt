@@ -23,8 +23,8 @@ pub struct SavePlan {
     pub by: SaveFault,
 }
 
-/// A keeper for tests, in memory. Its store takes a limited number of bytes, and one of its saves fails. Once
-/// the device has failed, the keeper has failed for good.
+/// A keeper for tests, in memory. Its store takes a limited number of bytes, and one of its saves fails. Once the
+/// device has failed, the keeper stays failed.
 #[derive(Drop)]
 pub struct StagedKeeper {
     saved: Reservations,
@@ -101,7 +101,7 @@ impl StagedKeeper {
         &self.saved
     }
 
-    /// The reservations whose save was under way when the device failed. A restart may find them in place of
+    /// The reservations whose save was in flight when the device failed. A restart may find them in place of
     /// those saved last.
     pub fn torn(&self) -> Option<Reservations>
         ensures { result ≡ self.now.torn }

@@ -20,9 +20,9 @@ pub struct FaultPlan {
     pub store: Option<u32>,
     /// The reading of a block that fails, where one is to: 0 is the first.
     pub fetch: Option<u32>,
-    /// The frame of all that is pending is under way as a storing fails; else none is.
+    /// The frame of all that is pending is in flight as a storing fails; else none is.
     pub tears: bool,
-    /// The side is found with the frame that was under way; else without it.
+    /// The side is found with the frame that was in flight; else without it.
     pub keeps_torn: bool,
 }
 

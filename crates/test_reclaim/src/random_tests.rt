@@ -1,5 +1,5 @@
 //! Volumes that look random, reclaimed three times each and 1,020 times in all, against a volume in memory.
-use crate::samples::{Pair, empty, holds, opened, reclaim, store, told};
+use crate::samples::{Pair, empty, holds, opened, reclaim, side_of, store};
 use cartridge::Cartridge;
 use side_pairs::Which;
 use std::alloc::Global;
@@ -159,7 +159,7 @@ fn is_reclaimed(
     } else {
         Which::Second
     };
-    assert_equal!(rt; told(&cartridge), (which, Some(row.1), len); row);
+    assert_equal!(rt; side_of(&cartridge), (which, Some(row.1), len); row);
     assert_equal!(rt; cartridge.frames(), frames; row);
     assert_equal!(rt; holds(alloc, &mut cartridge, volume), Ok(true); row);
     Ok(cartridge.shelve().into_disks())

@@ -1,6 +1,6 @@
 //! The worked cartridge, reclaimed byte by byte.
 use crate::rows::{BEFORE, ONCE, PAIRED, THRICE, TWICE, VECTOR};
-use crate::samples::{Pair, block, opened, pair_of, reclaim, store, told};
+use crate::samples::{Pair, block, opened, pair_of, reclaim, side_of, store};
 use cartridge::ReclaimError;
 use side_pairs::Which;
 use std::alloc::Global;
@@ -47,7 +47,7 @@ fn the_worked_row(rt: HostRuntime) -> Result<(), Fail> {
     let pair = leaves(&rt, alloc, pair, Ok(()), (TWICE, ONCE));
     let pair = leaves(&rt, alloc, pair, Ok(()), (TWICE, THRICE));
     let cartridge = opened(alloc, pair.0, pair.1)?;
-    assert_equal!(rt; told(&cartridge), (Which::Second, Some(3), 64));
+    assert_equal!(rt; side_of(&cartridge), (Which::Second, Some(3), 64));
     assert_equal!(rt; (cartridge.frames(), cartridge.count(0), cartridge.used(0, 1)), (1, 1, 17));
     Ok(())
 }
@@ -76,6 +76,6 @@ fn epochs_are_spent(rt: HostRuntime) -> Result<(), Fail> {
     let (first, second, found) = reclaim(alloc, first, second);
     assert_equal!(rt; found, Ok(()));
     let cartridge = opened(alloc, first, second)?;
-    assert_equal!(rt; told(&cartridge), (Which::Second, Some(u64::MAX), 64));
+    assert_equal!(rt; side_of(&cartridge), (Which::Second, Some(u64::MAX), 64));
     Ok(())
 }

@@ -187,7 +187,7 @@ pub fn epoch_on(bytes: &[u8], parts: PartNo) -> Option<u64> {
 }
 
 /// Which side counts, how often it was reclaimed, and the length of its disk.
-pub fn told(cartridge: &Cartridge<MemDisk>) -> (Which, Option<u64>, usize) {
+pub fn side_of(cartridge: &Cartridge<MemDisk>) -> (Which, Option<u64>, usize) {
     let bytes = cartridge.disk().bytes();
     (
         cartridge.which(),

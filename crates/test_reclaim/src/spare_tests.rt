@@ -1,6 +1,6 @@
 //! Second files that do not fit the first one, and a first file that is cut.
 use crate::rows::{BEFORE, ONCE, PAIRED, PREPARED, TWICE, VECTOR};
-use crate::samples::{Pair, opened, reclaim, told};
+use crate::samples::{Pair, opened, reclaim, side_of};
 use cartridge::{Cartridge, CartridgeError, ReclaimError};
 use side_pairs::Which;
 use std::alloc::Global;
@@ -107,7 +107,7 @@ fn disk_of(alloc: Global, side: Side) -> Result<MemDisk, NoMemory> {
 
 // Which side of a cartridge counts, how often it was reclaimed, and the digit of its barcode.
 fn seen(cartridge: &Cartridge<MemDisk>) -> (Which, u64, u8) {
-    let (which, epoch, _) = told(cartridge);
+    let (which, epoch, _) = side_of(cartridge);
     (which, epoch.unwrap_or(0), cartridge.barcode()[5])
 }
 
@@ -148,14 +148,14 @@ fn a_second_file_that_does_not_fit(rt: HostRuntime) -> Result<(), Fail> {
         let pair = (disk_of(alloc, one)?, disk_of(alloc, two)?);
         assert_equal!(rt; found(alloc, pair), expected; row);
         match expected {
-            Ok(told) => {
+            Ok(side_of) => {
                 let (first, second, ended) = reclaim(
                     alloc,
                     disk_of(alloc, one)?,
                     disk_of(alloc, two)?,
                 );
                 assert_equal!(rt; ended, Ok(()); row);
-                assert_equal!(rt; found(alloc, (first, second)), Ok(reclaimed_from(told)); row);
+                assert_equal!(rt; found(alloc, (first, second)), Ok(reclaimed_from(side_of)); row);
             }
             Err(error) => is_refused(&rt, alloc, row, error)?,
         }

@@ -1,5 +1,5 @@
 //! A reclaim is stopped at each call of its two disks.
-use crate::samples::{FAULT, Pair, copy_of, holds, opened, reclaim, told};
+use crate::samples::{FAULT, Pair, copy_of, holds, opened, reclaim, side_of};
 use crate::stop_tables::{WORKS, Work};
 use crate::tied::tied;
 use cartridge::CartridgeError;
@@ -31,7 +31,7 @@ fn found(
     volume: &Volume,
 ) -> Result<(Option<u64>, bool), CartridgeError> {
     let mut cartridge = opened(alloc, pair.0, pair.1)?;
-    let (_, epoch, _) = told(&cartridge);
+    let (_, epoch, _) = side_of(&cartridge);
     Ok((epoch, holds(alloc, &mut cartridge, volume)?))
 }
 

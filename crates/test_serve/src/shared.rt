@@ -91,7 +91,7 @@ pub fn two(changes: u64) -> [Option<u64>; 16] {
     counts
 }
 
-/// Serves so many drives and 64 hosts for what a reader gives, and says how that ended. This is what the drives count.
+/// Serves so many drives and 64 hosts for what a reader gives. Returns how that ended, with the drives' counts.
 pub fn serving_to<
     R: Threads + Wait + Abort + Clock + Sync,
     G: Gate + Sync,

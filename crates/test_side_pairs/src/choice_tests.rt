@@ -1,5 +1,5 @@
 //! Which side of a pair of images counts.
-use crate::reclaims::{Told, told};
+use crate::reclaims::{Choice, choice_of_bytes};
 use crate::rows::{BEFORE, ONCE, PREPARED, TWICE};
 use side_pairs::Which;
 use std::alloc::{AllocError, Global};
@@ -10,14 +10,14 @@ use test_assertions::assert_equal;
 // An image, and bytes that are set in it.
 type Image = (&'static [u8], &'static [(usize, u8)]);
 
-const PLAIN: Told = Some((Which::First, 0, 0, 25));
+const PLAIN: Choice = Some((Which::First, 0, 0, 25));
 
-const FIRST_COPY: Told = Some((Which::First, 2, 1, 37));
+const FIRST_COPY: Choice = Some((Which::First, 2, 1, 37));
 
-const SECOND_COPY: Told = Some((Which::Second, 1, 1, 37));
+const SECOND_COPY: Choice = Some((Which::Second, 1, 1, 37));
 
 // Pairs of images, and which side of each counts.
-static PAIRS: &'static [(Image, Image, Told)] = &[
+static PAIRS: &'static [(Image, Image, Choice)] = &[
     // The first side alone is read: the second disk has nothing, or a copy, or an open pair gate.
     ((BEFORE, &[]), (&[], &[]), PLAIN),
     ((BEFORE, &[]), (ONCE, &[]), PLAIN),
@@ -96,15 +96,15 @@ fn made(alloc: Global, image: Image) -> Result<Vec<u8>, AllocError> {
     Ok(bytes)
 }
 
-fn is_told(
+fn is_reported(
     rt: &impl Abort,
     alloc: Global,
     pair: (Image, Image),
-    expected: Told,
+    expected: Choice,
 ) -> Result<(), Fail> {
     let first = made(alloc, pair.0)?;
     let second = made(alloc, pair.1)?;
-    let found = told(alloc, &first, &second)?;
+    let found = choice_of_bytes(alloc, &first, &second)?;
     assert_equal!(rt; found, Ok(expected); pair);
     Ok(())
 }
@@ -112,16 +112,16 @@ fn is_told(
 #[test]
 fn pairs_of_images(rt: HostRuntime) -> Result<(), Fail> {
     for &(first, second, expected) in PAIRS {
-        is_told(&rt, rt.alloc(), (first, second), expected)?;
+        is_reported(&rt, rt.alloc(), (first, second), expected)?;
     }
     for &(first, second) in NOT_OURS {
-        is_told(&rt, rt.alloc(), (first, second), None)?;
+        is_reported(&rt, rt.alloc(), (first, second), None)?;
     }
     Ok(())
 }
 
 // One of the four gates of a pair, and which side counts where it is open and where it is closed.
-static GATES: &'static [(usize, usize, Image, Image, Told, Told)] = &[
+static GATES: &'static [(usize, usize, Image, Image, Choice, Choice)] = &[
     (0, 0, (TWICE, &[]), (ONCE, &[]), FIRST_COPY, SECOND_COPY),
     (1, 0, (TWICE, &[(0, 0)]), (ONCE, &[]), SECOND_COPY, None),
     (0, 9, (BEFORE, &[]), (ONCE, &[]), SECOND_COPY, PLAIN),
@@ -150,7 +150,7 @@ fn every_value_of_each_gate(rt: HostRuntime) -> Result<(), Fail> {
         for value in 0..256u32 {
             let one = gate_set(alloc, first, at, value as u8, disk == 0)?;
             let two = gate_set(alloc, second, at, value as u8, disk == 1)?;
-            let found = told(alloc, &one, &two)?;
+            let found = choice_of_bytes(alloc, &one, &two)?;
             let expected = if value == 0xa5 { open } else { closed };
             assert_equal!(rt; found, Ok(expected); (disk, at, value));
         }
@@ -162,12 +162,12 @@ fn every_value_of_each_gate(rt: HostRuntime) -> Result<(), Fail> {
 #[test]
 fn every_cut_of_a_side(rt: HostRuntime) -> Result<(), Fail> {
     for len in 0..64 {
-        let found = told(rt.alloc(), TWICE, &ONCE[..len])?;
+        let found = choice_of_bytes(rt.alloc(), TWICE, &ONCE[..len])?;
         let expected = if len < 47 { None } else { FIRST_COPY };
         assert_equal!(rt; found, Ok(expected); len);
     }
     for len in 0..87 {
-        let found = told(rt.alloc(), &BEFORE[..len], &[])?;
+        let found = choice_of_bytes(rt.alloc(), &BEFORE[..len], &[])?;
         let expected = if len < 35 { None } else { PLAIN };
         assert_equal!(rt; found, Ok(expected); len);
     }

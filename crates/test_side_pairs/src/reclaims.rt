@@ -102,10 +102,10 @@ pub fn reclaim<D: Disk>(
 }
 
 /// What is found of a side that counts: which it is, its epoch, its base, and the length of its head.
-pub type Told = Option<(Which, u64, u32, usize)>;
+pub type Choice = Option<(Which, u64, u32, usize)>;
 
 /// What is found of the side that counts of two disks.
-pub fn told_of<D: Disk>(first: &mut D, second: &mut D) -> Result<Told, DevFault> {
+pub fn choice_of<D: Disk>(first: &mut D, second: &mut D) -> Result<Choice, DevFault> {
     match choose(first, second)? {
         Some(counted) => {
             let head = counted.head;
@@ -116,12 +116,12 @@ pub fn told_of<D: Disk>(first: &mut D, second: &mut D) -> Result<Told, DevFault>
 }
 
 /// What is found of the side that counts of two images.
-pub fn told(
+pub fn choice_of_bytes(
     alloc: Global,
     first: &[u8],
     second: &[u8],
-) -> Result<Result<Told, DevFault>, NoMemory> {
+) -> Result<Result<Choice, DevFault>, NoMemory> {
     let mut first = MemDisk::from_bytes(alloc, first)?;
     let mut second = MemDisk::from_bytes(alloc, second)?;
-    Ok(told_of(&mut first, &mut second))
+    Ok(choice_of(&mut first, &mut second))
 }

@@ -1,5 +1,5 @@
 //! Reclaims of a cartridge, byte by byte, stopped at each call, and with a fault at each call.
-use crate::reclaims::{NONE_LEFT, Told, reclaim, told_of};
+use crate::reclaims::{Choice, NONE_LEFT, choice_of, reclaim};
 use crate::rows::{BEFORE, ONCE, PREPARED, TWICE};
 use side_pairs::{Which, close_spare, open_pair, prepare_pair};
 use std::alloc::Global;
@@ -88,7 +88,7 @@ enum Stands {
 }
 
 // What is found of the side that counts, its bytes from the tenth on, and what the pair stands for then.
-static KNOWN: &'static [(Told, &'static [u8], Stands)] = &[
+static KNOWN: &'static [(Choice, &'static [u8], Stands)] = &[
     (Some((Which::First, 0, 0, 25)), BEFORE, Stands::Before),
     (Some((Which::Second, 1, 1, 37)), ONCE, Stands::Once),
     (Some((Which::First, 2, 1, 37)), TWICE, Stands::Twice),
@@ -101,7 +101,7 @@ fn are_alike(one: &[u8], other: &[u8]) -> bool {
 
 // What a pair of disks stands for.
 fn standing(pair: &mut Pair) -> Stands {
-    let Ok(told) = told_of(&mut pair.0, &mut pair.1) else {
+    let Ok(choice_of_bytes) = choice_of(&mut pair.0, &mut pair.1) else {
         return Stands::Other;
     };
     for &(known, image, stands) in KNOWN {
@@ -109,7 +109,7 @@ fn standing(pair: &mut Pair) -> Stands {
             Stands::Once => pair.1.bytes(),
             _ => pair.0.bytes(),
         };
-        if known == told && are_alike(bytes, image) {
+        if known == choice_of_bytes && are_alike(bytes, image) {
             return stands;
         }
     }

@@ -119,9 +119,9 @@ pub const LEFT_STORE: &'static [u8] = b"\xa5VTLRESV1\0\0DRIVE1          \
     \0";
 
 // The expected status, 18 bytes of sense data and bytes.
-type Told<'a> = (Status, Option<[u8; 18]>, &'a [u8]);
+type Heard<'a> = (Status, Option<[u8; 18]>, &'a [u8]);
 
-fn told(wanted: Wanted) -> Told {
+fn wanted_of(wanted: Wanted) -> Heard {
     let (sense, bytes) = wanted;
     let Some((response, key, information, code, qualifier)) = sense else {
         return (Status::Good, None, bytes);
@@ -134,7 +134,7 @@ fn told(wanted: Wanted) -> Told {
 }
 
 // The status, sense data and bytes of a reply, if there is one.
-fn heard(reply: &Option<Reply>) -> Option<Told<'_>> {
+fn heard(reply: &Option<Reply>) -> Option<Heard<'_>> {
     let Some(reply) = reply else {
         return None;
     };
@@ -156,7 +156,7 @@ pub fn ask<D: Disk, S: TestDrive<D>>(
     let (host, cdb, sent, _) = row;
     let nexus = Nexus::new(host).expect(rt, "a nexus");
     let reply = drive.answer(nexus, cdb, sent);
-    assert_equal!(rt; heard(&reply), Some(told(wanted)); at);
+    assert_equal!(rt; heard(&reply), Some(wanted_of(wanted)); at);
 }
 
 /// The same for each of these.
@@ -175,7 +175,7 @@ pub fn asks<D: Disk, S: TestDrive<D>>(
 pub fn answers<D: Disk, S: TestDrive<D>>(drive: &mut S, row: Row) -> bool {
     let (host, cdb, sent, wanted) = row;
     match Nexus::new(host) {
-        Some(nexus) => heard(&drive.answer(nexus, cdb, sent)) == Some(told(wanted)),
+        Some(nexus) => heard(&drive.answer(nexus, cdb, sent)) == Some(wanted_of(wanted)),
         None => false,
     }
 }

@@ -96,20 +96,20 @@ pub fn host_over<D: Disk + Drop>(alloc: Global, disk: D) -> Result<Host<D>, Stor
 }
 
 // Whether a reply has this status, with this sense data or these bytes.
-fn is_answer(reply: &Reply, status: u8, told: &[u8]) -> bool {
-    let is_told = match &reply.sense {
-        Some(sense) => sense.bytes().as_slice() == told && reply.bytes.is_empty(),
-        None => reply.bytes.as_slice() == told,
+fn is_answer(reply: &Reply, status: u8, wanted: &[u8]) -> bool {
+    let is_reported = match &reply.sense {
+        Some(sense) => sense.bytes().as_slice() == wanted && reply.bytes.is_empty(),
+        None => reply.bytes.as_slice() == wanted,
     };
-    reply.status.code() == status && is_told
+    reply.status.code() == status && is_reported
 }
 
 /// Commands of hosts, one after another, have these answers.
 pub fn ask_all<D: Disk + Drop>(rt: &impl Abort, drive: &mut Host<D>, rows: &[Row]) {
-    for (at, (host, cdb, sent, status, told, frames)) in rows.iter().enumerate() {
+    for (at, (host, cdb, sent, status, wanted, frames)) in rows.iter().enumerate() {
         let nexus = Nexus::new(*host).expect(rt, "a nexus");
         let reply = drive.execute(nexus, cdb, sent);
-        assert_holds!(rt; is_answer(&reply, *status, told); at);
+        assert_holds!(rt; is_answer(&reply, *status, wanted); at);
         assert_equal!(rt; drive.keeper().frames(), *frames; at);
     }
 }

@@ -69,7 +69,7 @@ const RELEASED: Attention = Attention::ReservationsReleased;
 const PREEMPTED: Attention = Attention::RegistrationsPreempted;
 
 #[test]
-fn every_nexus_but_one_is_told(rt: HostRuntime) {
+fn every_nexus_but_one_gets_it(rt: HostRuntime) {
     let (Some(first), Some(other), Some(last)) = (Nexus::new(1), Nexus::new(2), Nexus::new(64))
     else {
         assert_holds!(rt; false, "a nexus");
@@ -98,21 +98,21 @@ fn two_sets_are_joined(rt: HostRuntime) {
 }
 
 #[test]
-fn each_nexus_is_told_its_own(rt: HostRuntime) {
+fn each_nexus_gets_its_own(rt: HostRuntime) {
     let (Some(first), Some(second), Some(last)) = (Nexus::new(1), Nexus::new(2), Nexus::new(64))
     else {
         assert_holds!(rt; false, "a nexus");
         return;
     };
-    let mut told = [AttnSet::empty(); 64];
-    told[0] = set_of(&[PREEMPTED]);
-    told[63] = set_of(&[MEDIUM, RELEASED]);
+    let mut established = [AttnSet::empty(); 64];
+    established[0] = set_of(&[PREEMPTED]);
+    established[63] = set_of(&[MEDIUM, RELEASED]);
     let mut attentions = Attentions::all(set_of(&[MEDIUM]));
-    attentions.establish_each(&told);
+    attentions.establish_each(&established);
     assert_holds!(rt; reports(&mut attentions, first, &[MEDIUM, PREEMPTED]));
     assert_holds!(rt; reports(&mut attentions, second, &[MEDIUM]));
     assert_holds!(rt; reports(&mut attentions, last, &[MEDIUM, RELEASED]));
-    attentions.establish_each(&told[..1]);
+    attentions.establish_each(&established[..1]);
     assert_holds!(rt; reports(&mut attentions, first, &[PREEMPTED]));
     assert_holds!(rt; reports(&mut attentions, last, &[]));
 }

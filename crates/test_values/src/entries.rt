@@ -107,7 +107,7 @@ static MISSING: &'static [(u8, Result<u64, SeatsMissing>)] = &[
 ];
 
 #[test]
-fn a_missing_seat_is_told_by_its_changes(rt: HostRuntime) {
+fn a_missing_seat_shows_by_its_changes(rt: HostRuntime) {
     for &(missing, answer) in MISSING {
         let found = gathered::<Brand, Brand, HostRuntime>(
             &rt,

@@ -76,9 +76,9 @@ fn listed(keys: &[(u8, u64)], number: u8) -> Option<u64> {
 }
 
 // The conditions for a host in a list.
-fn told_in(told: &[(u8, Attention)], number: u8) -> AttnSet {
+fn established_in(established: &[(u8, Attention)], number: u8) -> AttnSet {
     let mut set = AttnSet::empty();
-    for (host, attention) in told {
+    for (host, attention) in established {
         if *host == number {
             set.insert(*attention);
         }
@@ -109,18 +109,18 @@ fn gives(
     reservations: Reservations,
     (number, order): (u8, PrOut),
     answer: PrAnswer,
-    told: &[(u8, Attention)],
+    established: &[(u8, Attention)],
     after: Standing,
 ) {
     let mut now = reservations;
-    let (answered, tells) = now.pr_out(host(rt, number), &order);
+    let (answered, establishes) = now.pr_out(host(rt, number), &order);
     assert_equal!(rt; answered, answer; order);
     let state = now.state();
     assert_equal!(rt; held(state), after.held; order);
     assert_equal!(rt; state.generation, after.generation; order);
     for number in 1..=64u8 {
         let nexus = host(rt, number);
-        assert_equal!(rt; tells.of(nexus), told_in(told, number); (order, number));
+        assert_equal!(rt; establishes.of(nexus), established_in(established, number); (order, number));
         assert_equal!(rt; key_of(state, nexus), listed(after.keys, number); (order, number));
     }
 }

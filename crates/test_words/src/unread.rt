@@ -145,7 +145,7 @@ fn the_lines_are_written(rt: HostRuntime) -> Result<(), Fail> {
     let words: &'static [&'static [u8]] = &[b"vtl", b"serve", &[0xff], b"--explain"];
     let mut errors = Vec::new(alloc);
     if let Some(word) = UnreadWord::find(&Given { words }, alloc) {
-        word.tell(alloc, &mut errors);
+        word.explain(alloc, &mut errors);
     }
     let wanted = "refused: word 2, ?, is no UTF-8\nUsage: vtl serve [OPTIONS]\n\
         to do: write the word in UTF-8, and rename the file that it names\n";

@@ -17,14 +17,14 @@ pub record MediumState : Type 0 where
   pub stored : Option (List Part)
   -- the changes that were accepted and are not stored yet, in order; of a parked medium none
   pub pending : List Change
-  -- of a medium that has failed, and of one that was parked then: the changes of the frame that was under way when
+  -- of a medium that has failed, and of one that was parked then: the changes of the frame that was in flight when
   -- the device failed. The side gives `stored` with none or all of them.
   pub torn : List Change
   pub failed : Bool
   -- the bytes that may still be added to the side; None is no bound, as in memory
   pub room : Option ℕ
-  -- of a parked medium alone: it was not opened yet. What its side gives is what a read gives now. No frame is under
-  -- way, and a device that fails in its opening may leave that another volume is given, or none.
+  -- of a parked medium alone: it was not opened yet. Its side gives what a read gives now. No frame is in flight. A
+  -- device that fails in its opening may leave a side that gives another volume, or none.
   pub unread : Bool
 
 -- the volume that a side gives; of a side with none, one of no partition (own)
@@ -76,7 +76,7 @@ pub record Works (volume : List Part) (new : MediumState) : Type 0 where
   pub awake : new.awake ≡ true
 
 -- The device failed while something was stored: the medium has failed, and the volume is as it was. What did not get
--- stored is pending still, and of it the frame that was under way is none or all (own).
+-- stored is pending still, and of it the frame that was in flight is none or all (own).
 pub record Breaks (old new : MediumState) : Type 0 where
   pub volume_is : volume_of new ≡ volume_of old
   pub broken : new.failed ≡ true
@@ -84,14 +84,14 @@ pub record Breaks (old new : MediumState) : Type 0 where
   pub some_pending : 1 ≤ length new.pending
   pub torn : (new.torn ≡ []) ⊎ (new.torn ≡ new.pending)
 
--- the device failed while a block was read: the medium has failed, no frame was under way, and nothing else has
+-- the device failed while a block was read: the medium has failed, no frame was in flight, and nothing else has
 -- changed (own)
 abbrev pub after_failed_read : MediumState → MediumState
 after_failed_read state = record state { failed = true; torn = [] }
 
--- The result of asking a medium to accept a change. What was pending may have been stored on the way, but not where the
--- side is full: that is reported before all that comes of storing or of memory. A failed medium accepts none, and only
--- a device fault makes it fail (own).
+-- The result of asking a medium to accept a change. What was pending may have been stored before, but not where the
+-- side is full: that is reported before any fault of storing and before a lack of memory. A failed medium accepts none,
+-- and only a device fault makes it fail (own).
 abbrev pub Accepts : MediumState → Change → Result Unit MediumError → MediumState → Type 0
 Accepts old change (Ok done) new =
     (refusal_of (volume_of old) change ≡ None) × (old.failed ≡ false)
@@ -167,7 +167,7 @@ pub record IsParked
   pub room_is : honest → LeavesRoom room taken new.room
 
 -- what the side of a medium gives once it is parked: all that was accepted, or of one that has failed what was stored,
--- with none or all of the frame that was under way (own)
+-- with none or all of the frame that was in flight (own)
 abbrev pub IsParkedFrom : Type 0 → Bool → MediumState → MediumState → Type 0
 IsParkedFrom honest false old new = IsParked honest (Some (volume_of old)) [] old.room old.pending false new
 IsParkedFrom honest true old new = IsParked honest old.stored old.torn old.room [] false new
@@ -178,7 +178,7 @@ Parks honest old (Ok done) new = IsParkedFrom honest old.failed old new
 Parks honest old (Err Device) new = (old.failed ≡ false) × (1 ≤ length old.pending) × Breaks old new
 Parks honest old (Err _) new = ⊥
 
--- the volume that a side gives, or that with all changes of the frame that was under way (own)
+-- the volume that a side gives, or that with all changes of the frame that was in flight (own)
 abbrev pub GivenBy : MediumState → Option (List Part) → Type 0
 GivenBy old volume =
     (volume ≡ old.stored) ⊎ (volume ≡ Some (after (volume_or_empty old.stored) old.torn))
@@ -203,7 +203,7 @@ StaysParked honest old new = IsParked honest old.stored old.torn old.room [] old
 
 -- A parked medium that is not opened, since the device failed. What its side gives stays, if the medium was opened
 -- before. If it was not, nothing is known of that: a sync failed, and promises nothing of what a read gives. No frame
--- is under way that was not (own).
+-- is in flight that was not (own).
 pub record IsUnopened (honest : Type 0) (old new : MediumState) : Type 0 where
   pub stays : StaysParked (honest × (old.unread ≡ false)) old new
   pub torn : honest → new.torn ≡ old.torn

@@ -1,4 +1,4 @@
--- A medium that holds all in memory, to a contract.
+-- A medium that holds all in memory, as contracts see it.
 use Rattle.std.specs.Prelude.{◌≡◌, ◌++◌, None, Some, List, [], ◌∷◌, Bool, false, refl}
 use Rattle.std.proofs.Common.{subst}
 use Rattle.vtl_base.specs.Below.{Below}

@@ -12,8 +12,8 @@ abbrev pub stored_after : Option (List Part) → List Change → Option (List Pa
 stored_after None changes = None
 stored_after (Some volume) changes = Some (after volume changes)
 
--- Of what was pending and what is now accepted, some has been stored, from the first on, and of the side's room at most
--- what it takes is gone; the rest is pending (own).
+-- A first part of what was pending and of what is now accepted was stored, and the side has lost at most the room that
+-- this part takes. The rest is pending (own).
 pub record Stores (old : MediumState) (made : List Change) (new : MediumState) : Type 0 where
   pub count : ℕ
   pub fits : count ≤ length (old.pending ++ made)

@@ -15,7 +15,7 @@ use crate::objects::Kind;
 use thiserror::Error;
 use vtl_base::{Bytes, ObjNo, PartNo};
 
-/// Why a medium does not do what it is asked.
+/// Why a call on a medium is refused or fails.
 #[derive(Clone, Copy, PartialEq, Eq, Debug, Error)]
 pub enum MediumError {
     /// The change itself is refused, for this cause. Nothing has changed.
@@ -120,8 +120,8 @@ pub trait Catalog {
         ensures { IsMarkOf (volume_of (state self.now)) part k result };
 }
 
-/// A volume that accepts changes, and stores them at the latest when it is asked to. It is awake, or parked: closed, so
-/// that it may be moved. Each call but `wake` needs it awake.
+/// A volume that accepts changes, and stores them at the latest when the caller asks for it. It is awake, or parked:
+/// closed, so that it may be moved. Each call except `wake` needs it awake.
 pub trait Medium: Catalog {
     /// What a contract sees below it: the failures of its device, whether that keeps the promises of a disk (always so
     /// in memory), whether it is at hand, so that calls that may need the device may be made, and which changes it

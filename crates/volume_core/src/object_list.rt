@@ -13,8 +13,8 @@ use std::marker::Model;
 use vtl_base::Bytes;
 use vtl_base::limits::OBJECT_COST;
 
-// Objects in order. To a contract they are a list. Beside each stands what the objects up to it
-// take, itself included, so that no call walks over them.
+// Objects in order. A contract sees them as a list. Beside each stands what the objects up to it take, itself included,
+// so that no call walks over them.
 #[derive(Drop)]
 pub(crate) struct ObjectList {
     objects: Vec<Object>,

@@ -15,7 +15,7 @@ use std::alloc::Global;
 use std::marker::Model;
 use vtl_base::limits::MAX_OBJECTS;
 
-// A partition. To a contract it is its capacity and its objects.
+// A partition. A contract sees its capacity and its objects.
 #[derive(Drop)]
 pub(crate) struct Partition {
     capacity: u64,

@@ -11,8 +11,8 @@ use std::alloc::Global;
 use std::marker::Model;
 use vtl_base::{NoMemory, ObjNo, PartNo};
 
-/// A cartridge in memory, which never fails and has nothing pending. To a contract it is its volume,
-/// and whether it is awake.
+/// A cartridge in memory, which never fails and has nothing pending. A contract sees its volume, and whether it is
+/// awake.
 #[derive(Drop)]
 pub struct PlainMedium {
     volume: Volume,

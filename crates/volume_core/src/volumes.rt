@@ -77,8 +77,7 @@ pub fn is_in_early_zone(capacity: u64, used: u64) -> bool
     used > capacity - capacity / 16
 }
 
-/// The contents of a cartridge, in memory: 1 to 4 partitions of objects. To a contract it is the list of its
-/// partitions.
+/// The contents of a cartridge, in memory: 1 to 4 partitions of objects. A contract sees the list of its partitions.
 #[derive(Drop)]
 pub struct Volume {
     partitions: Vec<Partition>,
@@ -179,7 +178,8 @@ impl Volume {
         }
     }
 
-    /// The object number of a partition's mark number k, counted from 0. It goes over the objects up to that one.
+    /// The object number of filemark k of a partition, counted from 0. The search goes over the objects up to that
+    /// filemark.
     pub fn mark_at(&self, part: PartNo, k: u32) -> ObjNo
         requires { k < mark_count self.now part }
         ensures { IsMarkOf self.now part k result }

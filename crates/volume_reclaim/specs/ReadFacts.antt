@@ -49,7 +49,7 @@ pub fault_on : (a b c : DiskState) (fault : DevFault) → OnlyRead a b → ReadU
     → ReadUntilFault a fault c
 fault_on a b c fault one other = record {
   keeps = keeps_on a b c one.keeps other.keeps;
-  failed = record { cause = omega (arith, one.none_failed, other.failed.cause); told = other.failed.told };
+  failed = record { cause = omega (arith, one.none_failed, other.failed.cause); reported = other.failed.reported };
   unwritten = λ h. unwritten_on a b c (one.unwritten h) (other.unwritten (one.keeps.stays_honest h));
 }
 

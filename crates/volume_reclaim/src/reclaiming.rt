@@ -1,4 +1,4 @@
-//! Copying a volume to the side that does not count, which counts from then on.
+//! Copies a volume to the side that does not count. From then on that side counts.
 ghost use Rattle.std.specs.Prelude.{◌≡◌, ◌⊎◌, ◌+◌, ◌≤◌, List, ℕ, OnOk, vec_capacity};
 ghost use Rattle.volume_core.specs.Volume.{Part};
 ghost use Rattle.tape_disk.specs.TwoDisks.{AreHonest, EachOfTwo, KeepsDisks, TwoLeave, seen_of_two};

@@ -75,7 +75,7 @@ fn main(rt: HostRuntime) -> ExitCode {
     );
     if ended.is_reported {
         if let Some(word) = &unread {
-            word.tell(rt.alloc(), &mut errors);
+            word.explain(rt.alloc(), &mut errors);
         }
     }
     ExitCode::from(ended.status)

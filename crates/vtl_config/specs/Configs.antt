@@ -29,14 +29,14 @@ EntriesAt list table entries =
 abbrev pub IsAtHome : List ℕ → ℕ → Type 0
 IsAtHome numbers home = IsDriveNumber home → Contains numbers home
 
--- What holds of the drives that were read: each is what its entry says, and no number or file occurs twice (own).
+-- What is true of the drives that were read: each is as its entry says, and no number or file occurs twice (own).
 pub record AreDrives (entries : List Data) (drives : List DriveEntry) : Type 0 where
   pub each : Paired IsDrive entries drives
   pub numbers : AreDistinct (numbers_of drives)
   pub files : AreDistinct (drive_files drives)
 
--- What holds of the cartridges that were read, in a library of these drives: each is what its entry says, no barcode or
--- home occurs twice, nor a file, both files of each cartridge counted, and each home that is a drive is listed (own).
+-- What is true of the cartridges that were read, in a library of these drives. Each is as its entry says. No barcode or
+-- home occurs twice, nor a file, both files of each cartridge counted. Each home that is a drive is listed (own).
 pub record AreCartridges (drives : List DriveEntry) (entries : List Data) (cartridges : List CartridgeEntry) :
     Type 0 where
   pub each : Paired IsCartridge entries cartridges

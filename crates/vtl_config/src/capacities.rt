@@ -16,8 +16,8 @@ use vtl_base::limits::{MAX_CAPACITY, MAX_PARTITIONS, MIN_CAPACITY};
 
 const PARTITIONS: usize = MAX_PARTITIONS as usize;
 
-/// The capacities of a cartridge's partitions, in bytes: 1 to 4 of them, each of 4,096 to
-/// 1,099,511,627,776 (own). To a contract they are a list.
+/// The capacities of a cartridge's partitions, in bytes: 1 to 4 of them, each of 4,096 to 1,099,511,627,776 (own). A
+/// contract sees them as a list.
 #[derive(Clone, Debug, Drop)]
 pub struct Capacities {
     bytes: [u64; PARTITIONS],

@@ -9,14 +9,15 @@ use std::marker::Model;
 pub(crate) const SECOND: &str = ".2";
 
 /// The name of a file, as a configuration has it (own). Only the reading of a configuration makes one, once for each
-/// file of an entry, and it is not copied. Whoever makes or opens the file uses the name up, for a `UsedName`: so code
-/// that gets a configuration can make or open each of its files at most once. To a contract it is its bytes.
+/// file of an entry, and it is not copied. Whoever makes or opens the file uses the name up, for a `UsedName`. So code
+/// that gets a configuration can make or open each of its files at most once. A contract sees its bytes.
 #[derive(Drop, Debug)]
 pub struct FileName {
     text: String,
 }
 
-/// The name of a file that was made or opened: its disk is returned under it. To a contract it is its bytes.
+/// The name of a file that was made or opened. The disk of the file is returned under this name. A contract sees its
+/// bytes.
 #[derive(Drop, Debug)]
 pub struct UsedName {
     text: String,

@@ -1,4 +1,4 @@
-//! What holds of the rules of a configuration: a law, which no code calls.
+//! A law of the rules of a configuration, which no code calls.
 ghost use Rattle.vtl_config.specs.Laws.{NothingIsBroken};
 
 /// A table that says a configuration breaks no rule: what is taken could not have been refused.

@@ -69,7 +69,8 @@ fn read_table(alloc: Global, table: &Table) -> Result<Config, ConfigError>
 }
 
 /// The configuration that a text says. Errors: `Refused` with the rule that the text breaks and its place, or
-/// `NoMemory`. Drives are read before cartridges; where several rules are broken, the first that is met is reported.
+/// `NoMemory`. Drives are read before cartridges; where several rules are broken, the first one that the reading meets
+/// is reported.
 pub fn read_config(alloc: Global, text: &[u8]) -> Result<Config, ConfigError>
     ensures ok { IfOk result (Says text.now) }
     ensures err { IfErr result (RefusesText text.now) }

@@ -1,7 +1,7 @@
 //! Laws of the lines. Each is a function that does nothing, and its contract is the law.
 ghost use Rattle.vtl_explain.specs.Laws.{EachAttentionIsACondition, EachLineFits, EachSenseHasItsCondition};
 
-/// The sense data that drives and changers report are of the condition with their name.
+/// The sense data that drives and changers report under a name belong to the condition with that name.
 pub fn each_sense_has_its_condition()
     ensures senses { EachSenseHasItsCondition }
     ensures attentions { EachAttentionIsACondition }

@@ -3,7 +3,7 @@ use Rattle.std.proofs.Common.{◌≡◌, ◌⊎◌, inl, inr, ◌<◌, ◌≤◌
 use Rattle.std.proofs.lemmas.Bool.{cases_eq}
 use Rattle.std.proofs.lemmas.List.{get_or-set_other, get_or-set_same, get_or_default, length-set}
 use Rattle.vtl_hosts.specs.declared.hosts.HostEnd.{HostEnd}
-use Rattle.vtl_hosts.specs.Inner.Looks.{ArePairs, ArePairsAt, LeavesAt, LeavesSome, LooksAll, LooksAt}
+use Rattle.vtl_hosts.specs.Inner.Looks.{ArePairs, ArePairsAt, LeavesAt, LeavesSome, LooksAll, ChecksRings}
 use Rattle.vtl_hosts.specs.Inner.Rings.{Answers, Requests}
 
 first_is : (a b : Bool) → (a && b) ≡ true → a ≡ true
@@ -21,7 +21,8 @@ here_is old now at d item within same = sym same ∙ get_or_default now at d ite
 
 module _ {S : Type 0} where
   pub looks_weaker : (h : HostEnd S) (r : Requests) (a : Answers) (h' : HostEnd S) (r' : Requests) (a' : Answers)
-      (one other : Bool) → (other ≡ true → one ≡ true) → LooksAt h r a h' r' a' one → LooksAt h r a h' r' a' other
+      (one other : Bool) → (other ≡ true → one ≡ true) → ChecksRings h r a h' r' a' one
+      → ChecksRings h r a h' r' a' other
   looks_weaker h r a h' r' a' one other from looks = record {
     server = looks.server;
     strayed = looks.strayed;
@@ -46,7 +47,7 @@ module _ {S : Type 0} where
     pub as_many_answers : length answers' ≡ length hosts
     pub each :
         (k : ℕ) (h : HostEnd S) (r : Requests) (a : Answers) → k < at → k < length hosts
-        → LooksAt (get_or hosts k h) (get_or requests k r) (get_or answers k a)
+        → ChecksRings (get_or hosts k h) (get_or requests k r) (get_or answers k a)
         (get_or hosts' k h) (get_or requests' k r) (get_or answers' k a) empty
     pub left_hosts : (k : ℕ) (d : HostEnd S) → at ≤ k → get_or hosts' k d ≡ get_or hosts k d
     pub left_requests : (k : ℕ) (d : Requests) → at ≤ k → get_or requests' k d ≡ get_or requests k d
@@ -95,7 +96,7 @@ module _ {S : Type 0} where
       (h : HostEnd S) (r : Requests) (a : Answers) (h' : HostEnd S) (r' : Requests) (a' : Answers) (here both : Bool)
       → at < length hosts → both ≡ (empty && here)
       → LooksSo hosts requests answers hosts' requests' answers' empty at
-      → LooksAt (get_or hosts' at h) (get_or requests' at r) (get_or answers' at a) h' r' a' here
+      → ChecksRings (get_or hosts' at h) (get_or requests' at r) (get_or answers' at a) h' r' a' here
       → LooksSo hosts requests answers (set hosts' at h') (set requests' at r') (set answers' at a') both (at + 1)
   looks_more hosts requests answers hosts' requests' answers' empty at h r a h' r' a' here both within is so one =
       record {
@@ -116,45 +117,45 @@ module _ {S : Type 0} where
     where
       by : (k : ℕ) (x : HostEnd S) (y : Requests) (z : Answers) → k < at + 1 → k < length hosts
           → (k ≡ at) ⊎ (k ≡ at → ⊥)
-          → LooksAt (get_or hosts k x) (get_or requests k y) (get_or answers k z)
+          → ChecksRings (get_or hosts k x) (get_or requests k y) (get_or answers k z)
           (get_or (set hosts' at h') k x) (get_or (set requests' at r') k y) (get_or (set answers' at a') k z) both
       by k x y z less inside (inr other) =
           subst
-          (λ (l : HostEnd S). LooksAt (get_or hosts k x) (get_or requests k y) (get_or answers k z) l
+          (λ (l : HostEnd S). ChecksRings (get_or hosts k x) (get_or requests k y) (get_or answers k z) l
           (get_or (set requests' at r') k y) (get_or (set answers' at a') k z) both)
           (sym (get_or-set_other hosts' at k h' x other))
           (subst
-          (λ (l : Requests). LooksAt (get_or hosts k x) (get_or requests k y) (get_or answers k z)
+          (λ (l : Requests). ChecksRings (get_or hosts k x) (get_or requests k y) (get_or answers k z)
           (get_or hosts' k x) l (get_or (set answers' at a') k z) both)
           (sym (get_or-set_other requests' at k r' y other))
           (subst
-          (λ (l : Answers). LooksAt (get_or hosts k x) (get_or requests k y) (get_or answers k z)
+          (λ (l : Answers). ChecksRings (get_or hosts k x) (get_or requests k y) (get_or answers k z)
           (get_or hosts' k x) (get_or requests' k y) l both)
           (sym (get_or-set_other answers' at k a' z other))
           (looks_weaker _ _ _ _ _ _ empty both (λ so_is. first_is empty here (sym is ∙ so_is))
           (so.each k x y z (omega (arith, less, other)) inside))))
       by k x y z less inside (inl same) =
           subst
-          (λ (i : ℕ). LooksAt (get_or hosts i x) (get_or requests i y) (get_or answers i z)
+          (λ (i : ℕ). ChecksRings (get_or hosts i x) (get_or requests i y) (get_or answers i z)
           (get_or (set hosts' at h') i x) (get_or (set requests' at r') i y) (get_or (set answers' at a') i z) both)
           (sym same)
           (subst
-          (λ (l : HostEnd S). LooksAt (get_or hosts at x) (get_or requests at y) (get_or answers at z) l
+          (λ (l : HostEnd S). ChecksRings (get_or hosts at x) (get_or requests at y) (get_or answers at z) l
           (get_or (set requests' at r') at y) (get_or (set answers' at a') at z) both)
           (sym (get_or-set_same hosts' at h' x (omega (arith, within, so.long))))
           (subst
-          (λ (l : Requests). LooksAt (get_or hosts at x) (get_or requests at y) (get_or answers at z)
+          (λ (l : Requests). ChecksRings (get_or hosts at x) (get_or requests at y) (get_or answers at z)
           h' l (get_or (set answers' at a') at z) both)
           (sym (get_or-set_same requests' at r' y (omega (arith, within, so.as_many_requests))))
           (subst
-          (λ (l : Answers). LooksAt (get_or hosts at x) (get_or requests at y) (get_or answers at z) h' r' l both)
+          (λ (l : Answers). ChecksRings (get_or hosts at x) (get_or requests at y) (get_or answers at z) h' r' l both)
           (sym (get_or-set_same answers' at a' z (omega (arith, within, so.as_many_answers))))
-          (subst (λ (l : HostEnd S). LooksAt l (get_or requests at y) (get_or answers at z) h' r' a' both)
+          (subst (λ (l : HostEnd S). ChecksRings l (get_or requests at y) (get_or answers at z) h' r' a' both)
           (sym (here_is hosts hosts' at x h (omega (arith, within, so.long)) (so.left_hosts at x (omega arith))))
-          (subst (λ (l : Requests). LooksAt (get_or hosts' at h) l (get_or answers at z) h' r' a' both)
+          (subst (λ (l : Requests). ChecksRings (get_or hosts' at h) l (get_or answers at z) h' r' a' both)
           (sym (here_is requests requests' at y r (omega (arith, within, so.as_many_requests))
           (so.left_requests at y (omega arith))))
-          (subst (λ (l : Answers). LooksAt (get_or hosts' at h) (get_or requests' at r) l h' r' a' both)
+          (subst (λ (l : Answers). ChecksRings (get_or hosts' at h) (get_or requests' at r) l h' r' a' both)
           (sym (here_is answers answers' at z a (omega (arith, within, so.as_many_answers))
           (so.left_answers at z (omega arith))))
           (looks_weaker _ _ _ _ _ _ here both (λ so_is. second_is empty here (sym is ∙ so_is)) one)))))))

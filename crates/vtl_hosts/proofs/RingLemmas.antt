@@ -10,7 +10,7 @@ use Rattle.rtrb.specs.Ring.{SameConsumer, SameProducer, received, sent}
 use Rattle.vtl_wire.specs.declared.answers.Answer.{Answer}
 use Rattle.vtl_wire.specs.declared.requests.Request.{Request}
 use Rattle.vtl_hosts.specs.Rounds.{Given, host_in, of_host, of_place}
-use Rattle.vtl_hosts.specs.Inner.Rings.{Answers, Deals, Requests, Takes}
+use Rattle.vtl_hosts.specs.Inner.Rings.{Answers, Deals, Requests, TakesAnswers}
 use Rattle.vtl_hosts.proofs.HostLemmas.{added_on, consumer_on, consumer_same, producer_on, producer_same}
 
 test_is : (a b : ℕ) → a ≡ b → nat_eq a b ≡ true
@@ -116,7 +116,7 @@ deals_on old mid new first rest one two = record {
 
 -- ---- answers that were taken
 
-pub takes_none : (rings : List Answers) → Takes rings rings []
+pub takes_none : (rings : List Answers) → TakesAnswers rings rings []
 takes_none rings = record {
   long = refl;
   same = λ k d less. consumer_same (get_or rings k d);
@@ -129,7 +129,7 @@ pub takes_one : (rings : List Answers) (place : ℕ) (ring new : Answers) (answe
     → place < length rings
     → ((d : Answers) → get_or rings place d ≡ ring)
     → SameConsumer ring new → received new ≡ received ring ++ answer ∷ []
-    → Takes rings (set rings place new) (record { place = place; answer = answer } ∷ [])
+    → TakesAnswers rings (set rings place new) (record { place = place; answer = answer } ∷ [])
 takes_one rings place ring new answer within here same put =
     let one : Given = record { place = place; answer = answer } in
     record {
@@ -155,7 +155,7 @@ pub takes_idle : (rings : List Answers) (place : ℕ) (ring new : Answers)
     → place < length rings
     → ((d : Answers) → get_or rings place d ≡ ring)
     → SameConsumer ring new → received new ≡ received ring
-    → Takes rings (set rings place new) []
+    → TakesAnswers rings (set rings place new) []
 takes_idle rings place ring new within here same put = record {
   long = length-set rings place new;
   same =
@@ -170,8 +170,9 @@ takes_idle rings place ring new within here same put = record {
   others = All-nil (λ (g : Given). g.place < length rings);
 }
 
-pub takes_on : (old mid new : List Answers) (first rest : List Given) → Takes old mid first → Takes mid new rest
-    → Takes old new (first ++ rest)
+pub takes_on : (old mid new : List Answers) (first rest : List Given) → TakesAnswers old mid first
+    → TakesAnswers mid new rest
+    → TakesAnswers old new (first ++ rest)
 takes_on old mid new first rest one two = record {
   long = two.long ∙ one.long;
   same = λ k d less.

@@ -17,9 +17,9 @@ use Rattle.vtl_hosts.specs.Rounds.{AnswersAll, AnswersBegun, AnswersHosts, Answe
 use Rattle.vtl_hosts.specs.Turns.{ReadsNoCommand}
 use Rattle.vtl_hosts.specs.Inner.Hosts.{AreHostsDone, IsHostDone}
 use Rattle.vtl_hosts.specs.Inner.Idle.{AreIdle, RunsRound, servers_of}
-use Rattle.vtl_hosts.specs.Inner.Looks.{ArePairs, LeavesAt, LeavesSome, LooksAll, LooksAt}
+use Rattle.vtl_hosts.specs.Inner.Looks.{ArePairs, LeavesAt, LeavesSome, LooksAll, ChecksRings}
 use Rattle.vtl_hosts.specs.Inner.Reading.{ReadingEnds, ReadsRound}
-use Rattle.vtl_hosts.specs.Inner.Rings.{Answers, Deals, Requests, Takes}
+use Rattle.vtl_hosts.specs.Inner.Rings.{Answers, Deals, Requests, TakesAnswers}
 use Rattle.vtl_hosts.specs.Inner.Writing.{WritesAll, WritesGiven}
 use Rattle.vtl_hosts.proofs.HostLemmas.{as_many}
 
@@ -67,7 +67,7 @@ module _ {S : Type 0} (serves : S → Request → Answer → S → Type 0) where
       (given : List Answer) (empty : Bool)
       (done : IsHostDone serves h h') (dealt : sent r' ≡ sent r ++ commands) (taken : received a' ≡ received a ++ given)
       (no_request : received h.requests ≡ sent r) (no_answer : received a ≡ sent h.answers)
-      (looks : LooksAt h' r' a' h'' r'' a'' empty) where
+      (looks : ChecksRings h' r' a' h'' r'' a'' empty) where
     commands_are : commands ≡ done.requests ++ (done.stray ++ known_items h''.requests)
     commands_are =
         rest_of (sent r) (sent r'') (received h''.requests) (known_items h''.requests) commands looks.all_requests
@@ -138,7 +138,7 @@ module _ {S : Type 0} (serves : S → Request → Answer → S → Type 0) where
   module _ (hosts hosts' hosts'' : List (HostEnd S)) (requests requests' requests'' : List Requests)
       (answers answers' answers'' : List Answers) (commands : List Request) (given : List Given) (empty : Bool)
       (idle : AreIdle hosts requests answers) (done : AreHostsDone serves hosts hosts')
-      (dealt : Deals requests requests' commands) (taken : Takes answers answers' given)
+      (dealt : Deals requests requests' commands) (taken : TakesAnswers answers answers' given)
       (looks : LooksAll hosts' requests' answers' hosts'' requests'' answers'' empty) where
     server_at : (xs : List (HostEnd S)) (k : ℕ) (d : S) (e : HostEnd S) → k < length xs
         → get_or (servers_of xs) k d ≡ (get_or xs k e).server
@@ -250,7 +250,7 @@ module _ {S : Type 0} (serves : S → Request → Answer → S → Type 0) where
   pub pairs_still : (hosts hosts' : List (HostEnd S)) (requests requests' : List Requests)
       (answers answers' : List Answers) (commands : List Request) (given : List Given)
       → AreIdle hosts requests answers → AreHostsDone serves hosts hosts' → Deals requests requests' commands
-      → Takes answers answers' given → ArePairs hosts' requests' answers'
+      → TakesAnswers answers answers' given → ArePairs hosts' requests' answers'
   pairs_still hosts hosts' requests requests' answers answers' commands given idle done dealt taken = record {
     as_many_requests = dealt.long ∙ idle.pairs.as_many_requests ∙ sym done.long;
     as_many_answers = taken.long ∙ idle.pairs.as_many_answers ∙ sym done.long;

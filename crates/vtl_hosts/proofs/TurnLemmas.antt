@@ -17,7 +17,7 @@ use Rattle.vtl_hosts.specs.declared.reading.Break.TheVariants.{Ended, Again, Nex
 use Rattle.vtl_hosts.specs.Rounds.{spell_given}
 use Rattle.vtl_hosts.specs.Turns.{AnswersTurns, FitsTurn, HostsState, ServesHosts, Turn, count_on, request_in, requests_of, spell_alone, spell_turns}
 use Rattle.vtl_hosts.specs.Inner.Idle.{RunsRound}
-use Rattle.vtl_hosts.specs.Inner.Serving.{AnswersAlone, EndsServing, ServesTurns}
+use Rattle.vtl_hosts.specs.Inner.Serving.{AnswersOfNoHost, EndsServing, ServesTurns}
 use Rattle.vtl_hosts.proofs.ReadLemmas.{count_append, spelled_append}
 
 pub is_so : (b : Bool) → not b ≡ false → b ≡ true
@@ -35,7 +35,7 @@ noted_read before now fault noted is = rw is at noted
 -- an answer that is missed is no read fault
 pub noted_alone : {G : Type 0} (answers : G → Request → Answer → G → Type 0) (lacks : G → Request → Type 0)
     (old new : G) (request : Request) (before now : Option (List ℕ)) (fault : WireFault)
-    → AnswersAlone answers lacks old request before new now (Err fault) → fault ≡ ReadFault → ⊥
+    → AnswersOfNoHost answers lacks old request before new now (Err fault) → fault ≡ ReadFault → ⊥
 noted_alone answers lacks old new request before now fault alone is = rw is at alone
 
 requests_append : (xs ys : List Turn) → requests_of (xs ++ ys) ≡ requests_of xs ++ requests_of ys
@@ -201,7 +201,7 @@ module _ {S G : Type 0} (serves : S → Request → Answer → S → Type 0) (ta
         (record { hosts = hosts; desk = old.desk }) left' between (Ok (Next request)) true) where
       -- a move or an inventory was not answered, or its answer not written
       pub turn_cut : (fault : WireFault)
-          → AnswersAlone answers lacks old.desk request between desk now (Err fault)
+          → AnswersOfNoHost answers lacks old.desk request between desk now (Err fault)
           → EndsServing serves takes answers lacks count old left before (record { hosts = hosts; desk = desk })
           left' now
           (Err fault)
@@ -249,7 +249,7 @@ module _ {S G : Type 0} (serves : S → Request → Answer → S → Type 0) (ta
             );
           })
 
-      pub turn_done : AnswersAlone answers lacks old.desk request between desk now (Ok tt)
+      pub turn_done : AnswersOfNoHost answers lacks old.desk request between desk now (Ok tt)
           → ServesTurns serves takes answers lacks count old left before count' (record {
             hosts = hosts;
             desk = desk;

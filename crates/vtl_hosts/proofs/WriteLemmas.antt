@@ -9,7 +9,7 @@ use Rattle.vtl_wire.specs.Answers.{FitsAnswer, spell_answer}
 use Rattle.vtl_wire.specs.Serving.{WritesFront}
 use Rattle.vtl_hosts.specs.Rounds.{Given, WritesWhole, spell_given}
 use Rattle.vtl_hosts.specs.Inner.Rings.{Answers}
-use Rattle.vtl_hosts.specs.Inner.Writing.{WritesAll, WritesAnswer, WritesGiven, WritesNext}
+use Rattle.vtl_hosts.specs.Inner.Writing.{WritesAll, WritesUnlessFailed, WritesGiven, WritesNext}
 use Rattle.vtl_hosts.proofs.RingLemmas.{takes_idle, takes_none, takes_on, takes_one}
 
 -- answers that were written whole, and then more
@@ -62,7 +62,7 @@ given_none before false = whole_none before
 given_none before true = refl
 
 -- one answer
-given_one : (before now : Option (List ℕ)) (f g : Bool) (one : Given) → WritesAnswer before f now g one.answer
+given_one : (before now : Option (List ℕ)) (f g : Bool) (one : Given) → WritesUnlessFailed before f now g one.answer
     → WritesGiven before f now g (one ∷ [])
 given_one before now false false one wrote = (
   All-push (λ (g : Given). FitsAnswer g.answer) [] one (All-nil (λ (g : Given). FitsAnswer g.answer)) wrote.0,

@@ -1,4 +1,4 @@
--- What hosts at once are answered over one pipe (own).
+-- What several hosts are answered over one pipe (own).
 use Rattle.std.specs.Prelude.{◌≡◌, ℕ, ◌==◌, ◌<◌, ◌+◌, List, [], ◌∷◌, ◌++◌, filter, flat_map, length, slice_index_or, Option, if◌then◌else◌}
 use Rattle.std.specs.List.{All}
 use Rattle.std.specs.Io.KnownBytes.{Appends}

@@ -26,12 +26,12 @@ pub record IsCommand (takes : Request → Bool) (request : Request) : Type 0 whe
   pub host : host_in request ≡ place + 1
   pub within : place < NEXUSES
 
--- a request is of no host, and is taken: a move or an inventory (own)
+-- a request belongs to no host, and is taken: a move or an inventory (own)
 pub record IsAlone (takes : Request → Bool) (request : Request) : Type 0 where
   pub taken : takes request ≡ true
   pub host : host_in request ≡ 0
 
--- what serves hosts, each in its place, and what serves the requests that are of none (own)
+-- what serves hosts, each in its place, and what serves the requests that belong to none (own)
 pub record HostsState (S G : Type 0) : Type 0 where
   pub hosts : List S
   pub desk : G
@@ -112,7 +112,7 @@ module _ {S G : Type 0} (serves : S → Request → Answer → S → Type 0) (ta
       ServesLast (λ commands given. WritesWhole before now given) (AnswersHosts serves) old left new left'
 
   -- Not all answers were written, or the last is not known to be flushed: a write or a flush failed. Or all that were
-  -- given on were written, and some host is owed one (own).
+  -- given on were written, and some host still has to get one (own).
   abbrev pub WritesNotAll : Option (List ℕ) → Option (List ℕ) → List S → List Request → List Given → Type 0
   WritesNotAll before now hosts commands given =
       WritesCut before now given ⊎ (WritesWhole before now given × OwesAnswer (length hosts) commands given)

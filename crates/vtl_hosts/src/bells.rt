@@ -1,4 +1,4 @@
-//! Bells, by which threads that wait for each other are woken. No contract speaks of them.
+//! Bells, which wake threads that wait for each other. No contract names them.
 use std::alloc::{AllocError, Global};
 use std::collections::VecDeque;
 use std::sync::atomic::{AtomicBool, Ordering};
@@ -13,8 +13,8 @@ struct Rung {
     waiting: bool,
 }
 
-/// A bell. A thread that reads its count first, and then checks what it waits for, misses nothing. Only one thread
-/// waits for a bell.
+/// A bell. A thread reads the count first, then checks for what it needs, and then waits for a ring after that count.
+/// So it misses no ring. Only one thread waits for a bell.
 #[derive(Drop)]
 pub(crate) struct Bell {
     rung: Mutex<Rung>,
@@ -33,7 +33,7 @@ impl Bell {
         }
     }
 
-    // Rings once. `closed` says whether nothing more comes, where that changes.
+    // Rings once. `closed` sets whether nothing more comes; None leaves that as it is.
     fn strike<R: Wait>(&self, rt: &R, closed: Option<bool>) {
         let mut rung = self.rung.lock(rt);
         rung.count = rung.count.wrapping_add(1);
@@ -50,12 +50,12 @@ impl Bell {
         self.strike(rt, None);
     }
 
-    /// Says that nothing more comes, and wakes the thread that waits.
+    /// Notes that nothing more comes, and wakes the thread that waits.
     pub(crate) fn close<R: Wait>(&self, rt: &R) {
         self.strike(rt, Some(true));
     }
 
-    /// Says that something may come again, and wakes the thread that waits.
+    /// Notes that something may come again, and wakes the thread that waits.
     pub(crate) fn reopen<R: Wait>(&self, rt: &R) {
         self.strike(rt, Some(false));
     }
@@ -65,7 +65,7 @@ impl Bell {
         self.rung.lock(rt).count
     }
 
-    /// Waits until the bell rang once more.
+    /// Waits until the bell has rung after this count.
     pub(crate) fn wait<R: Wait>(&self, rt: &R, count: u64) {
         let mut held = self.rung.lock(rt);
         held.waiting = true;
@@ -73,7 +73,7 @@ impl Bell {
         rung.waiting = false;
     }
 
-    /// Waits until the bell rang once more or nothing more comes. Returns whether nothing more comes.
+    /// Waits until the bell has rung after this count, or nothing more comes. Returns whether nothing more comes.
     pub(crate) fn wait_for_more<R: Wait>(&self, rt: &R, count: u64) -> bool {
         let mut held = self.rung.lock(rt);
         held.waiting = true;
@@ -92,11 +92,11 @@ pub(crate) struct HostBells {
     pub(crate) room: Bell,
 }
 
-// How long a round waits for one more of its threads to begin, in seconds.
+// How many seconds a round waits until one more of its threads has begun.
 const BEGINNING: u64 = 1;
 
-/// The bells of all threads: of each host, by its place, of who reads and of who writes; the places of the hosts that
-/// have an answer, in the order in which these were made; how many threads have begun; and whether a write failed.
+/// The bells of all threads: of each host, by its place, of the reader and of the writer. Beside them: the places of
+/// the hosts that have an answer, in the order of the answers; how many threads have begun; and whether a write failed.
 #[derive(Drop)]
 pub(crate) struct Bells {
     hosts: Vec<HostBells>,
@@ -134,25 +134,26 @@ impl Bells {
         self.hosts.get(place)
     }
 
-    /// Rings since a command came for the host at this place.
+    /// Rings the host at this place, since a command came for it.
     pub(crate) fn ring_command<R: Wait>(&self, rt: &R, place: usize) {
         if let Some(bells) = self.hosts.get(place) {
             bells.commands.ring(rt);
         }
     }
 
-    /// The host at this place has an answer. There is room to note one of each host, which is all that its ring holds.
+    /// Notes that the host at this place has an answer, and rings the writer. There is room for one note of each host:
+    /// its ring holds one answer.
     pub(crate) fn ring_answer<R: Wait>(&self, rt: &R, place: usize) {
         let _ = self.made.lock(rt).push_back(place);
         self.writer.ring(rt);
     }
 
-    /// The place of the host whose answer was made first, of those that were not asked for yet.
+    /// Takes the oldest note: the place of the host whose answer is next.
     pub(crate) fn next_answer<R: Wait>(&self, rt: &R) -> Option<usize> {
         self.made.lock(rt).pop_front()
     }
 
-    /// There is room for an answer of the host at this place.
+    /// Rings the host at this place, since there is room for an answer of it.
     pub(crate) fn ring_room<R: Wait>(&self, rt: &R, place: usize) {
         if let Some(bells) = self.hosts.get(place) {
             bells.room.ring(rt);
@@ -169,15 +170,15 @@ impl Bells {
         }
     }
 
-    /// Notes that a thread has begun: that of a host, or the one that writes.
+    /// Notes that the thread of a host or of the writer has begun.
     pub(crate) fn begin<R: Wait>(&self, rt: &R) {
         let mut begun = self.begun.lock(rt);
         *begun = begun.saturating_add(1);
         self.one_begun.notify_all();
     }
 
-    /// Waits until all these threads have begun, or none has for a second, and says whether all have. Where no thread
-    /// can be made for one it begins only once the others have ended.
+    /// Waits until the threads of all hosts and of the writer have begun, or until no more has begun for a second.
+    /// Returns whether all have begun. Work for which no thread can be made begins only once the others have ended.
     pub(crate) fn have_begun<R: Wait + Clock>(&self, rt: &R) -> bool {
         let all = self.hosts.len().saturating_add(1);
         let wait = Duration::from_secs(BEGINNING);
@@ -197,7 +198,7 @@ impl Bells {
         *self.begun.lock(rt) >= all
     }
 
-    /// Says that nothing more comes for any host.
+    /// Notes that nothing more comes for any host, and wakes the hosts.
     pub(crate) fn close_hosts<R: Wait>(&self, rt: &R) {
         for bells in &self.hosts {
             bells.commands.close(rt);

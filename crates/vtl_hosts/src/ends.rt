@@ -1,4 +1,4 @@
-//! What the threads of all hosts have.
+//! The values of the threads of all hosts.
 ghost use Rattle.std.specs.Prelude.{◌≡◌, ◌≤◌, ◌<◌, ◌++◌, ◌∷◌, [], length, IfOk, vec_capacity};
 ghost use Rattle.vtl_base.specs.declared.limits.TheConstants.{NEXUSES};
 ghost use Rattle.vtl_hosts.specs.Inner.Idle.{AreIdle, servers_of};
@@ -13,7 +13,7 @@ use std::alloc::{AllocError, Global};
 use vtl_base::limits::NEXUSES;
 use vtl_wire::{Answer, Request};
 
-/// What the thread of each host has, the other ends of each host's two rings, and the bells of all threads.
+/// The values of each host's thread, the other ends of each host's two rings, and the bells of all threads.
 #[derive(Drop)]
 pub(crate) struct Ends<S: Host> {
     pub(crate) hosts: Vec<HostEnd<S>>,
@@ -22,7 +22,7 @@ pub(crate) struct Ends<S: Host> {
     pub(crate) bells: Bells,
 }
 
-/// Room for what the threads have, with the rings of all hosts.
+/// Room for the values of the threads, with the rings of all hosts.
 #[derive(Drop)]
 pub(crate) struct Rooms<S: Host> {
     rings: Vec<Rings>,
@@ -45,7 +45,7 @@ pub(crate) fn make_rooms<S: Host + Drop>(alloc: Global) -> Result<Rooms<S>, Allo
     })
 }
 
-// Adds a host with its rings, for which there is room.
+// Adds a host with its rings. There is room for them.
 fn add_host<S: Host + Drop>(
     hosts: &mut Vec<HostEnd<S>>,
     requests: &mut Vec<Producer<Request>>,
@@ -75,7 +75,7 @@ fn add_host<S: Host + Drop>(
 }
 
 impl<S: Host + Drop> Ends<S> {
-    /// What the threads of these hosts have. It takes no memory.
+    /// The values for the threads of these hosts. The call takes no memory.
     pub(crate) fn of(rooms: Rooms<S>, servers: Vec<S>) -> Ends<S>
         requires rooms { AreRooms rooms }
         requires servers { length servers.items ≡ NEXUSES }
@@ -101,7 +101,7 @@ impl<S: Host + Drop> Ends<S> {
         }
     }
 
-    /// What serves the hosts. It takes no memory.
+    /// The servers of the hosts. The call takes no memory.
     pub(crate) fn into_servers(self, room: Vec<S>) -> Vec<S>
         requires { (room.items ≡ []) × (length self.hosts.items ≤ vec_capacity room) }
         ensures { result.items ≡ servers_of self.hosts.items }

@@ -1,4 +1,4 @@
-//! The thread of a host: its commands are taken from a ring, carried out, and answered into another.
+//! The thread of a host: it takes commands from one ring, carries them out, and sends the answers into another.
 ghost use Rattle.std.specs.Prelude.{◌≡◌, ◌++◌, ◌∷◌, [], false};
 ghost use Rattle.rtrb.specs.Ring.{received};
 ghost use Rattle.vtl_wire.specs.declared.requests.Request.{Request};
@@ -11,8 +11,8 @@ use rtrb::{Consumer, Producer};
 use std::sync::Wait;
 use vtl_wire::{Answer, Request};
 
-/// What a host's thread has: what serves the host, its requests, its answers, and whether a request was dropped since
-/// the host does not take it.
+/// The values of a host's thread: the server of the host, its requests, its answers, and whether a request was dropped
+/// because the host does not take it.
 #[derive(Drop)]
 pub(crate) struct HostEnd<S: Host> {
     pub(crate) server: S,
@@ -21,7 +21,7 @@ pub(crate) struct HostEnd<S: Host> {
     pub(crate) strayed: bool,
 }
 
-// What was done.
+// The result of one turn of a host.
 pub(crate) enum Turn {
     // One request was answered.
     Served,
@@ -31,7 +31,7 @@ pub(crate) enum Turn {
     Stray,
 }
 
-// Answers the next request of the host at this place, where there is one.
+// Answers the next request of the host at this place, if there is one.
 fn answer_next<S: Host, R: Wait>(
     rt: &R,
     bells: &Bells,

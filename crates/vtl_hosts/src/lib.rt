@@ -1,4 +1,4 @@
-//! Hosts at once over one pipe: the commands of each are carried out in a thread of its own.
+//! Several hosts over one pipe at the same time: the commands of each are carried out in a thread of its own.
 #![tactic(auto)]
 
 mod bells;

@@ -1,7 +1,7 @@
-//! What is left in the rings once all threads are joined.
+//! Checks what is left in the rings once all threads are joined.
 ghost use Rattle.std.specs.Prelude.{◌≡◌, ◌&&◌, length, false};
 ghost use Rattle.rtrb.specs.Ring.{IsPair};
-ghost use Rattle.vtl_hosts.specs.Inner.Looks.{ArePairs, LeavesAt, LeavesSome, LooksAll, LooksAt};
+ghost use Rattle.vtl_hosts.specs.Inner.Looks.{ArePairs, LeavesAt, LeavesSome, LooksAll, ChecksRings};
 
 use crate::hosts::HostEnd;
 use crate::servers::Host;
@@ -16,7 +16,7 @@ fn is_empty_at<S: Host>(
 ) -> bool
     requires requests { IsPair requests.old host.old.requests }
     requires answers { IsPair host.old.answers answers.old }
-    ensures looks { LooksAt host.old requests.old answers.old host.new requests.new answers.new result }
+    ensures looks { ChecksRings host.old requests.old answers.old host.new requests.new answers.new result }
     ensures some { result ≡ false → LeavesSome host.new answers.new }
 {
     let waiting = host.requests.slots_beside(requests);
@@ -24,15 +24,15 @@ fn is_empty_at<S: Host>(
     waiting == 0 && unwritten == 0 && !host.strayed
 }
 
-// Whether both are so.
+// Whether both are true.
 fn both(one: bool, other: bool) -> bool
     ensures { result ≡ (one && other) }
 {
     one && other
 }
 
-/// Whether nothing is left in the rings of any host, and no request was dropped. That is so where every thread did its
-/// work to the end. It is checked here, so that no contract has to say it of the threads.
+/// Whether nothing is left in the rings of any host, and no request was dropped. Where every thread has done its work,
+/// that is true. The check stands here, so no contract has to say it of the threads.
 pub(crate) fn are_empty<S: Host>(
     hosts: &mut [HostEnd<S>],
     requests: &mut [Producer<Request>],

@@ -1,4 +1,4 @@
-//! What goes from one thread to another, through a ring.
+//! Sends an item from one thread to another, through a ring.
 ghost use Rattle.std.specs.Prelude.{◌≡◌, ◌∷◌, ◌++◌, []};
 ghost use Rattle.rtrb.specs.Ring.{SameProducer, sent};
 
@@ -6,7 +6,7 @@ use crate::bells::Bell;
 use rtrb::{Producer, PushError};
 use std::sync::Wait;
 
-/// Pushes an item, once there is room. `bell` rings where there is more room.
+/// Pushes an item, once there is room. `bell` rings when there is more room.
 pub(crate) fn push_waiting<T, R: Wait>(rt: &R, bell: &Bell, ring: &mut Producer<T>, item: T)
     ensures same { SameProducer ring.old ring.new }
     ensures sent { sent ring.new ≡ sent ring.old ++ item ∷ [] }

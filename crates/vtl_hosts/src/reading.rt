@@ -19,8 +19,8 @@ use vtl_wire::{Request, RequestReader, WireFault};
 pub(crate) enum Break {
     /// The input has ended.
     Ended,
-    /// No more is read in this round: a write failed; or not all threads have begun, one command was read, and the next
-    /// is read once that is answered.
+    /// No more is read in this round. Either a write failed; or not all threads have begun, and one command was read.
+    /// The next one is read after its answer.
     Again,
     /// A move or an inventory came.
     Next(Request),
@@ -37,7 +37,7 @@ fn place_of(request: &Request) -> Option<usize>
     }
 }
 
-// Reads a request. A command goes to its host, and then there is no break.
+// Reads a request. A command goes to its host, and the result is None.
 fn read_next<G: Desk, I: Read, R: Wait>(
     rt: &R,
     desk: &G,
@@ -71,8 +71,9 @@ fn read_next<G: Desk, I: Read, R: Wait>(
     Ok(None)
 }
 
-/// Reads commands, each of which goes to its host, up to something else. Where threads are missing it is one command,
-/// for which the rings have room: so no thread waits for one that begins only once it has ended.
+/// Reads commands, and sends each to its host, up to the first request that is no command. Where a thread is missing it
+/// reads one command, for which the rings have room. So no thread waits for work that begins only after that thread has
+/// ended.
 pub(crate) fn read_round<G: Desk, I: Read, R: Wait + Clock>(
     rt: &R,
     desk: &G,

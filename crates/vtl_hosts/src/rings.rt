@@ -8,8 +8,8 @@ use std::alloc::{AllocError, Global};
 use vtl_base::limits::NEXUSES;
 use vtl_wire::{Answer, Request};
 
-/// The two rings of a host, each with room for one: a request that waits while another is carried out, and an answer
-/// that is not written yet. Nothing went through them.
+/// The two rings of a host, each with room for one item: a request that waits while another is carried out, and an
+/// answer that is not written yet. Nothing was sent into them.
 #[derive(Drop)]
 pub(crate) struct Rings {
     pub(crate) requests: Producer<Request>,

@@ -1,4 +1,5 @@
-//! A round: commands are read, carried out and answered at once, up to a move, an inventory or the end.
+//! A round: reads commands, carries them out and answers them, all at the same time, up to a move, an inventory or the
+//! end.
 ghost use Rattle.std.specs.Prelude.{◌≡◌, ◌&&◌, not, length, false, true, IfOk, IfErr};
 ghost use Rattle.vtl_base.specs.declared.limits.TheConstants.{NEXUSES};
 ghost use Rattle.vtl_wire.specs.Reads.{NotesFault};
@@ -23,7 +24,7 @@ use std::thread::Threads;
 use std::time::Clock;
 use vtl_wire::{Answer, Request, RequestReader, WireFault};
 
-/// How a round ended: why no more was read, and whether all commands were answered and all answers written.
+/// The end of a round: why no more was read, and whether all commands were answered and all answers written.
 #[derive(Drop)]
 pub(crate) struct Round {
     pub(crate) read: Result<Break, WireFault>,
@@ -45,7 +46,7 @@ fn answer_hosts<S: Host + Send, R: Threads + Wait + Sync>(
     bells.writer.close(rt);
 }
 
-// Reads, and then lets the hosts end.
+// Reads a round, and then lets the hosts end.
 fn read_and_close<G: Desk, I: Read, R: Wait + Clock>(
     rt: &R,
     desk: &G,
@@ -65,8 +66,8 @@ fn read_and_close<G: Desk, I: Read, R: Wait + Clock>(
     read
 }
 
-// Answers and writes at once, and says whether a write failed. Where no thread can be made for the writer, it writes
-// once all is answered: for the hosts nothing has to be written first.
+// Answers and writes at the same time. Returns whether a write failed. Where no thread can be made for the writer, it
+// writes once all is answered: the hosts wait for no write.
 fn answer_and_write<S: Host + Send, W: Write + Send, R: Threads + Wait + Sync>(
     rt: &R,
     bells: &Bells,
@@ -88,14 +89,14 @@ fn answer_and_write<S: Host + Send, W: Write + Send, R: Threads + Wait + Sync>(
     failed
 }
 
-// What the threads of a round say: why no more was read, and whether a write failed.
+// The results of the threads of a round: why no more was read, and whether a write failed.
 #[derive(Drop)]
 struct Said {
     read: Result<Break, WireFault>,
     failed: bool,
 }
 
-// Reads, answers and writes at once.
+// Reads, answers and writes at the same time.
 fn run_threads<S: Host + Send, G: Desk, R: Threads + Wait + Clock + Sync, I: Read, W: Write + Send>(
     rt: &R,
     desk: &G,
@@ -133,7 +134,7 @@ fn run_threads<S: Host + Send, G: Desk, R: Threads + Wait + Clock + Sync, I: Rea
     Said { read, failed }
 }
 
-// Reads, answers and writes at once, and looks at what is left.
+// Reads, answers and writes at the same time, and checks what is left in the rings.
 fn run_round<S: Host + Send, G: Desk, R: Threads + Wait + Clock + Sync, I: Read, W: Write + Send>(
     rt: &R,
     desk: &G,
@@ -165,15 +166,15 @@ fn run_round<S: Host + Send, G: Desk, R: Threads + Wait + Clock + Sync, I: Read,
     }
 }
 
-// Whether no write failed, and nothing is left.
+// Whether no write failed and nothing is left in the rings.
 fn is_whole(failed: bool, empty: bool) -> bool
     ensures { result ≡ (not failed && empty) }
 {
     !failed && empty
 }
 
-/// Reads commands, and answers each host's in a thread of its own, up to a move, an inventory, the end of the input or
-/// a frame that is refused. All commands that were read are answered before it returns.
+/// Reads commands up to a move, an inventory, the end of the input or a frame that is refused. It answers the commands
+/// of each host in a thread of its own. All commands that were read are answered before the call returns.
 pub(crate) fn serve_round<
     S: Host + Send,
     G: Desk,

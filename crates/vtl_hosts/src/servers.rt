@@ -1,4 +1,4 @@
-//! What serves hosts, and what is served between them.
+//! The traits of a host's server, and of the desk, which serves moves and inventories.
 ghost use Rattle.std.specs.Prelude.{◌≡◌, true, Bool, IfOk, OnErr};
 ghost use Rattle.vtl_wire.specs.declared.answers.Answer.{Answer};
 ghost use Rattle.vtl_wire.specs.declared.requests.Request.{Request};
@@ -10,34 +10,35 @@ use vtl_wire::{Answer, Request};
 
 /// A server of one host's commands, one after another.
 pub trait Host {
-    /// Whether the host takes a request.
+    /// Whether the host's server takes a request.
     ghost is_taken: { Self → Request → Bool };
 
-    /// From the first value a request may be answered so, which leaves the last value.
+    /// A server with the first value may give this answer to this request, and then has the last value.
     ghost answers: { Self → Request → Answer → Self → Type 0 };
 
-    /// Whether it takes this request.
+    /// Whether the server takes this request.
     fn takes(&self, request: &Request) -> bool
         ensures { result ≡ is_taken self.now request.now };
 
-    /// Answers a request that it takes. Where memory runs out the answer says so.
+    /// Answers a request that it takes. If memory runs out, the answer says so.
     fn answer(&mut self, request: Request) -> Answer
         requires { is_taken self.old request ≡ true }
         ensures { answers self.old request result self.new };
 }
 
-/// A server that says which requests are taken, and serves those that are of no host: moves and inventories.
+/// A server that decides which requests are taken, and serves the requests of no host: moves and inventories.
 pub trait Desk {
     /// Whether a request is taken.
     ghost is_taken: { Self → Request → Bool };
 
-    /// From the first value a request of no host may be answered so, which leaves the last value.
+    /// A desk with the first value may give this answer to this request of no host, and then has the last value.
     ghost answers: { Self → Request → Answer → Self → Type 0 };
 
-    /// Why memory may run out as a request of no host is served. Where it never does, this is an empty type.
+    /// A cause for memory to run out while a request of no host is served. Where it never runs out, this is an empty
+    /// type.
     ghost lacks: { Self → Request → Type 0 };
 
-    /// Whether this request is taken. A command to a drive that is not configured is not.
+    /// Whether this request is taken. A command to a drive that is not configured is not taken.
     fn takes(&self, request: &Request) -> bool
         ensures { result ≡ is_taken self.now request.now };
 

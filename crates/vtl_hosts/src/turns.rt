@@ -4,7 +4,7 @@ ghost use Rattle.vtl_base.specs.declared.limits.TheConstants.{NEXUSES};
 ghost use Rattle.vtl_hosts.specs.Rounds.{host_in};
 ghost use Rattle.vtl_hosts.specs.Turns.{ServesHosts};
 ghost use Rattle.vtl_hosts.specs.Inner.Idle.{AreIdle, servers_of};
-ghost use Rattle.vtl_hosts.specs.Inner.Serving.{AnswersAlone, ServesNext};
+ghost use Rattle.vtl_hosts.specs.Inner.Serving.{AnswersOfNoHost, ServesNextTurn};
 
 use crate::ends::{Ends, make_rooms};
 use crate::reading::Break;
@@ -19,12 +19,12 @@ use std::time::Clock;
 use vtl_base::limits::NEXUSES;
 use vtl_wire::{Request, RequestReader, WireFault, write_if_fits};
 
-/// The servers of the hosts once no more is served, and how the serving ended.
+/// The servers of the hosts after the serving, and how the serving ended.
 #[derive(Drop)]
 pub struct Served<S> {
     /// The servers of the hosts, each in its place.
     pub servers: Vec<S>,
-    /// Whether the input was served to its end.
+    /// Ok where the input was served to its end.
     pub outcome: Result<(), WireFault>,
 }
 
@@ -37,7 +37,8 @@ fn serve_alone<G: Desk, W: Write>(
 ) -> Result<(), WireFault>
     requires taken { G.is_taken desk.old request ≡ true }
     requires host { host_in request ≡ 0 }
-    ensures { AnswersAlone G.answers G.lacks desk.old request (W.contents writer.old) desk.new (W.contents writer.new)
+    ensures { AnswersOfNoHost G.answers G.lacks desk.old request (W.contents writer.old) desk.new
+        (W.contents writer.new)
         result }
 {
     let answer = desk.serve(alloc, request)?;
@@ -56,7 +57,7 @@ fn serve_turn<S: Host + Send, G: Desk, R: Threads + Wait + Clock + Sync, I: Read
 ) -> Result<bool, WireFault>
     requires idle { AreIdle ends.old.hosts.items ends.old.requests.items ends.old.answers.items }
     requires all { length ends.old.hosts.items ≡ NEXUSES }
-    ensures serves { ServesNext S.answers G.is_taken G.answers G.lacks frames.old.frames
+    ensures serves { ServesNextTurn S.answers G.is_taken G.answers G.lacks frames.old.frames
         (record { hosts = servers_of ends.old.hosts.items; desk = desk.old }) (I.remaining reader.old)
         (W.contents writer.old) frames.new.frames (record { hosts = servers_of ends.new.hosts.items; desk = desk.new })
         (I.remaining reader.new) (W.contents writer.new) result }
@@ -107,10 +108,11 @@ fn serve_turns<S: Host + Send, G: Desk, R: Threads + Wait + Clock + Sync, I: Rea
 }
 
 /// Serves hosts over one pipe: reads requests up to the end of the input, or to the first frame that is refused, or
-/// until a write fails. The commands of each host are answered in their order, in a thread of its own; one is carried
-/// out and one waits, and then the reader waits. A move and an inventory are served once all commands before them are
-/// answered, and before more is read. Each answer is written and flushed once it is made. Whatever ends it, all that
-/// was read and taken is answered. Where memory runs out before the first read, the servers are returned.
+/// until a write fails. The commands of each host are answered in their order, in a thread of its own. Of each host one
+/// command is carried out and one waits; with a third one the reader waits. A move or an inventory is served once all
+/// commands before it are answered, and before more is read. Each answer is written and flushed once it is made.
+/// However the serving ends, every request that was read and taken is answered. Where memory runs out before the first
+/// read, the servers are returned.
 pub fn serve_hosts<
     S: Host + Drop + Send,
     G: Desk,

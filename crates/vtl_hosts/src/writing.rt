@@ -1,6 +1,6 @@
-//! The thread that writes: answers come from the hosts' rings.
+//! The thread that writes the answers, which come from the hosts' rings.
 ghost use Rattle.std.specs.Prelude.{false};
-ghost use Rattle.vtl_hosts.specs.Inner.Writing.{WritesAll, WritesAnswer, WritesNext};
+ghost use Rattle.vtl_hosts.specs.Inner.Writing.{WritesAll, WritesUnlessFailed, WritesNext};
 
 use crate::bells::Bells;
 use rtrb::Consumer;
@@ -8,9 +8,9 @@ use std::io::Write;
 use std::sync::Wait;
 use vtl_wire::{Answer, write_if_fits};
 
-// Writes an answer, unless a write failed before, and says whether one did now.
+// Writes an answer, unless a write failed before. Returns whether a write has failed.
 fn write_unless<W: Write>(writer: &mut W, failed: bool, answer: &Answer) -> bool
-    ensures { WritesAnswer (W.contents writer.old) failed (W.contents writer.new) result answer.now }
+    ensures { WritesUnlessFailed (W.contents writer.old) failed (W.contents writer.new) result answer.now }
 {
     if failed {
         return true;
@@ -18,7 +18,7 @@ fn write_unless<W: Write>(writer: &mut W, failed: bool, answer: &Answer) -> bool
     write_if_fits(writer, answer).is_err()
 }
 
-// Writes the next answer of a host, where there is one. Once a write failed nothing more is written.
+// Writes the next answer of a host, if there is one. After a failed write nothing more is written.
 fn write_next<W: Write, R: Wait>(
     rt: &R,
     bells: &Bells,
@@ -41,7 +41,7 @@ fn write_next<W: Write, R: Wait>(
     true
 }
 
-// Writes the answer that was made first, and says whether there was one.
+// Writes the oldest answer. Returns whether there was one.
 fn write_first<W: Write, R: Wait>(
     rt: &R,
     bells: &Bells,
@@ -60,8 +60,8 @@ fn write_first<W: Write, R: Wait>(
     true
 }
 
-/// Takes the hosts' answers and writes them, in the order in which they were made, until nothing more comes. Once a
-/// write failed the others are dropped. It says whether one failed.
+/// Takes the hosts' answers and writes them, in the order in which they were made, until nothing more comes. After a
+/// failed write the other answers are dropped. Returns whether a write failed.
 pub(crate) fn write_round<W: Write, R: Wait>(
     rt: &R,
     bells: &Bells,

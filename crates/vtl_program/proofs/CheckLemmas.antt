@@ -22,38 +22,38 @@ use Rattle.pr_core.specs.declared.states.PrState.{PrState}
 use Rattle.pr_core.specs.States.{power_loss}
 use Rattle.vtl_program.specs.declared.programs.VtlFault.{VtlFault}
 use Rattle.vtl_program.specs.declared.programs.VtlFault.TheVariants as faults
-use Rattle.vtl_program.specs.SideText.{IsNotTold, IsStoreNotTold, SideText, TellsStates, bad_record_line, damaged_line, not_a_side_line}
+use Rattle.vtl_program.specs.SideText.{IsNotShown, IsStoreNotShown, SideText, PrintsStates, bad_record_line, damaged_line, not_a_side_line}
 
 -- the lines that a refusal of an opening as a cartridge has; where no side counts the first disk is opened as a store
-abbrev pub TellsRefusal : CartridgeError → Result (List ℕ) VtlFault → Type 0
-TellsRefusal NotOurs lines = ⊥
-TellsRefusal (Damaged at) lines = IfOk lines (λ text. text ≡ damaged_line at)
-TellsRefusal (BadRecord at) lines = IfOk lines (λ text. text ≡ bad_record_line at)
-TellsRefusal (Device fault) lines = lines ≡ Err faults.Device
-TellsRefusal NoMemory lines = lines ≡ Err faults.NoMemory
-TellsRefusal SideFull lines = Unit {0}
-TellsRefusal Failed lines = Unit {0}
+abbrev pub PrintsRefusal : CartridgeError → Result (List ℕ) VtlFault → Type 0
+PrintsRefusal NotOurs lines = ⊥
+PrintsRefusal (Damaged at) lines = IfOk lines (λ text. text ≡ damaged_line at)
+PrintsRefusal (BadRecord at) lines = IfOk lines (λ text. text ≡ bad_record_line at)
+PrintsRefusal (Device fault) lines = lines ≡ Err faults.Device
+PrintsRefusal NoMemory lines = lines ≡ Err faults.NoMemory
+PrintsRefusal SideFull lines = Unit {0}
+PrintsRefusal Failed lines = Unit {0}
 
 module _ {D : Type 0} (state : D → DiskState) (old new : TwoDisks D) where
   -- they are those of the side that was refused
-  pub refusal_told : (error : CartridgeError) (lines : Result (List ℕ) VtlFault)
-      → IsNotOpened state error old new → TellsRefusal error lines
+  pub refusal_shown : (error : CartridgeError) (lines : Result (List ℕ) VtlFault)
+      → IsNotOpened state error old new → PrintsRefusal error lines
       → IfOk lines (λ text. AreHonest state old → SideText (seen_of_two state old) text × OnlyOfTwo state old new)
-  refusal_told NotOurs lines why is = absurd is
-  refusal_told (Damaged at) (Ok text) why is = λ honest.
+  refusal_shown NotOurs lines why is = absurd is
+  refusal_shown (Damaged at) (Ok text) why is = λ honest.
       (inr (inr (inr (inl (at, inl (why.1 honest).0, is)))), (why.1 honest).1)
-  refusal_told (BadRecord at) (Ok text) why is = λ honest.
+  refusal_shown (BadRecord at) (Ok text) why is = λ honest.
       (inr (inr (inr (inr (at, inl (why.1 honest).0, is)))), (why.1 honest).1)
-  refusal_told (Device fault) (Ok text) why is = cc
-  refusal_told NoMemory (Ok text) why is = cc
-  refusal_told SideFull (Ok text) why is = absurd why
-  refusal_told Failed (Ok text) why is = absurd why
-  refusal_told (Damaged at) (Err fault) why is = tt
-  refusal_told (BadRecord at) (Err fault) why is = tt
-  refusal_told (Device other) (Err fault) why is = tt
-  refusal_told NoMemory (Err fault) why is = tt
-  refusal_told SideFull (Err fault) why is = tt
-  refusal_told Failed (Err fault) why is = tt
+  refusal_shown (Device fault) (Ok text) why is = cc
+  refusal_shown NoMemory (Ok text) why is = cc
+  refusal_shown SideFull (Ok text) why is = absurd why
+  refusal_shown Failed (Ok text) why is = absurd why
+  refusal_shown (Damaged at) (Err fault) why is = tt
+  refusal_shown (BadRecord at) (Err fault) why is = tt
+  refusal_shown (Device other) (Err fault) why is = tt
+  refusal_shown NoMemory (Err fault) why is = tt
+  refusal_shown SideFull (Err fault) why is = tt
+  refusal_shown Failed (Err fault) why is = tt
 
   -- a fault of one of them is a failure more of both
   pub fault_counted : (fault : DevFault) → IsFaultOfTwo state fault old new
@@ -67,51 +67,51 @@ module _ {D : Type 0} (state : D → DiskState) (old new : TwoDisks D) where
       why
 
 -- the line that a refusal of an opening as a store has
-abbrev pub TellsStoreRefusal : StoreError → Result (List ℕ) VtlFault → Type 0
-TellsStoreRefusal store.NotOurs lines = IfOk lines (λ text. text ≡ not_a_side_line)
-TellsStoreRefusal (store.Damaged at) lines = IfOk lines (λ text. text ≡ damaged_line at)
-TellsStoreRefusal (store.BadRecord at) lines = IfOk lines (λ text. text ≡ bad_record_line at)
-TellsStoreRefusal (store.Device fault) lines = IfOk lines (λ text. ⊥)
-TellsStoreRefusal store.NoMemory lines = IfOk lines (λ text. ⊥)
+abbrev pub PrintsStoreRefusal : StoreError → Result (List ℕ) VtlFault → Type 0
+PrintsStoreRefusal store.NotOurs lines = IfOk lines (λ text. text ≡ not_a_side_line)
+PrintsStoreRefusal (store.Damaged at) lines = IfOk lines (λ text. text ≡ damaged_line at)
+PrintsStoreRefusal (store.BadRecord at) lines = IfOk lines (λ text. text ≡ bad_record_line at)
+PrintsStoreRefusal (store.Device fault) lines = IfOk lines (λ text. ⊥)
+PrintsStoreRefusal store.NoMemory lines = IfOk lines (λ text. ⊥)
 
 -- it is that of the first image, where beside the second one no side counts
-pub store_refusal_told : (error : StoreError) (lines : Result (List ℕ) VtlFault) (old new : DiskState)
-    → IsStoreNotOpened error old new → TellsStoreRefusal error lines
+pub store_refusal_shown : (error : StoreError) (lines : Result (List ℕ) VtlFault) (old new : DiskState)
+    → IsStoreNotOpened error old new → PrintsStoreRefusal error lines
     → IfOk lines (λ text. old.honest → (two : List ℕ) → IsNoCartridge (old.seen, two)
     → SideText (old.seen, two) text × Only old.seen new.may_leave)
-store_refusal_told store.NotOurs (Ok text) old new why is = λ honest two none.
+store_refusal_shown store.NotOurs (Ok text) old new why is = λ honest two none.
     (inr (inr (inl (none, (why.1 honest).0, is))), (why.1 honest).1)
-store_refusal_told (store.Damaged at) (Ok text) old new why is = λ honest two none.
+store_refusal_shown (store.Damaged at) (Ok text) old new why is = λ honest two none.
     (inr (inr (inr (inl (at, inr (why.1 honest).0, is)))), (why.1 honest).1)
-store_refusal_told (store.BadRecord at) (Ok text) old new why is = λ honest two none.
+store_refusal_shown (store.BadRecord at) (Ok text) old new why is = λ honest two none.
     (inr (inr (inr (inr (at, inr (why.1 honest).0, is)))), (why.1 honest).1)
-store_refusal_told (store.Device fault) (Ok text) old new why is = absurd is
-store_refusal_told store.NoMemory (Ok text) old new why is = absurd is
-store_refusal_told store.NotOurs (Err fault) old new why is = tt
-store_refusal_told (store.Damaged at) (Err fault) old new why is = tt
-store_refusal_told (store.BadRecord at) (Err fault) old new why is = tt
-store_refusal_told (store.Device other) (Err fault) old new why is = tt
-store_refusal_told store.NoMemory (Err fault) old new why is = tt
+store_refusal_shown (store.Device fault) (Ok text) old new why is = absurd is
+store_refusal_shown store.NoMemory (Ok text) old new why is = absurd is
+store_refusal_shown store.NotOurs (Err fault) old new why is = tt
+store_refusal_shown (store.Damaged at) (Err fault) old new why is = tt
+store_refusal_shown (store.BadRecord at) (Err fault) old new why is = tt
+store_refusal_shown (store.Device other) (Err fault) old new why is = tt
+store_refusal_shown store.NoMemory (Err fault) old new why is = tt
 
 -- the line of a store that was opened is that of the first image
-pub store_told : {E : Type 0} (heading : Heading) (states : List PrState) (left : PrState)
+pub store_shown : {E : Type 0} (heading : Heading) (states : List PrState) (left : PrState)
     (lines : Result (List ℕ) VtlFault) (text : Result (List ℕ) E) (old new : DiskState)
     → IfOk lines (λ found. text ≡ Ok found)
     → IfOk text (λ found. IsName Store heading.name → left ≡ power_loss (latest states)
-    → TellsStates heading states found)
+    → PrintsStates heading states found)
     → left ≡ power_loss (latest states)
     → (old.honest → GivesStates heading states old.seen × Only old.seen new.may_leave)
     → IfOk lines (λ found. old.honest → (two : List ℕ) → IsNoCartridge (old.seen, two)
     → SideText (old.seen, two) found × Only old.seen new.may_leave)
-store_told heading states left (Err fault) text old new is tells left_is gives = tt
-store_told {E} heading states left (Ok found) text old new is tells left_is gives = λ honest two none.
+store_shown heading states left (Err fault) text old new is prints left_is gives = tt
+store_shown {E} heading states left (Ok found) text old new is prints left_is gives = λ honest two none.
     let given = (gives honest).0 in
     let named : IsName Store heading.name =
     subst (λ (kind : SideKind). IsName kind heading.name) given.0 given.2.0.begins.head.heading.name in
-    let told : TellsStates heading states found =
+    let printed : PrintsStates heading states found =
     subst (λ (r : Result (List ℕ) E). IfOk r (λ found. IsName Store heading.name → left ≡ power_loss (latest states)
-    → TellsStates heading states found)) is tells named left_is in
-    (inr (inl (heading, states, given, told)), (gives honest).1)
+    → PrintsStates heading states found)) is prints named left_is in
+    (inr (inl (heading, states, given, printed)), (gives honest).1)
 
 -- The first of two disks of which no side counts is looked at once more, while the second one rests.
 module _ {D : Type 0} (state : D → DiskState) (old mid new : TwoDisks D)
@@ -134,17 +134,17 @@ module _ {D : Type 0} (state : D → DiskState) (old mid new : TwoDisks D)
       subst (λ (one : List ℕ). (one, images.1) ≡ seen_of_two state old) (sym first)
       ((why.1 honest).1 ((state mid.first).seen, images.1) ((is_disk mid.first held.0).reads, second))
 
-  pub told_again : (lines : Result (List ℕ) VtlFault)
+  pub shown_again : (lines : Result (List ℕ) VtlFault)
       → IfOk lines (λ text. (state mid.first).honest → (two : List ℕ) → IsNoCartridge ((state mid.first).seen, two)
       → SideText ((state mid.first).seen, two) text × Only (state mid.first).seen (state new.first).may_leave)
       → IfOk lines (λ text. AreHonest state old → SideText (seen_of_two state old) text × OnlyOfTwo state old new)
-  told_again (Err fault) tells = tt
-  told_again (Ok text) tells = λ honest.
+  shown_again (Err fault) prints = tt
+  shown_again (Ok text) prints = λ honest.
       let none : IsNoCartridge (seen_of_two state mid) =
       subst (λ (images : Images). IsNoCartridge images) (sym (same_bytes honest)) (why.1 honest).0 in
-      let told = tells (mid_honest honest).0 (state mid.second).seen none in (
-        subst (λ (images : Images). SideText images text) (same_bytes honest) told.0,
-        only_one honest told.1,
+      let printed = prints (mid_honest honest).0 (state mid.second).seen none in (
+        subst (λ (images : Images). SideText images text) (same_bytes honest) printed.0,
+        only_one honest printed.1,
       )
 
   pub none_again : NoneFailed (state mid.first) (state new.first) → NoneOfTwo state old new
@@ -154,8 +154,8 @@ module _ {D : Type 0} (state : D → DiskState) (old mid new : TwoDisks D)
   )
 
   pub cause_again : (lines : Result (List ℕ) VtlFault)
-      → IfErr lines (λ fault. IsStoreNotTold fault (state mid.first) (state new.first))
-      → IfErr lines (λ fault. IsNotTold state fault old new)
+      → IfErr lines (λ fault. IsStoreNotShown fault (state mid.first) (state new.first))
+      → IfErr lines (λ fault. IsNotShown state fault old new)
   cause_again (Ok text) cause = tt
   cause_again (Err faults.Device) cause =
       let second : (state new.second).failures ≡ (state old.second).failures =

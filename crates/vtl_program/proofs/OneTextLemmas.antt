@@ -15,7 +15,7 @@ use Rattle.pr_core.specs.declared.states.PrState.{PrState}
 use Rattle.pr_core.specs.States.{power_loss}
 use Rattle.cartridge.specs.Contents.{Contents, GivesContents, IsAnswered, IsBadFrameAt, IsDamagedPairAt, IsNoCartridge, volume_made}
 use Rattle.aptpl_store.specs.Contents.{AreAllSavedAlike, GivesStates, IsBadStateAt, IsNoStore, IsStoreAnswered, OpensAs, latest}
-use Rattle.vtl_program.specs.SideText.{SideText, TellsContents, TellsStates, bad_record_line, cartridge_line, damaged_line, not_a_side_line, partition_lines, registrations_in, store_line}
+use Rattle.vtl_program.specs.SideText.{SideText, PrintsContents, PrintsStates, bad_record_line, cartridge_line, damaged_line, not_a_side_line, partition_lines, registrations_in, store_line}
 use Rattle.vtl_program.proofs.SideTextLemmas.{HasNoSpace, at_end, drive_text_no_space, symbols_no_space}
 
 -- two names that are one have one text
@@ -25,8 +25,8 @@ one_name name a b is_a is_b e f =
     ∙ ap (λ (n : ℕ). take n (padded b)) (sym (at_end name a is_a e) ∙ at_end name b is_b f)
     ∙ take-append_seam b (replicate (16 - length b) 32)
 
--- one cartridge's contents are told by one text
-contents_once : (contents : Contents) (a b : List ℕ) → TellsContents contents a → TellsContents contents b → a ≡ b
+-- one cartridge's contents have one text
+contents_once : (contents : Contents) (a b : List ℕ) → PrintsContents contents a → PrintsContents contents b → a ≡ b
 contents_once contents a b one other =
     one.lines
     ∙ ap (λ (barcode : List ℕ). cartridge_line barcode (length (volume_made contents)) (length contents.frames)
@@ -64,16 +64,17 @@ pub record HaveOneAnswer : Type 0 where
   pub store_damaged_bad : (image : List ℕ) (a b : ℕ) → IsDamagedOf Store image a → IsBadStateAt image b → ⊥
   pub store_damaged_once : (image : List ℕ) (a b : ℕ) → IsDamagedOf Store image a → IsDamagedOf Store image b → a ≡ b
 
--- what is told of a pair of which a side counts; of a first image that is a store's; of any other pair
+-- what is printed of a pair of which a side counts; of a first image that is a store's; of any other pair
 abbrev OfCartridge : Images → List ℕ → Type 0
 OfCartridge images text =
-    ((contents : Contents) × GivesContents contents images × TellsContents contents text)
+    ((contents : Contents) × GivesContents contents images × PrintsContents contents text)
     ⊎ (((at : ℕ) × IsDamagedPairAt images at × (text ≡ damaged_line at))
     ⊎ ((at : ℕ) × IsBadFrameAt images at × (text ≡ bad_record_line at)))
 
 abbrev OfStore : List ℕ → List ℕ → Type 0
 OfStore image text =
-    ((heading : Heading) × (states : List PrState) × GivesStates heading states image × TellsStates heading states text)
+    ((heading : Heading) × (states : List PrState) × GivesStates heading states image
+    × PrintsStates heading states text)
     ⊎ (((at : ℕ) × IsDamagedOf Store image at × (text ≡ damaged_line at))
     ⊎ ((at : ℕ) × IsBadStateAt image at × (text ≡ bad_record_line at)))
 
@@ -101,7 +102,7 @@ a_side_counts Second head rest images (pair, closed, opened, inr (older, more, i
     ap (λ (l : List ℕ). get_or l 4 0) is.image_is
 
 cartridge_letter : (images : Images) (text : List ℕ) → OfCartridge images text → get_or images.0 4 0 ≡ 67
-cartridge_letter images text (inl (contents, gives, tells)) =
+cartridge_letter images text (inl (contents, gives, prints)) =
     let behind = gives.1.1 in
     a_side_counts contents.which contents.head _ images behind.3
 cartridge_letter images text (inr (inl (at, (which, head, bodies, behind, each, counts, place, broken), is))) =
@@ -151,7 +152,7 @@ store_stands heading bodies image kind stands =
     ∙ ap (λ (k : SideKind). get_or (mark k) 3 0) kind
 
 store_letter : (image text : List ℕ) → OfStore image text → get_or image 4 0 ≡ 82
-store_letter image text (inl (heading, states, gives, tells)) = store_stands heading _ image gives.0 gives.2
+store_letter image text (inl (heading, states, gives, prints)) = store_stands heading _ image gives.0 gives.2
 store_letter image text (inr (inl (at, damaged, is))) = letter_of Store image damaged.0
 store_letter image text (inr (inr (at, (heading, bodies, good, stands, bad), is))) =
     store_stands heading bodies image bad.kind stands
@@ -164,13 +165,13 @@ same_count (state ∷ states) [] alike = absurd alike
 
 module _ (laws : HaveOneAnswer) (images : Images) (a b : List ℕ) where
   of_cartridge : OfCartridge images a → OfCartridge images b → a ≡ b
-  of_cartridge (inl (c, gives, tells)) (inl (d, gives', tells')) =
+  of_cartridge (inl (c, gives, prints)) (inl (d, gives', prints')) =
       contents_once d a b
-      (subst (λ (found : Contents). TellsContents found a) (laws.contents images c d gives gives') tells) tells'
-  of_cartridge (inl (c, gives, tells)) (inr (inl (at, damaged, is))) = absurd (laws.whole images c at gives damaged)
-  of_cartridge (inl (c, gives, tells)) (inr (inr (at, bad, is))) = absurd (laws.good images c at gives bad)
-  of_cartridge (inr (inl (at, damaged, is))) (inl (d, gives, tells)) = absurd (laws.whole images d at gives damaged)
-  of_cartridge (inr (inr (at, bad, is))) (inl (d, gives, tells)) = absurd (laws.good images d at gives bad)
+      (subst (λ (found : Contents). PrintsContents found a) (laws.contents images c d gives gives') prints) prints'
+  of_cartridge (inl (c, gives, prints)) (inr (inl (at, damaged, is))) = absurd (laws.whole images c at gives damaged)
+  of_cartridge (inl (c, gives, prints)) (inr (inr (at, bad, is))) = absurd (laws.good images c at gives bad)
+  of_cartridge (inr (inl (at, damaged, is))) (inl (d, gives, prints)) = absurd (laws.whole images d at gives damaged)
+  of_cartridge (inr (inr (at, bad, is))) (inl (d, gives, prints)) = absurd (laws.good images d at gives bad)
   of_cartridge (inr (inl (at, damaged, is))) (inr (inl (at', damaged', is'))) =
       is ∙ ap damaged_line (laws.damaged_once images at at' damaged damaged') ∙ sym is'
   of_cartridge (inr (inl (at, damaged, is))) (inr (inr (at', bad, is'))) =
@@ -181,26 +182,26 @@ module _ (laws : HaveOneAnswer) (images : Images) (a b : List ℕ) where
       is ∙ ap bad_record_line (laws.bad_once images at at' bad bad') ∙ sym is'
 
   states_once : (h k : Heading) (states others : List PrState) → GivesStates h states images.0
-      → GivesStates k others images.0 → TellsStates h states a → TellsStates k others b → a ≡ b
-  states_once h k states others gives gives' tells tells' =
+      → GivesStates k others images.0 → PrintsStates h states a → PrintsStates k others b → a ≡ b
+  states_once h k states others gives gives' prints prints' =
       let alike = laws.states images.0 h k states others gives gives' in
       let left = laws.opens images.0 h k (power_loss (latest states)) (power_loss (latest others)) (states, gives, refl)
       (others, gives', refl) in
-      let names = one_name h.name tells.name tells'.name tells.has_no_space tells'.has_no_space tells.named
-      (ap (λ (heading : Heading). heading.name) alike.0 ∙ tells'.named) in
+      let names = one_name h.name prints.name prints'.name prints.has_no_space prints'.has_no_space prints.named
+      (ap (λ (heading : Heading). heading.name) alike.0 ∙ prints'.named) in
       let counts = same_count states others alike.1 in
-      tells.line ∙ (λ i. store_line (names i) (counts i) (registrations_in (left.1 i))) ∙ sym tells'.line
+      prints.line ∙ (λ i. store_line (names i) (counts i) (registrations_in (left.1 i))) ∙ sym prints'.line
 
   of_store : OfStore images.0 a → OfStore images.0 b → a ≡ b
-  of_store (inl (h, states, gives, tells)) (inl (k, others, gives', tells')) =
-      states_once h k states others gives gives' tells tells'
-  of_store (inl (h, states, gives, tells)) (inr (inl (at, damaged, is))) =
+  of_store (inl (h, states, gives, prints)) (inl (k, others, gives', prints')) =
+      states_once h k states others gives gives' prints prints'
+  of_store (inl (h, states, gives, prints)) (inr (inl (at, damaged, is))) =
       absurd (laws.store_whole images.0 h states at gives damaged)
-  of_store (inl (h, states, gives, tells)) (inr (inr (at, bad, is))) =
+  of_store (inl (h, states, gives, prints)) (inr (inr (at, bad, is))) =
       absurd (laws.store_good images.0 h states at gives bad)
-  of_store (inr (inl (at, damaged, is))) (inl (k, states, gives, tells)) =
+  of_store (inr (inl (at, damaged, is))) (inl (k, states, gives, prints)) =
       absurd (laws.store_whole images.0 k states at gives damaged)
-  of_store (inr (inr (at, bad, is))) (inl (k, states, gives, tells)) =
+  of_store (inr (inr (at, bad, is))) (inl (k, states, gives, prints)) =
       absurd (laws.store_good images.0 k states at gives bad)
   of_store (inr (inl (at, damaged, is))) (inr (inl (at', damaged', is'))) =
       is ∙ ap damaged_line (laws.store_damaged_once images.0 at at' damaged damaged') ∙ sym is'
@@ -217,12 +218,12 @@ module _ (laws : HaveOneAnswer) (images : Images) (a b : List ℕ) where
       omega (arith, letters)
 
   no_cartridge : (text text' : List ℕ) → OfCartridge images text → OfNone images text' → ⊥
-  no_cartridge text text' (inl (c, gives, tells)) none = laws.counts images c gives none.0
+  no_cartridge text text' (inl (c, gives, prints)) none = laws.counts images c gives none.0
   no_cartridge text text' (inr (inl (at, damaged, is))) none = laws.none_damaged images at none.0 damaged
   no_cartridge text text' (inr (inr (at, bad, is))) none = laws.none_bad images at none.0 bad
 
   no_store : (text text' : List ℕ) → OfStore images.0 text → OfNone images text' → ⊥
-  no_store text text' (inl (h, states, gives, tells)) none = laws.store_counts images.0 h states gives none.1
+  no_store text text' (inl (h, states, gives, prints)) none = laws.store_counts images.0 h states gives none.1
   no_store text text' (inr (inl (at, damaged, is))) none = laws.store_none_damaged images.0 at none.1 damaged
   no_store text text' (inr (inr (at, bad, is))) none = laws.store_none_bad images.0 at none.1 bad
 

@@ -1,4 +1,4 @@
--- What is told of a cartridge that was reclaimed, and of one that was not.
+-- What is printed of a cartridge that was reclaimed, and of one that was not.
 use Rattle.std.proofs.Common.{◌≡◌, ◌⊎◌, inl, inr, ⊎_elim, ℕ, List, [], true, refl, sym, ap, ◌∙◌, subst, arith, Result, Ok, Err, OnOk, IfOk, IfErr}
 use Rattle.std.proofs.lemmas.List.{append-nil}
 use Rattle.vtl_base.specs.declared.faults.DevFault.{DevFault}
@@ -18,7 +18,7 @@ use Rattle.cartridge.specs.State.{ClosedCartridge}
 use Rattle.tape_buffer.specs.Reclaiming.{FailsToCopy, GiveOnly, RebasesContents, ReclaimsShelved}
 use Rattle.vtl_program.specs.declared.programs.VtlFault.{VtlFault}
 use Rattle.vtl_program.specs.declared.programs.VtlFault.TheVariants as faults
-use Rattle.vtl_program.specs.Reclaims.{IsLine, IsReclaimed, RefusesUntouched, IsUntold, Reclaims, RefusalText, TellsCause, reclaimed_line}
+use Rattle.vtl_program.specs.Reclaims.{IsLine, IsReclaimed, RefusesUntouched, IsNotPrinted, Reclaims, RefusalText, PrintsCause, reclaimed_line}
 use Rattle.vtl_program.proofs.CheckLemmas.{fault_counted}
 
 -- a disk that was not called
@@ -45,14 +45,14 @@ module _ {D : Type 0} (state : D → DiskState) (barcode : List ℕ) where
       (subst (λ (t : List _). ShowsContents contents t images) none (shows images may)))
 
   -- a cartridge was reclaimed
-  pub done_told : (old shelved : ClosedCartridge D) (text : List ℕ) (epoch : ℕ)
+  pub done_shown : (old shelved : ClosedCartridge D) (text : List ℕ) (epoch : ℕ)
       → ReclaimsShelved state old (Ok shelved)
       → (shelved.known ≡ true → AreHonest state shelved.disks
       → EachOfTwo state shelved.disks (ShowsContents shelved.contents shelved.torn))
       → (shelved.known ≡ true → epoch ≡ epoch_of shelved.contents.head)
       → text ≡ reclaimed_line barcode epoch
       → Reclaims state barcode old.disks shelved.disks (Ok text)
-  done_told old shelved text epoch reclaims shows count line =
+  done_shown old shelved text epoch reclaims shows count line =
       let contents = reclaims.copy.0 in
       let is = reclaims.copy.1 in
       record {
@@ -79,8 +79,8 @@ module _ {D : Type 0} (state : D → DiskState) (barcode : List ℕ) where
       }
 
   -- memory ran out for the line, before anything was done
-  pub none_told : (disks : TwoDisks D) → Reclaims state barcode disks disks (Err faults.NoMemory)
-  none_told disks =
+  pub none_shown : (disks : TwoDisks D) → Reclaims state barcode disks disks (Err faults.NoMemory)
+  none_shown disks =
       record {
         keeps = (same_keeps state disks.first, same_keeps state disks.second);
         none_failed = tt;
@@ -99,11 +99,11 @@ module _ {D : Type 0} (state : D → DiskState) (barcode : List ℕ) where
       }
 
 module _ {D : Type 0} (state : D → DiskState) (old new : TwoDisks D) where
-  -- what is told of a cartridge that was not reclaimed, and why nothing is
+  -- what is printed of a cartridge that was not reclaimed, and why nothing is
   pub record Answers (lines : Result (List ℕ) VtlFault) : Type 0 where
     pub none_failed : OnOk lines (NoneOfTwo state old new)
     pub text : IfOk lines (λ text. AreHonest state old → RefusesUntouched state old new text)
-    pub cause : IfErr lines (λ fault. IsUntold state fault old new)
+    pub cause : IfErr lines (λ fault. IsNotPrinted state fault old new)
 
   -- a change of base failed, whatever the contents were
   abbrev NoCopy : Type 0
@@ -116,38 +116,38 @@ module _ {D : Type 0} (state : D → DiskState) (old new : TwoDisks D) where
       rw is (record { none_failed = tt; text = tt; cause = (none, λ honest. (sure honest).0) })
 
   -- a line that is true
-  told_so : (line : List ℕ) (lines : Result (List ℕ) VtlFault) → IsLine line lines → NoneOfTwo state old new
+  shown_so : (line : List ℕ) (lines : Result (List ℕ) VtlFault) → IsLine line lines → NoneOfTwo state old new
       → (AreHonest state old → RefusalText (seen_of_two state old) line)
       → (AreHonest state old → StaysSure state old new) → Answers lines
-  told_so line (Ok text) is none so sure = record {
+  shown_so line (Ok text) is none so sure = record {
     none_failed = none;
     text = λ honest.
         (subst (λ (t : List ℕ). RefusalText (seen_of_two state old) t) (sym is) (so honest), sure honest);
     cause = tt;
   }
-  told_so line (Err fault) is none so sure = record {
+  shown_so line (Err fault) is none so sure = record {
     none_failed = tt;
     text = tt;
     cause =
-        subst (λ (f : VtlFault). IsUntold state f old new) (sym is) (none, λ honest. (sure honest).0);
+        subst (λ (f : VtlFault). IsNotPrinted state f old new) (sym is) (none, λ honest. (sure honest).0);
   }
 
   -- a disk failed
-  broken_off : (lines : Result (List ℕ) VtlFault) → lines ≡ Err faults.Device → IsUntold state faults.Device old new
+  broken_off : (lines : Result (List ℕ) VtlFault) → lines ≡ Err faults.Device → IsNotPrinted state faults.Device old new
       → Answers lines
   broken_off lines is why = rw is (record { none_failed = tt; text = tt; cause = why })
 
   -- it was not opened
   not_opened : (error : CartridgeError) (lines : Result (List ℕ) VtlFault) → IsNotOpened state error old new
       → ((fault : DevFault) → error ≡ Device fault → NoCopy)
-      → (AreHonest state old → IsUntouched state (Cartridge error) old new) → TellsCause (Cartridge error) lines
+      → (AreHonest state old → IsUntouched state (Cartridge error) old new) → PrintsCause (Cartridge error) lines
       → Answers lines
   not_opened NotOurs lines why broken sure is =
-      told_so _ lines is why.0 (λ honest. inr (inl ((why.1 honest).0, refl))) sure
+      shown_so _ lines is why.0 (λ honest. inr (inl ((why.1 honest).0, refl))) sure
   not_opened (Damaged at) lines why broken sure is =
-      told_so _ lines is why.0 (λ honest. inr (inr (inl (at, (why.1 honest).0, refl)))) sure
+      shown_so _ lines is why.0 (λ honest. inr (inr (inl (at, (why.1 honest).0, refl)))) sure
   not_opened (BadRecord at) lines why broken sure is =
-      told_so _ lines is why.0 (λ honest. inr (inr (inr (at, (why.1 honest).0, refl)))) sure
+      shown_so _ lines is why.0 (λ honest. inr (inr (inr (at, (why.1 honest).0, refl)))) sure
   not_opened (Device fault) lines why broken sure is =
       broken_off lines is (fault_counted state old new fault why, broken fault refl)
   not_opened NoMemory lines why broken sure is = out_of_memory lines is why.0 sure
@@ -158,11 +158,11 @@ module _ {D : Type 0} (state : D → DiskState) (old new : TwoDisks D) where
   not_planned : (contents : Contents) (error : ReclaimError) (lines : Result (List ℕ) VtlFault)
       → IsUnplanned contents error → NoneOfTwo state old new
       → (AreHonest state old → GivesContents contents (seen_of_two state old))
-      → (AreHonest state old → IsUntouched state error old new) → TellsCause error lines → Answers lines
+      → (AreHonest state old → IsUntouched state error old new) → PrintsCause error lines → Answers lines
   not_planned contents EpochsSpent lines why none gives sure is =
-      told_so _ lines is none (λ honest. inl (contents, gives honest, inr why.1, refl)) sure
+      shown_so _ lines is none (λ honest. inl (contents, gives honest, inr why.1, refl)) sure
   not_planned contents (Cartridge SideFull) lines why none gives sure is =
-      told_so _ lines is none (λ honest. inl (contents, gives honest, inl why, refl)) sure
+      shown_so _ lines is none (λ honest. inl (contents, gives honest, inl why, refl)) sure
   not_planned contents (Cartridge NoMemory) lines why none gives sure is = out_of_memory lines is none sure
   not_planned contents (Cartridge NotOurs) lines why none gives sure is = absurd why
   not_planned contents (Cartridge (Damaged at)) lines why none gives sure is = absurd why
@@ -172,7 +172,7 @@ module _ {D : Type 0} (state : D → DiskState) (old new : TwoDisks D) where
 
 module _ {D : Type 0} (state : D → DiskState) (barcode : List ℕ) (old : ClosedCartridge D) (refused : NotReclaimed D)
     (lines : Result (List ℕ) VtlFault) (reclaims : ReclaimsShelved state old (Err refused))
-    (is : TellsCause refused.error lines) where
+    (is : PrintsCause refused.error lines) where
   abbrev new : TwoDisks D
   new = refused.shelved.disks
 
@@ -180,7 +180,7 @@ module _ {D : Type 0} (state : D → DiskState) (barcode : List ℕ) (old : Clos
   copy_failed : (fault : DevFault) → refused.error ≡ Cartridge (Device fault) → NoCopy state old.disks new
   copy_failed fault cause contents only = (reclaims.base contents only).fails fault cause
 
-  -- why it was not reclaimed is told
+  -- the cause why it was not reclaimed is reported
   answered : Answers state old.disks new lines
   answered =
       ⊎_elim
@@ -190,7 +190,7 @@ module _ {D : Type 0} (state : D → DiskState) (barcode : List ℕ) (old : Clos
       (λ fault cause. copy_failed fault (first.1 ∙ ap Cartridge cause))
       (λ honest.
       subst (λ (e : ReclaimError). IsUntouched state e old.disks new) first.1 (reclaims.untouched honest))
-      (subst (λ (e : ReclaimError). TellsCause e lines) first.1 is))
+      (subst (λ (e : ReclaimError). PrintsCause e lines) first.1 is))
       (⊎_elim
       (λ (unplanned : NoneOfTwo state old.disks new × (refused.shelved.known ≡ true)
       × IsUnplanned refused.shelved.contents refused.error
@@ -198,13 +198,13 @@ module _ {D : Type 0} (state : D → DiskState) (barcode : List ℕ) (old : Clos
       not_planned state old.disks new refused.shelved.contents refused.error lines unplanned.2 unplanned.0 unplanned.3
       reclaims.untouched is)
       (λ (broken : IsBrokenOff state old.disks refused).
-      broken_off state old.disks new lines (subst (λ (e : ReclaimError). TellsCause e lines) broken.1 is)
+      broken_off state old.disks new lines (subst (λ (e : ReclaimError). PrintsCause e lines) broken.1 is)
       (fault_counted state old.disks new broken.0 broken.2, copy_failed broken.0 broken.1)))
       reclaims.refused
 
   -- a cartridge was not reclaimed
-  pub refused_told : Reclaims state barcode old.disks new lines
-  refused_told =
+  pub refused_shown : Reclaims state barcode old.disks new lines
+  refused_shown =
       record {
         keeps = reclaims.disks;
         none_failed = answered.none_failed;

@@ -67,7 +67,7 @@ module _ {D : Type 0} where
       → (ended ≢ Err ReadFault → TakesWithin left 0 left') → EndsShared state bays after shelves counts
       → outcome ≡ outcome_of ended counts → RunsStarted state old left left' before now new outcome
   ran_over state old new bays after shelves hosts left left' before now ended counts outcome are all made shelved runs
-      takes ends told =
+      takes ends printed =
       record {
         ended = ended;
         counts = counts;
@@ -83,5 +83,5 @@ module _ {D : Type 0} where
             (subst (λ (row : List (Option (BayState D))). EndsShared state bays row new.slots counts) (sym made)
             (subst (λ (row : List (Option (BufferState D))). EndsShared state bays after row counts) (sym shelved)
             ends));
-        outcome_is = told;
+        outcome_is = printed;
       }

@@ -36,7 +36,7 @@ module _ {D : Type 0} where
       → EndsShared state bays after shelves counts
       → outcome ≡ served_outcome ended counts → ServesStarted state old labels left left' before now new outcome
   served_over state old new labels bays after shelves hosts left left' before now ended counts outcome are all made
-      shelved serves ends told =
+      shelved serves ends printed =
       record {
         ended = ended;
         counts = counts;
@@ -52,7 +52,7 @@ module _ {D : Type 0} where
             (subst (λ (row : List (Option (BayState D))). EndsShared state bays row new.slots counts) (sym made)
             (subst (λ (row : List (Option (BufferState D))). EndsShared state bays after row counts) (sym shelved)
             ends));
-        outcome_is = told;
+        outcome_is = printed;
       }
 
 -- the library of a configuration, in which no home or number is double, was started, or a side failed

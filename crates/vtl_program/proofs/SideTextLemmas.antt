@@ -20,7 +20,7 @@ use Rattle.pr_core.specs.Sets.{nexuses}
 use Rattle.pr_core.specs.States.{key_of, power_loss}
 use Rattle.aptpl_store.specs.Contents.{latest}
 use Rattle.vtl_program.specs.declared.programs.VtlFault.{VtlFault}
-use Rattle.vtl_program.specs.SideText.{TellsStates, cartridge_line, partition_line, registrations_in, store_line}
+use Rattle.vtl_program.specs.SideText.{PrintsStates, cartridge_line, partition_line, registrations_in, store_line}
 
 -- a text without spaces
 abbrev pub HasNoSpace : List ℕ → Type 0
@@ -155,13 +155,13 @@ partition_more volume old text line number so is =
     ∙ ap (λ (xs : List ℕ). old ++ flat_map (partition_line volume) xs) (sym (next_number number))
 
 -- the bytes of a line that there was memory for
-pub line_told : (lines : Result (List ℕ) VtlFault) (line : Result (String Global) AllocError) (text : List ℕ)
+pub line_shown : (lines : Result (List ℕ) VtlFault) (line : Result (String Global) AllocError) (text : List ℕ)
     → IfOk line (λ known. string_bytes known ≡ text)
-    → IfOk lines (λ told. MatchResult line (λ known. told ≡ string_bytes known) (λ error. ⊥))
-    → IfOk lines (λ told. told ≡ text)
-line_told (Ok told) (Ok known) text is so = so ∙ is
-line_told (Ok told) (Err error) text is so = absurd so
-line_told (Err fault) line text is so = tt
+    → IfOk lines (λ printed. MatchResult line (λ known. printed ≡ string_bytes known) (λ error. ⊥))
+    → IfOk lines (λ printed. printed ≡ text)
+line_shown (Ok printed) (Ok known) text is so = so ∙ is
+line_shown (Ok printed) (Err error) text is so = absurd so
+line_shown (Err fault) line text is so = tt
 
 -- the line of a store, put together
 pub store_line_is : (old name counts : List ℕ) (frames registrations : ℕ)
@@ -197,12 +197,12 @@ keys_counted state long =
     ∙ ap (λ (keys : List (Option ℕ)). count_by is_some keys) (sym (keys_are state long))
     ∙ counted (key_of state) nexuses
 
--- what is put together of an open store tells its states
-pub states_told : (heading : Heading) (states : List PrState) (left : PrState) (name text : List ℕ)
+-- the text of an open store shows its states
+pub states_shown : (heading : Heading) (states : List PrState) (left : PrState) (name text : List ℕ)
     (frames registered : ℕ) → ((found : List ℕ) → HasNoSpace found → heading.name ≡ padded found → name ≡ found)
     → frames ≡ length states → registered ≡ registrations_in left → text ≡ store_line name frames registered
-    → IsName Store heading.name → left ≡ power_loss (latest states) → TellsStates heading states text
-states_told heading states left name text frames registered trimmed many are is named left_is =
+    → IsName Store heading.name → left ≡ power_loss (latest states) → PrintsStates heading states text
+states_shown heading states left name text frames registered trimmed many are is named left_is =
     let drive = codes "DRIVE" ++ digits named.0 in
     let no_space = drive_text_no_space named.0 in record {
       name = drive;

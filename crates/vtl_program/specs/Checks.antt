@@ -15,7 +15,7 @@ use Rattle.vtl_program.specs.declared.programs.Verdict.{Verdict}
 use Rattle.vtl_program.specs.declared.programs.Verdict.TheVariants.{Done, Refused}
 use Rattle.vtl_program.specs.declared.programs.VtlFault.{VtlFault}
 use Rattle.vtl_program.specs.declared.programs.VtlFault.TheVariants.{Device, NoMemory}
-use Rattle.vtl_program.specs.SideText.{IsNotTold, SideText}
+use Rattle.vtl_program.specs.SideText.{IsNotShown, SideText}
 
 -- what the lines of a side say: what it holds, or why it gives nothing (own)
 abbrev pub verdict_of : List ℕ → Verdict
@@ -30,7 +30,7 @@ pub record LooksAt {D : Type 0} (state : D → DiskState) (old new : TwoDisks D)
   pub keeps : KeepsDisks state old new
   pub none_failed : OnOk lines (NoneOfTwo state old new)
   pub text : IfOk lines (λ text. AreHonest state old → SideText (seen_of_two state old) text × OnlyOfTwo state old new)
-  pub cause : IfErr lines (λ fault. IsNotTold state fault old new)
+  pub cause : IfErr lines (λ fault. IsNotShown state fault old new)
   pub any_moment : AreHonest state old → TwoLeave state old new (MayLeave state old)
 
 -- two disks, the first one first (own)
@@ -43,10 +43,10 @@ disks_checked checked = record { first = checked.first; second = checked.second 
 
 -- the lines of a side were written, or a beginning of them, where the writer failed; where there are none, nothing was
 -- written (own)
-abbrev pub TellsLines : Result (List ℕ) VtlFault → (before now : Option (List ℕ)) → Result Verdict VtlFault → Type 0
-TellsLines (Ok lines) before now (Ok verdict) = (verdict ≡ verdict_of lines) × Appends before now lines
-TellsLines (Ok lines) before now (Err fault) = (fault ≡ Device) × AppendsPart before now lines
-TellsLines (Err why) before now result = (result ≡ Err why) × Known.Keeps before now
+abbrev pub PrintsLines : Result (List ℕ) VtlFault → (before now : Option (List ℕ)) → Result Verdict VtlFault → Type 0
+PrintsLines (Ok lines) before now (Ok verdict) = (verdict ≡ verdict_of lines) × Appends before now lines
+PrintsLines (Ok lines) before now (Err fault) = (fault ≡ Device) × AppendsPart before now lines
+PrintsLines (Err why) before now result = (result ≡ Err why) × Known.Keeps before now
 
 module _ {D : Type 0} (state : D → DiskState) (opens_to_read : List ℕ → Result D FileError → Type 0) where
   -- a disk for reading the second file of this name: that of its opening; where the file is missing, one of no bytes
@@ -71,7 +71,7 @@ module _ {D : Type 0} (state : D → DiskState) (opens_to_read : List ℕ → Re
       pub closed : closes name last.first × closes (second_name name) last.second
       pub lines : Result (List ℕ) VtlFault
       pub looks : LooksAt state disks last lines
-      pub tells : TellsLines lines before now result
+      pub prints : PrintsLines lines before now result
 
     -- the first file was opened, and the second one is there and was not: the first one's disk was returned as it was
     -- opened (own)

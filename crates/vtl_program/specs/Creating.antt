@@ -178,25 +178,25 @@ module _ {D : Type 0} (state : D → DiskState) (files : MakeAnswers D) where
       ⊎ ((fault ≡ Faults.Device) × StartsWith (fate_line (label_of file) fate) part)))
 
   -- the text has a line for each of these files, in order: what became of it (own)
-  abbrev pub TellsAll : List SideFile → List ℕ → Type 0
-  TellsAll [] text = text ≡ []
-  TellsAll (file ∷ behind) text =
+  abbrev pub PrintsAll : List SideFile → List ℕ → Type 0
+  PrintsAll [] text = text ≡ []
+  PrintsAll (file ∷ behind) text =
       (fate : Fate) × IsMadeOrKept state files file fate
-      × ((rest : List ℕ) × (text ≡ fate_line (label_of file) fate ++ rest) × TellsAll behind rest)
+      × ((rest : List ℕ) × (text ≡ fate_line (label_of file) fate ++ rest) × PrintsAll behind rest)
 
   -- the text has a line for each of the first of these files, in order, and at the next one this fault came (own)
-  pub record TellsSome (all : List SideFile) (fault : VtlFault) (text : List ℕ) : Type 0 where
+  pub record PrintsSome (all : List SideFile) (fault : VtlFault) (text : List ℕ) : Type 0 where
     pub before : List SideFile
     pub file : SideFile
     pub behind : List SideFile
     pub are : all ≡ before ++ file ∷ behind
     pub lines : List ℕ
-    pub told : TellsAll before lines
+    pub printed : PrintsAll before lines
     pub part : List ℕ
     pub fails : FailsAt file fault part
     pub is : text ≡ lines ++ part
 
   -- what is made and reported of these files: of all, or up to the one at which a fault came (own)
-  abbrev pub TellsFiles : List SideFile → Option (List ℕ) → Option (List ℕ) → Result (Unit {0}) VtlFault → Type 0
-  TellsFiles all before now (Ok done) = (text : List ℕ) × TellsAll all text × Appends before now text
-  TellsFiles all before now (Err fault) = (text : List ℕ) × TellsSome all fault text × Appends before now text
+  abbrev pub PrintsFiles : List SideFile → Option (List ℕ) → Option (List ℕ) → Result (Unit {0}) VtlFault → Type 0
+  PrintsFiles all before now (Ok done) = (text : List ℕ) × PrintsAll all text × Appends before now text
+  PrintsFiles all before now (Err fault) = (text : List ℕ) × PrintsSome all fault text × Appends before now text

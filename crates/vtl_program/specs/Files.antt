@@ -12,9 +12,9 @@ use Rattle.vtl_program.specs.Configured.{IsNoConfig}
 use Rattle.vtl_program.specs.Faults.{fault_of_error}
 use Rattle.vtl_program.specs.Unfinished.{NotStartedState}
 
--- The answers that a call for the file of a name may have, and the disks that may be returned for one, or in a
--- library. Nothing else is known of a file: whatever the program says that it read, opened or made, it has of a call
--- that answered so, and the disk that it returns is the last that it had (own).
+-- The answers that a call for the file of a name may have, and the disks that may be returned for one, or in a library.
+-- Nothing else is known of a file: whatever the program says that it read, opened or made, a call gave that answer; and
+-- the disk that the program returns is the last that it had (own).
 pub record FileAnswers (D : Type 0) : Type 1 where
   -- the bytes of a file are read
   pub reads : List ℕ → Result (Vec ℕ Global) Error → Type 0
@@ -24,7 +24,7 @@ pub record FileAnswers (D : Type 0) : Type 1 where
   -- a file is opened to be changed, and its disk is returned: alone; in a library; or in one whose drives were not
   -- all switched on
   pub opens : List ℕ → Result D FileError → Type 0
-  pub hands_back : List ℕ → D → Type 0
+  pub returns_disk : List ℕ → D → Type 0
   pub closes_all : HeldState D → Type 0
   pub gives_up : NotStartedState D → Type 0
   -- the second file of a cartridge is opened, or made with no bytes where it is missing, and its disk is returned
@@ -38,18 +38,18 @@ pub record FileAnswers (D : Type 0) : Type 1 where
 -- the answers of these calls (own)
 abbrev pub answers_of : {D : Type 0} → (List ℕ → Result (Vec ℕ Global) Error → Type 0)
     → (opens_to_read : List ℕ → Result D FileError → Type 0) → (closes : List ℕ → D → Type 0)
-    → (opens : List ℕ → Result D FileError → Type 0) → (hands_back : List ℕ → D → Type 0)
+    → (opens : List ℕ → Result D FileError → Type 0) → (returns_disk : List ℕ → D → Type 0)
     → (closes_all : HeldState D → Type 0) → (gives_up : NotStartedState D → Type 0)
     → (opens_second : List ℕ → Result D FileError → Type 0) → (closes_second : List ℕ → D → Type 0)
     → (makes : List ℕ → Result D FileError → Type 0) → (leaves takes_away : List ℕ → D → Type 0)
     → FileAnswers D
-answers_of reads opens_to_read closes opens hands_back closes_all gives_up opens_second closes_second makes leaves
+answers_of reads opens_to_read closes opens returns_disk closes_all gives_up opens_second closes_second makes leaves
     takes_away = record {
       reads = reads;
       opens_to_read = opens_to_read;
       closes = closes;
       opens = opens;
-      hands_back = hands_back;
+      returns_disk = returns_disk;
       closes_all = closes_all;
       gives_up = gives_up;
       opens_second = opens_second;

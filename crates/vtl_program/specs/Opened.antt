@@ -14,8 +14,8 @@ module _ {D : Type 0} (opens opens_second : List ℕ → Result D FileError → 
   -- the first file was not opened; or the second one was not, and the first one's disk was returned as it was opened
   -- (own)
   abbrev pub AreNotOpened : (List ℕ → D → Type 0) → (file second_file : List ℕ) → VtlFault → Type 0
-  AreNotOpened hands_back file second_file fault =
+  AreNotOpened returns_disk file second_file fault =
       (fault ≡ Device)
       × (((error : FileError) × opens file (Err error))
       ⊎ ((first : D) × opens file (Ok first)
-      × (((error : FileError) × opens_second second_file (Err error)) × hands_back file first)))
+      × (((error : FileError) × opens_second second_file (Err error)) × returns_disk file first)))

@@ -17,7 +17,7 @@ use Rattle.vtl_program.specs.declared.programs.Verdict.TheVariants.{Done}
 use Rattle.vtl_program.specs.declared.programs.VtlFault.{VtlFault}
 use Rattle.vtl_program.specs.declared.programs.VtlFault.TheVariants as Faults
 use Rattle.vtl_program.specs.Checks.{ChecksOrder}
-use Rattle.vtl_program.specs.Creating.{MakeAnswers, TellsFiles, files_of, makes_of}
+use Rattle.vtl_program.specs.Creating.{MakeAnswers, PrintsFiles, files_of, makes_of}
 use Rattle.vtl_program.specs.Faults.{IsFailure}
 use Rattle.vtl_program.specs.Files.{FileAnswers, ReadsConfig}
 use Rattle.vtl_program.specs.Program.{EndsProgram, IsIdle, RunsFrom}
@@ -79,7 +79,7 @@ module _ {D : Type 0} (state : D → DiskState) where
     -- written (own)
     abbrev pub CreatesNamed :
         Result Config VtlFault → (before now : Option (List ℕ)) → Result (Unit {0}) VtlFault → Type 0
-    CreatesNamed (Ok config) before now outcome = TellsFiles state made (files_of config) before now outcome
+    CreatesNamed (Ok config) before now outcome = PrintsFiles state made (files_of config) before now outcome
     CreatesNamed (Err fault) before now outcome = (outcome ≡ Err fault) × Keeps before now
 
   -- what `vtl create` does, by the configuration that a file says (own)
@@ -91,11 +91,11 @@ module _ {D : Type 0} (state : D → DiskState) where
 
   -- what `vtl reclaim` does, by the configuration that a file says (own)
   abbrev pub ReclaimsOrder : (List ℕ → Result (Vec ℕ Global) Error → Type 0)
-      → (opens opens_second : List ℕ → Result D FileError → Type 0) → (hands_back closes_second : List ℕ → D → Type 0)
+      → (opens opens_second : List ℕ → Result D FileError → Type 0) → (returns_disk closes_second : List ℕ → D → Type 0)
       → (name barcode : List ℕ) → (before now : Option (List ℕ)) → Result Verdict VtlFault → Type 0
-  ReclaimsOrder reads opens opens_second hands_back closes_second name barcode before now result =
+  ReclaimsOrder reads opens opens_second returns_disk closes_second name barcode before now result =
       (config : Result Config VtlFault) × ReadsConfig reads name config
-      × ReclaimsNamed state opens opens_second hands_back closes_second barcode config before now result
+      × ReclaimsNamed state opens opens_second returns_disk closes_second barcode config before now result
 
 -- it is done, or a fault came (own)
 abbrev pub verdict_from : Result (Unit {0}) VtlFault → Result Verdict VtlFault
@@ -103,17 +103,17 @@ verdict_from (Ok done) = Ok Done
 verdict_from (Err fault) = Err fault
 
 module _ {D : Type 0} (state : D → DiskState) (files : FileAnswers D) where
-  -- what an order does; but for a run and a serving nothing is read (own)
+  -- what an order does; except for a run and a serving nothing is read (own)
   abbrev pub DoesOrder : Asked → (left left' before now : Option (List ℕ)) → Result Verdict VtlFault → Type 0
   DoesOrder (run memory config) left left' before now result =
       (outcome : Result (Unit {0}) VtlFault)
-      × RunsOrder state files.reads (file_sides state files.opens files.opens_second files.hands_back)
+      × RunsOrder state files.reads (file_sides state files.opens files.opens_second files.returns_disk)
       files.closes_all files.gives_up
       memory config left left' before now outcome
       × (result ≡ verdict_from outcome)
   DoesOrder (serve memory config) left left' before now result =
       (outcome : Result (Unit {0}) VtlFault)
-      × ServesOrder state files.reads (file_sides state files.opens files.opens_second files.hands_back)
+      × ServesOrder state files.reads (file_sides state files.opens files.opens_second files.returns_disk)
       files.closes_all files.gives_up
       memory config left left' before now outcome
       × (result ≡ verdict_from outcome)
@@ -126,7 +126,8 @@ module _ {D : Type 0} (state : D → DiskState) (files : FileAnswers D) where
   DoesOrder (check file) left left' before now result =
       ChecksOrder state files.opens_to_read files.closes file before now result × Keeps left left'
   DoesOrder (reclaim config barcode) left left' before now result =
-      ReclaimsOrder state files.reads files.opens files.opens_second files.hands_back files.closes_second config barcode
+      ReclaimsOrder state files.reads files.opens files.opens_second files.returns_disk files.closes_second config
+      barcode
       before now result
       × Keeps left left'
 

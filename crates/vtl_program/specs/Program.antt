@@ -51,7 +51,8 @@ pub record RunsStarted {D : Type 0} (state : D → DiskState) (old : HeldState D
   pub ends : EndsShared state old.bays new.bays new.slots counts
   pub outcome_is : outcome ≡ outcome_of ended counts
 
--- a script was run so; or memory ran out before it, nothing was read or written, and the library is what it was (own)
+-- a script was run in this way; or memory ran out before it, nothing was read or written, and the library is unchanged
+-- (own)
 abbrev pub RunsHeld : {D : Type 0} → (D → DiskState) → (old : HeldState D)
     → (left left' before now : Option (List ℕ)) → (new : HeldState D) → Result (Unit {0}) VtlFault → Type 0
 RunsHeld state old left left' before now new outcome =

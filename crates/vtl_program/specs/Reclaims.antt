@@ -50,15 +50,15 @@ IsLine line (Ok text) = text ≡ line
 IsLine line (Err fault) = fault ≡ NoMemory
 
 -- the line for a cause why a cartridge is not reclaimed, or the fault for that cause (own)
-abbrev pub TellsCause : ReclaimError → Result (List ℕ) VtlFault → Type 0
-TellsCause EpochsSpent lines = IsLine not_reclaimed_line lines
-TellsCause (Cartridge causes.SideFull) lines = IsLine not_reclaimed_line lines
-TellsCause (Cartridge causes.NotOurs) lines = IsLine not_a_side_line lines
-TellsCause (Cartridge (causes.Damaged at)) lines = IsLine (damaged_line at) lines
-TellsCause (Cartridge (causes.BadRecord at)) lines = IsLine (bad_record_line at) lines
-TellsCause (Cartridge (causes.Device fault)) lines = lines ≡ Err Device
-TellsCause (Cartridge causes.Failed) lines = lines ≡ Err Device
-TellsCause (Cartridge causes.NoMemory) lines = lines ≡ Err NoMemory
+abbrev pub PrintsCause : ReclaimError → Result (List ℕ) VtlFault → Type 0
+PrintsCause EpochsSpent lines = IsLine not_reclaimed_line lines
+PrintsCause (Cartridge causes.SideFull) lines = IsLine not_reclaimed_line lines
+PrintsCause (Cartridge causes.NotOurs) lines = IsLine not_a_side_line lines
+PrintsCause (Cartridge (causes.Damaged at)) lines = IsLine (damaged_line at) lines
+PrintsCause (Cartridge (causes.BadRecord at)) lines = IsLine (bad_record_line at) lines
+PrintsCause (Cartridge (causes.Device fault)) lines = lines ≡ Err Device
+PrintsCause (Cartridge causes.Failed) lines = lines ≡ Err Device
+PrintsCause (Cartridge causes.NoMemory) lines = lines ≡ Err NoMemory
 
 module _ {D : Type 0} (state : D → DiskState) where
   -- A cartridge was reclaimed: its copy has room, whatever crash comes the disks give the copy of what a read gave
@@ -77,15 +77,15 @@ module _ {D : Type 0} (state : D → DiskState) where
 
   -- why there is no line: a call of one of the disks failed, and with it a change of base; or memory ran out, none did,
   -- and nothing was written (own)
-  abbrev pub IsUntold : VtlFault → TwoDisks D → TwoDisks D → Type 0
-  IsUntold Device old new =
+  abbrev pub IsNotPrinted : VtlFault → TwoDisks D → TwoDisks D → Type 0
+  IsNotPrinted Device old new =
       (failures_of state old < failures_of state new)
       × ((contents : Contents) → GiveOnly state contents old → FailsToCopy state contents old new)
-  IsUntold NoMemory old new = NoneOfTwo state old new × (AreHonest state old → UnwrittenTwo state old new)
-  IsUntold Words old new = ⊥
-  IsUntold BadConfig old new = ⊥
-  IsUntold (Script line) old new = ⊥
-  IsUntold (Frame number) old new = ⊥
+  IsNotPrinted NoMemory old new = NoneOfTwo state old new × (AreHonest state old → UnwrittenTwo state old new)
+  IsNotPrinted Words old new = ⊥
+  IsNotPrinted BadConfig old new = ⊥
+  IsNotPrinted (Script line) old new = ⊥
+  IsNotPrinted (Frame number) old new = ⊥
 
   -- a cartridge is not reclaimed for the cause that its line says; nothing was written, and what stands there is sure
   -- (own)
@@ -100,28 +100,28 @@ module _ {D : Type 0} (state : D → DiskState) where
     pub none_failed : OnOk lines (NoneOfTwo state old new)
     pub text : IfOk lines (λ text. AreHonest state old →
         IsReclaimed barcode old new text ⊎ RefusesUntouched old new text)
-    pub cause : IfErr lines (λ fault. IsUntold fault old new)
+    pub cause : IfErr lines (λ fault. IsNotPrinted fault old new)
     pub any_moment : AreHonest state old →
         TwoLeave state old new (LeavesVolume (MayLeave state old) (seen_of_two state old))
 
 -- what the line of a reclaim says: that it is done, or why it is not (own)
-abbrev pub verdict_told : List ℕ → Verdict
-verdict_told lines = if starts_with (◌==◌) lines (codes "reclaimed ") then Done else Refused
+abbrev pub verdict_shown : List ℕ → Verdict
+verdict_shown lines = if starts_with (◌==◌) lines (codes "reclaimed ") then Done else Refused
 
 -- the line of a reclaim was written, or a beginning of it, where the writer failed; where there is none, nothing was
 -- written (own)
-abbrev pub TellsReclaim :
+abbrev pub PrintsReclaim :
     Result (List ℕ) VtlFault → (before now : Option (List ℕ)) → Result Verdict VtlFault → Type 0
-TellsReclaim (Ok lines) before now (Ok verdict) = (verdict ≡ verdict_told lines) × Appends before now lines
-TellsReclaim (Ok lines) before now (Err fault) = (fault ≡ Device) × AppendsPart before now lines
-TellsReclaim (Err why) before now result = (result ≡ Err why) × Known.Keeps before now
+PrintsReclaim (Ok lines) before now (Ok verdict) = (verdict ≡ verdict_shown lines) × Appends before now lines
+PrintsReclaim (Ok lines) before now (Err fault) = (fault ≡ Device) × AppendsPart before now lines
+PrintsReclaim (Err why) before now result = (result ≡ Err why) × Known.Keeps before now
 
 -- the cartridge of a configuration that has this barcode, if there is one (own)
 abbrev pub entry_with : List ℕ → List CartridgeEntry → Option CartridgeEntry
 entry_with barcode entries = find (λ entry. bytes_eq entry.barcode barcode) entries
 
 module _ {D : Type 0} (state : D → DiskState) (opens opens_second : List ℕ → Result D FileError → Type 0)
-    (hands_back closes_second : List ℕ → D → Type 0) (barcode : List ℕ) where
+    (returns_disk closes_second : List ℕ → D → Type 0) (barcode : List ℕ) where
   -- both files of a cartridge were opened, and reclaimed under this name; their disks were returned, and the line is
   -- written (own)
   pub record ReclaimsBoth (entry : CartridgeEntry) (before now : Option (List ℕ)) (result : Result Verdict VtlFault) :
@@ -130,16 +130,16 @@ module _ {D : Type 0} (state : D → DiskState) (opens opens_second : List ℕ �
     pub first : opens entry.file (Ok disks.first)
     pub second : opens_second entry.second_file (Ok disks.second)
     pub last : TwoDisks D
-    pub closed : hands_back entry.file last.first × closes_second entry.second_file last.second
+    pub closed : returns_disk entry.file last.first × closes_second entry.second_file last.second
     pub lines : Result (List ℕ) VtlFault
     pub reclaims : Reclaims state barcode disks last lines
-    pub tells : TellsReclaim lines before now result
+    pub prints : PrintsReclaim lines before now result
 
   -- a file was not opened, and nothing is written (own)
   abbrev pub ReclaimsNone : CartridgeEntry → (before now : Option (List ℕ)) → Result Verdict VtlFault → Type 0
   ReclaimsNone entry before now result =
       (fault : VtlFault) × (result ≡ Err fault) × Known.Keeps before now
-      × AreNotOpened opens opens_second hands_back entry.file entry.second_file fault
+      × AreNotOpened opens opens_second returns_disk entry.file entry.second_file fault
 
   -- what is done with the cartridge that was named; where there is none, the words are refused, and nothing is written
   -- (own)

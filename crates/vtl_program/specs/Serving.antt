@@ -51,7 +51,8 @@ pub record ServesStarted {D : Type 0} (state : D → DiskState) (old : HeldState
   pub ends : EndsShared state old.bays new.bays new.slots counts
   pub outcome_is : outcome ≡ served_outcome ended counts
 
--- they were served so; or memory ran out before, nothing was read or written, and the library is what it was (own)
+-- they were served in this way; or memory ran out before, nothing was read or written, and the library is unchanged
+-- (own)
 abbrev pub ServesHeld : {D : Type 0} → (D → DiskState) → (old : HeldState D) → List Label
     → (left left' before now : Option (List ℕ)) → (new : HeldState D) → Result (Unit {0}) VtlFault → Type 0
 ServesHeld state old labels left left' before now new outcome =

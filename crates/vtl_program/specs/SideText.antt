@@ -34,7 +34,7 @@ abbrev pub partition_lines : List Part → List ℕ
 partition_lines volume = flat_map (partition_line volume) (range_with_len 0 (length volume))
 
 -- the lines of a pair that gives a cartridge's contents: that of the cartridge, and of each partition (own)
-pub record TellsContents (contents : Contents) (text : List ℕ) : Type 0 where
+pub record PrintsContents (contents : Contents) (text : List ℕ) : Type 0 where
   pub barcode : List ℕ
   pub is_barcode : IsBarcode barcode
   pub named : contents.head.heading.name ≡ padded barcode
@@ -54,7 +54,7 @@ store_line name frames registrations =
 
 -- the line of a side that gives a store's states: its name without the spaces behind it, its frames, and who is
 -- registered after a loss of power of the last state (own)
-pub record TellsStates (heading : Heading) (states : List PrState) (text : List ℕ) : Type 0 where
+pub record PrintsStates (heading : Heading) (states : List PrState) (text : List ℕ) : Type 0 where
   pub name : List ℕ
   pub has_no_space : All (λ byte. byte ≢ 32) name
   pub named : heading.name ≡ padded name
@@ -79,30 +79,30 @@ bad_record_line at = codes "bad record at " ++ decimal at ++ 10 ∷ []
 -- store. Or it has the gate of the first frame that spells no changes that apply, on a store's side no state (own).
 abbrev pub SideText : Images → List ℕ → Type 0
 SideText images text =
-    ((contents : Contents) × GivesContents contents images × TellsContents contents text)
+    ((contents : Contents) × GivesContents contents images × PrintsContents contents text)
     ⊎ (((heading : Heading) × (states : List PrState) × GivesStates heading states images.0
-    × TellsStates heading states text)
+    × PrintsStates heading states text)
     ⊎ ((IsNoCartridge images × IsNoStore images.0 × (text ≡ not_a_side_line))
     ⊎ (((at : ℕ) × (IsDamagedPairAt images at ⊎ IsDamagedOf Store images.0 at) × (text ≡ damaged_line at))
     ⊎ ((at : ℕ) × (IsBadFrameAt images at ⊎ IsBadStateAt images.0 at) × (text ≡ bad_record_line at)))))
 
 -- why a store has no line: a call of its disk failed; or memory ran out, and none did, and what stands on
 -- the disk is sure (own)
-abbrev pub IsStoreNotTold : VtlFault → DiskState → DiskState → Type 0
-IsStoreNotTold Device old new = old.failures < new.failures
-IsStoreNotTold NoMemory old new = NoneFailed old new × (old.honest → Only old.seen new.may_leave)
-IsStoreNotTold Words old new = ⊥
-IsStoreNotTold Config old new = ⊥
-IsStoreNotTold (Script line) old new = ⊥
-IsStoreNotTold (Frame number) old new = ⊥
+abbrev pub IsStoreNotShown : VtlFault → DiskState → DiskState → Type 0
+IsStoreNotShown Device old new = old.failures < new.failures
+IsStoreNotShown NoMemory old new = NoneFailed old new × (old.honest → Only old.seen new.may_leave)
+IsStoreNotShown Words old new = ⊥
+IsStoreNotShown Config old new = ⊥
+IsStoreNotShown (Script line) old new = ⊥
+IsStoreNotShown (Frame number) old new = ⊥
 
 module _ {D : Type 0} (state : D → DiskState) where
   -- why two disks have no lines: a call of one of them failed; or memory ran out, and none did, and what
   -- stands on them is sure (own)
-  abbrev pub IsNotTold : VtlFault → TwoDisks D → TwoDisks D → Type 0
-  IsNotTold Device old new = failures_of state old < failures_of state new
-  IsNotTold NoMemory old new = NoneOfTwo state old new × (AreHonest state old → OnlyOfTwo state old new)
-  IsNotTold Words old new = ⊥
-  IsNotTold Config old new = ⊥
-  IsNotTold (Script line) old new = ⊥
-  IsNotTold (Frame number) old new = ⊥
+  abbrev pub IsNotShown : VtlFault → TwoDisks D → TwoDisks D → Type 0
+  IsNotShown Device old new = failures_of state old < failures_of state new
+  IsNotShown NoMemory old new = NoneOfTwo state old new × (AreHonest state old → OnlyOfTwo state old new)
+  IsNotShown Words old new = ⊥
+  IsNotShown Config old new = ⊥
+  IsNotShown (Script line) old new = ⊥
+  IsNotShown (Frame number) old new = ⊥

@@ -67,19 +67,19 @@ module _ {D : Type 0} where
       pub sure : (state disk).honest → Only (state disk).seen (state store.disk).may_leave
       pub any_moment : (state disk).honest → LeavesOnly (state disk) (state store.disk) (state disk).may_leave
 
-    -- A disk gives no store, for such a fault, and this is what it is last: a call of it failed, it holds none, or
-    -- memory ran out. But for a failed call a read of it gives what one gave before; and at no moment since it was
-    -- opened a crash left anything new (own).
+    -- A disk gives no store, for this fault, and `last` is its last state: a call of it failed, it holds no store, or
+    -- memory ran out. Without a failed call a read gives the same bytes as before. At no moment since the disk was
+    -- opened did a crash leave anything new (own).
     pub record IsNoStoreOn (disk last : D) (fault : VtlFault) : Type 0 where
       pub error : StoreError
-      pub told : fault ≡ fault_of_store error
+      pub printed : fault ≡ fault_of_store error
       pub cause : IsStoreNotOpened error (state disk) (state last)
       pub keeps : Keeps (state disk) (state last)
       pub same : (state disk).honest → NoneFailed (state disk) (state last)
           → (state last).seen ≡ (state disk).seen
       pub any_moment : (state disk).honest → LeavesOnly (state disk) (state last) (state disk).may_leave
 
-    module _ (opens opens_second : List ℕ → Result D FileError → Type 0) (hands_back : List ℕ → D → Type 0) where
+    module _ (opens opens_second : List ℕ → Result D FileError → Type 0) (returns_disk : List ℕ → D → Type 0) where
       -- The sides that files hold, by what an opening of a file may answer and which disks may be returned. A
       -- cartridge's are the disks that the openings of its entry's two files gave, as they were opened; a drive's is a
       -- store that was found on such a disk. Or a file was not opened, or the disk gives no store, and it was returned
@@ -90,13 +90,13 @@ module _ {D : Type 0} where
             (first second : D) × opens entry.file (Ok first) × opens_second entry.second_file (Ok second)
             × IsUnreadOver first second cartridge;
         refuses_cartridge = λ entry fault.
-            AreNotOpened opens opens_second hands_back entry.file entry.second_file fault;
+            AreNotOpened opens opens_second returns_disk entry.file entry.second_file fault;
         gives_store = λ entry store.
             (disk : D) × opens entry.reservations (Ok disk) × IsStoreOn disk store;
         refuses_store = λ entry fault.
             ((fault ≡ Device) × ((error : FileError) × opens entry.reservations (Err error)))
             ⊎ ((disk : D) × opens entry.reservations (Ok disk)
-            × ((last : D) × hands_back entry.reservations last × IsNoStoreOn disk last fault));
+            × ((last : D) × returns_disk entry.reservations last × IsNoStoreOn disk last fault));
       }
 
 -- new sides, made as their entries say: only memory may run out (own)

@@ -133,13 +133,15 @@ module _ {D : Type 0} (state : D → DiskState) (sides : SidesGiven D) (gives_up
       (starting : StartingState D) × gives_up (record { starting = starting; store = None })
       × AreOn sides.gives_cartridge state sides.gives_store entries drives starting
 
-  -- one of these cartridges is refused so, the first, and all that was given before it is given up (own)
+  -- one of these cartridges is the first to be refused, with this fault, and all that was given before it is given up
+  -- (own)
   abbrev pub CartridgeIsRefused : List CartridgeEntry → VtlFault → Type 0
   CartridgeIsRefused entries fault =
       (refused : IsRefusedIn sides.gives_cartridge (λ entry. sides.refuses_cartridge entry fault) entries)
       × IsGivenUp refused.before []
 
-  -- the store of one of these drives is refused so, the first, and all that was given before it is given up (own)
+  -- the store of one of these drives is the first to be refused, with this fault, and all that was given before it is
+  -- given up (own)
   abbrev pub StoreIsRefused : List CartridgeEntry → List DriveEntry → VtlFault → Type 0
   StoreIsRefused entries drives fault =
       (refused : IsRefusedIn sides.gives_store (λ entry. sides.refuses_store entry fault) drives)

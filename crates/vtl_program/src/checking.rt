@@ -13,7 +13,7 @@ ghost use Rattle.gate_journal.specs.Answers.{NoneFailed};
 ghost use Rattle.cartridge.specs.Contents.{IsNoCartridge};
 ghost use Rattle.cartridge.specs.Disks.{NoneOfTwo, OnlyOfTwo};
 ghost use Rattle.vtl_program.specs.Checks.{both, disks_checked};
-ghost use Rattle.vtl_program.specs.SideText.{IsNotTold, IsStoreNotTold, SideText, TellsContents, TellsStates, bad_record_line, cartridge_line, damaged_line, partition_lines, registrations_in, store_line};
+ghost use Rattle.vtl_program.specs.SideText.{IsNotShown, IsStoreNotShown, SideText, PrintsContents, PrintsStates, bad_record_line, cartridge_line, damaged_line, partition_lines, registrations_in, store_line};
 
 use crate::programs::VtlFault;
 use aptpl_store::{AptplStore, StoreError, StoreRefused};
@@ -92,7 +92,7 @@ fn add_partitions<D: Disk>(
 // The lines of an open cartridge.
 fn contents_text<D: Disk>(alloc: Global, cartridge: &Cartridge<D>) -> Result<Bytes, NoMemory>
     ensures { IfOk result (λ text. IsName Kinds.Cartridge cartridge.now.contents.head.heading.name
-        → TellsContents cartridge.now.contents text) }
+        → PrintsContents cartridge.now.contents text) }
 {
     let mut text = Vec::new(alloc);
     let barcode = text_of(cartridge.barcode());
@@ -147,7 +147,7 @@ fn states_text<D: Disk>(
 ) -> Result<Bytes, NoMemory>
     ensures { IfOk result (λ text. IsName Kinds.Store store.now.heading.name
         → left.now ≡ power_loss (latest store.now.states)
-        → TellsStates store.now.heading store.now.states text) }
+        → PrintsStates store.now.heading store.now.states text) }
 {
     let mut text = Vec::new(alloc);
     let name = text_of(store.name());
@@ -156,7 +156,7 @@ fn states_text<D: Disk>(
 }
 
 // A text, or `NoMemory` where memory ran out for it.
-pub(crate) fn told(text: Result<Bytes, NoMemory>) -> Result<Bytes, VtlFault>
+pub(crate) fn text_or_fault(text: Result<Bytes, NoMemory>) -> Result<Bytes, VtlFault>
     ensures ok { IfOk result (λ lines. text ≡ Ok lines) }
     ensures err { IfErr result (λ fault. fault ≡ VtlFault.NoMemory) }
 {
@@ -200,13 +200,13 @@ fn check_store<D: Disk>(alloc: Global, first: D, second: D) -> Checked<D>
         IsNoCartridge ((D.state first).seen, two) → SideText ((D.state first).seen, two) text
         × Only (D.state first).seen (D.state result.first).may_leave) }
     ensures cause { IfErr result.lines (λ fault.
-        IsStoreNotTold fault (D.state first) (D.state result.first)) }
+        IsStoreNotShown fault (D.state first) (D.state result.first)) }
     ensures any_moment { (D.state first).honest →
         LeavesOnly (D.state first) (D.state result.first) (D.state first).may_leave }
 {
     match AptplStore::open(alloc, first) {
         Ok((store, left)) => {
-            let lines = told(states_text(alloc, &store, &left));
+            let lines = text_or_fault(states_text(alloc, &store, &left));
             let first = store.close();
             Checked {
                 lines,
@@ -232,10 +232,10 @@ fn check_store<D: Disk>(alloc: Global, first: D, second: D) -> Checked<D>
     }
 }
 
-/// The lines of `vtl check`: of a cartridge its barcode and its partitions, of a store of reservations its
-/// name, its frames and how many are registered after a loss of power, else why the side gives neither. It
-/// opens both disks as a cartridge; where no side of it counts, the first one as a store. Each opening begins
-/// with a sync and writes nothing. After an `Err` the disks stand for what they stood for.
+/// The lines of `vtl check`: of a cartridge its barcode and its partitions, of a store of reservations its name, its
+/// frames and how many are registered after a loss of power, else why the side gives neither. It opens both disks as a
+/// cartridge; where no side of it counts, the first one as a store. Each opening begins with a sync and writes nothing.
+/// After an `Err` the disks stand for the same as before.
 pub fn check_side<D: Disk>(alloc: Global, first: D, second: D) -> Checked<D>
     ensures disks { KeepsDisks D.state (both first second) (disks_checked result) }
     ensures ok { OnOk result.lines (NoneOfTwo D.state (both first second) (disks_checked result)) }
@@ -243,13 +243,13 @@ pub fn check_side<D: Disk>(alloc: Global, first: D, second: D) -> Checked<D>
         SideText (seen_of_two D.state (both first second)) text
         × OnlyOfTwo D.state (both first second) (disks_checked result)) }
     ensures cause { IfErr result.lines (λ fault.
-        IsNotTold D.state fault (both first second) (disks_checked result)) }
+        IsNotShown D.state fault (both first second) (disks_checked result)) }
     ensures any_moment { AreHonest D.state (both first second) →
         TwoLeave D.state (both first second) (disks_checked result) (MayLeave D.state (both first second)) }
 {
     match Cartridge::open(alloc, Shelved::of(first, second)) {
         Ok(cartridge) => {
-            let lines = told(contents_text(alloc, &cartridge));
+            let lines = text_or_fault(contents_text(alloc, &cartridge));
             let (first, second) = cartridge.shelve().into_disks();
             Checked {
                 lines,

@@ -2,11 +2,11 @@
 ghost use Rattle.std.specs.Prelude.{◌≡◌, ◌++◌, ◌∷◌, [], IsTrue, IfOk, IfErr, OnOk, map, codes, decimal, string_bytes};
 ghost use Rattle.std.specs.Io.KnownBytes.{Appends};
 ghost use Rattle.volume_core.specs.Volume.{are_capacities};
-ghost use Rattle.vtl_program.specs.Creating.{CartridgeFile, IsMadeOrKept, IsNewFile, IsNotMade, IsNotOut, StoreFile, TellsFiles, fate_line, fate_word, files_of, makes_of};
+ghost use Rattle.vtl_program.specs.Creating.{CartridgeFile, IsMadeOrKept, IsNewFile, IsNotMade, IsNotOut, StoreFile, PrintsFiles, fate_line, fate_word, files_of, makes_of};
 
 use crate::files::{MakeFiles, SecondFiles};
 use crate::programs::VtlFault;
-use crate::writing::tell;
+use crate::writing::print_text;
 use aptpl_store::{AptplStore, StoreError, StoreRefused};
 use cartridge::{Cartridge, CartridgeError, NotCreated};
 use file_disk::FileError;
@@ -16,7 +16,7 @@ use tape_disk::Disk;
 use vtl_base::{Barcode, DriveNo};
 use vtl_config::{Capacities, CartridgeEntry, Config, DriveEntry, FileName, UsedName};
 
-/// What became of a file.
+/// What `create` did with a file.
 #[derive(Clone, Copy, PartialEq, Eq, Debug)]
 pub enum Fate {
     /// It was missing, and is made.
@@ -159,7 +159,7 @@ fn line_of(alloc: Global, fate: Fate, label: &[u8]) -> Result<Vec<u8>, AllocErro
 }
 
 // Reports what became of the file with this label.
-fn tell_fate<W: Write>(
+fn print_fate<W: Write>(
     alloc: Global,
     writer: &mut W,
     fate: Fate,
@@ -171,7 +171,7 @@ fn tell_fate<W: Write>(
         (IsNotOut (fate_line label.now fate) (W.contents writer.old) (W.contents writer.new)) }
 {
     match line_of(alloc, fate, label) {
-        Ok(line) => tell(writer, line.as_slice()),
+        Ok(line) => print_text(writer, line.as_slice()),
         Err(_) => Err(VtlFault::NoMemory),
     }
 }
@@ -191,12 +191,12 @@ fn make_cartridge<D: Disk + Drop, F: MakeFiles<D> + SecondFiles<D>, W: Write>(
     entry: CartridgeEntry,
     writer: &mut W,
 ) -> Result<(), VtlFault>
-    ensures { TellsFiles D.state (makes_of F.makes F.leaves F.takes_away F.opens_second F.closes_second)
+    ensures { PrintsFiles D.state (makes_of F.makes F.leaves F.takes_away F.opens_second F.closes_second)
         (CartridgeFile entry ∷ [])
         (W.contents writer.old) (W.contents writer.new) result }
 {
     match create_cartridge::<D, F>(alloc, files, entry) {
-        Ok((fate, barcode)) => tell_fate(alloc, writer, fate, barcode.as_bytes()),
+        Ok((fate, barcode)) => print_fate(alloc, writer, fate, barcode.as_bytes()),
         Err(fault) => Err(fault),
     }
 }
@@ -208,7 +208,7 @@ fn make_cartridges<D: Disk + Drop, F: MakeFiles<D> + SecondFiles<D>, W: Write>(
     entries: Vec<CartridgeEntry>,
     writer: &mut W,
 ) -> Result<(), VtlFault>
-    ensures { TellsFiles D.state (makes_of F.makes F.leaves F.takes_away F.opens_second F.closes_second)
+    ensures { PrintsFiles D.state (makes_of F.makes F.leaves F.takes_away F.opens_second F.closes_second)
         (map CartridgeFile entries.items)
         (W.contents writer.old) (W.contents writer.new) result }
 {
@@ -227,14 +227,14 @@ fn make_store<D: Disk + Drop, F: MakeFiles<D> + SecondFiles<D>, W: Write>(
     entry: DriveEntry,
     writer: &mut W,
 ) -> Result<(), VtlFault>
-    ensures { TellsFiles D.state (makes_of F.makes F.leaves F.takes_away F.opens_second F.closes_second)
+    ensures { PrintsFiles D.state (makes_of F.makes F.leaves F.takes_away F.opens_second F.closes_second)
         (StoreFile entry ∷ [])
         (W.contents writer.old) (W.contents writer.new) result }
 {
     let number = entry.number;
     match create_store::<D, F>(alloc, files, entry) {
         Ok(fate) => match label_of(alloc, number) {
-            Ok(label) => tell_fate(alloc, writer, fate, label.as_bytes()),
+            Ok(label) => print_fate(alloc, writer, fate, label.as_bytes()),
             Err(_) => Err(VtlFault::NoMemory),
         },
         Err(fault) => Err(fault),
@@ -248,7 +248,7 @@ fn make_stores<D: Disk + Drop, F: MakeFiles<D> + SecondFiles<D>, W: Write>(
     entries: Vec<DriveEntry>,
     writer: &mut W,
 ) -> Result<(), VtlFault>
-    ensures { TellsFiles D.state (makes_of F.makes F.leaves F.takes_away F.opens_second F.closes_second)
+    ensures { PrintsFiles D.state (makes_of F.makes F.leaves F.takes_away F.opens_second F.closes_second)
         (map StoreFile entries.items)
         (W.contents writer.old) (W.contents writer.new) result }
 {
@@ -272,7 +272,7 @@ pub fn create_missing<D: Disk + Drop, F: MakeFiles<D> + SecondFiles<D>, W: Write
     config: Config,
     writer: &mut W,
 ) -> Result<(), VtlFault>
-    ensures { TellsFiles D.state (makes_of F.makes F.leaves F.takes_away F.opens_second F.closes_second)
+    ensures { PrintsFiles D.state (makes_of F.makes F.leaves F.takes_away F.opens_second F.closes_second)
         (files_of config)
         (W.contents writer.old) (W.contents writer.new) result }
 {

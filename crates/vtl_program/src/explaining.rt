@@ -34,7 +34,7 @@ pub fn asks(words: &Result<Vec<String>, VtlFault>) -> bool
     }
 }
 
-/// Whether they ask for one of the lines of a script: where frames are served there are none.
+/// Whether the words ask for an explanation of a script's lines. Where frames are served there are no such lines.
 pub fn asks_of_lines(alloc: Global, words: &Result<Vec<String>, VtlFault>) -> bool {
     match words {
         Ok(words) if asks_to_explain(words.as_slice()) => {
@@ -233,8 +233,8 @@ fn is_wanted(asked: bool, reported: bool) -> bool
     asked && reported
 }
 
-/// The program as `run` runs it. Behind the line of its fault stand the lines that explain it, where the words ask for
-/// them and that line was written. By then the program has done all that it does, and its status stands.
+/// Runs the program, as `run` does. Behind the line of a fault it writes the lines that explain the fault, if the words
+/// ask for them and that line was written. Before these lines the program has done all else, and its status is decided.
 pub fn run_explained<
     D: Disk + Drop + Send,
     F: TextFiles
@@ -258,7 +258,7 @@ pub fn run_explained<
     errors: &mut E,
 ) -> Ended
     ensures { RunsExplained D.state
-        (answers_of F.reads F.opens_to_read F.closes F.opens F.hands_back F.closes_all F.gives_up
+        (answers_of F.reads F.opens_to_read F.closes F.opens F.returns_disk F.closes_all F.gives_up
         F.opens_second F.closes_second F.makes F.leaves F.takes_away)
         (given_words words)
         (I.remaining reader.old) (I.remaining reader.new)

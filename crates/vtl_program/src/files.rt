@@ -73,7 +73,7 @@ pub trait ChangeFiles<D> {
     ghost opens: { List ℕ → Result D FileError → Type 0 };
 
     // The disk that was returned for a name.
-    ghost hands_back: { List ℕ → D → Type 0 };
+    ghost returns_disk: { List ℕ → D → Type 0 };
 
     /// A disk over the file of this name, which is used up.
     fn open(&self, name: FileName) -> (UsedName, Result<D, FileError>)
@@ -81,12 +81,12 @@ pub trait ChangeFiles<D> {
         ensures answer { opens name result.1 };
 
     /// Takes a disk back, as it is.
-    fn hand_back(&self, name: UsedName, disk: D)
-        ensures { hands_back name disk };
+    fn return_disk(&self, name: UsedName, disk: D)
+        ensures { returns_disk name disk };
 }
 
-/// What takes back the disks of a library that is no longer used: of an `L` that was run, or of an `S` that was not
-/// switched on.
+/// Takes back the disks of a library that is no longer used: of an `L` that was run, or of an `S` that was not switched
+/// on.
 pub trait TakesBack<L, S> {
     // The library that was taken back.
     ghost closes_all: { L → Type 0 };
@@ -233,7 +233,7 @@ impl<'a> SecondFiles<SystemDisk<'a>> for SystemFiles<'a> {
 impl<'a> ChangeFiles<SystemDisk<'a>> for SystemFiles<'a> {
     ghost opens = { λ name answer. Unit {0} };
 
-    ghost hands_back = { λ name disk. Unit {0} };
+    ghost returns_disk = { λ name disk. Unit {0} };
 
     fn open(&self, name: FileName) -> (UsedName, Result<SystemDisk<'a>, FileError>) {
         let name = name.use_up();
@@ -243,7 +243,7 @@ impl<'a> ChangeFiles<SystemDisk<'a>> for SystemFiles<'a> {
         (name, answer)
     }
 
-    fn hand_back(&self, name: UsedName, mut disk: SystemDisk<'a>) {
+    fn return_disk(&self, name: UsedName, mut disk: SystemDisk<'a>) {
         let number = disk.disk.number;
         self.notes.give_back(self.rt.alloc(), name.as_str(), number);
         self.notes.look(self.rt.alloc(), name.as_str(), &mut disk);

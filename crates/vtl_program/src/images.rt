@@ -226,18 +226,18 @@ fn add_refusal(
     second: Image,
     lines: &mut Explanation,
 ) -> Result<(), AllocError> {
-    let Some(told) = lines_over(alloc, first.bytes.as_slice(), second.bytes.as_slice()) else {
+    let Some(printed) = lines_over(alloc, first.bytes.as_slice(), second.bytes.as_slice()) else {
         return Ok(());
     };
-    let told = told.as_slice();
-    if told == b"not a side\n".as_slice() || told.starts_with(b"reservations ") {
+    let printed = printed.as_slice();
+    if printed == b"not a side\n".as_slice() || printed.starts_with(b"reservations ") {
         return add_no_side(alloc, first.file.as_str(), is_reclaim, lines);
     }
-    if told.starts_with(b"cartridge ") {
+    if printed.starts_with(b"cartridge ") {
         return add_no_copy(alloc, first.file.as_str(), lines);
     }
-    let damaged = place_behind(b"damaged at ", told);
-    match damaged.or(place_behind(b"bad record at ", told)) {
+    let damaged = place_behind(b"damaged at ", printed);
+    match damaged.or(place_behind(b"bad record at ", printed)) {
         Some(place) => add_damage(alloc, first, second, place, lines),
         None => Ok(()),
     }

@@ -30,7 +30,7 @@ impl OutputNote {
         }
     }
 
-    /// Takes out what the first write that failed was answered.
+    /// Takes out the answer to the first write that failed.
     pub fn failed(&self) -> Option<Answer> {
         let mut held = self.answer.try_lock()?;
         held.take()

@@ -1,4 +1,4 @@
-//! What the calls for files answered, noted for an explanation.
+//! Notes of the answers to calls for files, for an explanation.
 use crate::images::Images;
 use crate::noted_streams::OutputNote;
 use crate::open_files::OpenFiles;
@@ -19,7 +19,7 @@ pub struct ConfigText {
     pub text: Vec<u8>,
 }
 
-/// What the calls for files and streams answered. Where memory runs out for a note, it is left out.
+/// Notes of the answers to calls for files and streams. A note for which memory runs out is left out.
 #[derive(Drop)]
 pub struct Notes {
     is_on: bool,
@@ -63,7 +63,7 @@ impl Notes {
         &self.files
     }
 
-    /// Notes what reading a file was answered.
+    /// Notes the answer to reading a file.
     pub fn read(&self, alloc: Global, file: &str, answer: &io::Result<Vec<u8>>) {
         if !self.is_on {
             return;
@@ -94,7 +94,7 @@ impl Notes {
         self.failed.set(Some(kept));
     }
 
-    /// Notes what opening or making a file was answered. Where a file that was to be made is there already, that is no
+    /// Notes the answer to opening or making a file. Where a file that was to be made is there already, that is no
     /// fault.
     pub fn open<D>(
         &self,
@@ -176,7 +176,7 @@ impl Notes {
         frames.reason()
     }
 
-    /// What standard output answered, noted for an explanation.
+    /// The note of the answers of standard output, for an explanation.
     pub fn output(&self) -> &OutputNote {
         &self.output
     }

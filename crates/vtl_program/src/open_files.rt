@@ -1,4 +1,4 @@
-//! Which files were opened, and which of their calls failed, noted for an explanation. Threads share it.
+//! Notes of the files that were opened, and of their calls that failed, for an explanation. Threads share it.
 use explanations::Explanation;
 use file_disk::{FailedCall, FileDisk, SystemCall};
 use file_reasons::{FileReason, MemoryReason};
@@ -61,7 +61,7 @@ impl OpenFiles {
         number
     }
 
-    /// Notes that the file of this number is used.
+    /// Notes that the file with this number was used last. 0 is no file.
     pub fn used(&self, number: u64) {
         if number > 0 {
             self.last.store(number, Ordering::SeqCst);
@@ -73,7 +73,7 @@ impl OpenFiles {
         self.has_failed.load(Ordering::SeqCst)
     }
 
-    /// Whether a call for the file of this number failed; for one that is left out, whether any call did.
+    /// Whether a call for the file with this number failed; for a file that is left out, whether any call failed.
     pub fn has_failed_for(&self, number: u64) -> bool {
         if number == 0 {
             return self.has_failed();

@@ -1,4 +1,4 @@
-//! Both files of a cartridge are opened.
+//! Opens both files of a cartridge.
 ghost use Rattle.std.specs.Prelude.{IfOk, IfErr};
 ghost use Rattle.vtl_program.specs.Opened.{AreOpened, AreNotOpened};
 
@@ -14,7 +14,7 @@ pub(crate) fn opened_both<D, F: ChangeFiles<D> + SecondFiles<D>>(
     second_file: FileName,
 ) -> Result<((UsedName, D), (UsedName, D)), VtlFault>
     ensures ok { IfOk result (AreOpened F.opens F.opens_second file second_file) }
-    ensures err { IfErr result (AreNotOpened F.opens F.opens_second F.hands_back file second_file) }
+    ensures err { IfErr result (AreNotOpened F.opens F.opens_second F.returns_disk file second_file) }
 {
     let (name, opened) = files.open(file);
     let first = match opened {
@@ -25,7 +25,7 @@ pub(crate) fn opened_both<D, F: ChangeFiles<D> + SecondFiles<D>>(
     match opened {
         Ok(second) => Ok(((name, first), (second_name, second))),
         Err(_) => {
-            files.hand_back(name, first);
+            files.return_disk(name, first);
             Err(VtlFault::Device)
         }
     }

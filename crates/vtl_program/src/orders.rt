@@ -18,7 +18,7 @@ use crate::serving::serve_order;
 use crate::side_checks::check_named;
 use crate::sides::{FileSides, NewSides, Sides};
 use crate::starting::{NotStarted, Starting, built_in, start};
-use crate::writing::tell;
+use crate::writing::print_text;
 use bays::Held;
 use std::alloc::Global;
 use std::io::{Read, Write};
@@ -98,7 +98,8 @@ fn run_order<
     reader: &mut I,
     writer: &mut W,
 ) -> Result<(), VtlFault>
-    ensures { RunsOrder D.state F.reads (file_sides D.state F.opens F.opens_second F.hands_back) F.closes_all F.gives_up
+    ensures { RunsOrder D.state F.reads (file_sides D.state F.opens F.opens_second F.returns_disk) F.closes_all
+        F.gives_up
         memory (option_map string_bytes config)
         (I.remaining reader.old) (I.remaining reader.new)
         (W.contents writer.old) (W.contents writer.new) result }
@@ -144,7 +145,7 @@ fn reclaim_order<D: Disk + Drop, F: TextFiles + ChangeFiles<D> + SecondFiles<D>,
     barcode: &Barcode,
     writer: &mut W,
 ) -> Result<Verdict, VtlFault>
-    ensures { ReclaimsOrder D.state F.reads F.opens F.opens_second F.hands_back F.closes_second name.now barcode.now
+    ensures { ReclaimsOrder D.state F.reads F.opens F.opens_second F.returns_disk F.closes_second name.now barcode.now
         (W.contents writer.old) (W.contents writer.new) result }
 {
     let config = config_in(alloc, files, name)?;
@@ -172,7 +173,7 @@ fn do_order<
     writer: &mut W,
 ) -> Result<Verdict, VtlFault>
     ensures { DoesOrder D.state
-        (answers_of F.reads F.opens_to_read F.closes F.opens F.hands_back F.closes_all F.gives_up
+        (answers_of F.reads F.opens_to_read F.closes F.opens F.returns_disk F.closes_all F.gives_up
         F.opens_second F.closes_second F.makes F.leaves F.takes_away)
         (asked_of order)
         (I.remaining reader.old) (I.remaining reader.new)
@@ -204,7 +205,7 @@ fn answer_words<W: Write>(error: WordsError, writer: &mut W) -> Result<Verdict, 
 {
     match error {
         WordsError::Help(text) => {
-            tell(writer, text.as_bytes())?;
+            print_text(writer, text.as_bytes())?;
             Ok(Verdict::Done)
         }
         WordsError::Refused => Err(VtlFault::Words),
@@ -233,7 +234,7 @@ pub fn obey<
     writer: &mut W,
 ) -> Result<Verdict, VtlFault>
     ensures { Obeys D.state
-        (answers_of F.reads F.opens_to_read F.closes F.opens F.hands_back F.closes_all F.gives_up
+        (answers_of F.reads F.opens_to_read F.closes F.opens F.returns_disk F.closes_all F.gives_up
         F.opens_second F.closes_second F.makes F.leaves F.takes_away)
         (texts_of words.now)
         (I.remaining reader.old) (I.remaining reader.new)
@@ -269,7 +270,7 @@ pub fn run<
     errors: &mut E,
 ) -> Ended
     ensures { RunsProgram D.state
-        (answers_of F.reads F.opens_to_read F.closes F.opens F.hands_back F.closes_all F.gives_up
+        (answers_of F.reads F.opens_to_read F.closes F.opens F.returns_disk F.closes_all F.gives_up
         F.opens_second F.closes_second F.makes F.leaves F.takes_away)
         (given_words words)
         (I.remaining reader.old) (I.remaining reader.new)

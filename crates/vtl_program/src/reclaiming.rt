@@ -1,13 +1,13 @@
 //! Reclaiming a cartridge of a configuration, and the line that reports it.
 ghost use Rattle.std.specs.Prelude.{◌≡◌, ◌≤◌, ◌+◌, ◌++◌, Some, Ok, bytes_eq, length, vec_capacity, vec_len};
 ghost use Rattle.vtl_program.specs.Checks.{both, disks_checked};
-ghost use Rattle.vtl_program.specs.Reclaims.{Reclaims, ReclaimsEntry, ReclaimsNamed, TellsCause, TellsReclaim, entry_with, reclaimed_line, verdict_told};
+ghost use Rattle.vtl_program.specs.Reclaims.{Reclaims, ReclaimsEntry, ReclaimsNamed, PrintsCause, PrintsReclaim, entry_with, reclaimed_line, verdict_shown};
 
 use crate::checking::{Checked, bad_record_text, damaged_text, line_text};
 use crate::files::{ChangeFiles, SecondFiles};
 use crate::opened::opened_both;
 use crate::programs::{Verdict, VtlFault};
-use crate::writing::tell;
+use crate::writing::print_text;
 use cartridge::{CartridgeError, NotReclaimed, ReclaimError, Shelved};
 use itoa::Buffer;
 use std::alloc::Global;
@@ -51,7 +51,7 @@ fn reclaimed_text(room: Vec<u8>, barcode: &Barcode, epoch: u64) -> Bytes
 
 // The line of a cartridge that was not reclaimed, for this cause.
 fn refusal_text(alloc: Global, error: ReclaimError) -> Result<Bytes, VtlFault>
-    ensures { TellsCause error result }
+    ensures { PrintsCause error result }
 {
     let error = match error {
         ReclaimError::Cartridge(error) => error,
@@ -121,7 +121,7 @@ fn reclaim_with<D: Disk>(
 
 // Whether the line of a reclaim says that the cartridge was reclaimed, or why it was not.
 fn verdict_of(lines: &[u8]) -> Verdict
-    ensures { result ≡ verdict_told lines.now }
+    ensures { result ≡ verdict_shown lines.now }
 {
     if lines.starts_with(b"reclaimed ") {
         Verdict::Done
@@ -131,17 +131,17 @@ fn verdict_of(lines: &[u8]) -> Verdict
 }
 
 // Writes the line of a reclaim, where there is one.
-fn tell_reclaim<W: Write>(
+fn print_reclaim<W: Write>(
     lines: Result<Bytes, VtlFault>,
     writer: &mut W,
 ) -> Result<Verdict, VtlFault>
-    ensures { TellsReclaim lines (W.contents writer.old) (W.contents writer.new) result }
+    ensures { PrintsReclaim lines (W.contents writer.old) (W.contents writer.new) result }
 {
     let lines = match lines {
         Ok(lines) => lines,
         Err(fault) => return Err(fault),
     };
-    match tell(writer, lines.as_slice()) {
+    match print_text(writer, lines.as_slice()) {
         Ok(()) => Ok(verdict_of(lines.as_slice())),
         Err(fault) => Err(fault),
     }
@@ -155,7 +155,7 @@ fn reclaim_files<D: Disk, F: ChangeFiles<D> + SecondFiles<D>, W: Write>(
     barcode: &Barcode,
     writer: &mut W,
 ) -> Result<Verdict, VtlFault>
-    ensures { ReclaimsEntry D.state F.opens F.opens_second F.hands_back F.closes_second barcode.now (Some entry)
+    ensures { ReclaimsEntry D.state F.opens F.opens_second F.returns_disk F.closes_second barcode.now (Some entry)
         (W.contents writer.old) (W.contents writer.new) result }
 {
     let CartridgeEntry {
@@ -172,9 +172,9 @@ fn reclaim_files<D: Disk, F: ChangeFiles<D> + SecondFiles<D>, W: Write>(
                 first,
                 second,
             } = reclaim_side(alloc, barcode, first, second);
-            files.hand_back(name, first);
+            files.return_disk(name, first);
             files.close_second(second_name, second);
-            tell_reclaim(lines, writer)
+            print_reclaim(lines, writer)
         }
         Err(fault) => Err(fault),
     }
@@ -207,7 +207,7 @@ pub fn reclaim_named<D: Disk, F: ChangeFiles<D> + SecondFiles<D>, W: Write>(
     barcode: &Barcode,
     writer: &mut W,
 ) -> Result<Verdict, VtlFault>
-    ensures { ReclaimsNamed D.state F.opens F.opens_second F.hands_back F.closes_second barcode.now (Ok config)
+    ensures { ReclaimsNamed D.state F.opens F.opens_second F.returns_disk F.closes_second barcode.now (Ok config)
         (W.contents writer.old) (W.contents writer.new) result }
 {
     match entry_with(config.cartridges, barcode) {

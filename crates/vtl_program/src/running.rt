@@ -22,7 +22,7 @@ use vtl_base::Nexus;
 use vtl_base::limits::NEXUSES;
 use vtl_script::ScriptFault;
 
-/// What a run leaves.
+/// The result of a run.
 #[derive(Drop)]
 pub struct Left<D: Disk> {
     /// The library.
@@ -69,7 +69,7 @@ pub(crate) fn count_drives<D: Disk>(bays: &[Option<Bay<D>>]) -> u64
     count
 }
 
-/// What is left where memory runs out before the first line or frame.
+/// The result where memory runs out before the first line or frame.
 pub(crate) fn not_begun<D: Disk + Drop>(
     alloc: Global,
     bays: Vec<Option<Bay<D>>>,

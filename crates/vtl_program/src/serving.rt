@@ -1,4 +1,4 @@
-//! Serving frames over a library, for all hosts at once.
+//! Serves frames over a library, for all hosts at the same time.
 ghost use Rattle.std.specs.Prelude.{◌≡◌, ℕ, List, IfOk, option_map, string_bytes};
 ghost use Rattle.vtl_config.specs.Configs.{Says};
 ghost use Rattle.vtl_program.specs.Program.{HaveAcceptedNone};
@@ -161,7 +161,7 @@ pub(crate) fn serve_order<
     reader: &mut I,
     writer: &mut W,
 ) -> Result<(), VtlFault>
-    ensures { ServesOrder D.state F.reads (file_sides D.state F.opens F.opens_second F.hands_back) F.closes_all
+    ensures { ServesOrder D.state F.reads (file_sides D.state F.opens F.opens_second F.returns_disk) F.closes_all
         F.gives_up memory (option_map string_bytes config)
         (I.remaining reader.old) (I.remaining reader.new)
         (W.contents writer.old) (W.contents writer.new) result }

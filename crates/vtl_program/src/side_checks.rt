@@ -1,12 +1,12 @@
 //! Reporting what two files hold.
 ghost use Rattle.std.specs.Prelude.{◌≡◌, ◌==◌, ◌||◌, List, ℕ, IfOk, IfErr, MatchOption, codes};
 ghost use Rattle.std.specs.List.{starts_with};
-ghost use Rattle.vtl_program.specs.Checks.{ChecksOrder, IsSecondRead, IsSecondUnread, TellsLines, verdict_of};
+ghost use Rattle.vtl_program.specs.Checks.{ChecksOrder, IsSecondRead, IsSecondUnread, PrintsLines, verdict_of};
 
 use crate::checking::{Checked, check_side};
 use crate::files::ReadFiles;
 use crate::programs::{Verdict, VtlFault};
-use crate::writing::tell;
+use crate::writing::print_text;
 use file_disk::FileError;
 use std::alloc::Global;
 use std::io::Write;
@@ -28,17 +28,17 @@ fn verdict_of(lines: &[u8]) -> Verdict
 /// Writes the lines of a side. Returns `Done` where they say what it holds, `Refused` where they say why it gives
 /// nothing. The error is `Device` where the writer fails. Where `lines` is a fault, nothing is written, and that fault
 /// is returned.
-pub fn tell_lines<W: Write>(
+pub fn print_lines<W: Write>(
     lines: Result<Bytes, VtlFault>,
     writer: &mut W,
 ) -> Result<Verdict, VtlFault>
-    ensures { TellsLines lines (W.contents writer.old) (W.contents writer.new) result }
+    ensures { PrintsLines lines (W.contents writer.old) (W.contents writer.new) result }
 {
     let lines = match lines {
         Ok(lines) => lines,
         Err(fault) => return Err(fault),
     };
-    match tell(writer, lines.as_slice()) {
+    match print_text(writer, lines.as_slice()) {
         Ok(()) => Ok(verdict_of(lines.as_slice())),
         Err(fault) => Err(fault),
     }
@@ -86,5 +86,5 @@ pub fn check_named<D: Disk, F: ReadFiles<D>, W: Write>(
     } = check_side(alloc, first, second);
     files.close(name, first);
     files.close(second_name.as_str(), second);
-    tell_lines(lines, writer)
+    print_lines(lines, writer)
 }

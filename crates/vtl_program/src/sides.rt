@@ -27,7 +27,7 @@ pub struct DriveStore<D: Disk> {
     pub left: Reservations,
 }
 
-/// What gives the sides of a library, entry by entry.
+/// A source of the sides of a library, entry by entry.
 pub trait Sides<D: Disk> {
     // What a side may be, and why one may be refused.
     ghost given: { SidesGiven D };
@@ -97,7 +97,7 @@ fn opened<D: Disk>(alloc: Global, disk: D) -> Result<DriveStore<D>, NoStore<D>>
 impl<'a, D: Disk, F: ChangeFiles<D> + SecondFiles<D>> Sides<D> for FileSides<'a, F> {
     ghost use Rattle.vtl_program.specs.Sides.{file_sides};
 
-    ghost given = { file_sides D.state F.opens F.opens_second F.hands_back };
+    ghost given = { file_sides D.state F.opens F.opens_second F.returns_disk };
 
     fn cartridge(&self, alloc: Global, entry: CartridgeEntry) -> Result<Parked<D>, VtlFault> {
         match opened_both::<D, F>(self.files, entry.file, entry.second_file) {
@@ -113,7 +113,7 @@ impl<'a, D: Disk, F: ChangeFiles<D> + SecondFiles<D>> Sides<D> for FileSides<'a,
                 Ok(store) => Ok(store),
                 Err(none) => {
                     let NoStore { fault, disk } = none;
-                    self.files.hand_back(name, disk);
+                    self.files.return_disk(name, disk);
                     Err(fault)
                 }
             },

@@ -207,8 +207,8 @@ fn place_all<D: Disk + Drop, S: Sides<D> + TakesBack<Held<D>, NotStarted<D>>>(
 }
 
 /// Switches on the library of a configuration, over these sides, from one that has nothing: first its cartridges, then
-/// its drives, in the order of the configuration. What is refused first decides the error: `Device` or `NoMemory`. All
-/// that was given before is then given up (`TakesBack::give_up`), with the cartridge and the store of a drive for which
+/// its drives, in the order of the configuration. The first refusal decides the error: `Device` or `NoMemory`. All that
+/// was given before is then given up (`TakesBack::give_up`), with the cartridge and the store of a drive for which
 /// memory ran out as it was switched on.
 pub fn start<D: Disk + Drop, S: Sides<D> + TakesBack<Held<D>, NotStarted<D>>>(
     alloc: Global,

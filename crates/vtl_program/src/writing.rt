@@ -7,9 +7,9 @@ use crate::programs::VtlFault;
 use std::io::Write;
 use vtl_script::write_text;
 
-/// Writes a text and flushes it. Where that fails, which is a `Device` fault, a beginning of it is
+/// Writes a text and flushes it. Where that fails, the result is a `Device` fault, and a beginning of the text is
 /// written.
-pub fn tell<W: Write>(writer: &mut W, text: &[u8]) -> Result<(), VtlFault>
+pub fn print_text<W: Write>(writer: &mut W, text: &[u8]) -> Result<(), VtlFault>
     ensures ok { OnOk result (Appends (W.contents writer.old) (W.contents writer.new) text.now) }
     ensures err { OnErr result
         (AppendsPart (W.contents writer.old) (W.contents writer.new) text.now) }

@@ -11,7 +11,7 @@ use Rattle.vtl_script.specs.Parsed.{parsed_lines}
 use Rattle.vtl_script.specs.Items.{items_to_run}
 use Rattle.vtl_script.specs.Text.{reply_text, text_of}
 use Rattle.vtl_script.specs.Runs.{WritesPart, RunsPart}
-use Rattle.vtl_script.specs.Inner.Reading.{Reading}
+use Rattle.vtl_script.specs.Inner.Reading.{LineReading}
 use Rattle.vtl_script.specs.Inner.ReadItem.{rest_of, ParsesFirst, AreItems, ReadsLines}
 use Rattle.vtl_script.proofs.LineLemmas.{at_end}
 
@@ -105,7 +105,7 @@ lines_behind is_configured false text read parsed_list unread left says = (
   λ is. absurd (cc),
 )
 
-pub in_script : (is_configured : ℕ → Bool) (left left' : Option (List ℕ)) (old new : Reading) (is_last : Bool)
+pub in_script : (is_configured : ℕ → Bool) (left left' : Option (List ℕ)) (old new : LineReading) (is_last : Bool)
     (items : List Item) → (reads : ReadsLines is_configured left old left' new is_last items)
     → (rest : List Item)
     × (items_to_run (parsed_lines is_configured (old.unread ++ (reads.read ++ rest_of left'))) ≡ items ++ rest)

@@ -5,7 +5,7 @@ use Rattle.vtl_script.specs.declared.lines.ParsedLine.{ParsedLine}
 use Rattle.vtl_script.specs.declared.phases.NextLine.{NextLine}
 use Rattle.vtl_script.specs.declared.faults.ScriptFault.{ScriptFault}
 use Rattle.vtl_script.specs.Parsed.{without_return, parsed_line, is_phase_end, is_refused}
-use Rattle.vtl_script.specs.Inner.Reading.{Reading, shows_end}
+use Rattle.vtl_script.specs.Inner.Reading.{LineReading, shows_end}
 use Rattle.vtl_script.specs.Inner.ReadItem.{ReportsRefused, has_end, shows_phase}
 use Rattle.vtl_script.proofs.SplitLemmas.{split_at, split_whole, found}
 use Rattle.vtl_script.proofs.PartLemmas.{first_of_split}
@@ -53,8 +53,8 @@ shows_on is_configured unread unread' count parsed h parsed_is rest inside good 
     ap (shows_phase is_configured) rest ∙ ap (has_end is_configured) first.splits
     ∙ or_rest _ _ (no_end parsed _ line_is inside good) all
 
--- the same of a line that is told
-pub shown_behind : (is_configured : ℕ → Bool) (old mid new : Reading) (count : ℕ) (parsed : ParsedLine) (number : ℕ)
+-- the same of a line that is reported
+pub shown_behind : (is_configured : ℕ → Bool) (old mid new : LineReading) (count : ℕ) (parsed : ParsedLine) (number : ℕ)
     (result : Result NextLine ScriptFault) → (shows_end old.unread ≡ true → mid ≡ old)
     → position (λ byte. byte == 10) mid.unread ≡ Some count
     → parsed ≡ parsed_line is_configured count (without_return (take count mid.unread))
@@ -66,7 +66,7 @@ shown_behind is_configured old mid new count parsed number (Ok next) same h pars
     λ shows on inside.
     let told : next.parsed ≡ parsed = ap (λ (n : NextLine). n.parsed) accepts.0 in
     let shown : shows_phase is_configured mid.unread ≡ true =
-    ap (λ (r : Reading). shows_phase is_configured r.unread) (same (line_shown is_configured old.unread shows))
+    ap (λ (r : LineReading). shows_phase is_configured r.unread) (same (line_shown is_configured old.unread shows))
     ∙ shows in
     shows_on is_configured mid.unread new.unread count parsed h parsed_is rest
     (ap is_phase_end (sym told) ∙ inside) accepts.1 shown

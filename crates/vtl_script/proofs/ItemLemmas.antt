@@ -10,7 +10,7 @@ use Rattle.vtl_script.specs.declared.faults.ScriptFault.TheVariants.{BadLine, Re
 use Rattle.vtl_script.specs.Parsed.{parsed_lines, refused_line}
 use Rattle.vtl_script.specs.Items.{items_to_run}
 use Rattle.vtl_script.specs.Text.{text_of}
-use Rattle.vtl_script.specs.Inner.Reading.{Reading}
+use Rattle.vtl_script.specs.Inner.Reading.{LineReading}
 use Rattle.vtl_script.specs.Inner.ReadItem.{rest_of, AreEmpty, ReadsLines, RefusesItem}
 use Rattle.vtl_script.specs.Inner.RunItem.{AnswersItems, AnswersFirst, FinishesScript, GoesOn, RunsNext}
 use Rattle.vtl_script.proofs.LineLemmas.{at_end}
@@ -24,7 +24,7 @@ module _ {P : Type 0} (is_configured : ℕ → Bool) (answers : P → List Item 
     (on : (old mid new : P) (first rest : List Item) (replies others : List Reply) → answers old first replies mid
     → answers mid rest others new → answers old (first ++ rest) (replies ++ others) new) where
   -- an item was not read
-  pub finish_unread : (reading : Reading) (old : P) (left before : Option (List ℕ))
+  pub finish_unread : (reading : LineReading) (old : P) (left before : Option (List ℕ))
       → FinishesScript is_configured answers reading old left before old before (Err ReadFault)
   finish_unread reading old left before = record {
     text = rest_of left;
@@ -36,7 +36,7 @@ module _ {P : Type 0} (is_configured : ℕ → Bool) (answers : P → List Item 
     ended = (_, refl, (refl, Appends-nil before));
   }
 
-  pub finish_short : (reading : Reading) (old : P) (left before : Option (List ℕ))
+  pub finish_short : (reading : LineReading) (old : P) (left before : Option (List ℕ))
       → FinishesScript is_configured answers reading old left before old before (Err NoMemory)
   finish_short reading old left before = record {
     text = rest_of left;
@@ -49,7 +49,7 @@ module _ {P : Type 0} (is_configured : ℕ → Bool) (answers : P → List Item 
   }
 
   -- a line of an item is refused
-  pub finish_refused : (reading : Reading) (old : P) (left left' before : Option (List ℕ)) (number : ℕ)
+  pub finish_refused : (reading : LineReading) (old : P) (left left' before : Option (List ℕ)) (number : ℕ)
       → RefusesItem is_configured left reading left' number
       → FinishesScript is_configured answers reading old left before old before (Err (BadLine number))
   finish_refused reading old left left' before number refuses =
@@ -75,7 +75,7 @@ module _ {P : Type 0} (is_configured : ℕ → Bool) (answers : P → List Item 
       }
 
   -- an item was not read, or a line of it is refused
-  pub read_failed : (reading : Reading) (old : P) (left left' before : Option (List ℕ)) (fault : ScriptFault)
+  pub read_failed : (reading : LineReading) (old : P) (left left' before : Option (List ℕ)) (fault : ScriptFault)
       → (fault ≡ WriteFault → ⊥)
       → ((number : ℕ) → fault ≡ BadLine number → RefusesItem is_configured left reading left' number)
       → FinishesScript is_configured answers reading old left before old before (Err fault)
@@ -86,7 +86,7 @@ module _ {P : Type 0} (is_configured : ℕ → Bool) (answers : P → List Item 
   read_failed reading old left left' before NoMemory other refuses = finish_short reading old left before
 
   -- some items of a phase were run, and where memory ran out or a write failed the next was not run whole
-  pub finish_first : (reading reading' : Reading) (old : P) (left left' before : Option (List ℕ)) (new : P)
+  pub finish_first : (reading reading' : LineReading) (old : P) (left left' before : Option (List ℕ)) (new : P)
       (now : Option (List ℕ)) (is_last : Bool) (items : List Item) (fault : ScriptFault)
       → ReadsLines is_configured left reading left' reading' is_last items
       → AnswersFirst answers old items before new now fault
@@ -131,7 +131,7 @@ module _ {P : Type 0} (is_configured : ℕ → Bool) (answers : P → List Item 
   empty_stand runner items (inr one) = rw one (empty runner)
 
   -- the last items were run and answered
-  finish_last : (reading reading' : Reading) (old : P) (left left' before now : Option (List ℕ)) (new : P)
+  finish_last : (reading reading' : LineReading) (old : P) (left left' before now : Option (List ℕ)) (new : P)
       (items : List Item) → ReadsLines is_configured left reading left' reading' true items
       → AnswersItems answers old items before new now
       → FinishesScript is_configured answers reading old left before new now (Ok tt)
@@ -159,7 +159,7 @@ module _ {P : Type 0} (is_configured : ℕ → Bool) (answers : P → List Item 
       }
 
   -- items that are not the last were run and answered
-  go_on : (reading reading' : Reading) (old : P) (left left' before now : Option (List ℕ)) (new : P)
+  go_on : (reading reading' : LineReading) (old : P) (left left' before now : Option (List ℕ)) (new : P)
       (items : List Item) → ReadsLines is_configured left reading left' reading' false items
       → AnswersItems answers old items before new now
       → GoesOn is_configured answers reading old left before reading' new left' now
@@ -180,7 +180,7 @@ module _ {P : Type 0} (is_configured : ℕ → Bool) (answers : P → List Item 
       }
 
   -- items were run and answered
-  pub items_done : (reading reading' : Reading) (old : P) (left left' before now : Option (List ℕ)) (new : P)
+  pub items_done : (reading reading' : LineReading) (old : P) (left left' before now : Option (List ℕ)) (new : P)
       (is_last : Bool) (items : List Item) → ReadsLines is_configured left reading left' reading' is_last items
       → AnswersItems answers old items before new now
       → RunsNext is_configured answers reading old left before reading' new left' now (Ok (not is_last))

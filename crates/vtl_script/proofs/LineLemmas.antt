@@ -12,7 +12,7 @@ use Rattle.vtl_script.specs.Items.{has_host}
 use Rattle.vtl_script.specs.Inner.ReadItem.{rest_of, ReportsRefused, ParsesFirst, ReadsLine, RefusesLine}
 use Rattle.vtl_script.specs.declared.faults.ScriptFault.{ScriptFault}
 use Rattle.vtl_script.specs.declared.faults.ScriptFault.TheVariants.{BadLine}
-use Rattle.vtl_script.specs.Inner.Reading.{Reading, Comes, work_left}
+use Rattle.vtl_script.specs.Inner.Reading.{LineReading, Comes, work_left}
 use Rattle.vtl_script.proofs.SplitLemmas.{split_at, split_whole, found, missed}
 use Rattle.vtl_script.proofs.PartLemmas.{HasFirst, first_of_split, split_front, none_of, position_append}
 
@@ -89,8 +89,8 @@ whole is_configured true text parsed_list unread left h =
 whole is_configured false text parsed_list unread left h =
     (parsed_lines is_configured (unread ++ rest_of left), h (rest_of left))
 
--- a line that was read, by what is told of it
-pub tells : (is_configured : ℕ → Bool) (left left' : Option (List ℕ)) (old mid new : Reading) (parsed : ParsedLine)
+-- a line that was read, by what its reading says
+pub tells : (is_configured : ℕ → Bool) (left left' : Option (List ℕ)) (old mid new : LineReading) (parsed : ParsedLine)
     (is_last : Bool) (number : ℕ) (result : Result NextLine ScriptFault)
     → list_all has_host (filter_map line_in (parsed ∷ [])) ≡ true
     → list_all (λ line. is_configured line.drive) (filter_map line_in (parsed ∷ [])) ≡ true → mid.bytes ≤ 2147483648
@@ -115,7 +115,8 @@ tells is_configured left left' old mid new parsed is_last number (Ok next) host 
       less = less;
     })
 
-pub refuses : (is_configured : ℕ → Bool) (left left' : Option (List ℕ)) (old mid new : Reading) (parsed : ParsedLine)
+pub refuses : (is_configured : ℕ → Bool) (left left' : Option (List ℕ)) (old mid new : LineReading)
+    (parsed : ParsedLine)
     (is_last : Bool) (number : ℕ) (result : Result NextLine ScriptFault) → Comes left old left' mid
     → ParsesFirst is_configured is_last mid.unread (parsed ∷ []) new.unread left' → number ≡ old.lines + 1
     → ReportsRefused parsed is_last number result → (told : ℕ) → result ≡ Err (BadLine told)
@@ -124,17 +125,17 @@ refuses is_configured left left' old mid new parsed is_last number (Ok next) com
     absurd (cc)
 refuses is_configured left left' old mid new parsed is_last number (Err fault) comes says counted accepts told is =
     let all = whole is_configured is_last mid.unread (parsed ∷ []) new.unread left' says in
-    let number_told : told ≡ number = cc in
+    let number_reported : told ≡ number = cc in
     record {
       read = comes.read;
       taken = comes.taken;
-      number_is = number_told ∙ counted;
+      number_is = number_reported ∙ counted;
       behind = all.0;
       says = rw (← comes.unread, ← accepts.1) all.1;
     }
 
 -- a line that does not end within its limit
-pub refuses_long : (is_configured : ℕ → Bool) (left left' : Option (List ℕ)) (old mid : Reading) (told : ℕ)
+pub refuses_long : (is_configured : ℕ → Bool) (left left' : Option (List ℕ)) (old mid : LineReading) (told : ℕ)
     → Comes left old left' mid → position (λ byte. byte == 10) mid.unread ≡ None → 2200000 < length mid.unread
     → told ≡ old.lines + 1 → RefusesLine is_configured left old left' told
 refuses_long is_configured left left' old mid told comes none long counted =
@@ -148,7 +149,7 @@ refuses_long is_configured left left' old mid told comes none long counted =
     }
 
 -- no less can be taken up for what came
-pub work_same : (left left' : Option (List ℕ)) (old new : Reading) → Comes left old left' new
+pub work_same : (left left' : Option (List ℕ)) (old new : LineReading) → Comes left old left' new
     → work_left new ≤ work_left old
 work_same left left' old new comes = omega
     (arith, comes.bytes, ap length comes.unread, length-append old.unread comes.read)

@@ -18,14 +18,14 @@ use Rattle.vtl_script.specs.Items.{has_host, by_host, items_after, items_to_run,
 use Rattle.vtl_script.specs.Inner.ReadItem.{rest_of, ParsesFirst, ReadsLine, RefusesLine, ReadsLines, ReadsPhase, ReadsItems, RefusesItem, AreItems, move_in, with_move}
 use Rattle.vtl_script.specs.Runs.{TakesWithin}
 use Rattle.vtl_script.proofs.HostLemmas.{all_by_host}
-use Rattle.vtl_script.specs.Inner.Reading.{Reading, work_left}
+use Rattle.vtl_script.specs.Inner.Reading.{LineReading, work_left}
 use Rattle.vtl_script.proofs.ReadingLemmas.{consumes_on, consumes_none}
 use Rattle.vtl_script.proofs.TurnLemmas.{by_host-none}
 use Rattle.vtl_script.proofs.LineLemmas.{tells, refuses}
 
 -- some lines of a phase were read, with these commands
-pub record IsGathered (is_configured : ℕ → Bool) (left : Option (List ℕ)) (old : Reading)
-    (left' : Option (List ℕ)) (new : Reading) (lines : List Line) : Type 0 where
+pub record IsGathered (is_configured : ℕ → Bool) (left : Option (List ℕ)) (old : LineReading)
+    (left' : Option (List ℕ)) (new : LineReading) (lines : List Line) : Type 0 where
   pub read : List ℕ
   pub taken : Consumes left left' read
   pub parsed_list : List ParsedLine
@@ -40,7 +40,7 @@ pub record IsGathered (is_configured : ℕ → Bool) (left : Option (List ℕ)) 
   pub drives : list_all (λ line. is_configured line.drive) lines ≡ true
   pub bytes : new.bytes ≡ old.bytes + length read
 
-pub gathered_none : (is_configured : ℕ → Bool) (left : Option (List ℕ)) (reading : Reading)
+pub gathered_none : (is_configured : ℕ → Bool) (left : Option (List ℕ)) (reading : LineReading)
     → IsGathered is_configured left reading left reading []
 gathered_none is_configured left reading = record {
   read = [];
@@ -81,7 +81,7 @@ line_on PhaseEnd lines lines' more good inside is = absurd (cc)
 line_on (Move from to) lines lines' more good inside is = absurd (cc)
 line_on Refused lines lines' more good inside is = absurd (cc)
 
-pub gathers_on : (is_configured : ℕ → Bool) (a b c : Option (List ℕ)) (old mid new : Reading)
+pub gathers_on : (is_configured : ℕ → Bool) (a b c : Option (List ℕ)) (old mid new : LineReading)
     (lines lines' : List Line) (next : NextLine) → IsGathered is_configured a old b mid lines
     → ReadsLine is_configured b mid c new next → next.is_last ≡ false → is_phase_end next.parsed ≡ false
     → lines' ≡ lines ++ filter_map line_in (next.parsed ∷ []) → IsGathered is_configured a old c new lines'
@@ -172,7 +172,7 @@ moves_run is_configured (Command line) = tt
 moves_run is_configured (Move from to) = tt
 moves_run is_configured Refused = tt
 
-pub phase_read : (is_configured : ℕ → Bool) (a b c : Option (List ℕ)) (old mid new : Reading) (lines : List Line)
+pub phase_read : (is_configured : ℕ → Bool) (a b c : Option (List ℕ)) (old mid new : LineReading) (lines : List Line)
     (next : NextLine) (phase : PhaseLines) → IsGathered is_configured a old b mid lines
     → ReadsLine is_configured b mid c new next → (is_phase_end next.parsed || next.is_last) ≡ true
     → phase.is_last ≡ next.is_last → phase.moved ≡ move_in next.parsed
@@ -201,7 +201,7 @@ phase_read is_configured a b c old mid new lines next phase so tells ends same_l
       moves = rw same_move (moves_run is_configured next.parsed);
     }
 
-pub phase_refused : (is_configured : ℕ → Bool) (a b c : Option (List ℕ)) (old mid : Reading) (lines : List Line)
+pub phase_refused : (is_configured : ℕ → Bool) (a b c : Option (List ℕ)) (old mid : LineReading) (lines : List Line)
     (number : ℕ) → IsGathered is_configured a old b mid lines → RefusesLine is_configured b mid c number
     → RefusesItem is_configured a old c number
 phase_refused is_configured a b c old mid lines number so refuses =
@@ -222,13 +222,13 @@ phase_refused is_configured a b c old mid lines number so refuses =
     }
 
 -- what the lines of some items take is within the limit of bytes
-pub takes_lines : (is_configured : ℕ → Bool) (left left' : Option (List ℕ)) (old new : Reading) (is_last : Bool)
+pub takes_lines : (is_configured : ℕ → Bool) (left left' : Option (List ℕ)) (old new : LineReading) (is_last : Bool)
     (items : List Item) → ReadsLines is_configured left old left' new is_last items → TakesWithin left old.bytes left'
 takes_lines is_configured left left' old new is_last items reads =
     (reads.read, reads.taken, omega (arith, reads.bytes, reads.within))
 
 -- a phase that was read is an item, its commands in the order of their turns
-pub items_read : (is_configured : ℕ → Bool) (left left' : Option (List ℕ)) (old new : Reading) (phase : PhaseLines)
+pub items_read : (is_configured : ℕ → Bool) (left left' : Option (List ℕ)) (old new : LineReading) (phase : PhaseLines)
     (next : NextItems) → ReadsPhase is_configured left old left' new phase → next.is_last ≡ phase.is_last
     → next.phase ≡ Phase (by_host phase.lines.items) → next.moved ≡ phase.moved
     → ReadsItems is_configured left old left' new next

@@ -7,7 +7,7 @@ use Rattle.std.specs.Io.KnownBytes.{Consumes}
 use Rattle.vtl_script.specs.declared.faults.ScriptFault.{ScriptFault}
 use Rattle.vtl_script.specs.declared.faults.ScriptFault.TheVariants.{ReadFault, NoMemory}
 use Rattle.vtl_script.specs.Runs.{TakesWithin}
-use Rattle.vtl_script.specs.Inner.Reading.{Reading, part, shows_end, Brings, Comes}
+use Rattle.vtl_script.specs.Inner.Reading.{LineReading, part, shows_end, BringsBytes, Comes}
 
 -- what holds anyway holds at an error
 pub on_err : {T E : Type 0} (r : Result T E) (P : Type 0) → P → OnErr r P
@@ -45,7 +45,8 @@ consumes_none (Some xs) = refl
 -- so many bytes were put behind those that fill a buffer up to a place
 pub brings_behind : (left left' : Option (List ℕ)) (start filled count : ℕ) (old now : List ℕ)
     → part start filled now ≡ old → start ≤ filled → filled + count ≤ length now
-    → Consumes left left' (take count (drop filled now)) → Brings left old left' (part start (filled + count) now) count
+    → Consumes left left' (take count (drop filled now))
+    → BringsBytes left old left' (part start (filled + count) now) count
 brings_behind left left' start filled count old now same order within taken =
     let long : length (take filled now) ≡ filled = length-take-le filled now (omega (arith, within)) in
     let rest = length-drop filled now in
@@ -59,8 +60,8 @@ brings_behind left left' start filled count old now same order within taken =
     }
 
 -- what a buffer was brought comes to what is unread
-pub comes_of : (left left' : Option (List ℕ)) (old new : Reading) (buffer : List ℕ) (some count : ℕ)
-    → Brings left buffer left' new.unread some → buffer ≡ old.unread → some ≡ count → new.bytes ≡ old.bytes + count
+pub comes_of : (left left' : Option (List ℕ)) (old new : LineReading) (buffer : List ℕ) (some count : ℕ)
+    → BringsBytes left buffer left' new.unread some → buffer ≡ old.unread → some ≡ count → new.bytes ≡ old.bytes + count
     → old.reads ≤ new.reads → new.lines ≡ old.lines → Comes left old left' new
 comes_of left left' old new buffer some count brings same is bytes reads lines = record {
   read = brings.read;
@@ -71,7 +72,7 @@ comes_of left left' old new buffer some count brings same is bytes reads lines =
   lines = lines;
 }
 
-pub comes_on : (a b c : Option (List ℕ)) (old mid new : Reading) → Comes a old b mid → Comes b mid c new
+pub comes_on : (a b c : Option (List ℕ)) (old mid new : LineReading) → Comes a old b mid → Comes b mid c new
     → Comes a old c new
 comes_on a b c old mid new first second = record {
   read = first.read ++ second.read;
@@ -84,14 +85,14 @@ comes_on a b c old mid new first second = record {
 }
 
 -- what came has no line feed in its first bytes
-pub record IsSearched (left : Option (List ℕ)) (old : Reading) (left' : Option (List ℕ)) (new : Reading) (searched : ℕ)
-    : Type 0 where
+pub record IsSearched (left : Option (List ℕ)) (old : LineReading) (left' : Option (List ℕ)) (new : LineReading)
+    (searched : ℕ) : Type 0 where
   pub comes : Comes left old left' new
   pub within : searched ≤ length new.unread
   pub none : position (λ byte. byte == 10) (take searched new.unread) ≡ None
 
 -- more came behind bytes that have no line feed
-pub searched_on : (a b c : Option (List ℕ)) (old mid new : Reading) (s : ℕ) → Comes a old b mid
+pub searched_on : (a b c : Option (List ℕ)) (old mid new : LineReading) (s : ℕ) → Comes a old b mid
     → position (λ byte. byte == 10) mid.unread ≡ None → s ≡ length mid.unread → Comes b mid c new
     → IsSearched a old c new s
 searched_on a b c old mid new s first none all second = record {
@@ -113,15 +114,15 @@ shows_not unread none short =
     rw (none, fits) refl
 
 -- bytes that do not show where the first line ends are not the first bytes, where those did
-pub not_shown : (old now : Reading) → position (λ byte. byte == 10) now.unread ≡ None → length now.unread ≤ 2200000
+pub not_shown : (old now : LineReading) → position (λ byte. byte == 10) now.unread ≡ None → length now.unread ≤ 2200000
     → (shows_end old.unread ≡ true → now ≡ old) → shows_end old.unread ≡ true → ⊥
 not_shown old now none short same shows =
     let other : shows_end now.unread ≡ false = shows_not now.unread none short in
-    let shown : shows_end now.unread ≡ true = ap (λ (r : Reading). shows_end r.unread) (same shows) ∙ shows in
+    let shown : shows_end now.unread ≡ true = ap (λ (r : LineReading). shows_end r.unread) (same shows) ∙ shows in
     absurd (cc)
 
 -- what came is within the limit of bytes
-pub takes_comes : (left left' : Option (List ℕ)) (old new : Reading) → Comes left old left' new
+pub takes_comes : (left left' : Option (List ℕ)) (old new : LineReading) → Comes left old left' new
     → new.bytes ≤ 2147483648 → TakesWithin left old.bytes left'
 takes_comes left left' old new comes within = (comes.read, comes.taken, omega (arith, comes.bytes, within))
 

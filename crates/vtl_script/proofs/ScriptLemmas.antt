@@ -13,7 +13,7 @@ use Rattle.vtl_script.specs.declared.faults.ScriptFault.TheVariants.{BadLine, Re
 use Rattle.vtl_script.specs.Parsed.{parsed_lines, is_refused}
 use Rattle.vtl_script.specs.Items.{items_to_run}
 use Rattle.vtl_script.specs.Text.{text_of}
-use Rattle.vtl_script.specs.Inner.Reading.{Reading, unbegun}
+use Rattle.vtl_script.specs.Inner.Reading.{LineReading, unbegun}
 use Rattle.vtl_script.specs.Runs.{ScriptEnds, RunsScript, RunsPart, Stops}
 use Rattle.vtl_script.specs.Inner.RunItem.{EndsFrom, FinishesScript, GoesOn}
 use Rattle.vtl_script.proofs.ReadingLemmas.{consumes_on, consumes_none}
@@ -27,7 +27,7 @@ module _ {P : Type 0} (is_configured : ℕ → Bool) (answers : P → List Item 
     (on : (old mid new : P) (first rest : List Item) (replies others : List Reply) → answers old first replies mid
     → answers mid rest others new → answers old (first ++ rest) (replies ++ others) new) where
   -- nothing was run yet
-  pub begin : (reading : Reading) (old : P) (left before : Option (List ℕ))
+  pub begin : (reading : LineReading) (old : P) (left before : Option (List ℕ))
       → GoesOn is_configured answers reading old left before reading old left before
   begin reading old left before = record {
     read = [];
@@ -45,7 +45,7 @@ module _ {P : Type 0} (is_configured : ℕ → Bool) (answers : P → List Item 
   }
 
   -- some items, and then more
-  pub goes_on : (reading mid new : Reading) (old between last : P) (a b c before during after : Option (List ℕ))
+  pub goes_on : (reading mid new : LineReading) (old between last : P) (a b c before during after : Option (List ℕ))
       → GoesOn is_configured answers reading old a before mid between b during
       → GoesOn is_configured answers mid between b during new last c after
       → GoesOn is_configured answers reading old a before new last c after
@@ -84,7 +84,7 @@ module _ {P : Type 0} (is_configured : ℕ → Bool) (answers : P → List Item 
       (runs_part_behind answers behind front text mid before during new now one runs)
 
   -- the end of a script, from its start on
-  ends_behind : (reading mid : Reading) (old between new : P) (a b before during now : Option (List ℕ))
+  ends_behind : (reading mid : LineReading) (old between new : P) (a b before during now : Option (List ℕ))
       (one : GoesOn is_configured answers reading old a before mid between b during) (size : ℕ)
       (parsed_list : List ParsedLine) (items : List Item) (text : List ℕ) (middle : P)
       (result : Result (Unit {0}) ScriptFault)
@@ -129,7 +129,7 @@ module _ {P : Type 0} (is_configured : ℕ → Bool) (answers : P → List Item 
         short_behind ends.0 (text_of one.replies) text middle before during new now one.written ends.2,
       )
 
-  pub finish_on : (reading mid : Reading) (old between new : P) (a b before during now : Option (List ℕ))
+  pub finish_on : (reading mid : LineReading) (old between new : P) (a b before during now : Option (List ℕ))
       (result : Result (Unit {0}) ScriptFault) → GoesOn is_configured answers reading old a before mid between b during
       → FinishesScript is_configured answers mid between b during new now result
       → FinishesScript is_configured answers reading old a before new now result
@@ -180,6 +180,7 @@ module _ {P : Type 0} (is_configured : ℕ → Bool) (answers : P → List Item 
 
 -- items were run so far, and the drives are as they were
 pub record IsRunning {P : Type 0} (is_configured : P → ℕ → Bool) (answers : P → List Item → List Reply → P → Type 0)
-    (old : P) (left before : Option (List ℕ)) (reading : Reading) (new : P) (left' now : Option (List ℕ)) : Type 0 where
+    (old : P) (left before : Option (List ℕ)) (reading : LineReading)
+    (new : P) (left' now : Option (List ℕ)) : Type 0 where
   pub goes : GoesOn (is_configured old) answers unbegun old left before reading new left' now
   pub same : is_configured new ≡ is_configured old

@@ -11,7 +11,7 @@ use Rattle.vtl_script.specs.declared.lines.ParsedLine.TheVariants.{Nothing, Phas
 abbrev pub is_some_byte : List ℕ → Bool
 is_some_byte part = nat_lt 0 (length part)
 
--- the fields of a line: its parts between spaces, but for those of no byte (own)
+-- the fields of a line: its parts between spaces, except for those of no byte (own)
 abbrev pub line_fields : List ℕ → List (List ℕ)
 line_fields line = filter is_some_byte (slice_split (λ byte. byte == 32) line)
 

@@ -12,10 +12,10 @@ use std::alloc::{AllocError, Global};
 use std::io::Write;
 use std::marker::Model;
 
-/// The bytes that are written at once at most.
+/// How many bytes one write has at most.
 pub const WRITE_CHUNK: usize = 65_536;
 
-/// Text that is not written yet: the first `filled` bytes of `buffer`. To a contract it is a list.
+/// Text that is not written yet: the first `filled` bytes of `buffer`. A contract sees it as a list.
 #[derive(Drop)]
 pub struct AnswerText {
     buffer: Vec<u8>,

@@ -1,4 +1,4 @@
-//! The items of a script: phases and moves, each of which is run at once.
+//! The items of a script: phases and moves. Each is one step of a run.
 ghost use Rattle.std.specs.Prelude.{◌≡◌, ◌≢◌, ℕ, true, IfOk, IfErr, Err};
 ghost use Rattle.vtl_script.specs.Runs.{TakesWithin};
 ghost use Rattle.vtl_script.specs.Inner.ReadItem.{ReadsItems, RefusesItem, shows_phase};
@@ -13,7 +13,7 @@ use std::alloc::Global;
 use std::io::Read;
 use std::marker::Model;
 
-/// The commands of a phase. To a contract they are a list.
+/// The commands of a phase. A contract sees them as a list.
 #[derive(Drop)]
 pub struct Commands {
     lines: Vec<Line>,
@@ -36,7 +36,7 @@ impl Commands {
         Commands { lines }
     }
 
-    /// The commands, to be read.
+    /// The commands, for reading.
     pub fn as_slice(&self) -> &[Line]
         ensures { result.now ≡ self.now }
     {
@@ -51,13 +51,13 @@ impl Commands {
     }
 }
 
-/// A part of a script that is run at once.
+/// A part of a script that is run as one step.
 #[derive(Drop)]
 pub enum Item {
     /// The commands of a phase, in the order of their turns.
     Phase(Commands),
-    /// The cartridge at an element address is moved to another. The addresses are as the line gives
-    /// them, at most 99999 each.
+    /// Moves the cartridge at one element address to another one. The addresses are as the line gives them, at most
+    /// 99999 each.
     Move { from: u32, to: u32 },
 }
 

@@ -1,4 +1,4 @@
-//! Scripts: read line by line, run item by item by whatever runs items, and answered.
+//! Scripts: read line by line, run item by item by any `Runner`, and answered.
 #![tactic(auto)]
 
 mod answer_texts;

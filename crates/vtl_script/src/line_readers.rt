@@ -1,7 +1,7 @@
 //! How far a script was read: its bytes come in chunks, within limits, and are taken up line by line.
 ghost use Rattle.std.specs.Prelude.{◌≡◌, ◌<◌, ◌≤◌, ◌+◌, ◌==◌, ◌++◌, ◌⊎◌, [], ℕ, length, take, drop, vec_len, position, Some, None, Ok, true, false, IsOk, IfOk, IfErr, OnOk, OnErr};
 ghost use Rattle.std.specs.Io.KnownBytes.{Consumes, IsAtEnd};
-ghost use Rattle.vtl_script.specs.Inner.Reading.{unbegun, bytes_read, shows_end, Comes, Ends};
+ghost use Rattle.vtl_script.specs.Inner.Reading.{unbegun, bytes_read, shows_end, Comes, LineEnds};
 
 use crate::faults::ScriptFault;
 use crate::read_buffers::ReadBuffer;
@@ -35,9 +35,9 @@ pub enum Found {
 impl Model for LineReader {
     ghost use Rattle.std.specs.Prelude.{◌≤◌, ◌+◌, length};
     ghost use Rattle.vtl_base.specs.declared.limits.TheConstants.{SCRIPT_BYTES, SCRIPT_READS};
-    ghost use Rattle.vtl_script.specs.Inner.Reading.{Reading};
+    ghost use Rattle.vtl_script.specs.Inner.Reading.{LineReading};
 
-    ghost Value = { Reading };
+    ghost Value = { LineReading };
 
     ghost view = { λ b. record {
       unread = b.buffer;
@@ -55,7 +55,7 @@ impl LineReader {
     ghost use Rattle.vtl_base.specs.declared.limits.TheConstants.{SCRIPT_BYTES, SCRIPT_READS};
     ghost use Rattle.std.specs.Io.KnownBytes.{Consumes};
     ghost use Rattle.vtl_base.specs.declared.limits.TheConstants.{LINE_BYTES};
-    ghost use Rattle.vtl_script.specs.Inner.Reading.{unbegun, work_left, may_read, shows_end, Comes, Ends};
+    ghost use Rattle.vtl_script.specs.Inner.Reading.{unbegun, work_left, may_read, shows_end, Comes, LineEnds};
     ghost use Rattle.vtl_script.specs.Runs.{TakesWithin};
 
     /// A reader that has read nothing.
@@ -109,7 +109,7 @@ impl LineReader {
         ensures comes { OnOk result
             (Comes (R.remaining reader.old) self.old (R.remaining reader.new) self.new) }
         ensures within { OnOk result (self.new.bytes ≤ SCRIPT_BYTES) }
-        ensures found { IfOk result (λ found. Ends found self.new.unread (R.remaining reader.new)) }
+        ensures found { IfOk result (λ found. LineEnds found self.new.unread (R.remaining reader.new)) }
         ensures due { shows_end self.old.unread ≡ true →
             IsOk result × (self.new ≡ self.old) × (reader.new ≡ reader.old) }
         ensures fault { IfErr result (λ fault. (fault ≡ ScriptFault.ReadFault)

@@ -28,9 +28,9 @@ pub enum ParsedLine {
     PhaseEnd,
     /// A command.
     Command(Line),
-    /// The cartridge at an element address is moved to another. The phase ends before it.
+    /// Moves the cartridge at one element address to another one. The phase ends before it.
     Move { from: u32, to: u32 },
-    /// It has none of the forms of a line.
+    /// The text has none of the forms of a line.
     Refused,
 }
 

@@ -3,7 +3,7 @@ ghost use Rattle.std.specs.Prelude.{◌≡◌, ◌<◌, ◌≤◌, ◌+◌, ◌-
 ghost use Rattle.std.specs.Io.KnownBytes.{Consumes, IsAtEnd};
 ghost use Rattle.vtl_base.specs.declared.limits.TheConstants.{LINE_BYTES};
 ghost use Rattle.vtl_script.specs.declared.read_buffers.TheConstants.{MOST_BYTES};
-ghost use Rattle.vtl_script.specs.Inner.Reading.{part, bytes_read, Brings};
+ghost use Rattle.vtl_script.specs.Inner.Reading.{part, bytes_read, BringsBytes};
 
 use crate::faults::ScriptFault;
 use crate::interruptions::is_interrupted;
@@ -18,7 +18,7 @@ const FIRST_BYTES: usize = 65_536;
 // The bytes of a buffer behind a line that has: a longest line, and the byte that ends it or is one too many.
 const MOST_BYTES: usize = LINE_BYTES + 1;
 
-/// Bytes that came and were not taken up: those of `buffer` from `start` up to `filled`. To a contract they are a
+/// Bytes that came and were not taken up: those of `buffer` from `start` up to `filled`. A contract sees them as a
 /// list.
 #[derive(Drop)]
 pub struct ReadBuffer {
@@ -171,7 +171,7 @@ impl ReadBuffer {
     /// no line is whole moves each byte once at most, and those of a line that outgrows the first buffer once more.
     pub fn read<R: Read>(&mut self, reader: &mut R) -> Result<Option<usize>, ScriptFault>
         requires { length self.old ≤ LINE_BYTES }
-        ensures brings { Brings (R.remaining reader.old) self.old
+        ensures brings { BringsBytes (R.remaining reader.old) self.old
             (R.remaining reader.new) self.new (bytes_read result) }
         ensures end { result ≡ Ok (Some 0) → IsAtEnd (R.remaining reader.new) }
         ensures fault { IfErr result (λ fault. (fault ≡ ScriptFault.ReadFault)

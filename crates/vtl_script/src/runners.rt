@@ -1,4 +1,4 @@
-//! What runs the items of a script.
+//! The trait of a runner, which runs the items of a script.
 ghost use Rattle.std.specs.Prelude.{◌≡◌, ◌++◌, ◌∷◌, [], ℕ, Bool, List, IfOk, OnErr};
 ghost use Rattle.scsi_sense.specs.declared.replies.Reply.{Reply};
 ghost use Rattle.vtl_script.specs.declared.items.Item.{Item};
@@ -16,7 +16,8 @@ pub trait Runner {
     /// Whether there is a drive with this number.
     ghost is_configured: { Self → ℕ → Bool };
 
-    /// From the first value these items, one after another, may be answered so, which leaves the last value.
+    /// A runner with the first value may give these replies to these items, one after another, and then has the last
+    /// value.
     ghost answers: { Self → List Item → List Reply → Self → Type 0 };
 
     /// The runner may run items. What it holds may require that, as a closure that it calls does.

@@ -11,11 +11,11 @@ use crate::interruptions::is_interrupted;
 use scsi_sense::{Reply, Sense, Status};
 use std::io::Write;
 
-// The bytes whose digits are added at once at most.
+// How many bytes one step spells in digits at most.
 const DIGITS_PIECE: usize = 4_096;
 
-/// Writes a text. Where a write fails, which is a `WriteFault`, a beginning of it is written. An interrupted write is
-/// made again; it is not flushed.
+/// Writes a text. Where a write fails, the result is a `WriteFault`, and a beginning of the text is written. An
+/// interrupted write is made again. Nothing is flushed.
 pub fn write_text<W: Write>(writer: &mut W, text: &[u8]) -> Result<(), ScriptFault>
     ensures ok { OnOk result (Appends (W.contents writer.old) (W.contents writer.new) text.now) }
     ensures err { OnErr result

@@ -22,10 +22,10 @@ pub hosts_differ : (hosts : List ℕ) (count : ℕ) → hosts ≡ range_with_len
 hosts_differ hosts count are = subst (λ (l : List ℕ). IsDistinct nat_eq l) (sym are) (numbers_differ 1 count)
 
 -- what is returned where a library ends well
-pub told_of : (counts : Result (List (Option ℕ)) FinishError) (all : List (Option ℕ)) (P : List (Option ℕ) → Type 0)
+pub reported_of : (counts : Result (List (Option ℕ)) FinishError) (all : List (Option ℕ)) (P : List (Option ℕ) → Type 0)
     → IfOk counts (λ counted. (counted ≡ all) × P counted) → IfOk counts (λ counted. counted ≡ all)
-told_of (Ok counted) all P so = so.0
-told_of (Err error) all P so = tt
+reported_of (Ok counted) all P so = so.0
+reported_of (Err error) all P so = tt
 
 -- the hosts of some seats have these
 pub seats_back : (drives : List Bool) (seats : List SeatState) → seats_of (hosts_of drives seats) ≡ seats

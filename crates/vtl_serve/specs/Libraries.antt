@@ -1,4 +1,4 @@
--- A library whose hosts are served at once over one pipe.
+-- A library whose hosts are served at the same time over one pipe.
 use Rattle.std.specs.Prelude.{◌≡◌, ◌⊎◌, ℕ, Bool, List, map, Option, Result, Err, IfOk}
 use Rattle.tape_disk.specs.Disk.{DiskState}
 use Rattle.ledgers.specs.Ledgers.{SeatState}
@@ -43,5 +43,5 @@ module _ {D : Type 0} (state : D → DiskState) where
     pub seats : List SeatState
     pub serves :
         ServesOpened (which_are_there bays) labels (map new_seat hosts) left before seats left' now outcome
-    pub told : IfOk counts (λ counted. counted ≡ counts_of bays')
+    pub reported : IfOk counts (λ counted. counted ≡ counts_of bays')
     pub sums : sum_of_counts (counts_of bays') ≡ sum_of_seats seats

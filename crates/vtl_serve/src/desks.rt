@@ -1,4 +1,4 @@
-//! What serves moves and inventories over a library that threads share.
+//! The desk, which serves moves and inventories over a library that threads share.
 ghost use Rattle.std.specs.Prelude.{◌≡◌, ◌<◌, ◌+◌, ◌++◌, ◌∷◌, [], true, IfOk, OnOk, flat_map, map};
 ghost use Rattle.std.specs.List.{range_with_len};
 ghost use Rattle.vtl_base.specs.declared.limits.TheConstants.{DRIVES, FIRST_SLOT, SLOTS};
@@ -18,7 +18,7 @@ use vtl_base::{DriveNo, NoMemory};
 use vtl_hosts::Desk;
 use vtl_wire::{Answer, Entries, Entry, Request};
 
-/// The desk of a library. To a contract it is which drives there are, and where each cartridge is.
+/// The desk of a library. A contract sees which drives there are, and where each cartridge is.
 #[derive(Drop)]
 pub struct LibraryDesk<'a, D: Disk, B: Parties + Rings, H: Parties, R> {
     rt: &'a R,
@@ -34,7 +34,7 @@ impl<'a, D: Disk, B: Parties + Rings, H: Parties, R> Model for LibraryDesk<'a, D
     ghost view = { λ d. record { drives = d.library.now; labels = d.labels } };
 }
 
-// Adds what is at an element address.
+// Adds the entry of an element address.
 fn add_entry(labels: &Labels, address: u32, entries: &mut Vec<Entry>) -> Result<(), NoMemory>
     ensures { OnOk result (entries.new.items ≡ entries.old.items ++ entry_at labels.now address ∷ []) }
 {
@@ -45,7 +45,7 @@ fn add_entry(labels: &Labels, address: u32, entries: &mut Vec<Entry>) -> Result<
     }
 }
 
-// Adds what is at the drive with this place, counted from 0, if it is configured.
+// Adds the entry of the drive with this place, counted from 0, if the drive is configured.
 fn add_drive<D: Disk + Drop, B: Parties + Rings, H: Parties>(
     library: &Library<D, B, H>,
     labels: &Labels,
@@ -63,7 +63,7 @@ fn add_drive<D: Disk + Drop, B: Parties + Rings, H: Parties>(
     add_entry(labels, u32::from(drive.number()), entries)
 }
 
-// Adds what is at each configured drive.
+// Adds the entry of each configured drive.
 fn add_drives<D: Disk + Drop, B: Parties + Rings, H: Parties>(
     library: &Library<D, B, H>,
     labels: &Labels,
@@ -78,7 +78,7 @@ fn add_drives<D: Disk + Drop, B: Parties + Rings, H: Parties>(
     Ok(())
 }
 
-// Adds what is at each slot.
+// Adds the entry of each slot.
 fn add_slots(labels: &Labels, entries: &mut Vec<Entry>) -> Result<(), NoMemory>
     ensures { OnOk result (entries.new.items
         ≡ entries.old.items ++ map (entry_at labels.now) (range_with_len FIRST_SLOT SLOTS)) }
@@ -89,7 +89,7 @@ fn add_slots(labels: &Labels, entries: &mut Vec<Entry>) -> Result<(), NoMemory>
     Ok(())
 }
 
-// What is at each configured drive, and at each slot.
+// The entries of all configured drives, and of all slots.
 fn inventory_of<D: Disk + Drop, B: Parties + Rings, H: Parties>(
     alloc: Global,
     library: &Library<D, B, H>,

@@ -12,7 +12,7 @@ pub struct Label {
     pub barcode: Barcode,
 }
 
-/// The labels of all cartridges. To a contract they are a list.
+/// The labels of all cartridges. A contract sees them as a list.
 #[derive(Drop)]
 pub struct Labels {
     labels: Vec<Label>,
@@ -37,7 +37,7 @@ fn same_barcode(barcode: &Barcode) -> Barcode
     }
 }
 
-// The address of a cartridge after those at `from` were moved to `to`.
+// The address of a cartridge after the cartridges at `from` were moved to `to`.
 fn address_after(address: u32, from: u32, to: u32) -> u32
     ensures { result ≡ (if nat_eq address from then to else address) }
 {

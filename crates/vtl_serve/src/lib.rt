@@ -1,4 +1,4 @@
-//! Drives and hosts that are served: requests come as frames, and answers go as frames.
+//! Serves drives and hosts: requests come as frames, and answers go as frames.
 #![tactic(auto)]
 
 pub mod desks;

@@ -1,4 +1,4 @@
-//! A library whose hosts are served at once over one pipe.
+//! Serves all hosts of a library at the same time, over one pipe.
 ghost use Rattle.std.specs.Prelude.{◌≡◌, ◌≤◌, [], IfOk, IfErr, length, All, vec_capacity};
 ghost use Rattle.std.specs.List.{range_with_len};
 ghost use Rattle.vtl_base.specs.declared.limits.TheConstants.{DRIVES, NEXUSES};
@@ -41,7 +41,7 @@ pub struct ServedLibrary<D: Disk> {
     pub outcome: Result<(), WireFault>,
 }
 
-// The seats as the serving has left them, and how it ended.
+// The seats after the serving, and how the serving ended.
 #[derive(Drop)]
 struct ServedFor<H: Parties> {
     seats: Vec<Seat<H>>,
@@ -215,11 +215,11 @@ fn serve_opened<
     }
 }
 
-/// Serves hosts that have the numbers from 1 to 64, over one pipe, at a library of these drives, each in the place of
-/// its number, and these slots, whose cartridges are where the labels say. Each host's commands are carried out in a
-/// thread of its own, and each drive has a flusher beside them. At the end all threads are joined, and every buffer is
-/// written out. Where memory runs out before the library is opened, everything but the rings is returned, and nothing
-/// is read or written.
+/// Serves the hosts with the numbers 1 to 64 over one pipe. The library has these drives, each in the place of its
+/// number, and these slots. Its cartridges are where the labels say. Each host's commands are carried out in a thread
+/// of its own, and each drive has a flusher beside them. At the end all threads are joined, and every buffer is written
+/// out. Where memory runs out before the library is opened, everything but the rings is returned, and nothing is read
+/// or written.
 pub fn serve_library<
     D: Disk + Drop + Send,
     B: Parties + Rings + Send + Sync,

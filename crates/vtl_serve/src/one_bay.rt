@@ -76,11 +76,10 @@ impl<D: Disk> Server for OneBay<D> {
     }
 }
 
-/// Serves a drive: reads commands up to the end of the input, or to the first frame that is refused, carries each out
-/// before the next is read, and writes its answer. A frame of another drive is refused, and so is a move and an
-/// inventory. Up to the end of the input, what is written is the frames of the replies that the drive's machine gives
-/// to the commands that were read, in order, and nothing else. Memory runs out for the data of a command alone, before
-/// it is carried out.
+/// Serves a drive: reads commands up to the end of the input, or to the first frame that is refused. It carries each
+/// out and writes its answer before it reads the next. It refuses a command to another drive, a move and an inventory.
+/// At Ok exactly the frames of these replies are written, in order: those that the drive's machine gives to the
+/// commands that were read. Memory runs out only for the data of a command, before that command is carried out.
 pub fn serve_bay<D: Disk + Drop, R: Read, W: Write>(
     alloc: Global,
     served: &mut OneBay<D>,

@@ -14,7 +14,7 @@ use vtl_base::NoMemory;
 use vtl_hosts::Host;
 use vtl_wire::{Answer, Request, Server, WireFault, serve_requests};
 
-/// A host's seat at a library that threads share. To a contract it is which drives there are, and the seat.
+/// A host's seat at a library that threads share. A contract sees which drives there are, and the seat.
 #[derive(Drop)]
 pub struct OneHost<'a, D: Disk, B: Parties + Rings, H: Parties, R> {
     rt: &'a R,
@@ -59,7 +59,7 @@ impl<'a, D: Disk + Drop, B: Parties + Rings, H: Parties, R: Wait> OneHost<'a, D,
         }
     }
 
-    // Answers a command of the host. Data that become a block are taken.
+    // Answers a command of the host. A written block takes the data without copying.
     fn answer_command(&mut self, request: Request) -> Answer
         requires { is_from self.old.drives self.old.seat.nexus request ≡ true }
         ensures { AnswersHost D.state self.old request result self.new }
@@ -114,9 +114,9 @@ impl<'a, D: Disk + Drop, B: Parties + Rings, H: Parties, R: Wait> Host for OneHo
     }
 }
 
-/// Serves one host of a library: reads its commands up to the end of the input, or to the first frame that is refused,
-/// carries each out before the next is read, and writes its answer. A frame of another host or of a drive that is not
-/// configured is refused, and so is a move and an inventory. Other threads may serve other hosts meanwhile.
+/// Serves one host of a library: reads its commands up to the end of the input, or to the first frame that is refused.
+/// It carries each out and writes its answer before it reads the next. It refuses a command of another host or to a
+/// drive that is not configured, a move and an inventory. Other threads may serve other hosts meanwhile.
 pub fn serve_host<'a, D: Disk + Drop, B: Parties + Rings, H: Parties, R: Wait, I: Read, O: Write>(
     alloc: Global,
     served: &mut OneHost<'a, D, B, H, R>,

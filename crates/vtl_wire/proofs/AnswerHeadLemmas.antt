@@ -23,7 +23,7 @@ use Rattle.vtl_wire.specs.declared.frames.TheConstants.{ENTRY_BYTES, MOST_DATA, 
 use Rattle.vtl_wire.specs.declared.headers.Header.{Header}
 use Rattle.vtl_wire.specs.Answers.{BeginsWithAnswer, FitsReply, IsAnswer, IsEntry, IsSense, frame_of_answer, sense_front, spell_entry}
 use Rattle.vtl_wire.specs.Frames.{Frame, IsHeader, header_of, spell_header}
-use Rattle.vtl_wire.specs.Inner.Answered.{EntriesSay, GoesTo, HeadSays, IsReplyHeader, ReplySays, answer_to, answer_with}
+use Rattle.vtl_wire.specs.Inner.Answered.{EntriesSay, GoesToHost, HeadSays, IsReplyHeader, ReplySays, answer_to, answer_with}
 use Rattle.vtl_wire.specs.Inner.Headers.{frame_with}
 use Rattle.vtl_wire.proofs.AnswerLemmas.{answer_numbers}
 use Rattle.vtl_wire.proofs.BeginLemmas.{header_there}
@@ -100,7 +100,7 @@ module _ (header : Header) (fits : IsHeader header) (sense : Option Sense) (vali
       by (inr (some, check)) other = absurd (other check)
 
   -- the answer of such a header has it
-  of_host : (host : Option ℕ) (status : Status) (tag : ℕ) → GoesTo header.kind header.host host
+  of_host : (host : Option ℕ) (status : Status) (tag : ℕ) → GoesToHost header.kind header.host host
       → IsReplyHeader header status → tag ≡ header.tag
       → HasHeader header (sense_front sense) bytes
       (answer_to host (record { status = status; sense = sense; bytes = bytes }) tag)

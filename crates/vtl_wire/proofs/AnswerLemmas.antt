@@ -1,4 +1,4 @@
--- Answers are told by their bytes.
+-- The bytes determine an answer.
 use Rattle.std.proofs.Common.{◌≡◌, ℕ, zero, suc, ◌-◌, ◌<◌, ◌^◌, List, [], ◌∷◌, ◌++◌, length, Option, None, Some, IfSome, refl, sym, ap, ◌∙◌, subst, arith, append_assoc, take, drop}
 use Rattle.std.specs.Prelude.{◌≢◌, IsTrue, flat_map, replicate}
 use Rattle.std.specs.List.{All}
@@ -163,7 +163,7 @@ answer_numbers (Inventory entries tag) ok = record {
   tag = ok.1.1;
 }
 
--- a reply is told by its status, its sense data and its bytes
+-- status, sense data and bytes determine a reply
 one_reply : (a b : Reply) → IfSome a.sense IsSense → IfSome b.sense IsSense
     → status_code a.status ≡ status_code b.status → sense_front a.sense ≡ sense_front b.sense → a.bytes ≡ b.bytes
     → a ≡ b

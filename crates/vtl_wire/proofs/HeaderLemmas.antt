@@ -157,7 +157,7 @@ header_again header fits =
       tag = tag i;
     }))
 
--- a header is told by its bytes
+-- the bytes determine a header
 pub one_header : (one other : Header) → IsHeader one → IsHeader other → spell_header one ≡ spell_header other
     → one ≡ other
 one_header one other fits fits' same =

@@ -159,7 +159,7 @@ no_head_begins header fits none more w =
     ∙ ap request_head (header_there IsRequest frame_of_request request_numbers header more fits w).0
     ∙ head_again w.0 w.2 in cc
 
--- a request with its head is told by its frame
+-- the frame determines a request with its head
 pub request_again : (request : Request) → IsRequest request
     → request_with (head_of request) (frame_of_request request).front (frame_of_request request).payload ≡ request
 request_again (Command host drive cdb sent tag) ok = refl

@@ -1,4 +1,4 @@
--- Sense data are told by their bytes.
+-- The bytes determine the sense data.
 use Rattle.std.proofs.Common.{◌≡◌, ℕ, ◌+◌, ◌*◌, ◌<◌, ◌≤◌, ◌^◌, ◌==◌, List, Option, None, Some, IfSome, Bool, true, false, refl, sym, ap, ◌∙◌, arith, slice_index, take, drop}
 use Rattle.std.specs.Prelude.{if◌then◌else◌, is_some, unwrap_or}
 use Rattle.std.specs.Int.{from_be_bytes, to_be_bytes, w32}
@@ -76,7 +76,7 @@ unfolding bit
 response_bits false = refl
 response_bits true = refl
 
--- the first byte tells whether it is deferred, and whether there is information
+-- the first byte shows whether it is deferred, and whether there is information
 pub response_is : (sense : Sense)
     → response_byte sense ≡ 0x70 + bit sense.deferred + 128 * bit (is_some sense.information)
 response_is sense =
@@ -99,7 +99,7 @@ one_response a b same =
       bit_again (is_some a.information) (is_some b.information) (omega (arith, e, da, db, ia, ib)),
     )
 
--- the key byte tells the key and three bits
+-- the key byte holds the key and three bits
 pub record SameKey (a b : Sense) : Type 0 where
   pub filemark : a.filemark ≡ b.filemark
   pub end_of_medium : a.end_of_medium ≡ b.end_of_medium
@@ -122,7 +122,7 @@ one_key a b same =
           sym (key_again a.key) ∙ ap key_of n ∙ key_again b.key;
     }
 
--- the number in information, where there is one, is told by its bytes
+-- the bytes determine the number in information, where there is one
 one_information : (a b : Option ℕ) → IfSome a (λ n. n < 2 ^ 32) → IfSome b (λ n. n < 2 ^ 32)
     → is_some a ≡ is_some b → to_be_bytes w32 (unwrap_or a 0) ≡ to_be_bytes w32 (unwrap_or b 0) → a ≡ b
 one_information None None fits fits' there same = refl

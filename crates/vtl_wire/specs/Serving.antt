@@ -26,7 +26,7 @@ AnswersEach {S} takes answers old (request ∷ requests) (answer ∷ others) new
 AnswersEach takes answers old [] (answer ∷ others) new = ⊥
 AnswersEach takes answers old (request ∷ requests) [] new = ⊥
 
--- the next frame is refused: what comes begins with no request, or with one that is not taken (own)
+-- the next frame is refused: the input begins with no request, or with one that is not taken (own)
 abbrev pub RefusesNext : (Request → Bool) → Option (List ℕ) → Option (List ℕ) → Type 0
 RefusesNext takes left left' =
     RefusesRequest left left'
@@ -44,6 +44,12 @@ WritesAnswer before now answer = FitsAnswer answer × Appends before now (spell_
 abbrev pub WritesFront : Option (List ℕ) → Option (List ℕ) → Answer → Type 0
 WritesFront before now answer =
     AppendsFront before now (spell_answer answer) × ((FitsAnswer answer → ⊥) → now ≡ before)
+
+-- a request is answered, and this is written of the answer (own)
+abbrev pub AnswersAndWrites : {S : Type 0} → (Option (List ℕ) → Option (List ℕ) → Answer → Type 0)
+    → (S → Request → Answer → S → Type 0) → S → Request → Option (List ℕ) → S → Option (List ℕ) → Type 0
+AnswersAndWrites writes answers old request before new now =
+    (answer : Answer) × answers old request answer new × writes before now answer
 
 -- a request was served, and its answer written whole, or a beginning of it (own)
 pub record ServesOne {S : Type 0} (takes : S → Request → Bool) (answers : S → Request → Answer → S → Type 0)

@@ -1,17 +1,17 @@
-//! What the header of an answer says of it.
+//! What the header of an answer says of the answer.
 ghost use Rattle.std.specs.Prelude.{◌≡◌, IfSome, IfNone, IsTrue, ◌↔◌};
 ghost use Rattle.scsi_sense.specs.declared.replies.Status.{Status};
 ghost use Rattle.scsi_sense.specs.declared.sense_data.Sense.{Sense};
 ghost use Rattle.scsi_sense.specs.Replies.{status_code};
 ghost use Rattle.vtl_wire.specs.declared.answer_heads.AnswerHead.{AnswerHead};
-ghost use Rattle.vtl_wire.specs.Inner.Answered.{EntriesSay, GoesTo, HeadSays, IsReplyHeader};
+ghost use Rattle.vtl_wire.specs.Inner.Answered.{EntriesSay, GoesToHost, HeadSays, IsReplyHeader};
 
 use crate::frames::{ENTRY_BYTES, FrameKind, MOST_DATA, SENSE_BYTES};
 use crate::headers::Header;
 use scsi_sense::Status;
 use vtl_base::Nexus;
 
-// A reply without what stands after its header: its host, or None where it answers a move.
+// The part of a reply that its header has. The host is None where the reply answers a move.
 #[derive(Clone, Copy)]
 pub(crate) struct ReplyHead {
     pub(crate) host: Option<Nexus>,
@@ -19,7 +19,7 @@ pub(crate) struct ReplyHead {
     pub(crate) tag: u32,
 }
 
-// An answer without what stands after its header.
+// The part of an answer that its header has.
 #[derive(Clone, Copy)]
 pub(crate) enum AnswerHead {
     Reply(ReplyHead),
@@ -59,7 +59,7 @@ fn reply_status(header: Header) -> Option<Status>
 
 // The reply of a header that goes to this host, or answers a move.
 fn reply_head(header: Header, host: Option<Nexus>) -> Option<AnswerHead>
-    requires { GoesTo header.kind header.host host }
+    requires { GoesToHost header.kind header.host host }
     ensures found { IfSome result (HeadSays header) }
     ensures none { IfNone result ((status : Status) → IsReplyHeader header status → ⊥) }
 {
@@ -80,7 +80,7 @@ fn has_entries(header: Header) -> bool
         && header.payload as usize % ENTRY_BYTES == 0
 }
 
-// The answer of this header, where one may have it.
+// What this header says of its answer, if an answer may have this header.
 pub(crate) fn answer_head(header: Header) -> Option<AnswerHead>
     ensures found { IfSome result (HeadSays header) }
     ensures none { IfNone result ((head : AnswerHead) → HeadSays header head → ⊥) }

@@ -25,7 +25,7 @@ struct Front {
     sense: Option<Sense>,
 }
 
-// The sense data with these bytes, or none of no bytes.
+// The sense data that these bytes spell; no bytes spell no sense data. None where the bytes spell neither.
 fn front_in(bytes: &[u8]) -> Option<Front>
     ensures found { IfSome result (λ front. IfSome front.sense IsSense × (bytes.now ≡ sense_front front.sense)) }
     ensures none { IfNone result
@@ -40,7 +40,7 @@ fn front_in(bytes: &[u8]) -> Option<Front>
     }
 }
 
-// The answer of such a header, with what stands after it.
+// The answer with such a header, these sense data and these bytes.
 fn answer_with(head: ReplyHead, front: Front, bytes: Bytes) -> Answer
     ensures { result ≡ answer_with head front.sense bytes }
 {
@@ -56,7 +56,7 @@ fn answer_with(head: ReplyHead, front: Front, bytes: Bytes) -> Answer
     }
 }
 
-// The answer to a command or a move, behind its header. The sense data are looked at before memory is taken.
+// Reads the answer to a command or a move, behind its header. It checks the sense data before it takes memory.
 pub(crate) fn find_reply<R: Read>(
     memory: &Memory,
     reads: &mut Reads,
@@ -85,7 +85,7 @@ pub(crate) fn find_reply<R: Read>(
     }
 }
 
-// The answer to an inventory, behind its header. The memory for its entries is taken before the first is read.
+// Reads the answer to an inventory, behind its header. It takes the memory for all entries before it reads the first.
 pub(crate) fn find_inventory<R: Read>(
     memory: &Memory,
     reads: &mut Reads,

@@ -16,8 +16,8 @@ use std::alloc::Global;
 use std::io::Read;
 use std::marker::Model;
 
-/// A reader of answers, which counts them. The count stops at its greatest value. To a contract it is the number of
-/// answers that were read, and whether a read failed.
+/// A reader of answers, which counts them. The count stops at its greatest value. A contract sees the number of answers
+/// that were read, and whether a read failed.
 #[derive(Drop)]
 pub struct AnswerReader {
     frames: u64,
@@ -33,7 +33,7 @@ impl Model for AnswerReader {
     ghost view = { λ reader. record { frames = reader.frames; failed = reader.reads } };
 }
 
-// What stands next in an input.
+// Reads what stands next in an input.
 fn find_answer<R: Read>(
     memory: &Memory,
     reads: &mut Reads,
@@ -57,7 +57,7 @@ fn find_answer<R: Read>(
 }
 
 impl AnswerReader {
-    /// A reader that has read nothing. The data of answers get their memory from here.
+    /// A reader that has read nothing. `alloc` gives the memory for the data of answers.
     pub fn new(alloc: Global) -> Self
         ensures frames { result.frames ≡ 0 }
         ensures failed { result.failed ≡ false }
@@ -76,16 +76,17 @@ impl AnswerReader {
         self.frames
     }
 
-    /// Whether a read failed: then the last call returned a `ReadFault`.
+    /// Whether a read failed. If so, the last call returned a `ReadFault`.
     pub fn has_failed(&self) -> bool
         ensures { result ≡ self.now.failed }
     {
         self.reads.have_failed()
     }
 
-    /// The next answer, or None where the input has ended. No byte after it is read, however the input is cut. Memory
-    /// runs out only where its header and its sense data were read and may stand there, and only for its data. After an
-    /// `Err` the input is inside a frame, or after what is refused, so that no other answer can be read.
+    /// The next answer, or None where the input has ended. No byte after the answer is read, however the input is cut
+    /// into reads. Memory can run out only for the data of an answer, once its header and its sense data were read and
+    /// may stand there. After an `Err` the input stands inside a frame, or after refused bytes, so no other answer can
+    /// be read.
     pub fn next<R: Read>(&mut self, reader: &mut R) -> Result<Option<Answer>, WireFault>
         ensures ok { IfOk result (ReadsAnswer (R.remaining reader.old) (R.remaining reader.new)) }
         ensures count { IfOk result (λ found. self.new.frames ≡ count_after self.old.frames found) }
@@ -107,8 +108,8 @@ impl AnswerReader {
     }
 }
 
-/// All answers of an input, up to its end, or the number of the first frame that is refused. It is what the grammar
-/// gives, however the input is cut.
+/// All answers of an input, up to its end, or the number of the first frame that is refused. The result is what the
+/// grammar gives, however the input is cut into reads.
 pub fn read_answers<R: Read>(alloc: Global, reader: &mut R) -> Result<Vec<Answer>, WireFault>
     ensures ok { IfOk result (λ answers.
         IfSome (R.remaining reader.old) (λ bytes. SpellsAnswers bytes answers.items)) }

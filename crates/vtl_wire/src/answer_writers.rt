@@ -76,7 +76,7 @@ fn write_reply<W: Write>(writer: &mut W, header: Header, reply: &Reply) -> Resul
     }
 }
 
-// These bytes, and spaces behind them up to 16.
+// These bytes, with spaces behind them up to 16 bytes.
 fn with_spaces(symbols: &[u8]) -> [u8; MAX_BARCODE]
     requires { length symbols.now ≤ MAX_BARCODE }
     ensures { result ≡ symbols.now ++ replicate (MAX_BARCODE - length symbols.now) 32 }
@@ -94,7 +94,7 @@ fn padded(symbols: &[u8]) -> [u8; MAX_BARCODE]
     with_spaces(symbols)
 }
 
-// The 16 bytes of a barcode, or of none.
+// The 16 bytes of a barcode; 16 bytes of 00h where there is none.
 fn barcode_bytes(barcode: &Option<Barcode>) -> [u8; MAX_BARCODE]
     ensures { result ≡ spell_barcode barcode.now }
 {
@@ -161,9 +161,9 @@ fn write_whole<W: Write>(writer: &mut W, answer: &Answer) -> Result<(), WireFaul
     }
 }
 
-/// Writes the frame of an answer, and flushes it. Where a write or the flush fails, which is a `WriteFault`, a
-/// beginning of it is written. An interrupted write is made again. It takes no memory. `Answer::fits_frame` tests the
-/// condition.
+/// Writes the frame of an answer, and flushes it. Where a write or the flush fails, the result is a `WriteFault`, and a
+/// beginning of the frame is written. An interrupted write is made again. The call takes no memory.
+/// `Answer::fits_frame` tests the condition.
 pub fn write_answer<W: Write>(writer: &mut W, answer: &Answer) -> Result<(), WireFault>
     requires { FitsAnswer answer.now }
     ensures ok { OnOk result (Appends (W.contents writer.old) (W.contents writer.new) (spell_answer answer.now)) }

@@ -1,4 +1,4 @@
-//! What a front end is answered.
+//! The answers to a front end.
 ghost use Rattle.std.specs.Prelude.{◌≡◌, ◌↔◌, IsTrue};
 ghost use Rattle.vtl_wire.specs.Answers.{FitsAnswer, FitsReply};
 
@@ -7,14 +7,14 @@ use scsi_sense::{Reply, Status};
 use std::marker::Model;
 use vtl_base::{Barcode, Nexus};
 
-/// An element address, and the barcode of what is there.
+/// An element address, and the barcode of the cartridge that is there, if one is.
 #[derive(Drop)]
 pub struct Entry {
     pub address: u32,
     pub barcode: Option<Barcode>,
 }
 
-/// The entries of an inventory. To a contract they are a list.
+/// The entries of an inventory. A contract sees them as a list.
 #[derive(Drop)]
 pub struct Entries {
     entries: Vec<Entry>,
@@ -37,7 +37,7 @@ impl Entries {
         Entries { entries }
     }
 
-    /// The entries, to be read.
+    /// The entries, for reading.
     pub fn as_slice(&self) -> &[Entry]
         ensures { result.now ≡ self.now }
     {
@@ -56,7 +56,7 @@ pub enum Answer {
     Inventory { entries: Entries, tag: u32 },
 }
 
-// Whether a frame holds a reply.
+// Whether a frame can hold this reply.
 fn holds_reply(reply: &Reply) -> bool
     ensures { IsTrue result ↔ FitsReply reply.now }
 {
@@ -65,7 +65,8 @@ fn holds_reply(reply: &Reply) -> bool
 }
 
 impl Answer {
-    /// Whether a frame holds it: it has at most 1,100,000 bytes of data, and sense data only with CHECK CONDITION.
+    /// Whether a frame can hold the answer: it has at most 1,100,000 bytes of data, and sense data only with CHECK
+    /// CONDITION.
     pub fn fits_frame(&self) -> bool
         ensures { IsTrue result ↔ FitsAnswer self.now }
     {

@@ -50,7 +50,7 @@ fn entry_like(bytes: &[u8]) -> Entry
     }
 }
 
-// The entry with these bytes, if they are those of some.
+// The entry that these bytes spell, if they spell one.
 fn read_entry(bytes: &[u8]) -> Option<Entry>
     requires { length bytes.now ≡ ENTRY_BYTES }
     ensures found { IfSome result (λ entry. IsEntry entry × (bytes.now ≡ spell_entry entry)) }
@@ -63,7 +63,7 @@ fn read_entry(bytes: &[u8]) -> Option<Entry>
     Some(entry)
 }
 
-// The entries with these bytes, if they are those of some. They have room where they are put.
+// The entries that these bytes spell, if they spell entries. They are put into `room`, which has room for them.
 pub(crate) fn read_entries(room: Vec<Entry>, bytes: &[u8]) -> Option<Vec<Entry>>
     requires whole { length bytes.now % ENTRY_BYTES ≡ 0 }
     requires none { (room.items ≡ []) × (vec_len room ≡ 0) }

@@ -6,7 +6,8 @@ use vtl_base::NoMemory;
 /// Why no frame is read or written.
 #[derive(Clone, Copy, PartialEq, Eq, Debug, Error)]
 pub enum WireFault {
-    /// The bytes begin with no frame that may stand there, or end inside one. Frames are counted from 1 on.
+    /// The next bytes are no frame that may stand there, or the input ends inside a frame. Frames are counted from 1
+    /// on.
     #[error("frame {frame} refused")]
     BadFrame { frame: u64 },
     /// A read failed.

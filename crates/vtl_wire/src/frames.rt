@@ -1,26 +1,26 @@
-//! The numbers of frames, each once (own).
+//! The numbers of the frame format, each written once (own).
 ghost use Rattle.std.specs.Prelude.{◌≡◌};
 ghost use Rattle.vtl_wire.specs.Frames.{code_of_kind, kind_with};
 
-/// The bytes of a frame's header.
+/// How many bytes a frame's header has.
 pub const HEADER_BYTES: usize = 16;
 
-/// The bytes of a command block at most. It may have none.
+/// How many bytes a command block may have. It may have none.
 pub const MOST_CDB: usize = 16;
 
-/// The bytes of a move's two element addresses.
+/// How many bytes a move's two element addresses have.
 pub const MOVE_BYTES: usize = 8;
 
-/// The bytes of sense data, where an answer has some.
+/// How many bytes sense data have, where an answer has some.
 pub const SENSE_BYTES: usize = 18;
 
-/// The bytes of data at most, of a request and of an answer: what a script's line can hold.
+/// How many bytes of data a request or an answer may have: as many as a line of a script can hold.
 pub const MOST_DATA: u32 = 1_100_000;
 
-/// The bytes of an entry of an inventory: an element address, and a barcode padded with spaces.
+/// How many bytes an entry of an inventory has: an element address, and a barcode padded with spaces.
 pub const ENTRY_BYTES: usize = 20;
 
-/// What a request asks for, and what an answer answers.
+/// The kind of a request, and of its answer.
 #[derive(Clone, Copy, PartialEq, Eq, Debug)]
 pub enum FrameKind {
     Command = 0x01,
@@ -29,7 +29,7 @@ pub enum FrameKind {
 }
 
 impl FrameKind {
-    /// Its byte.
+    /// The byte of the kind.
     pub fn code(self) -> u8
         ensures { result ≡ code_of_kind self }
     {

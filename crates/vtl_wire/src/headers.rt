@@ -11,7 +11,7 @@ use byteorder::{BigEndian, ByteOrder};
 /// The header of a frame (own).
 #[derive(Clone, Copy, PartialEq, Eq, Debug)]
 pub struct Header {
-    /// What is asked for, or answered.
+    /// The kind of the request, or of the answer.
     pub kind: FrameKind,
     /// The host, 0 where there is none.
     pub host: u8,
@@ -26,7 +26,7 @@ pub struct Header {
 }
 
 impl Header {
-    // Its bytes.
+    // The bytes of the header.
     pub(crate) fn bytes(self) -> [u8; HEADER_BYTES]
         ensures { result ≡ spell_header self }
     {
@@ -53,7 +53,7 @@ impl Header {
         ]
     }
 
-    // The header that these bytes are, if they are one.
+    // The header that these bytes spell, if they spell one.
     pub(crate) fn read(bytes: &[u8]) -> Option<Self>
         requires { length bytes.now ≡ HEADER_BYTES }
         ensures found { IfSome result (λ header. IsHeader header × (bytes.now ≡ spell_header header)) }
@@ -64,7 +64,7 @@ impl Header {
     }
 }
 
-// The header that these bytes are, by their places.
+// The header whose fields have these bytes, each at its place.
 fn header_at(bytes: &[u8]) -> Option<Header>
     requires { length bytes.now ≡ HEADER_BYTES }
     ensures { result ≡ header_at bytes.now }

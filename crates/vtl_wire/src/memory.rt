@@ -2,7 +2,7 @@
 ghost use Rattle.std.specs.Prelude.{◌≡◌, ◌≤◌, ◌<◌, ◌+◌, ◌*◌, [], length, vec_len, vec_capacity, IfOk, IfErr, OnErr};
 ghost use Rattle.vtl_base.specs.declared.bytes.TheConstants.{INLINE_BYTES};
 ghost use Rattle.vtl_wire.specs.declared.frames.TheConstants.{ENTRY_BYTES};
-ghost use Rattle.vtl_wire.specs.Inner.Answered.{MayStand};
+ghost use Rattle.vtl_wire.specs.Inner.Answered.{MayBeHeader};
 
 use crate::answers::Entry;
 use crate::faults::WireFault;
@@ -11,20 +11,20 @@ use crate::headers::Header;
 use std::alloc::Global;
 use vtl_base::Bytes;
 
-// Where the data of frames get their memory. Whoever reads frames has this and no other: so memory is taken only for
-// the data of a header that was looked at, and as many bytes as it counts.
+// The memory for the data of frames. The readers of frames have no other memory. So memory is taken only for the data
+// of a header that was checked, and for as many bytes as the header counts.
 #[derive(Drop)]
 pub(crate) struct Memory {
     alloc: Global,
 }
 
 impl Memory {
-    // Memory from here.
+    // Memory from this allocator.
     pub(crate) fn new(alloc: Global) -> Self {
         Memory { alloc }
     }
 
-    // At most 24 bytes, which take no memory.
+    // These bytes, at most 24. They take no memory.
     pub(crate) fn few(&self, bytes: &[u8]) -> Bytes
         requires { length bytes.now ≤ INLINE_BYTES }
         ensures { result ≡ bytes.now }
@@ -35,9 +35,9 @@ impl Memory {
         }
     }
 
-    // Room for the data that this header counts, which some request or answer may have.
+    // Room for the data that this header counts. Some request or answer may have this header.
     pub(crate) fn room(&self, header: Header) -> Result<Vec<u8>, WireFault>
-        requires { MayStand header }
+        requires { MayBeHeader header }
         ensures room { IfOk result (λ room. length room.items ≡ header.payload) }
         ensures fault { IfErr result (λ fault. fault ≡ WireFault.NoMemory) }
     {
@@ -47,9 +47,9 @@ impl Memory {
         Ok(room)
     }
 
-    // Room for the entries that this header counts, which some request or answer may have.
+    // Room for the entries that this header counts. Some request or answer may have this header.
     pub(crate) fn entries(&self, header: Header) -> Result<Vec<Entry>, WireFault>
-        requires { MayStand header }
+        requires { MayBeHeader header }
         ensures none { IfOk result (λ room. (room.items ≡ []) × (vec_len room ≡ 0)) }
         ensures room { IfOk result (λ room. header.payload < ENTRY_BYTES * vec_capacity room + ENTRY_BYTES) }
         ensures most { IfOk result (λ room. ENTRY_BYTES * vec_capacity room ≤ header.payload) }

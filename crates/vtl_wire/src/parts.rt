@@ -2,7 +2,7 @@
 ghost use Rattle.std.specs.Prelude.{◌≡◌, ◌≤◌, IfOk, IfErr};
 ghost use Rattle.vtl_base.specs.declared.bytes.TheConstants.{INLINE_BYTES};
 ghost use Rattle.vtl_wire.specs.Reads.{NotesFault};
-ghost use Rattle.vtl_wire.specs.Inner.Answered.{MayStand};
+ghost use Rattle.vtl_wire.specs.Inner.Answered.{MayBeHeader};
 ghost use Rattle.vtl_wire.specs.Inner.Reading.{ReadsParts, MissesParts};
 
 use crate::faults::WireFault;
@@ -20,7 +20,7 @@ pub(crate) struct Parts {
     pub(crate) payload: Bytes,
 }
 
-// The parts that a header counts, or None where the input ends within them.
+// Reads the parts that a header counts. None where the input ends within them.
 pub(crate) fn read_parts<R: Read>(
     memory: &Memory,
     reads: &mut Reads,
@@ -28,7 +28,7 @@ pub(crate) fn read_parts<R: Read>(
     header: Header,
 ) -> Result<Option<Parts>, WireFault>
     requires front { header.front ≤ INLINE_BYTES }
-    requires head { MayStand header }
+    requires head { MayBeHeader header }
     ensures parts { IfOk result
         (ReadsParts (R.remaining reader.old) (R.remaining reader.new) header.front header.payload) }
     ensures fault { IfErr result

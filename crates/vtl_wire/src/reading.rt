@@ -4,7 +4,7 @@ ghost use Rattle.std.specs.Io.KnownBytes.{Consumes, IsAtEnd};
 ghost use Rattle.vtl_base.specs.declared.bytes.TheConstants.{INLINE_BYTES};
 ghost use Rattle.vtl_wire.specs.declared.frames.TheConstants.{HEADER_BYTES};
 ghost use Rattle.vtl_wire.specs.Reads.{NotesFault};
-ghost use Rattle.vtl_wire.specs.Inner.Answered.{MayStand};
+ghost use Rattle.vtl_wire.specs.Inner.Answered.{MayBeHeader};
 ghost use Rattle.vtl_wire.specs.Inner.Reading.{count_given, ReadsWhole, ReadsBytes, MissesBytes, ReadsHeader, TakesFewer};
 
 use crate::faults::WireFault;
@@ -22,7 +22,7 @@ pub(crate) enum Found<T> {
     // Nothing: the input has ended.
     Ended,
     Frame(T),
-    // What may not stand there, or less than a frame.
+    // Bytes that may not stand there, or less than a frame.
     Refused,
 }
 
@@ -46,8 +46,8 @@ fn read_behind<R: Read>(
     reads.read(reader, &mut slice[filled..])
 }
 
-// Fills a slice. Returns how many bytes came: fewer than the slice has only where the input has ended. No more bytes
-// are asked for than the slice has.
+// Fills a slice. Returns how many bytes came. They are fewer than the slice has only where the input has ended. It
+// never asks for more bytes than the slice has.
 pub(crate) fn fill<R: Read>(
     reads: &mut Reads,
     reader: &mut R,
@@ -91,7 +91,7 @@ pub(crate) fn fill_whole<R: Read>(
     Ok(count == slice.len())
 }
 
-// Reads at most 24 bytes, which take no memory.
+// Reads at most 24 bytes. They take no memory.
 pub(crate) fn read_few<R: Read>(
     memory: &Memory,
     reads: &mut Reads,
@@ -121,7 +121,7 @@ fn read_many<R: Read>(
     reader: &mut R,
     header: Header,
 ) -> Result<Option<Bytes>, WireFault>
-    requires head { MayStand header }
+    requires head { MayBeHeader header }
     requires many { INLINE_BYTES < header.payload }
     ensures bytes { IfOk result (ReadsBytes (R.remaining reader.old) (R.remaining reader.new) header.payload) }
     ensures fault { IfErr result (MissesBytes (R.remaining reader.old) (R.remaining reader.new) header.payload) }
@@ -135,15 +135,15 @@ fn read_many<R: Read>(
     Ok(Some(Bytes::from_vec(room)))
 }
 
-// Reads the data that a header counts; None where the input ends before. More than 24 take memory, for all of them and
-// no more.
+// Reads the data that a header counts. None where the input ends before. Data of more than 24 bytes take memory: for
+// all their bytes, and for no more.
 pub(crate) fn read_data<R: Read>(
     memory: &Memory,
     reads: &mut Reads,
     reader: &mut R,
     header: Header,
 ) -> Result<Option<Bytes>, WireFault>
-    requires { MayStand header }
+    requires { MayBeHeader header }
     ensures bytes { IfOk result (ReadsBytes (R.remaining reader.old) (R.remaining reader.new) header.payload) }
     ensures fault { IfErr result (MissesBytes (R.remaining reader.old) (R.remaining reader.new) header.payload) }
     ensures same { IfOk result (λ _. reads.new ≡ reads.old) }
@@ -156,7 +156,7 @@ pub(crate) fn read_data<R: Read>(
     read_many(memory, reads, reader, header)
 }
 
-// The header of a frame.
+// Reads the header of a frame.
 pub(crate) fn read_header<R: Read>(
     reads: &mut Reads,
     reader: &mut R,

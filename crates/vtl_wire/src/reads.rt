@@ -24,8 +24,8 @@ fn read_once<R: Read>(reader: &mut R, slice: &mut [u8]) -> Result<Option<usize>,
     }
 }
 
-// Whether a read of an input failed, and to a contract that alone. Only `Reads::read` notes one: a contract that wants
-// one noted of each read fault refuses a read fault of other causes.
+// Whether a read of an input failed. A contract sees that alone. Only `Reads::read` notes a failed read. So a contract
+// that wants a note for each `ReadFault` refuses a `ReadFault` with another cause.
 #[derive(Drop)]
 pub(crate) struct Reads {
     failed: bool,
@@ -55,7 +55,7 @@ impl Reads {
     }
 
     // Reads into this slice, and returns how many bytes came: 0 only at the end. An interrupted read is made again.
-    // After one that failed no other is made.
+    // After a failed read no other read is made.
     pub(crate) fn read<R: Read>(
         &mut self,
         reader: &mut R,

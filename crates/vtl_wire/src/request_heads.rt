@@ -1,4 +1,4 @@
-//! What the header of a request says of it.
+//! What the header of a request says of the request.
 ghost use Rattle.std.specs.Prelude.{◌≡◌, ◌++◌, length, Some};
 ghost use Rattle.std.specs.Int.{to_be_bytes, w32};
 ghost use Rattle.vtl_wire.specs.declared.frames.TheConstants.{MOVE_BYTES};
@@ -13,7 +13,7 @@ use crate::requests::Request;
 use byteorder::{BigEndian, ByteOrder};
 use vtl_base::{DriveNo, Nexus};
 
-// A request without what stands after its header.
+// The part of a request that its header has.
 #[derive(Clone, Copy)]
 pub(crate) enum RequestHead {
     Command {
@@ -29,7 +29,7 @@ pub(crate) enum RequestHead {
     },
 }
 
-// A command, where host, drive and lengths are within their limits.
+// The command of this header, if host, drive and lengths are within their limits.
 fn command_head(header: Header) -> Option<RequestHead>
     ensures { result ≡ command_head header }
 {
@@ -49,7 +49,7 @@ fn is_plain(header: Header, front: usize) -> bool
     header.host == 0 && header.detail == 0 && header.front as usize == front && header.payload == 0
 }
 
-// The request of this header, where one may have it.
+// What this header says of its request, if a request may have this header.
 pub(crate) fn request_head(header: Header) -> Option<RequestHead>
     ensures { result ≡ request_head header }
 {
@@ -72,7 +72,7 @@ fn two_numbers(bytes: &[u8]) -> (u32, u32)
     (first, second)
 }
 
-// The request of this header, with what stands after it.
+// The request with this header and these parts.
 pub(crate) fn request_in(header: Header, head: RequestHead, parts: Parts) -> Request
     requires head { request_head header ≡ Some head }
     requires front { length parts.front ≡ header.front }

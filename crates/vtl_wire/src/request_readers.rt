@@ -16,7 +16,7 @@ use std::alloc::Global;
 use std::io::Read;
 use std::marker::Model;
 
-/// A reader of requests, which counts them. The count stops at its greatest value. To a contract it is the number of
+/// A reader of requests, which counts them. The count stops at its greatest value. A contract sees the number of
 /// requests that were read, and whether a read failed.
 #[derive(Drop)]
 pub struct RequestReader {
@@ -33,7 +33,7 @@ impl Model for RequestReader {
     ghost view = { λ reader. record { frames = reader.frames; failed = reader.reads } };
 }
 
-// What stands next in an input.
+// Reads what stands next in an input.
 fn find_request<R: Read>(
     memory: &Memory,
     reads: &mut Reads,
@@ -59,7 +59,7 @@ fn find_request<R: Read>(
 }
 
 impl RequestReader {
-    /// A reader that has read nothing. The data of requests get their memory from here.
+    /// A reader that has read nothing. `alloc` gives the memory for the data of requests.
     pub fn new(alloc: Global) -> Self
         ensures frames { result.frames ≡ 0 }
         ensures failed { result.failed ≡ false }
@@ -78,16 +78,17 @@ impl RequestReader {
         self.frames
     }
 
-    /// Whether a read failed: then the last call returned a `ReadFault`.
+    /// Whether a read failed. If so, the last call returned a `ReadFault`.
     pub fn has_failed(&self) -> bool
         ensures { result ≡ self.now.failed }
     {
         self.reads.have_failed()
     }
 
-    /// The next request, or None where the input has ended. No byte after it is read, however the input is cut. Memory
-    /// is taken only where its header and its command block were read and may stand there, and only for its data. After
-    /// an `Err` the input is inside a frame, or after a header that is refused, so that no other request can be read.
+    /// The next request, or None where the input has ended. No byte after the request is read, however the input is cut
+    /// into reads. Memory is taken only for the data of a request, once its header and its command block were read and
+    /// may stand there. After an `Err` the input stands inside a frame, or after a refused header, so no other request
+    /// can be read.
     pub fn next<R: Read>(&mut self, reader: &mut R) -> Result<Option<Request>, WireFault>
         ensures ok { IfOk result (ReadsRequest (R.remaining reader.old) (R.remaining reader.new)) }
         ensures count { IfOk result (λ found. self.new.frames ≡ count_after self.old.frames found) }
@@ -109,8 +110,8 @@ impl RequestReader {
     }
 }
 
-/// All requests of an input, up to its end, or the number of the first frame that is refused. It is what the grammar
-/// gives, however the input is cut.
+/// All requests of an input, up to its end, or the number of the first frame that is refused. The result is what the
+/// grammar gives, however the input is cut into reads.
 pub fn read_requests<R: Read>(alloc: Global, reader: &mut R) -> Result<Vec<Request>, WireFault>
     ensures ok { IfOk result (λ requests.
         IfSome (R.remaining reader.old) (λ bytes. SpellsRequests bytes requests.items)) }

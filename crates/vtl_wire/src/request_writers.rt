@@ -81,9 +81,9 @@ fn write_request_whole<W: Write>(writer: &mut W, request: &Request) -> Result<()
     }
 }
 
-/// Writes the frame of a request, and flushes it. Where a write or the flush fails, which is a `WriteFault`, a
-/// beginning of it is written. An interrupted write is made again. It takes no memory. `Request::fits_frame` tests the
-/// condition.
+/// Writes the frame of a request, and flushes it. Where a write or the flush fails, the result is a `WriteFault`, and a
+/// beginning of the frame is written. An interrupted write is made again. The call takes no memory.
+/// `Request::fits_frame` tests the condition.
 pub fn write_request<W: Write>(writer: &mut W, request: &Request) -> Result<(), WireFault>
     requires { FitsRequest request.now }
     ensures ok { OnOk result (Appends (W.contents writer.old) (W.contents writer.new) (spell_request request.now)) }

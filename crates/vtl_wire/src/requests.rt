@@ -1,14 +1,14 @@
-//! What a front end asks for.
+//! The requests of a front end.
 ghost use Rattle.std.specs.Prelude.{◌↔◌, IsTrue};
 ghost use Rattle.vtl_wire.specs.Requests.{FitsRequest};
 
 use crate::frames::{MOST_CDB, MOST_DATA};
 use vtl_base::{Bytes, DriveNo, Nexus};
 
-/// What a front end asks for. A tag is any number; its answer has the same.
+/// A request of a front end. Its tag may be any number. The answer has the same tag.
 #[derive(Drop)]
 pub enum Request {
-    /// A host sends a command block, 16 bytes at most, and data with it, 1,100,000 bytes at most, to a drive.
+    /// A host sends a drive a command block of at most 16 bytes, and with it at most 1,100,000 bytes of data.
     Command {
         host: Nexus,
         drive: DriveNo,
@@ -16,20 +16,20 @@ pub enum Request {
         sent: Bytes,
         tag: u32,
     },
-    /// The cartridge at an element address is moved to another. Any two numbers are taken.
+    /// Moves the cartridge at one element address to another one. The two addresses may be any numbers.
     Move {
         from: u32,
         to: u32,
         tag: u32,
     },
-    /// What is where.
+    /// Asks which cartridge is at which element address.
     Inventory {
         tag: u32,
     },
 }
 
 impl Request {
-    /// Whether a frame holds it: a block of 16 bytes at most, and 1,100,000 bytes of data at most.
+    /// Whether a frame can hold the request: a command block of at most 16 bytes, and at most 1,100,000 bytes of data.
     pub fn fits_frame(&self) -> bool
         ensures { IsTrue result ↔ FitsRequest self.now }
     {

@@ -52,8 +52,8 @@ fn sense_like(bytes: &[u8]) -> Option<Sense>
     })
 }
 
-/// The sense data with these bytes, 18 in fixed format, if they are those of some. It is the other half of
-/// `Sense::bytes`.
+/// The sense data that these bytes spell, 18 bytes in fixed format, if they spell sense data. It reads what
+/// `Sense::bytes` writes.
 pub fn read_sense(bytes: &[u8]) -> Option<Sense>
     ensures found { IfSome result (λ sense. IsSense sense × (bytes.now ≡ sense_bytes sense)) }
     ensures none { IfNone result ((sense : Sense) → IsSense sense → bytes.now ≡ sense_bytes sense → ⊥) }

@@ -1,4 +1,4 @@
-//! What serves requests.
+//! The trait of a server of requests.
 ghost use Rattle.std.specs.Prelude.{◌≡◌, true, Bool, IfOk, OnErr};
 ghost use Rattle.vtl_wire.specs.declared.answers.Answer.{Answer};
 ghost use Rattle.vtl_wire.specs.declared.requests.Request.{Request};
@@ -13,13 +13,13 @@ pub trait Server {
     /// Whether the server takes a request.
     ghost is_taken: { Self → Request → Bool };
 
-    /// From the first value a request may be answered so, which leaves the last value.
+    /// A server with the first value may give this answer to this request, and then has the last value.
     ghost answers: { Self → Request → Answer → Self → Type 0 };
 
-    /// Why memory may run out as a request is served. Where it never does, this is an empty type.
+    /// A cause for memory to run out while a request is served. Where it never runs out, this is an empty type.
     ghost lacks: { Self → Request → Type 0 };
 
-    /// Whether it takes this request. It does not take a command to a drive that is not configured.
+    /// Whether the server takes this request. It does not take a command to a drive that is not configured.
     fn takes(&self, request: &Request) -> bool
         ensures { result ≡ is_taken self.now request.now };
 

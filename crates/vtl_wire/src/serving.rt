@@ -72,8 +72,8 @@ fn serve_next<S: Server, R: Read, W: Write>(
     Ok(true)
 }
 
-/// Reads requests up to the end of the input, or to the first frame that is refused, serves each before the next is
-/// read, and writes its answer, and nothing else.
+/// Reads requests up to the end of the input, or to the first frame that is refused. Each request is served, and its
+/// answer is written, before the next is read. Nothing else is written.
 pub fn serve_requests<S: Server, R: Read, W: Write>(
     alloc: Global,
     server: &mut S,

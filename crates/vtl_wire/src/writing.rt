@@ -1,4 +1,4 @@
-//! Bytes that are written, all of them or a beginning.
+//! Writes bytes: all of them, or a beginning.
 ghost use Rattle.std.specs.Prelude.{◌≡◌, ◌++◌, IfErr, OnOk, OnErr};
 ghost use Rattle.std.specs.Io.KnownBytes.{Appends, Keeps};
 ghost use Rattle.vtl_wire.specs.Frames.{spell_header};
@@ -9,8 +9,8 @@ use crate::headers::Header;
 use crate::interruptions::is_interrupted;
 use std::io::Write;
 
-// Writes all of these bytes. Where a write fails, a beginning of them is written. An interrupted write is made again;
-// it is not flushed.
+// Writes all of these bytes. Where a write fails, a beginning of them is written. An interrupted write is made again.
+// Nothing is flushed.
 pub(crate) fn write_bytes<W: Write>(writer: &mut W, bytes: &[u8]) -> Result<(), WireFault>
     ensures ok { OnOk result (Appends (W.contents writer.old) (W.contents writer.new) bytes.now) }
     ensures err { OnErr result (AppendsFront (W.contents writer.old) (W.contents writer.new) bytes.now) }
@@ -46,7 +46,7 @@ pub(crate) fn write_both<W: Write>(
     write_bytes(writer, second)
 }
 
-// Writes a header, and what it counts.
+// Writes a header, and the bytes that it counts.
 pub(crate) fn write_frame<W: Write>(
     writer: &mut W,
     header: Header,

@@ -14,7 +14,7 @@ use Rattle.clap.specs.declared.error.kind.ErrorKind.{ErrorKind}
 use Rattle.clap.specs.declared.error.kind.ErrorKind.TheVariants.{OutOfMemory}
 use Rattle.vtl_base.specs.Barcode.{IsBarcode}
 use Rattle.vtl_words.specs.Commands.{vtl_command}
-use Rattle.vtl_words.specs.Inner.Told.{Tells, AsksNothing}
+use Rattle.vtl_words.specs.Inner.ParserErrors.{IsReportedAs, AsksNothing}
 use Rattle.vtl_words.specs.Orders.{Asked, reclaim_by, IsNoOrder, order_from, AreRefused, RefusesWords}
 use Rattle.vtl_words.specs.declared.orders.WordsError.{WordsError}
 use Rattle.vtl_words.specs.declared.orders.WordsError.TheVariants.{Help, Refused, NoMemory}
@@ -39,16 +39,16 @@ rows_from_parts (Some b) word rows named matched =
     let same_rows : rows ≡ rows_of (found_of (out-SubCommand (box_value b)).matches) = same_Some _ _ matched in
     rw (same_word, same_rows) refl
 
--- what an error of the parser is told as refuses the words
-pub told_refused :
-    (words : List (List ℕ)) (kind : ErrorKind) (error : WordsError) → Tells kind error
+-- the fault that stands for an error of the parser refuses the words
+pub reported_refused :
+    (words : List (List ℕ)) (kind : ErrorKind) (error : WordsError) → IsReportedAs kind error
     → (kind ≡ OutOfMemory) ⊎ IsAmong kind (fault_of vtl_command words) → RefusesWords words error
-told_refused words kind (Help text) (inl help) (inl memory) = cc
-told_refused words kind (Help text) (inr version) (inl memory) = cc
-told_refused words kind (Help text) request (inr among) = (kind, request, among)
-told_refused words kind Refused tells (inl memory) = absurd (tells.1 memory)
-told_refused words kind Refused tells (inr among) = inl (kind, tells.0, among)
-told_refused words kind NoMemory tells has = tt
+reported_refused words kind (Help text) (inl help) (inl memory) = cc
+reported_refused words kind (Help text) (inr version) (inl memory) = cc
+reported_refused words kind (Help text) request (inr among) = (kind, request, among)
+reported_refused words kind Refused stands_for (inl memory) = absurd (stands_for.1 memory)
+reported_refused words kind Refused stands_for (inr among) = inl (kind, stands_for.0, among)
+reported_refused words kind NoMemory stands_for has = tt
 
 -- words without a fault whose matches ask for nothing are refused
 pub nothing_refused :

@@ -8,7 +8,7 @@ ghost use Rattle.clap.specs.Walk.{first_of, rows_of};
 ghost use Rattle.vtl_base.specs.Barcode.{IsBarcode};
 ghost use Rattle.vtl_words.specs.Commands.{vtl_command};
 ghost use Rattle.vtl_words.specs.Orders.{asked_of, asked_by, order_from, is_set, texts_of, Asks, RefusesWords};
-ghost use Rattle.vtl_words.specs.Inner.Told.{Tells, AsksFor, AsksNothing};
+ghost use Rattle.vtl_words.specs.Inner.ParserErrors.{IsReportedAs, AsksFor, AsksNothing};
 
 use crate::commands::vtl_command;
 use crate::orders::{Order, WordsError};
@@ -18,8 +18,8 @@ use std::alloc::Global;
 use vtl_base::{Barcode, NoMemory};
 
 // The fault that stands for an error of the parser.
-fn told(alloc: Global, error: &clap::Error) -> WordsError
-    ensures { Tells (kind_of error.now) result }
+fn parser_error(alloc: Global, error: &clap::Error) -> WordsError
+    ensures { IsReportedAs (kind_of error.now) result }
 {
     match error.kind() {
         ErrorKind::OutOfMemory => WordsError::NoMemory,
@@ -42,7 +42,7 @@ pub(crate) fn parsed<'a>(alloc: Global, words: &'a [String]) -> Result<ArgMatche
     };
     match command.try_get_matches_from(words) {
         Ok(matches) => Ok(matches),
-        Err(error) => Err(told(alloc, &error)),
+        Err(error) => Err(parser_error(alloc, &error)),
     }
 }
 

@@ -108,7 +108,7 @@ impl UnreadWord {
     }
 
     /// Writes these lines. Where memory runs out, or where they cannot be written, they are left out.
-    pub fn tell<E: Write>(&self, alloc: Global, errors: &mut E) {
+    pub fn explain<E: Write>(&self, alloc: Global, errors: &mut E) {
         let mut lines = Explanation::new(alloc);
         if self.add_to(alloc, &mut lines).is_ok() {
             let _ = errors.write_all(lines.as_str().as_bytes());

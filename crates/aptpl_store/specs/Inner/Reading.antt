@@ -24,7 +24,7 @@ pub record HasRead (notes : NotedStates) (last : PrState) (heading : Heading) (e
   pub spelled : bodies ≡ state_bodies notes.states
 
 -- after these notes and this last state, these bytes of a body came, and nothing more was noted (own)
-pub record IsWithin (noted : NotedStates) (before : PrState) (notes : NotedStates) (last : PrState) (body : List ℕ)
+pub record IsWithinBody (noted : NotedStates) (before : PrState) (notes : NotedStates) (last : PrState) (body : List ℕ)
     (bytes : List ℕ) : Type 0 where
   pub notes_same : notes ≡ noted
   pub last_same : last ≡ before

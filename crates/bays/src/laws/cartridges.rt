@@ -17,11 +17,10 @@ pub fn a_stop_keeps_acknowledged_changes<D: Disk, K: Keeper>()
     steps_keep_cores::<Cataloged<D>>();
 }
 
-/// The same for a cartridge that is moved. After an acknowledged synchronizing command any commands, turns,
-/// moves and writings out follow, of this drive and of others. A stop at any moment of these leaves the
-/// cartridge, wherever it is, as a first part of its accepted changes makes it. That part has every change
-/// that was accepted up to that command. The same holds from any moment at which all that a known cartridge
-/// had accepted is safe.
+/// The same for a cartridge that is moved. After an acknowledged synchronizing command any commands, turns, moves and
+/// write-outs follow, of this drive and of others. A stop at any moment of these leaves the cartridge, wherever it is,
+/// as a first part of its accepted changes makes it. That part has every change that was accepted up to that command.
+/// The same holds from any moment at which all that a known cartridge had accepted is safe.
 pub fn a_stop_keeps_acknowledged_changes_of_what_is_moved<D: Disk>()
     ensures acknowledged { StopsKeepWhatIsMoved D.state }
     ensures safe { KeepsWhatIsSafe D.state }

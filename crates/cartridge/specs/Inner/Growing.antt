@@ -14,8 +14,8 @@ IsGrown [] (new ∷ news) = ⊥
 IsGrown (old ∷ olds) [] = ⊥
 
 -- in each partition enough is reserved for these changes (own)
-abbrev pub HasRoomFor : List PlacedPart → List Change → Type 0
-HasRoomFor index changes = (part : ℕ) → sum_by (entries_of part) changes ≤ reserved_of index part
+abbrev pub HasEnoughReserved : List PlacedPart → List Change → Type 0
+HasEnoughReserved index changes = (part : ℕ) → sum_by (entries_of part) changes ≤ reserved_of index part
 
 -- in each partition that is there enough is reserved for these changes (own)
 abbrev pub HasRoomWithin : List PlacedPart → List Change → Type 0
@@ -35,7 +35,7 @@ abbrev pub TakesEntries : List PlacedPart → List Change → List PlacedPart �
 TakesEntries old changes new =
     (part : ℕ) → reserved_of old part ≤ reserved_of new part + sum_by (entries_of part) changes
 
--- an open side as it was, but for what is reserved, which is no less (own)
+-- an open side is as it was, and no less is reserved (own)
 pub record IsSameSide {D : Type 0} (old new : OpenSide D) : Type 0 where
   pub disk : new.disk ≡ old.disk
   pub front : new.front ≡ old.front

@@ -26,7 +26,7 @@ abbrev pub SideGives : Front → Contents → List ℕ → Type 0
 SideGives front contents image = IsContents contents × StandsFor front (bodies_of contents.frames) image
 
 -- the image of the side that counts stands for these contents behind that front, or for these with the frame that was
--- under way (own)
+-- in flight (own)
 abbrev pub SideShows : Front → Contents → List (List Change) → List ℕ → Type 0
 SideShows front contents torn image =
     SideGives front contents image ⊎ SideGives front (with_frames contents torn) image

@@ -15,8 +15,8 @@ use Rattle.cartridge.specs.Inner.Open.{IsOpen}
 use Rattle.cartridge.specs.Lying.{IsPlaceOf, LiesIn}
 use Rattle.cartridge.specs.Notes.{Notes}
 
--- up to that place the body spells changes that apply to the volume, and the index is that of what they make of it
--- (own)
+-- Up to that place the body spells changes that apply to the volume, and the index is that of the volume that they make
+-- (own).
 abbrev pub WalkedTo : ℕ → List ℕ → List Part → (List ℕ → ℕ → Type 0) → List PlacedPart → Type 0
 WalkedTo from body volume P index =
     (done : List Change) × All IsRecord done × (body ≡ spell_all done ++ drop from body)
@@ -27,8 +27,8 @@ abbrev pub IsBadBody : List Part → List ℕ → Type 0
 IsBadBody volume body =
     (changes : List Change) → All IsRecord changes → body ≡ spell_all changes → AllApply volume changes → ⊥
 
--- The body spells changes that apply to the volume, and the index is that of what they make of it; or it spells no
--- changes that apply (own).
+-- The body spells changes that apply to the volume, and the index is that of the volume that they make; or it spells
+-- none that apply (own).
 abbrev pub WalksTo : Bool → List ℕ → List Part → (List ℕ → ℕ → Type 0) → List PlacedPart → Type 0
 WalksTo true body volume P index =
     (changes : List Change) × SpellsAll body changes × AllApply volume changes × Indexes P (after volume changes) index
@@ -42,8 +42,8 @@ BehindEach place body index made =
     → Indexes (LiesIn bodies extents) volume index
     → made volume (LiesIn (bodies ++ body ∷ []) (extents ++ (place, length body) ∷ []))
 
--- Since an index, these bytes of the body at that place came: the reader stands behind them, and the index is that of
--- what the whole records in them make, however the body goes on (own).
+-- These bytes of the body at that place were read since an index: the reader stands behind them, and the index is that
+-- of the volume that the whole records in them make, however the body goes on (own).
 pub record IsBodyWalked (start : List PlacedPart) (place : ℕ) (so_far : List ℕ) (index : List PlacedPart)
     (reader : ReaderState) : Type 0 where
   pub changes : List Change
@@ -70,15 +70,15 @@ EntersAt true item at old new =
     × ((place : ℕ) × (reserved : ℕ) × (new ≡ placed_after old item place reserved) × IsPlaceOf item at place)
 EntersAt false item at old new = (cause : Refusal) × (refusal_of (outline old) (outlined item) ≡ Some cause)
 
--- What is noted is what just these bodies spell, which lie in these extents of a side with this heading: a cartridge's
--- contents, and the index says where their objects lie (own).
+-- Exactly these bodies spell what is noted. They lie in these extents of a side with this heading. The notes are a
+-- cartridge's contents, and the index says where their objects lie (own).
 pub record HasRead (index : List PlacedPart) (notes : Notes) (heading : Heading) (extents : List (ℕ × ℕ))
     (bodies : List (List ℕ)) : Type 0 where
   pub is_open : IsOpen heading extents false index notes
   pub spelled : bodies ≡ bodies_of notes.frames
 
 -- Since an index and notes, these bytes of the body at that place came, and nothing more was noted (own).
-pub record IsWithin (start : List PlacedPart) (noted : Notes) (index : List PlacedPart) (notes : Notes)
+pub record IsWithinBody (start : List PlacedPart) (noted : Notes) (index : List PlacedPart) (notes : Notes)
     (reader : ReaderState) (place : ℕ) (so_far : List ℕ) : Type 0 where
   pub notes_same : notes ≡ noted
   pub walked : IsBodyWalked start place so_far index reader

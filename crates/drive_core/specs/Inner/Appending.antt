@@ -19,7 +19,7 @@ pub record IsAt (position : Pos) (change : Change) : Type 0 where
   pub part : part_of change ≡ position.part
   pub object : kept_of change ≡ position.obj
 
--- what comes of a change that a medium did not accept
+-- the outcome of a change that a medium did not accept
 abbrev pub refused_as : MediumError → Option ℕ → Result Reply Fault
 refused_as (medium.Refused cause) amount = Ok (check_with (volume_overflow amount) [])
 refused_as medium.NoMemory amount = Err NoMemory
@@ -32,7 +32,7 @@ abbrev pub returned_of : List Change → Change → Option Change
 returned_of [] change = Some change
 returned_of (made ∷ others) change = None
 
--- the bytes of a block that is returned; where none is, those that are left
+-- the bytes of a block that is returned, else those that are left
 abbrev pub restored : Option Change → List ℕ → List ℕ
 restored (Some (Put part at block)) left = block
 restored (Some (Marks part at count)) left = left

@@ -13,11 +13,11 @@ use Rattle.drive_core.specs.Counted.{counted_up}
 use Rattle.drive_core.specs.Execute.{is_device_fault}
 
 -- the position is on a medium that has not failed
-pub record IsReady (m : Mounted) : Type 0 where
+pub record IsOnWorkingMedium (m : Mounted) : Type 0 where
   pub on : IsPositioned m.medium m.position
   pub works : m.medium.failed ≡ false
 
--- a medium and the position on it go through such work, which makes these changes, and the medium accepts just them
+-- such work on a medium and its position makes these changes, and the medium accepts exactly them
 pub record Carries {M : Type 0}
     (state : M → MediumState) (below : Below M Change)
     (W : MediumRelation) (old : M) (before : Pos) (answer : Result Reply Fault) (made : List Change) (new : M)

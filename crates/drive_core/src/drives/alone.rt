@@ -16,9 +16,9 @@ use volume_core::Medium;
 use vtl_base::{Bytes, Nexus};
 
 impl<M: Medium, K: Keeper> Drive<M, K> {
-    /// Answers a command as `execute_lent` does, where its work needs no disk: the disk of the medium need
-    /// not be at hand. Where it needs one there is no answer, and nothing has changed: the data are there
-    /// still, and `execute_lent` answers once the disk is at hand.
+    /// Answers a command as `execute_lent` does, if its work needs no disk. The disk of the medium need not be at hand.
+    /// Where the work needs the disk, the result is None, and nothing has changed: the data are still there.
+    /// `execute_lent` answers once the disk is at hand.
     pub fn execute_alone(&mut self, nexus: Nexus, cdb: &[u8], sent: &mut Bytes) -> Option<Reply>
         ensures step { AnswersAlone M.state K.kept M.alone M.below K.below
             self.old (asked nexus cdb.now sent.old) result self.new sent.new }

@@ -1,4 +1,4 @@
-//! A drive is taken apart, and put together.
+//! Takes a drive apart, and puts it together.
 ghost use Rattle.std.specs.Prelude.{◌≡◌, true};
 ghost use Rattle.drive_core.specs.State.{IsBayPositioned};
 ghost use Rattle.drive_core.specs.Apart.{drive_with, rest_of_drive};
@@ -12,7 +12,7 @@ use std::alloc::Global;
 use std::marker::Model;
 use volume_core::Medium;
 
-/// All of a drive but what is in it.
+/// The rest of a drive: all except what is in it.
 #[derive(Drop)]
 pub struct Rest<K: Keeper> {
     alloc: Global,
@@ -42,14 +42,14 @@ impl<K: Keeper> Model for Rest<K> {
 }
 
 impl<K: Keeper> Rest<K> {
-    /// A deferred error is to be reported, as after a flusher's turn in which the device failed.
+    /// Establishes a deferred error, as a flusher's turn does in which the device fails.
     pub fn defer(&mut self)
         ensures { self.new ≡ record self.old { deferred = true } }
     {
         self.deferred = true;
     }
 
-    /// What keeps the reservations, to be looked at.
+    /// The keeper of the reservations, for reading.
     pub fn keeper(&self) -> &K
         ensures { result.now ≡ self.now.keeper }
     {
@@ -58,7 +58,7 @@ impl<K: Keeper> Rest<K> {
 }
 
 impl<M: Medium, K: Keeper> Drive<M, K> {
-    /// Takes a drive apart: what is in it, and all else.
+    /// Takes a drive apart into what is in it, and the rest.
     pub fn take_apart(self) -> (Bay<M>, Rest<K>)
         ensures bay { result.0 ≡ self.bay }
         ensures rest { result.1 ≡ rest_of_drive self }
@@ -88,8 +88,8 @@ impl<M: Medium, K: Keeper> Drive<M, K> {
         (bay, rest)
     }
 
-    /// Puts a drive together of this, and of all else. The position is on what is loaded, and what is not loaded is
-    /// parked.
+    /// Puts a drive together from what is in it, and the rest. The position has to be on a loaded medium; a medium that
+    /// is not loaded has to be parked.
     pub fn assemble(bay: Bay<M>, rest: Rest<K>) -> Self
         requires { IsBayPositioned M.state bay rest.position }
         ensures { result ≡ drive_with bay rest }

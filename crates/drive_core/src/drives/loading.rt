@@ -96,7 +96,7 @@ impl<M: Medium, K: Keeper> Drive<M, K> {
     }
 }
 
-/// A loaded medium is parked, once what is pending is stored, or comes back with a fault.
+/// Parks a loaded medium, once what is pending is stored. With a fault the medium is returned.
 pub(super) fn park<M: Medium>(medium: M) -> Result<M, M>
     requires awake { (M.state medium).awake ≡ true }
     requires hand { M.below.at_hand medium }

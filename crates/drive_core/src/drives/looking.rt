@@ -1,4 +1,4 @@
-//! What is seen of a drive, which no look changes.
+//! Looks at a drive. No look changes it.
 ghost use Rattle.std.specs.Prelude.{◌≡◌, ◌↔◌, IsTrue, is_some, option_copied};
 ghost use Rattle.drive_core.specs.declared.bays.Bay.TheVariants as Bays;
 ghost use Rattle.drive_core.specs.State.{has_failed_in, medium_in, IsBayPositioned};
@@ -31,7 +31,7 @@ impl<M: Medium, K: Keeper> Drive<M, K> {
         }
     }
 
-    /// What keeps its reservations, for tests.
+    /// The keeper of its reservations, for tests.
     pub fn keeper(&self) -> &K
         ensures { result.now ≡ self.now.keeper }
     {
@@ -45,7 +45,7 @@ impl<M: Medium, K: Keeper> Drive<M, K> {
         self.reservations.is_held()
     }
 
-    /// How many changes were accepted since it was switched on, by whatever medium was in it. At
+    /// How many changes were accepted since the drive was switched on, by all media that were in it. At
     /// 18,446,744,073,709,551,615 the count stays.
     pub fn accepted(&self) -> u64
         ensures { result ≡ self.now.accepted }
@@ -53,7 +53,7 @@ impl<M: Medium, K: Keeper> Drive<M, K> {
         self.accepted
     }
 
-    /// Whether what is loaded has failed: nothing more of it is stored until it is unloaded and loaded.
+    /// Whether the loaded medium has failed. Then nothing more of it is stored until it is unloaded and loaded.
     pub fn has_failed(&self) -> bool
         ensures { result ≡ has_failed_in M.state self.now.bay }
     {

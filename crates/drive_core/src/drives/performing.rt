@@ -15,7 +15,7 @@ use crate::bays::Bay;
 use crate::conditions::Condition;
 use crate::dispatch::carry_out;
 use crate::faults::Fault;
-use crate::telling::give;
+use crate::giving::give;
 use pr_core::Keeper;
 use scsi_sense::{Reply, Sense};
 use scsi_wire::{Command, block_limits, cut_to, inquiry_data};

@@ -4,7 +4,7 @@ ghost use Rattle.scsi_wire.specs.Answers.{cut_to};
 ghost use Rattle.drive_core.specs.State.{machine_of};
 ghost use Rattle.drive_core.specs.ReserveIn.{ReserveInWork, data_read};
 ghost use Rattle.drive_core.specs.ReserveOut.{OrderWork, ReserveOutWork, order_reply, ordered};
-ghost use Rattle.drive_core.specs.Tell.{Gives};
+ghost use Rattle.drive_core.specs.Giving.{Gives};
 ghost use Rattle.drive_core.specs.Execute.{Takes};
 
 use super::Drive;
@@ -58,22 +58,27 @@ impl<M: Medium, K: Keeper> Drive<M, K> {
             self.old result self.new }
     {
         let mut reservations = self.reservations;
-        let (answer, told) = reservations.pr_out(nexus, order);
+        let (answer, established) = reservations.pr_out(nexus, order);
         if !reservations.needs_save(&self.reservations) {
-            return Ok(self.install(reservations, &told, answer));
+            return Ok(self.install(reservations, &established, answer));
         }
         self.keeper.save(&reservations)?;
-        Ok(self.install(reservations, &told, answer))
+        Ok(self.install(reservations, &established, answer))
     }
 
-    // An order stands: these are the reservations now, and what each nexus is told is established
-    // for it.
-    fn install(&mut self, reservations: Reservations, told: &Attns, answer: PrAnswer) -> Reply
+    // An order stands: these are the reservations now, and these unit attention conditions are
+    // established, each for its nexus.
+    fn install(
+        &mut self,
+        reservations: Reservations,
+        established: &Attns,
+        answer: PrAnswer,
+    ) -> Reply
         ensures reply { result ≡ order_reply answer }
-        ensures left { self.new ≡ ordered self.old reservations told.now }
+        ensures left { self.new ≡ ordered self.old reservations established.now }
     {
         self.reservations = reservations;
-        self.attentions.establish_each(told.sets());
+        self.attentions.establish_each(established.sets());
         order_reply(self.alloc, answer)
     }
 }
@@ -94,7 +99,7 @@ fn read(
     Ok(Reply::good(data))
 }
 
-// What a host is told of how its order was answered. It takes no memory.
+// The reply to an order that was answered so. It takes no memory.
 fn order_reply(alloc: Global, answer: PrAnswer) -> Reply
     ensures { result ≡ order_reply answer }
 {

@@ -34,7 +34,7 @@ impl<M: Medium, K: Keeper> Drive<M, K> {
         self.fields_verdict(opcode, cdb, sent)
     }
 
-    /// The condition that a nexus is reported next: the deferred error, or its first unit attention.
+    /// The condition that is reported to a nexus next: the deferred error, or its first unit attention.
     pub(super) fn condition_due(&self, nexus: Nexus) -> Option<Condition>
         ensures { result ≡ condition_due (machine_of M.state K.kept self.now) nexus }
     {
@@ -45,7 +45,7 @@ impl<M: Medium, K: Keeper> Drive<M, K> {
         Some(Condition::UnitAttention(attention))
     }
 
-    // Conditions, reservation and medium, but for an exempt command.
+    // Conditions, reservation and medium, except for an exempt command.
     fn state_denial(&self, nexus: Nexus, opcode: Opcode) -> Option<Denial>
         ensures { result ≡ state_denial (machine_of M.state K.kept self.now) nexus opcode }
     {

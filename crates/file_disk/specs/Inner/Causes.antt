@@ -11,7 +11,7 @@ use Rattle.file_disk.specs.declared.error.FileError.TheVariants.{Exists, Missing
 use Rattle.file_disk.specs.declared.failed.SystemCall.{SystemCall}
 use Rattle.file_disk.specs.declared.failed.SystemCall.TheVariants as calls
 
--- what an error of the system in a call means for a name: of another kind it is that of the call (own)
+-- what an error of the system in a call means for a name; an error of another kind is that of the call (own)
 pub record IsErrorOf (call : SystemCall) (cause : io.Error) (error : FileError) : Type 0 where
   pub exists : error_kind cause ≡ kinds.AlreadyExists → error ≡ Exists
   pub missing : error_kind cause ≡ kinds.NotFound → error ≡ Missing

@@ -36,7 +36,7 @@ IsLookedAt Nothing = Unit {0}
 IsLookedAt Opened = ⊥
 IsLookedAt SyncFailed = Unit {0}
 
--- how the bytes of a file begin (own)
+-- the bytes of a file begin in this way (own)
 abbrev pub BeginsSo : Begins → List ℕ → Type 0
 BeginsSo Unfinished seen = IsUnfinished seen
 BeginsSo Cartridge seen = IsUnfinished seen → ⊥

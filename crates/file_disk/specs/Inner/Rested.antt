@@ -8,7 +8,7 @@ use Rattle.file_disk.specs.RawFile.{AddsNone, IsAsHonest, ReachesStill}
 use Rattle.file_disk.specs.declared.looked.Looked.{Looked}
 
 -- A read gives the same, and a crash leaves what it might have left before, at each moment (own).
-pub record Rests (old new : DiskState) : Type 0 where
+pub record FileRests (old new : DiskState) : Type 0 where
   pub later : old.moment ≤ new.moment
   pub seen : new.seen ≡ old.seen
   pub crash : (image : List ℕ) → new.may_leave image → old.may_leave image
@@ -23,14 +23,14 @@ module _ {F : Type 0} (state : F → DiskState) (passed_over unsynced : F → �
   -- nothing of the file changed, and a sync passes over no place that it did not pass over before (own)
   pub record Rested (old new : F) : Type 0 where
     pub honesty : IsAsHonest (state old) (state new)
-    pub rests : (state old).honest → Rests (state old) (state new)
+    pub rests : (state old).honest → FileRests (state old) (state new)
     pub reaches : (state old).honest → ReachesStill (passed_over old) (passed_over new)
 
   -- the file was only read (own)
-  pub record OnlyRead (old new : F) : Type 0 where
+  pub record OnlyReadFile (old new : F) : Type 0 where
     pub rested : Rested old new
     pub adds_none : (state old).honest → AddsNone (unsynced old) (unsynced new)
 
   -- each call only reads the file, whatever it is (own)
-  abbrev pub Looks : DiskCall → Result Unit DevFault → Looked F → Looked F → Type 0
-  Looks call result old new = OnlyRead old.file new.file
+  abbrev pub ReadsOnly : DiskCall → Result Unit DevFault → Looked F → Looked F → Type 0
+  ReadsOnly call result old new = OnlyReadFile old.file new.file

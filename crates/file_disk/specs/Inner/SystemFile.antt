@@ -17,11 +17,11 @@ system_state file = record {
   failures = 0;
 }
 
--- the places that its sync passes over, of which nothing is known either
+-- the places that its sync passes over; nothing is known of these either
 pub system_passed_over : SystemFile → ℕ → Type 0
 system_passed_over file place = ⊥
 
--- the places of it that are not synced, of which nothing is known either
+-- the places of it that are not synced; nothing is known of these either
 pub system_unsynced : SystemFile → ℕ → Type 0
 system_unsynced file place = ⊥
 

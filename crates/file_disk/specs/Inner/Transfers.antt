@@ -17,7 +17,7 @@ pub record HasRead (calls at done : ℕ) (buffer : List ℕ) (old new : DiskStat
   pub bytes : take done buffer ≡ slice_range old.seen at (at + done)
 
 -- the first of the bytes were written from a place on (own)
-pub record HasWritten (calls at done : ℕ) (bytes : List ℕ) (old new : DiskState) : Type 0 where
+pub record HasTransferred (calls at done : ℕ) (bytes : List ℕ) (old new : DiskState) : Type 0 where
   pub ran : Ran calls old new
   pub seen : new.seen ≡ overwritten at (take done bytes) old.seen
   pub smeared : Smeared at (length bytes) old.seen new.seen

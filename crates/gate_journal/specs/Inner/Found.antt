@@ -7,14 +7,14 @@ use Rattle.gate_journal.specs.declared.header.SideKind.{SideKind}
 use Rattle.gate_journal.specs.declared.reading.Frames.{Frames}
 use Rattle.gate_journal.specs.declared.reading.FrontBytes.{FrontBytes}
 use Rattle.gate_journal.specs.declared.reading.ReadFront.{ReadFront}
-use Rattle.gate_journal.specs.declared.fronts.ToldFront.{ToldFront}
+use Rattle.gate_journal.specs.declared.fronts.ParsedFront.{ParsedFront}
 use Rattle.gate_journal.specs.declared.spelling.TheConstants.{HEADER_BYTES}
 use Rattle.gate_journal.specs.declared.error.JournalError.{JournalError}
 use Rattle.gate_journal.specs.declared.error.JournalError.TheVariants.{NotOurs, Damaged, SideFull, Device, Failed, NoMemory}
 use Rattle.gate_journal.specs.Side.{OPEN, AreTooFew, Front, IsBody, IsFront, StandsFor, IsNotOurs, IsBroken, BeginsWithFrame, base_of, frame, front_of, spell_front}
 use Rattle.gate_journal.specs.Answers.{IsFault, NoneFailed}
 use Rattle.gate_journal.specs.Inner.Asked.{IsAsked, IsNotAsked, NotOpenedAsked}
-use Rattle.gate_journal.specs.Inner.Reading.{TellsFront, size_behind}
+use Rattle.gate_journal.specs.Inner.Reading.{ParsesFront, size_behind}
 use Rattle.gate_journal.specs.State.{StoresSide, IsExtent, bodies_at, extents_from}
 
 -- why a reader returns an error: a cause or memory, without a failed call; or a fault (own)
@@ -39,15 +39,15 @@ FindsBytes (Ok found) old new =
 FindsBytes (Err error) old new = NotRead error (old.honest → IsNotOurs old.seen) (λ at. ⊥) ⊥ old new
 
 -- the bytes of the front at the start of the disk, with what is read from them; or there is no front (own)
-abbrev pub FindsTold : Result (FrontBytes × ToldFront) JournalError → DiskState → DiskState → Type 0
-FindsTold (Ok found) old new =
-    NoneFailed old new × (found.0.len ≤ HEADER_BYTES) × TellsFront (take found.0.len found.0.bytes) (Some found.1)
+abbrev pub FindsParsed : Result (FrontBytes × ParsedFront) JournalError → DiskState → DiskState → Type 0
+FindsParsed (Ok found) old new =
+    NoneFailed old new × (found.0.len ≤ HEADER_BYTES) × ParsesFront (take found.0.len found.0.bytes) (Some found.1)
     × (old.honest → (rest : List ℕ) × (old.seen ≡ take found.0.len found.0.bytes ++ rest))
-FindsTold (Err error) old new = NotRead error (old.honest → IsNotOurs old.seen) (λ at. ⊥) ⊥ old new
+FindsParsed (Err error) old new = NotRead error (old.honest → IsNotOurs old.seen) (λ at. ⊥) ⊥ old new
 
 -- what is read from the front at the start of the disk; or there is no front (own)
-abbrev pub FindsStart : Result ToldFront JournalError → DiskState → DiskState → Type 0
-FindsStart (Ok told) old new = NoneFailed old new × (old.honest → TellsFront old.seen (Some told))
+abbrev pub FindsStart : Result ParsedFront JournalError → DiskState → DiskState → Type 0
+FindsStart (Ok parsed) old new = NoneFailed old new × (old.honest → ParsesFront old.seen (Some parsed))
 FindsStart (Err error) old new = NotRead error (old.honest → IsNotOurs old.seen) (λ at. ⊥) ⊥ old new
 
 -- the front at the start of the disk, and the place after it; or there is no front (own)

@@ -21,28 +21,28 @@ module _ (body : List ℕ) (ok : IsBody body) (rest : List ℕ) where
   regrouped = simp append_assoc
 
   -- the length that follows the gate
-  pub length_told : big_from 0 4 (drop 1 (frame body ++ rest)) ≡ length body
-  length_told =
+  pub length_parsed : big_from 0 4 (drop 1 (frame body ++ rest)) ≡ length body
+  length_parsed =
       ap (λ (l : List ℕ). big_from 0 4 (drop 1 l)) regrouped
       ∙ big_number-reads_back 4 (length body) (body ++ rest) (omega (arith, ok.1))
 
-  pub body_told : take (length body) (drop 5 (frame body ++ rest)) ≡ body
-  body_told = ap (λ (l : List ℕ). take (length body) (drop 5 l)) regrouped ∙ take_at body rest (length body) refl
+  pub body_parsed : take (length body) (drop 5 (frame body ++ rest)) ≡ body
+  body_parsed = ap (λ (l : List ℕ). take (length body) (drop 5 l)) regrouped ∙ take_at body rest (length body) refl
 
-  pub rest_told : drop (5 + length body) (frame body ++ rest) ≡ rest
-  rest_told = drop_at (frame body) rest (5 + length body) (length-frame body)
+  pub rest_parsed : drop (5 + length body) (frame body ++ rest) ≡ rest
+  rest_parsed = drop_at (frame body) rest (5 + length body) (length-frame body)
 
 pub same_frame : (a b x y : List ℕ) → IsBody a → IsBody b → frame a ++ x ≡ frame b ++ y → (a ≡ b) × (x ≡ y)
 same_frame a b x y oka okb e =
     let long : length a ≡ length b =
-    sym (length_told a oka x) ∙ ap (λ (l : List ℕ). big_from 0 4 (drop 1 l)) e ∙ length_told b okb y in
+    sym (length_parsed a oka x) ∙ ap (λ (l : List ℕ). big_from 0 4 (drop 1 l)) e ∙ length_parsed b okb y in
     let one : a ≡ b =
-    sym (body_told a oka x) ∙ ap (λ (l : List ℕ). take (length a) (drop 5 l)) e
+    sym (body_parsed a oka x) ∙ ap (λ (l : List ℕ). take (length a) (drop 5 l)) e
     ∙ ap (λ (n : ℕ). take n (drop 5 (frame b ++ y))) long
-    ∙ body_told b okb y in (
+    ∙ body_parsed b okb y in (
       one,
-      sym (rest_told a oka x) ∙ ap (λ (l : List ℕ). drop (5 + length a) l) e
-          ∙ ap (λ (n : ℕ). drop (5 + n) (frame b ++ y)) long ∙ rest_told b okb y,
+      sym (rest_parsed a oka x) ∙ ap (λ (l : List ℕ). drop (5 + length a) l) e
+          ∙ ap (λ (n : ℕ). drop (5 + n) (frame b ++ y)) long ∙ rest_parsed b okb y,
     )
 
 some_front : (xs : List ℕ) (y : ℕ) (ys : List ℕ) → (z : ℕ) × (zs : List ℕ) × (xs ++ y ∷ ys ≡ z ∷ zs)
@@ -82,28 +82,28 @@ one_end (x ∷ bs) (y ∷ cs) r s okb okc e endb endc =
     (λ i. split.0 i ∷ others.0 i, others.1)
 
 -- the only body and the only rest that the bytes can begin with (own)
-abbrev pub told_length : List ℕ → ℕ
-told_length bytes = big_from 0 4 (drop 1 bytes)
+abbrev pub parsed_length : List ℕ → ℕ
+parsed_length bytes = big_from 0 4 (drop 1 bytes)
 
-abbrev told_body : List ℕ → List ℕ
-told_body bytes = take (told_length bytes) (drop 5 bytes)
+abbrev parsed_body : List ℕ → List ℕ
+parsed_body bytes = take (parsed_length bytes) (drop 5 bytes)
 
-abbrev told_rest : List ℕ → List ℕ
-told_rest bytes = drop (5 + told_length bytes) bytes
+abbrev parsed_rest : List ℕ → List ℕ
+parsed_rest bytes = drop (5 + parsed_length bytes) bytes
 
 module _ (bytes : List ℕ) (w : BeginsWithFrame bytes) where
-  pub is_length : told_length bytes ≡ length w.0
-  is_length = ap (λ (l : List ℕ). told_length l) w.4 ∙ length_told w.0 w.3 (w.1 ∷ w.2)
+  pub is_length : parsed_length bytes ≡ length w.0
+  is_length = ap (λ (l : List ℕ). parsed_length l) w.4 ∙ length_parsed w.0 w.3 (w.1 ∷ w.2)
 
-  is_body : told_body bytes ≡ w.0
+  is_body : parsed_body bytes ≡ w.0
   is_body = ap (λ (n : ℕ). take n (drop 5 bytes)) is_length ∙ ap (λ (l : List ℕ). take (length w.0) (drop 5 l)) w.4
-      ∙ body_told w.0 w.3 (w.1 ∷ w.2)
+      ∙ body_parsed w.0 w.3 (w.1 ∷ w.2)
 
-  is_rest : told_rest bytes ≡ w.1 ∷ w.2
+  is_rest : parsed_rest bytes ≡ w.1 ∷ w.2
   is_rest = ap (λ (n : ℕ). drop (5 + n) bytes) is_length ∙ ap (λ (l : List ℕ). drop (5 + length w.0) l) w.4
-      ∙ rest_told w.0 w.3 (w.1 ∷ w.2)
+      ∙ rest_parsed w.0 w.3 (w.1 ∷ w.2)
 
-  is_whole : frame (told_body bytes) ++ told_rest bytes ≡ bytes
+  is_whole : frame (parsed_body bytes) ++ parsed_rest bytes ≡ bytes
   is_whole = (λ i. frame (is_body i) ++ is_rest i) ∙ sym w.4
 
 found : (bytes body rest : List ℕ) → IsBody body → frame body ++ rest ≡ bytes →
@@ -112,9 +112,9 @@ found bytes body [] ok is unless = inr (λ w. let e : [] ≡ w.1 ∷ w.2 = unles
 found bytes body (x ∷ xs) ok is unless = inl (body, x, xs, ok, sym is)
 
 pub begins : (bytes : List ℕ) → Decidable (BeginsWithFrame bytes)
-begins bytes = elim (both (both (below 1 (length (told_body bytes))) (below (length (told_body bytes)) 8388608))
-    (same (frame (told_body bytes) ++ told_rest bytes) bytes)) [
-      | inl w ↦ found bytes (told_body bytes) (told_rest bytes) w.0 w.1 (is_rest bytes)
+begins bytes = elim (both (both (below 1 (length (parsed_body bytes))) (below (length (parsed_body bytes)) 8388608))
+    (same (frame (parsed_body bytes) ++ parsed_rest bytes) bytes)) [
+      | inl w ↦ found bytes (parsed_body bytes) (parsed_rest bytes) w.0 w.1 (is_rest bytes)
       | inr never ↦ inr (λ w. never (subst (λ (l : List ℕ). IsBody l) (sym (is_body bytes w)) w.3, is_whole bytes w))
     ]
 

@@ -10,7 +10,7 @@ use Rattle.gate_journal.specs.Heads.{Head, IsHead, IsCopied, count_byte, spell_s
 use Rattle.gate_journal.specs.Side.{CLOSED, OPEN, Front, Heading, IsFront, IsHeading, IsPairGate, mark, plain, spell_front, start}
 use Rattle.gate_journal.specs.Inner.Deciding.{Decidable, both, decided_as, same}
 use Rattle.gate_journal.specs.Inner.Heads.{head_as, is_copy}
-use Rattle.gate_journal.specs.Inner.HeadsRead.{any_head_is, decided_copied, kind_again, length_head, short_head, told_copy}
+use Rattle.gate_journal.specs.Inner.HeadsRead.{any_head_is, decided_copied, kind_again, length_head, short_head, parse_copy}
 use Rattle.gate_journal.specs.Inner.Headings.{decided_heading, few_capacities}
 use Rattle.gate_journal.specs.Inner.Reading.{BeginsWithFront, copied_size, size_behind}
 
@@ -59,11 +59,11 @@ front_is f rest ok =
     }
 
 -- the letter of the mark decides the kind
-told_kind : (k l : SideKind) → get_or (mark k) 3 0 ≡ get_or (mark l) 3 0 → k ≡ l
-told_kind Cartridge Cartridge e = refl
-told_kind Store Store e = refl
-told_kind Cartridge Store e = absurd (omega (arith, e))
-told_kind Store Cartridge e = absurd (omega (arith, e))
+parsed_kind : (k l : SideKind) → get_or (mark k) 3 0 ≡ get_or (mark l) 3 0 → k ≡ l
+parsed_kind Cartridge Cartridge e = refl
+parsed_kind Store Store e = refl
+parsed_kind Cartridge Store e = absurd (omega (arith, e))
+parsed_kind Store Cartridge e = absurd (omega (arith, e))
 
 module _ (f : Front) (rest image : List ℕ) (is : image ≡ spell_front f ++ rest) where
   -- the byte of the count in an image that begins with a front
@@ -82,9 +82,9 @@ module _ (f : Front) (rest image : List ℕ) (is : image ≡ spell_front f ++ re
 pub same_front : (f g : Front) (r s : List ℕ) → IsFront f → IsFront g → spell_front f ++ r ≡ spell_front g ++ s →
     (f ≡ g) × (r ≡ s)
 same_front f g r s okf okg e =
-    let kinds = told_kind f.head.heading.kind g.head.heading.kind
+    let kinds = parsed_kind f.head.heading.kind g.head.heading.kind
     (sym (letter_is f r (spell_front f ++ r) refl) ∙ letter_is g s (spell_front f ++ r) e) in
-    let copies = told_copy f.head.copied g.head.copied (length f.head.heading.capacities)
+    let copies = parse_copy f.head.copied g.head.copied (length f.head.heading.capacities)
     (length g.head.heading.capacities) (few_capacities f.head.heading okf.head.heading)
     (few_capacities g.head.heading okg.head.heading)
     (sym (count_there f r (spell_front f ++ r) refl) ∙ count_there g s (spell_front f ++ r) e) in
@@ -220,11 +220,11 @@ begin_decided bytes =
     (λ kind. either_copy (OfKind bytes kind) (decided_of_kind bytes kind)))
 
 -- the length of a front after its first 27 bytes, by the byte of its count
-size_told : (copied : Option Copied) (n : ℕ) → n ≤ 4 → size_behind (count_byte copied n) ≡ 8 * n + copied_size copied
-size_told None n few =
+size_parsed : (copied : Option Copied) (n : ℕ) → n ≤ 4 → size_behind (count_byte copied n) ≡ 8 * n + copied_size copied
+size_parsed None n few =
     let small : nat_lt n 128 ≡ true = lt-ltb n 128 (omega (arith, few)) in
     ap (λ (b : Bool). if b then 8 * n else 8 * (n - 128) + 12) small ∙ (let e : 8 * n ≡ 8 * n + 0 = omega arith in e)
-size_told (Some copied) n few =
+size_parsed (Some copied) n few =
     let big : nat_lt (128 + n) 128 ≡ false = le-ltb (128 + n) 128 (omega arith) in
     let less : 128 + n - 128 ≡ n = omega arith in
     ap (λ (b : Bool). if b then 8 * (128 + n) else 8 * (128 + n - 128) + 12) big
@@ -235,9 +235,9 @@ module _ (f : Front) (rest image : List ℕ) (ok : IsFront f) (is : image ≡ sp
   pub sized_by : length (spell_front f) ≡ 27 + size_behind (get_or image 10 0)
   sized_by =
       let few = few_capacities f.head.heading ok.head.heading in
-      let told : size_behind (get_or image 10 0) ≡ 8 * length f.head.heading.capacities + copied_size f.head.copied =
-      ap size_behind (count_there f rest image is) ∙ size_told f.head.copied (length f.head.heading.capacities) few in
-      omega (arith, told, length_front f ok)
+      let parsed : size_behind (get_or image 10 0) ≡ 8 * length f.head.heading.capacities + copied_size f.head.copied =
+      ap size_behind (count_there f rest image is) ∙ size_parsed f.head.copied (length f.head.heading.capacities) few in
+      omega (arith, parsed, length_front f ok)
 
   pub front_there : take (length (spell_front f)) image ≡ spell_front f
   front_there = ap (λ (l : List ℕ). take (length (spell_front f)) l) is

@@ -61,8 +61,8 @@ module _ (name capacities : List ℕ) (copied : Option Copied) (rest : List ℕ)
   behind_name : drop 16 tail ≡ numbers ++ last
   behind_name = ap (λ (l : List ℕ). drop 16 l) regrouped ∙ drop_at name (numbers ++ last) 16 named
 
-  name_told : take 16 tail ≡ name
-  name_told = ap (λ (l : List ℕ). take 16 l) regrouped ∙ take_at name (numbers ++ last) 16 named
+  name_parsed : take 16 tail ≡ name
+  name_parsed = ap (λ (l : List ℕ). take 16 l) regrouped ∙ take_at name (numbers ++ last) 16 named
 
   abbrev n : ℕ
   n = count_in (is_copy copied) (count_byte copied (length capacities))
@@ -70,13 +70,13 @@ module _ (name capacities : List ℕ) (copied : Option Copied) (rest : List ℕ)
   sized : length numbers ≡ 8 * n
   sized = omega (arith, length_capacities capacities, count_again copied (length capacities))
 
-  capacities_told : numbers_of (take (8 * n) (drop 16 tail)) ≡ capacities
-  capacities_told =
+  capacities_parsed : numbers_of (take (8 * n) (drop 16 tail)) ≡ capacities
+  capacities_parsed =
       ap (λ (l : List ℕ). numbers_of (take (8 * n) l)) behind_name
       ∙ ap numbers_of (take_at numbers last (8 * n) sized) ∙ numbers_again capacities ok
 
-  copied_told : copied_in (is_copy copied) (drop (8 * n) (drop 16 tail)) ≡ copied
-  copied_told =
+  copied_parsed : copied_in (is_copy copied) (drop (8 * n) (drop 16 tail)) ≡ copied
+  copied_parsed =
       ap (λ (l : List ℕ). copied_in (is_copy copied) (drop (8 * n) l)) behind_name
       ∙ ap (λ (l : List ℕ). copied_in (is_copy copied) l) (drop_at numbers last (8 * n) sized)
       ∙ copied_again copied rest well
@@ -86,8 +86,8 @@ module _ (name capacities : List ℕ) (copied : Option Copied) (rest : List ℕ)
     copied = copied;
   }
   again kind = λ i. record {
-    heading = record { kind = kind; name = name_told i; capacities = capacities_told i };
-    copied = copied_told i;
+    heading = record { kind = kind; name = name_parsed i; capacities = capacities_parsed i };
+    copied = copied_parsed i;
   }
 
 -- reading the spelling of a head gives the head, for any kind of side
@@ -103,18 +103,18 @@ head_is h rest is ok =
     (λ i. head_as (sym is i) (is_copy h.copied) (spell_side_head h ++ rest)) ∙ any_head_is h rest ok
 
 -- the byte of the count decides whether a head is that of a copy
-pub told_copy : (a b : Option Copied) (m n : ℕ) → m ≤ 4 → n ≤ 4 → count_byte a m ≡ count_byte b n →
+pub parse_copy : (a b : Option Copied) (m n : ℕ) → m ≤ 4 → n ≤ 4 → count_byte a m ≡ count_byte b n →
     is_copy a ≡ is_copy b
-told_copy None None m n few less e = refl
-told_copy (Some a) (Some b) m n few less e = refl
-told_copy None (Some b) m n few less e = absurd (omega (arith, few, less, e))
-told_copy (Some a) None m n few less e = absurd (omega (arith, few, less, e))
+parse_copy None None m n few less e = refl
+parse_copy (Some a) (Some b) m n few less e = refl
+parse_copy None (Some b) m n few less e = absurd (omega (arith, few, less, e))
+parse_copy (Some a) None m n few less e = absurd (omega (arith, few, less, e))
 
 -- bytes begin with at most one head
 pub same_head : (h k : Head) (r s : List ℕ) → h.heading.kind ≡ Cartridge → k.heading.kind ≡ Cartridge → IsHead h →
     IsHead k → spell_side_head h ++ r ≡ spell_side_head k ++ s → (h ≡ k) × (r ≡ s)
 same_head h k r s hc kc okh okk e =
-    let copies = told_copy h.copied k.copied (length h.heading.capacities) (length k.heading.capacities)
+    let copies = parse_copy h.copied k.copied (length h.heading.capacities) (length k.heading.capacities)
     (few_capacities h.heading okh.heading) (few_capacities k.heading okk.heading)
     (ap (λ (l : List ℕ). get_or l 0 0) e) in
     let one : h ≡ k = sym (head_is h r hc okh) ∙ (λ i. head_as Cartridge (copies i) (e i)) ∙ head_is k s kc okk in (

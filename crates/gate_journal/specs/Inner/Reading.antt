@@ -1,7 +1,7 @@
 -- What a reader takes for a front, before it is known to be a front.
 use Rattle.std.specs.Prelude.{◌≡◌, ℕ, ◌+◌, ◌-◌, ◌*◌, List, [], ◌∷◌, ◌++◌, length, take, drop, slice_index, slice_range, ◌==◌, if◌then◌else◌, nat_lt, Option, None, Some, Bool}
 use Rattle.byteorder.specs.Endian.{big_number}
-use Rattle.gate_journal.specs.declared.fronts.ToldFront.{ToldFront}
+use Rattle.gate_journal.specs.declared.fronts.ParsedFront.{ParsedFront}
 use Rattle.gate_journal.specs.declared.header.SideKind.{SideKind}
 use Rattle.gate_journal.specs.declared.header.SideKind.TheVariants.{Cartridge, Store}
 use Rattle.gate_journal.specs.declared.heads.Copied.{Copied}
@@ -31,22 +31,22 @@ abbrev pub BeginsWithFront : List ℕ → Type 0
 BeginsWithFront bytes = (front : Front) × (rest : List ℕ) × IsFront front × (bytes ≡ spell_front front ++ rest)
 
 -- what is read from a front: its kind, its pair gate, epoch and base if it is of a copy, and its length (own)
-pub record IsToldFront (told : ToldFront) (front : Front) : Type 0 where
-  pub kind : told.kind ≡ front.head.heading.kind
-  pub pair : told.pair ≡ front.pair
-  pub copied : told.copied ≡ front.head.copied
-  pub size : told.size ≡ length (spell_front front)
+pub record IsParsedFront (parsed : ParsedFront) (front : Front) : Type 0 where
+  pub kind : parsed.kind ≡ front.head.heading.kind
+  pub pair : parsed.pair ≡ front.pair
+  pub copied : parsed.copied ≡ front.head.copied
+  pub size : parsed.size ≡ length (spell_front front)
 
 -- what is read from the front at the start of the bytes; None where they begin with no front (own)
-abbrev pub TellsFront : List ℕ → Option ToldFront → Type 0
-TellsFront bytes None = BeginsWithFront bytes → ⊥
-TellsFront bytes (Some told) =
-    (front : Front) × (rest : List ℕ) × IsFront front × (bytes ≡ spell_front front ++ rest) × IsToldFront told front
+abbrev pub ParsesFront : List ℕ → Option ParsedFront → Type 0
+ParsesFront bytes None = BeginsWithFront bytes → ⊥
+ParsesFront bytes (Some parsed) =
+    (front : Front) × (rest : List ℕ) × IsFront front × (bytes ≡ spell_front front ++ rest) × IsParsedFront parsed front
 
 -- the heading in the bytes of a front, given what was read from it (own)
-abbrev pub heading_told : ToldFront → List ℕ → Heading
-heading_told told bytes = record {
-  kind = told.kind;
+abbrev pub heading_parsed : ParsedFront → List ℕ → Heading
+heading_parsed parsed bytes = record {
+  kind = parsed.kind;
   name = take 16 (drop 11 bytes);
-  capacities = numbers_of (slice_range bytes 27 (told.size - copied_size told.copied));
+  capacities = numbers_of (slice_range bytes 27 (parsed.size - copied_size parsed.copied));
 }

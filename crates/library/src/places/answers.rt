@@ -3,18 +3,18 @@ ghost use Rattle.std.specs.Prelude.{◌≡◌, ◌≢◌, ◌+◌, ◌^◌, ◌<
 ghost use Rattle.bays.specs.Elements.{BayState};
 ghost use Rattle.drive_core.specs.Execute.{asked};
 ghost use Rattle.split_bay.specs.Fronts.{end_of};
-ghost use Rattle.split_bay.specs.Halves.{TellsBoth, is_untold};
+ghost use Rattle.split_bay.specs.Halves.{ReportsBoth, is_unreported};
 ghost use Rattle.split_bay.specs.Rings.{AreEnds};
-ghost use Rattle.library.specs.Halves.{HoldsBoth, TellsHeld};
+ghost use Rattle.library.specs.Halves.{HoldsBoth, ReportsHeld};
 ghost use Rattle.library.specs.Served.{ServesAlone, ServesBoth, ServesFront, ServesHalves};
 
 use super::held::{fit, join_held, part_held};
 use super::{BackPlace, FrontPlace};
 use aptpl_store::AptplStore;
-use drive_laws::replies_tell_changes;
+use drive_laws::replies_show_changes;
 use ledgers::{Parties, PartyShare, Seat, Tally};
 use scsi_sense::Reply;
-use split_bay::{Back, Front, Rings, execute_both, replies_tell_changes_alone, tell};
+use split_bay::{Back, Front, Rings, execute_both, replies_show_changes_alone, tell};
 use std::sync::{Mutex, Wait};
 use tape_buffer::Cataloged;
 use tape_disk::Disk;
@@ -38,8 +38,8 @@ fn enter_if_risen<B: Parties + Rings, H: Parties, R: Wait>(
     }
 }
 
-// How many changes a drive accepted, below 2^64 - 1. At the limit the share could not follow the count, and the call
-// waits for good.
+// How many changes a drive accepted, below 2^64 - 1. At the limit the share could not follow the count, so the call
+// waits forever.
 fn count_below_limit<D: Disk, B: Rings, R: Wait>(rt: &R, half: &Front<D, B>) -> u64
     ensures count { result ≡ half.now.drive.accepted }
     ensures below { result + 1 < 2 ^ 64 }
@@ -67,8 +67,8 @@ fn answer_alone<D: Disk, B: Parties + Rings, H: Parties, R: Wait>(
     ensures serves { ServesFront D.state half.old (asked seat.old.nexus cdb.now sent.old) seat.old
         result half.new sent.new seat.new }
 {
-    // The law, and what the half keeps before and after, for the proof alone.
-    replies_tell_changes_alone::<D, B>();
+    // The law, and the half's invariant before and after, for the proof alone.
+    replies_show_changes_alone::<D, B>();
     let before = count_below_limit(rt, half);
     half.known();
     let reply = half.execute_lent(seat.nexus(), cdb, sent);
@@ -95,7 +95,7 @@ fn answer_both<D: Disk + Drop, B: Parties + Rings, H: Parties, R: Wait>(
     ensures serves { ServesHalves D.state front back (asked seat.old.nexus cdb.now sent.old) seat.old
         result.0 result.1 result.2 sent.new seat.new }
 {
-    replies_tell_changes::<Cataloged<D>, AptplStore<D>>();
+    replies_show_changes::<Cataloged<D>, AptplStore<D>>();
     let before = count_below_limit(rt, &front);
     let (reply, front, back) = execute_both(front, back, seat.nexus(), cdb, sent);
     let after = front.accepted();
@@ -104,22 +104,22 @@ fn answer_both<D: Disk + Drop, B: Parties + Rings, H: Parties, R: Wait>(
 }
 
 // Reports a fault of the disk's half to hosts, if there is one that was not reported. The count of changes stays.
-fn tell_hosts<D: Disk + Drop, B: Rings>(
+fn report_to_hosts<D: Disk + Drop, B: Rings>(
     front: Front<D, B>,
     back: Back<D, B>,
 ) -> (Front<D, B>, Back<D, B>)
     requires { AreEnds (end_of front) back.number back.received }
-    ensures tells { TellsBoth D.state (is_untold D.state front back) front back result.0 result.1 }
+    ensures reports { ReportsBoth D.state (is_unreported D.state front back) front back result.0 result.1 }
     ensures count { result.0.drive.accepted ≡ front.drive.accepted }
 {
     tell(front, back)
 }
 
 impl<D: Disk + Drop, B: Parties + Rings> FrontPlace<D, B> {
-    /// Answers a command of a seat's host, where it needs no disk, and enters the change that the drive accepted with
-    /// it, if any, in both ledgers. Its data are lent: a block takes them without copying. Where it needs the disk's
-    /// half too, there is no answer, and nothing has changed. Where 2^64 - 1 changes were accepted or entered before,
-    /// it waits for good.
+    /// Answers a command of a seat's host, if it needs no disk, and enters the change that the drive accepted with it,
+    /// if any, in both ledgers. The command's data are lent: a written block takes them without copying. Where the
+    /// command needs the disk's half too, the result is None, and nothing has changed. Where 2^64 - 1 changes were
+    /// accepted or entered before, the call waits forever.
     pub fn execute_alone<H: Parties, R: Wait>(
         &mut self,
         rt: &R,
@@ -166,7 +166,7 @@ impl<D: Disk + Drop, B: Parties + Rings> FrontPlace<D, B> {
 
     /// Reports a fault of the disk's half to hosts, if there is one that was not reported.
     pub fn tell<R: Wait>(&mut self, back: &mut BackPlace<D, B>, rt: &R)
-        ensures { TellsHeld D.state self.old back.old self.new back.new }
+        ensures { ReportsHeld D.state self.old back.old self.new back.new }
     {
         let Some(hosts) = self.half.take() else {
             unreachable!()
@@ -175,12 +175,12 @@ impl<D: Disk + Drop, B: Parties + Rings> FrontPlace<D, B> {
             unreachable!()
         };
         fit(rt, &hosts, &disks);
-        let (hosts, disks) = tell_hosts(hosts, disks);
+        let (hosts, disks) = report_to_hosts(hosts, disks);
         self.half = Some(hosts);
         back.half = Some(disks);
     }
 
-    /// Lets the hosts' half send as much again as the buffer takes: the halves are put together, and part.
+    /// Lets the hosts' half send again as much as the buffer takes: puts the halves together, and parts them.
     pub fn renew<R: Wait>(&mut self, back: &mut BackPlace<D, B>, rt: &R)
         ensures { (bay : BayState D) × HoldsBoth D.state self.old back.old bay bay self.new back.new }
     {

@@ -17,8 +17,8 @@ pub(super) fn known_drive<D: Disk>(bay: &Bay<D>)
     bay.known();
 }
 
-// That the two are halves of one drive. A library keeps them beside each other; if they were not, it would wait for
-// good.
+// Checks that these are the two halves of one drive. A library keeps the halves of a drive together. If they were not,
+// the call would wait forever.
 pub(super) fn fit<D: Disk, B: Rings, R: Wait>(rt: &R, front: &Front<D, B>, back: &Back<D, B>)
     ensures { AreEnds (end_of front.now) back.now.number back.now.received }
 {

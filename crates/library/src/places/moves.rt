@@ -17,7 +17,7 @@ use std::alloc::Global;
 use std::sync::Wait;
 use tape_disk::Disk;
 
-// A move out of this drive; `to` names no other.
+// A move out of this drive. `to` names no other drive.
 fn move_from<D: Disk + Drop>(
     alloc: Global,
     slots: &mut Slots<Parked<D>>,
@@ -39,7 +39,7 @@ fn move_from<D: Disk + Drop>(
     reply
 }
 
-// A move into this drive; `from` names none.
+// A move into this drive. `from` names no drive.
 fn move_to<D: Disk + Drop>(
     alloc: Global,
     slots: &mut Slots<Parked<D>>,
@@ -91,7 +91,7 @@ fn move_between<D: Disk + Drop>(
 }
 
 impl<D: Disk + Drop, B: Parties + Rings> FrontPlace<D, B> {
-    /// A move out of this drive, whose disk's half this is; `to` names no other.
+    /// A move out of this drive, whose disk's half is `back`. `to` names no other drive.
     pub(crate) fn move_out<R: Wait>(
         &mut self,
         back: &mut BackPlace<D, B>,
@@ -111,7 +111,7 @@ impl<D: Disk + Drop, B: Parties + Rings> FrontPlace<D, B> {
         reply
     }
 
-    /// A move into this drive, whose disk's half this is; `from` names none.
+    /// A move into this drive, whose disk's half is `back`. `from` names no drive.
     pub(crate) fn move_in<R: Wait>(
         &mut self,
         back: &mut BackPlace<D, B>,
@@ -132,7 +132,7 @@ impl<D: Disk + Drop, B: Parties + Rings> FrontPlace<D, B> {
         reply
     }
 
-    /// A move out of this drive into another; beside each stands its disk's half.
+    /// A move out of this drive into another one. `back` and `behind` are their disk's halves.
     pub(crate) fn move_across<R: Wait>(
         &mut self,
         back: &mut BackPlace<D, B>,

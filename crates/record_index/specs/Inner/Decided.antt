@@ -11,12 +11,12 @@ use Rattle.record_index.specs.declared.records.Record.{Record}
 use Rattle.record_index.specs.declared.records.Record.TheVariants as Records
 use Rattle.record_index.specs.Records.{IsRecord, IsBadAt, BeginsWithRecord, SpellsAll, change_in, record_of, size_of, spell_change, spell_all}
 use Rattle.record_index.specs.Inner.Deciding.{Decidable, both, both3, below, less, same}
-use Rattle.record_index.specs.Inner.Spelled.{change_again, length-spell, one_front, rest_again, told_again}
-use Rattle.record_index.specs.Inner.Told.{told}
+use Rattle.record_index.specs.Inner.Spelled.{change_again, length-spell, one_front, rest_again, decoded_again}
+use Rattle.record_index.specs.Inner.Decoded.{decoded}
 
 -- the bytes spell a list of changes, or are bad at a place (own)
-abbrev pub IsDecided : List ℕ → Type 0
-IsDecided bytes = ((changes : List Change) × SpellsAll bytes changes) ⊎ ((at : ℕ) × IsBadAt bytes at)
+abbrev pub DecidesBody : List ℕ → Type 0
+DecidesBody bytes = ((changes : List Change) × SpellsAll bytes changes) ⊎ ((at : ℕ) × IsBadAt bytes at)
 
 ten_at_least : (item : Record) → 10 ≤ size_of item
 ten_at_least (Records.Put part at size) = omega arith
@@ -41,25 +41,25 @@ is_record (Erase part at) = both (less part (2 ^ 8)) (less at (2 ^ 32))
 
 -- it is decidable whether bytes begin with a record
 pub begins : (bytes : List ℕ) → Decidable (BeginsWithRecord bytes)
-begins bytes = by (told bytes) refl
+begins bytes = by (decoded bytes) refl
   where
-    told_by : (w : BeginsWithRecord bytes) → told bytes ≡ Some (record_of w.0)
-    told_by w = ap told w.3 ∙ told_again w.0 w.1 w.2
+    decoded_by : (w : BeginsWithRecord bytes) → decoded bytes ≡ Some (record_of w.0)
+    decoded_by w = ap decoded w.3 ∙ decoded_again w.0 w.1 w.2
 
-    by : (item : Option Record) → told bytes ≡ item → Decidable (BeginsWithRecord bytes)
-    by None none = inr (λ w. let e : None ≡ Some (record_of w.0) = sym none ∙ told_by w in cc)
+    by : (item : Option Record) → decoded bytes ≡ item → Decidable (BeginsWithRecord bytes)
+    by None none = inr (λ w. let e : None ≡ Some (record_of w.0) = sym none ∙ decoded_by w in cc)
     by (Some item) some = elim (both (is_record (change_in item bytes))
         (same bytes (spell_change (change_in item bytes) ++ drop (size_of item) bytes))) [
           | inl w ↦ inl (change_in item bytes, drop (size_of item) bytes, w.0, w.1)
           | inr never ↦ inr (λ w. never (found item some w))
         ]
       where
-        found : (item : Record) → told bytes ≡ Some item → (w : BeginsWithRecord bytes)
+        found : (item : Record) → decoded bytes ≡ Some item → (w : BeginsWithRecord bytes)
             → IsRecord (change_in item bytes) × (bytes ≡ spell_change (change_in item bytes) ++ drop (size_of item)
             bytes)
         found item some w =
             let items : item ≡ record_of w.0 =
-            (let e : Some item ≡ Some (record_of w.0) = sym some ∙ told_by w in cc) in
+            (let e : Some item ≡ Some (record_of w.0) = sym some ∙ decoded_by w in cc) in
             let change : w.0 ≡ change_in item bytes =
             sym (change_again w.0 w.1) ∙ (λ i. change_in (sym items i) (sym w.3 i)) in
             let rest : w.1 ≡ drop (size_of item) bytes =
@@ -97,7 +97,7 @@ split_within (suc n) bytes short = elim (begins bytes) [
   | inl w ↦ one_more bytes w (split_within n w.1 (omega (arith, short, shorter bytes w)))
 ]
 
-decide : (bytes : List ℕ) → Split bytes → IsDecided bytes
+decide : (bytes : List ℕ) → Split bytes → DecidesBody bytes
 decide bytes (changes, [], ok, is, never) = inl (changes, (ok, is ∙ append-nil (spell_all changes)))
 decide bytes (changes, x ∷ rest, ok, is, never) = inr (
   length (spell_all changes),
@@ -112,7 +112,7 @@ decide bytes (changes, x ∷ rest, ok, is, never) = inr (
   },
 )
 
-pub decided : (bytes : List ℕ) → IsDecided bytes
+pub decided : (bytes : List ℕ) → DecidesBody bytes
 decided bytes = decide bytes (split_within (length bytes) bytes (omega arith))
 
 -- the records at the start of bytes are one list, where the rest begins with none

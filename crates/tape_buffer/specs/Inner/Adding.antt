@@ -6,9 +6,9 @@ use Rattle.volume_core.specs.Medium.{MediumState, Settles, Works, volume_of}
 use Rattle.tape_buffer.specs.Frames.{MakesWay}
 
 -- a medium works on, with the same volume; or it was to store what is pending, and did not (own)
-abbrev pub IsReady : MediumState → Result Unit MediumError → MediumState → Type 0
-IsReady old (Ok done) new = Works (volume_of old) new
-IsReady old (Err error) new = Settles old (Err error) new
+abbrev pub IsReadyToAdd : MediumState → Result Unit MediumError → MediumState → Type 0
+IsReadyToAdd old (Ok done) new = Works (volume_of old) new
+IsReadyToAdd old (Err error) new = Settles old (Err error) new
 
 -- the frames of a side on which room is made for a change, or on which the device failed (own)
 abbrev pub IsWay :

@@ -12,10 +12,10 @@ IsPut _ = ⊥
 
 -- these bytes are a copy of the change's block, or memory ran out, since the capacity of what was given is less than
 -- the block has bytes (own)
-abbrev pub IsCopied : Change → ℕ → Result Unit MediumError → List ℕ → Type 0
-IsCopied (Put part at block) capacity (Ok done) bytes = bytes ≡ block
-IsCopied (Put part at block) capacity (Err NoMemory) bytes = capacity < length block
-IsCopied _ capacity _ bytes = ⊥
+abbrev pub IsCopyOfBlock : Change → ℕ → Result Unit MediumError → List ℕ → Type 0
+IsCopyOfBlock (Put part at block) capacity (Ok done) bytes = bytes ≡ block
+IsCopyOfBlock (Put part at block) capacity (Err NoMemory) bytes = capacity < length block
+IsCopyOfBlock _ capacity _ bytes = ⊥
 
 -- A block was read from a disk, memory ran out, for this cause, or the disk failed. The two numbers are how many calls
 -- had failed before, and have failed now (own).

@@ -17,10 +17,10 @@ module _ {D : Type 0} where
   buffer_lent (Resting buffer) = buffer
 
   -- what is pending may be, and there is room for what may still be taken; or no record may be taken (own)
-  abbrev pub IsLent : Lending D → Budget → Type 0
-  IsLent (Taking taking) left =
+  abbrev pub MayBeLent : Lending D → Budget → Type 0
+  MayBeLent (Taking taking) left =
       IsPendingOver taking.cartridge taking.loose × IsRoomyFor taking.cartridge taking.loose left
-  IsLent (Resting buffer) left = left.records ≡ 0
+  MayBeLent (Resting buffer) left = left.records ≡ 0
 
   -- an open cartridge is lent with what is pending over it (own)
   pub record LendsOver (cartridge : OpenCartridge D) (pending : List Change) (new : LentState D) : Type 0 where

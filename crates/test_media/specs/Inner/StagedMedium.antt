@@ -33,7 +33,7 @@ all_stored old =
       is_torn = false;
     }
 
--- the device failed, and the frame of all that is pending was under way, or no frame (own)
+-- the device failed, and the frame of all that is pending was in flight, or no frame (own)
 abbrev pub broken : Bool → Staged → Staged
 broken torn old = record old { failed = true; is_torn = torn; faults = old.faults + 1 }
 
@@ -51,7 +51,7 @@ IsStoring old (Ok done) new = new ≡ all_stored old
 IsStoring old (Err Device) new = (1 ≤ length old.rest) × ((torn : Bool) × (new ≡ broken torn old))
 IsStoring old (Err _) new = ⊥
 
--- it is opened by what its side gives: all that is stored, or the frame that was under way as well (own)
+-- it is opened by what its side gives: all that is stored, or the frame that was in flight as well (own)
 abbrev pub IsOpening : Staged → Result Unit NoMemory → Staged → Type 0
 IsOpening old (Ok done) new =
     (new ≡ opened old) ⊎ ((old.is_torn ≡ true) × (new ≡ opened (all_stored old)))

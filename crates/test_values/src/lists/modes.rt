@@ -9,7 +9,7 @@ fn asks(rt: &impl Abort, list: &[u8], buffered: Option<bool>) {
 }
 
 #[test]
-fn data_tells_the_mode(rt: HostRuntime) {
+fn data_shows_the_mode(rt: HostRuntime) {
     let buffered = mode_data(true);
     let unbuffered = mode_data(false);
     assert_equal!(rt; buffered, *b"\x0b\x00\x10\x08\0\0\0\0\0\0\0\0");

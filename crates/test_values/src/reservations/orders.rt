@@ -12,7 +12,7 @@ static THREE_REGISTER: &'static [(u8, PrOut)] = &[
     (64, register!(0, B)),
 ];
 
-static TELLS_THE_OTHERS: &'static [(u8, Attention)] = &[
+static ESTABLISHED_FOR_OTHERS: &'static [(u8, Attention)] = &[
     (1, Attention::ReservationsPreempted),
     (64, Attention::ReservationsPreempted),
 ];
@@ -31,7 +31,7 @@ fn one_clears(rt: HostRuntime) {
         before,
         (2, PrOut::Clear { key: B }),
         Good,
-        TELLS_THE_OTHERS,
+        ESTABLISHED_FOR_OTHERS,
         left,
     );
 }

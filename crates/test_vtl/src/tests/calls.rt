@@ -64,7 +64,7 @@ fn ran<R: Threads + Wait + Clock + Sync>(
     Ok((writer.into_text(), lines.into_text(), ended))
 }
 
-fn is_told<R: Abort + Threads + Wait + Clock + Sync>(
+fn is_reported<R: Abort + Threads + Wait + Clock + Sync>(
     rt: &R,
     alloc: Global,
     files: &NotedFiles,
@@ -94,7 +94,7 @@ fn assert_row<R: Abort + Threads + Wait + Clock + Sync>(
     at: usize,
 ) -> Result<(), Fail> {
     let files = NotedFiles::new(alloc, row.0);
-    is_told(rt, alloc, &files, row, at)?;
+    is_reported(rt, alloc, &files, row, at)?;
     let called = files.into_note();
     assert_equal!(rt; called.as_slice(), row.2.as_bytes(); at);
     Ok(())

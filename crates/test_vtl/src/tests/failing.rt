@@ -152,7 +152,7 @@ fn end_of<R: Threads + Wait + Clock + Sync>(
 }
 
 #[test]
-fn the_first_fault_is_told(rt: HostRuntime) -> Result<(), Fail> {
+fn the_first_fault_is_reported(rt: HostRuntime) -> Result<(), Fail> {
     let mut unwritten = 0u32;
     for calls in 0..40 {
         let Some(outcome) = end_of(&rt, rt.alloc(), WAITS, calls)? else {

@@ -59,7 +59,7 @@ pub fn run_noted<R: Threads + Wait + Clock + Sync, W: Write + Send, M: Write + S
     ))
 }
 
-// What a run writes to standard output, and to standard error but for what answers mean; and how it ends.
+// What a run writes to standard output, and to standard error except for what answers mean; and how it ends.
 #[derive(Drop)]
 struct Outcome {
     output: Vec<u8>,
@@ -246,18 +246,18 @@ fn each_has_ended<R: Abort + Threads + Wait + Clock + Sync>(
 }
 
 #[test]
-fn what_standard_input_answered_is_told(rt: HostRuntime) -> Result<(), Fail> {
+fn what_standard_input_answered_is_reported(rt: HostRuntime) -> Result<(), Fail> {
     each_has_ended(&rt, rt.alloc(), INPUTS)
 }
 
 #[test]
-fn what_standard_output_answered_is_told(rt: HostRuntime) -> Result<(), Fail> {
+fn what_standard_output_answered_is_reported(rt: HostRuntime) -> Result<(), Fail> {
     each_has_ended(&rt, rt.alloc(), OUTPUTS)
 }
 
 // The first write is taken, and the flush behind it fails.
 #[test]
-fn a_flush_that_fails_is_told_as_a_write(rt: HostRuntime) -> Result<(), Fail> {
+fn a_flush_that_fails_is_reported_as_a_write(rt: HostRuntime) -> Result<(), Fail> {
     let alloc = rt.alloc();
     let input = PartReader::new(SCRIPT, 64, &[]);
     let (mut output, mut errors) = (BadWriter::new(alloc, Some(2)), BadWriter::new(alloc, None));

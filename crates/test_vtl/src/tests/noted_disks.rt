@@ -16,12 +16,12 @@ use vtl_program::open_files::{NotedDisk, OpenFiles, SaysFailed};
 
 // A disk that says of each call that it failed so.
 #[derive(Drop)]
-struct ToldDisk<D> {
+struct ReportingDisk<D> {
     disk: D,
     failed: Option<FailedCall>,
 }
 
-impl<D: Disk> Disk for ToldDisk<D> {
+impl<D: Disk> Disk for ReportingDisk<D> {
     ghost state = { λ told. D.state told.disk };
 
     ghost effect = { λ call result old new. D.effect call result old.disk new.disk };
@@ -49,7 +49,7 @@ impl<D: Disk> Disk for ToldDisk<D> {
     }
 }
 
-impl<D> SaysFailed for ToldDisk<D> {
+impl<D> SaysFailed for ReportingDisk<D> {
     fn failed(&self) -> Option<FailedCall> {
         self.failed
     }
@@ -72,9 +72,9 @@ fn failing(
     alloc: Global,
     calls: u64,
     failed: Option<FailedCall>,
-) -> Result<ToldDisk<OnceDisk<MemDisk>>, Fail> {
+) -> Result<ReportingDisk<OnceDisk<MemDisk>>, Fail> {
     let disk = OnceDisk::new(MemDisk::from_bytes(alloc, b"abcd")?, calls);
-    Ok(ToldDisk { disk, failed })
+    Ok(ReportingDisk { disk, failed })
 }
 
 // Each call of the disk of this file once: which of them succeed.
@@ -151,9 +151,9 @@ fn each_file_has_its_first_failure(rt: HostRuntime) -> Result<(), Fail> {
 // A file of reservations is refused for what is in it, though a call for another file failed before; not where one for
 // this file did.
 #[test]
-fn a_refused_store_is_told_by_its_own_calls(rt: HostRuntime) -> Result<(), Fail> {
+fn a_refused_store_is_reported_by_its_own_calls(rt: HostRuntime) -> Result<(), Fail> {
     let alloc = rt.alloc();
-    for (failed, is_told) in [("a", true), ("b", false)] {
+    for (failed, is_reported) in [("a", true), ("b", false)] {
         let notes = Notes::new(alloc, true);
         let (first, second) = (
             notes.files().enter(alloc, "a"),
@@ -163,9 +163,9 @@ fn a_refused_store_is_told_by_its_own_calls(rt: HostRuntime) -> Result<(), Fail>
         let _ = used(notes.files(), bad, failing(alloc, 3, Some(SYNC))?);
         notes.give_back(alloc, "b", second);
         let mut lines = Explanation::new(alloc);
-        assert_equal!(rt; notes.add_store(alloc, &mut lines)?, is_told; failed);
+        assert_equal!(rt; notes.add_store(alloc, &mut lines)?, is_reported; failed);
         let begin = "refused: what is in the file b\n";
-        assert_equal!(rt; lines.as_str().starts_with(begin), is_told; failed);
+        assert_equal!(rt; lines.as_str().starts_with(begin), is_reported; failed);
     }
     Ok(())
 }

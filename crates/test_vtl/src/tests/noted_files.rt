@@ -197,7 +197,7 @@ impl NotedFiles {
 impl ChangeFiles<OnceDisk<MemDisk>> for NotedFiles {
     ghost opens = { λ name answer. Unit {0} };
 
-    ghost hands_back = { λ name disk. Unit {0} };
+    ghost returns_disk = { λ name disk. Unit {0} };
 
     fn open(&self, name: FileName) -> (UsedName, Result<OnceDisk<MemDisk>, FileError>) {
         let name = name.use_up();
@@ -205,7 +205,7 @@ impl ChangeFiles<OnceDisk<MemDisk>> for NotedFiles {
         (name, opened)
     }
 
-    fn hand_back(&self, name: UsedName, disk: OnceDisk<MemDisk>) {
+    fn return_disk(&self, name: UsedName, disk: OnceDisk<MemDisk>) {
         let name = name.as_str();
         let _ = self.noted(self.word_of(&disk, name), name);
         drop(disk);

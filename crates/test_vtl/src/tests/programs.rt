@@ -13,7 +13,7 @@ use vtl_program::orders::run_started;
 use vtl_program::programs::{Ended, Verdict, VtlFault, end, fault_line};
 use vtl_program::sides::NewSides;
 use vtl_program::starting::built_in;
-use vtl_program::writing::tell;
+use vtl_program::writing::print_text;
 use vtl_script::ScriptFault;
 
 // What a run of the program wrote on both streams, and how it ended.
@@ -226,7 +226,7 @@ fn is_written(rt: &impl Abort, writer: &mut PartWriter, parts: &Parts, at: usize
     } else {
         Err(VtlFault::Device)
     };
-    assert_equal!(rt; tell(writer, b"abcdef"), wanted; at);
+    assert_equal!(rt; print_text(writer, b"abcdef"), wanted; at);
     assert_equal!(rt; writer.text(), text; at);
 }
 
@@ -301,7 +301,7 @@ fn is_flushed(
     wanted: Result<(), VtlFault>,
     at: usize,
 ) {
-    assert_equal!(rt; tell(writer, b"abcdef"), wanted; at);
+    assert_equal!(rt; print_text(writer, b"abcdef"), wanted; at);
     assert_equal!(rt; writer.text(), text; at);
 }
 

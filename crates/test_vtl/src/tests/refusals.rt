@@ -26,6 +26,6 @@ static HANDED_BACK: &'static [Row<'static>] = &[
 ];
 
 #[test]
-fn a_refused_side_is_handed_back_as_it_was(rt: HostRuntime) -> Result<(), Fail> {
+fn a_refused_side_is_given_back_as_it_was(rt: HostRuntime) -> Result<(), Fail> {
     assert_rows(&rt, rt.alloc(), HANDED_BACK)
 }

@@ -20,7 +20,7 @@ module _ {S : Type 0} (answers : S → Request → Answer → S → Type 0) wher
     pub answered : AnswersAll answers old.server requests given new.server
     pub strayed : new.strayed ≡ old.strayed
 
-  -- the same, but for some requests that were taken last, of which it is noted that they were dropped (own)
+  -- the same, except for some requests that were taken last; these are noted as dropped (own)
   pub record IsHostDone (old new : HostEnd S) : Type 0 where
     pub requests : List Request
     pub stray : List Request

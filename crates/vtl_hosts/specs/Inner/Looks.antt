@@ -18,9 +18,9 @@ module _ {S : Type 0} where
         (k : ℕ) (h : HostEnd S) (r : Requests) (a : Answers) → k < length hosts
         → ArePairsAt (slice_index_or hosts k h) (slice_index_or requests k r) (slice_index_or answers k a)
 
-  -- A host's rings were checked, and are the same: what was taken from each, and what is left in it, is what was put
-  -- into it. At `true` nothing is left, and no request was dropped (own).
-  pub record LooksAt (host : HostEnd S) (requests : Requests) (answers : Answers)
+  -- A host's rings were checked, and are the same: what was put into each was taken from it, or is left in it. At
+  -- `true` nothing is left, and no request was dropped (own).
+  pub record ChecksRings (host : HostEnd S) (requests : Requests) (answers : Answers)
       (host' : HostEnd S) (requests' : Requests) (answers' : Answers) (empty : Bool) : Type 0 where
     pub server : host'.server ≡ host.server
     pub strayed : host'.strayed ≡ host.strayed
@@ -44,7 +44,7 @@ module _ {S : Type 0} where
     pub as_many_answers : length answers' ≡ length hosts
     pub each :
         (k : ℕ) (h : HostEnd S) (r : Requests) (a : Answers) → k < length hosts
-        → LooksAt (slice_index_or hosts k h) (slice_index_or requests k r) (slice_index_or answers k a)
+        → ChecksRings (slice_index_or hosts k h) (slice_index_or requests k r) (slice_index_or answers k a)
         (slice_index_or hosts' k h) (slice_index_or requests' k r) (slice_index_or answers' k a) empty
 
   -- a request or an answer is left in a host's rings, or a request was dropped (own)

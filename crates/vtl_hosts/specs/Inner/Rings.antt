@@ -27,7 +27,7 @@ pub record Deals (old new : List Requests) (commands : List Request) : Type 0 wh
       → sent (slice_index_or new k d) ≡ sent (slice_index_or old k d) ++ of_host (k + 1) commands
 
 -- the rings are the same, and from each these answers were taken, in their order (own)
-pub record Takes (old new : List Answers) (given : List Given) : Type 0 where
+pub record TakesAnswers (old new : List Answers) (given : List Given) : Type 0 where
   pub long : length new ≡ length old
   pub same :
       (k : ℕ) (d : Answers) → k < length old → SameConsumer (slice_index_or old k d) (slice_index_or new k d)

@@ -7,26 +7,20 @@ use Rattle.vtl_wire.specs.declared.faults.WireFault.{WireFault}
 use Rattle.vtl_wire.specs.declared.faults.WireFault.TheVariants.{BadFrame, ReadFault, WriteFault, NoMemory}
 use Rattle.vtl_wire.specs.declared.requests.Request.{Request}
 use Rattle.vtl_wire.specs.Requests.{IsRequest, spell_requests}
-use Rattle.vtl_wire.specs.Serving.{WritesAnswer, WritesFront}
+use Rattle.vtl_wire.specs.Serving.{AnswersAndWrites, WritesAnswer, WritesFront}
 use Rattle.vtl_hosts.specs.Turns.{AnswersTurns, EndsPart, EndsWhole, FitsTurn, HostsState, Turn, count_on, requests_of, spell_turns}
-
--- a move or an inventory was answered, and this is written of the answer (own)
-abbrev pub AnswersAndWrites : {G : Type 0} → (Option (List ℕ) → Option (List ℕ) → Answer → Type 0)
-    → (G → Request → Answer → G → Type 0) → G → Request → Option (List ℕ) → G → Option (List ℕ) → Type 0
-AnswersAndWrites writes answers old request before new now =
-    (answer : Answer) × answers old request answer new × writes before now answer
 
 -- a move or an inventory was answered, and its answer written; or a write failed, or there was no memory, and nothing
 -- was done (own)
-abbrev pub AnswersAlone : {G : Type 0} → (G → Request → Answer → G → Type 0) → (G → Request → Type 0) → G → Request
+abbrev pub AnswersOfNoHost : {G : Type 0} → (G → Request → Answer → G → Type 0) → (G → Request → Type 0) → G → Request
     → Option (List ℕ) → G → Option (List ℕ) → Result (Unit {0}) WireFault → Type 0
-AnswersAlone answers lacks old request before new now (Ok done) =
+AnswersOfNoHost answers lacks old request before new now (Ok done) =
     AnswersAndWrites WritesAnswer answers old request before new now
-AnswersAlone answers lacks old request before new now (Err (BadFrame number)) = ⊥
-AnswersAlone answers lacks old request before new now (Err ReadFault) = ⊥
-AnswersAlone answers lacks old request before new now (Err WriteFault) =
+AnswersOfNoHost answers lacks old request before new now (Err (BadFrame number)) = ⊥
+AnswersOfNoHost answers lacks old request before new now (Err ReadFault) = ⊥
+AnswersOfNoHost answers lacks old request before new now (Err WriteFault) =
     AnswersAndWrites WritesFront answers old request before new now
-AnswersAlone answers lacks old request before new now (Err NoMemory) =
+AnswersOfNoHost answers lacks old request before new now (Err NoMemory) =
     lacks old request × (new ≡ old) × (now ≡ before)
 
 module _ {S G : Type 0} (serves : S → Request → Answer → S → Type 0) (takes : G → Request → Bool)
@@ -50,11 +44,11 @@ module _ {S G : Type 0} (serves : S → Request → Answer → S → Type 0) (ta
       ⊎ EndsPart serves takes answers old left before new left' now result
 
   -- one more turn, or the serving ends (own)
-  abbrev pub ServesNext : ℕ → HostsState S G → Option (List ℕ) → Option (List ℕ) → ℕ → HostsState S G
+  abbrev pub ServesNextTurn : ℕ → HostsState S G → Option (List ℕ) → Option (List ℕ) → ℕ → HostsState S G
       → Option (List ℕ) → Option (List ℕ) → Result Bool WireFault → Type 0
-  ServesNext count old left before count' new left' now (Ok true) =
+  ServesNextTurn count old left before count' new left' now (Ok true) =
       ServesTurns count old left before count' new left' now
-  ServesNext count old left before count' new left' now (Ok false) =
+  ServesNextTurn count old left before count' new left' now (Ok false) =
       EndsServing count old left before new left' now (Ok tt)
-  ServesNext count old left before count' new left' now (Err fault) =
+  ServesNextTurn count old left before count' new left' now (Err fault) =
       EndsServing count old left before new left' now (Err fault)

@@ -15,7 +15,7 @@ use Rattle.vtl_script.specs.declared.faults.ScriptFault.{ScriptFault}
 use Rattle.vtl_script.specs.declared.faults.ScriptFault.TheVariants.{BadLine}
 use Rattle.vtl_script.specs.Parsed.{parsed_line, parsed_lines, without_return, is_phase_end, is_refused, line_in}
 use Rattle.vtl_script.specs.Items.{has_host, by_host, items_to_run, IsRunnable}
-use Rattle.vtl_script.specs.Inner.Reading.{Reading, work_left}
+use Rattle.vtl_script.specs.Inner.Reading.{LineReading, work_left}
 
 -- the bytes that a reader is known to have left (own)
 abbrev pub rest_of : Option (List ℕ) → List ℕ
@@ -50,8 +50,8 @@ ParsesFirst is_configured false text parsed_list unread left =
     → parsed_lines is_configured (text ++ more) ≡ parsed_list ++ parsed_lines is_configured (unread ++ more)
 
 -- a line was read, and says this (own)
-pub record ReadsLine (is_configured : ℕ → Bool) (left : Option (List ℕ)) (old : Reading)
-    (left' : Option (List ℕ)) (new : Reading) (next : NextLine) : Type 0 where
+pub record ReadsLine (is_configured : ℕ → Bool) (left : Option (List ℕ)) (old : LineReading)
+    (left' : Option (List ℕ)) (new : LineReading) (next : NextLine) : Type 0 where
   pub read : List ℕ
   pub taken : Consumes left left' read
   pub says : ParsesFirst is_configured next.is_last (old.unread ++ read) (next.parsed ∷ []) new.unread left'
@@ -64,7 +64,7 @@ pub record ReadsLine (is_configured : ℕ → Bool) (left : Option (List ℕ)) (
   pub less : next.is_last ≡ false → work_left new < work_left old
 
 -- the line of this number was read, and is refused (own)
-pub record RefusesLine (is_configured : ℕ → Bool) (left : Option (List ℕ)) (old : Reading)
+pub record RefusesLine (is_configured : ℕ → Bool) (left : Option (List ℕ)) (old : LineReading)
     (left' : Option (List ℕ)) (number : ℕ) : Type 0 where
   pub read : List ℕ
   pub taken : Consumes left left' read
@@ -86,15 +86,15 @@ with_move phase (Some moved) = phase ∷ moved ∷ []
 abbrev pub AreEmpty : List Item → Type 0
 AreEmpty items = (items ≡ []) ⊎ (items ≡ Phase [] ∷ [])
 
--- these lines are some items before what follows; at the end of a text, the last but for a phase of no command (own)
+-- these lines are some items before what follows; at the end of a text, the last except for a phase of no command (own)
 abbrev pub AreItems : Bool → List ParsedLine → List Item → Type 0
 AreItems true parsed_list items = (rest : List Item) × (items_to_run parsed_list ≡ items ++ rest) × AreEmpty rest
 AreItems false parsed_list items =
     (more : List ParsedLine) → items_to_run (parsed_list ++ more) ≡ items ++ items_to_run more
 
 -- some items were read, up to the place of a new reading (own)
-pub record ReadsLines (is_configured : ℕ → Bool) (left : Option (List ℕ)) (old : Reading)
-    (left' : Option (List ℕ)) (new : Reading) (is_last : Bool) (items : List Item) : Type 0 where
+pub record ReadsLines (is_configured : ℕ → Bool) (left : Option (List ℕ)) (old : LineReading)
+    (left' : Option (List ℕ)) (new : LineReading) (is_last : Bool) (items : List Item) : Type 0 where
   pub read : List ℕ
   pub taken : Consumes left left' read
   pub parsed_list : List ParsedLine
@@ -107,8 +107,8 @@ pub record ReadsLines (is_configured : ℕ → Bool) (left : Option (List ℕ)) 
   pub are_items : AreItems is_last parsed_list items
 
 -- a phase was read, with the lines to be run, and the move behind it (own)
-pub record ReadsPhase (is_configured : ℕ → Bool) (left : Option (List ℕ)) (old : Reading)
-    (left' : Option (List ℕ)) (new : Reading) (phase : PhaseLines) : Type 0 where
+pub record ReadsPhase (is_configured : ℕ → Bool) (left : Option (List ℕ)) (old : LineReading)
+    (left' : Option (List ℕ)) (new : LineReading) (phase : PhaseLines) : Type 0 where
   pub reads :
       ReadsLines is_configured left old left' new phase.is_last
       (with_move (Phase (by_host phase.lines.items)) phase.moved)
@@ -117,14 +117,14 @@ pub record ReadsPhase (is_configured : ℕ → Bool) (left : Option (List ℕ)) 
   pub moves : IfSome phase.moved (IsRunnable is_configured)
 
 -- a phase and the move behind it were read, which can be run (own)
-pub record ReadsItems (is_configured : ℕ → Bool) (left : Option (List ℕ)) (old : Reading)
-    (left' : Option (List ℕ)) (new : Reading) (next : NextItems) : Type 0 where
+pub record ReadsItems (is_configured : ℕ → Bool) (left : Option (List ℕ)) (old : LineReading)
+    (left' : Option (List ℕ)) (new : LineReading) (next : NextItems) : Type 0 where
   pub reads : ReadsLines is_configured left old left' new next.is_last (with_move next.phase next.moved)
   pub runnable : IsRunnable is_configured next.phase
   pub moves : IfSome next.moved (IsRunnable is_configured)
 
 -- an item was read up to the line of this number, which is refused (own)
-pub record RefusesItem (is_configured : ℕ → Bool) (left : Option (List ℕ)) (old : Reading)
+pub record RefusesItem (is_configured : ℕ → Bool) (left : Option (List ℕ)) (old : LineReading)
     (left' : Option (List ℕ)) (number : ℕ) : Type 0 where
   pub read : List ℕ
   pub taken : Consumes left left' read

@@ -7,18 +7,18 @@ use Rattle.vtl_script.specs.declared.line_readers.Found.{Found}
 use Rattle.vtl_script.specs.declared.line_readers.Found.TheVariants.{Line, Last, TooLong}
 
 -- how far a script was read, as a contract sees it (own)
-pub record Reading : Type 0 where
+pub record LineReading : Type 0 where
   pub unread : List ℕ  -- the bytes that came, but for those of the lines that were taken up
   pub bytes : ℕ  -- the bytes that came
   pub reads : ℕ  -- the reads that brought them
   pub lines : ℕ  -- the lines that were taken up
 
 -- at the start (own)
-abbrev pub unbegun : Reading
+abbrev pub unbegun : LineReading
 unbegun = record { unread = []; bytes = 0; reads = 0; lines = 0 }
 
 -- the bytes that may still be taken up (own)
-abbrev pub work_left : Reading → ℕ
+abbrev pub work_left : LineReading → ℕ
 work_left reading = (SCRIPT_BYTES + length reading.unread) - reading.bytes
 
 -- whether a script of this many bytes is within its limit (own)
@@ -40,7 +40,7 @@ abbrev pub part : ℕ → ℕ → List ℕ → List ℕ
 part start filled bytes = drop start (take filled bytes)
 
 -- this many bytes came from a reader that knew the bytes `left`, and stand after the others (own)
-pub record Brings (left : Option (List ℕ)) (old : List ℕ) (left' : Option (List ℕ)) (new : List ℕ) (count : ℕ)
+pub record BringsBytes (left : Option (List ℕ)) (old : List ℕ) (left' : Option (List ℕ)) (new : List ℕ) (count : ℕ)
     : Type 0 where
   pub read : List ℕ
   pub taken : Consumes left left' read
@@ -48,7 +48,8 @@ pub record Brings (left : Option (List ℕ)) (old : List ℕ) (left' : Option (L
   pub count_is : length read ≡ count
 
 -- some bytes came from a reader that knew the bytes `left`, and stand after the others (own)
-pub record Comes (left : Option (List ℕ)) (old : Reading) (left' : Option (List ℕ)) (new : Reading) : Type 0 where
+pub record Comes (left : Option (List ℕ)) (old : LineReading)
+    (left' : Option (List ℕ)) (new : LineReading) : Type 0 where
   pub read : List ℕ
   pub taken : Consumes left left' read
   pub unread : new.unread ≡ old.unread ++ read
@@ -61,7 +62,7 @@ abbrev pub shows_end : List ℕ → Bool
 shows_end unread = is_some (position (λ byte. byte == 10) unread) || nat_lt LINE_BYTES (length unread)
 
 -- where the first line ends: at its line feed, with the text, or not within its limit (own)
-abbrev pub Ends : Found → List ℕ → Option (List ℕ) → Type 0
-Ends (Line count) unread left = position (λ byte. byte == 10) unread ≡ Some count
-Ends Last unread left = (position (λ byte. byte == 10) unread ≡ None) × IsAtEnd left
-Ends TooLong unread left = (position (λ byte. byte == 10) unread ≡ None) × (LINE_BYTES < length unread)
+abbrev pub LineEnds : Found → List ℕ → Option (List ℕ) → Type 0
+LineEnds (Line count) unread left = position (λ byte. byte == 10) unread ≡ Some count
+LineEnds Last unread left = (position (λ byte. byte == 10) unread ≡ None) × IsAtEnd left
+LineEnds TooLong unread left = (position (λ byte. byte == 10) unread ≡ None) × (LINE_BYTES < length unread)

@@ -10,12 +10,12 @@ use Rattle.vtl_script.specs.declared.faults.ScriptFault.TheVariants.{BadLine, Re
 use Rattle.vtl_script.specs.Parsed.{parsed_lines, is_refused}
 use Rattle.vtl_script.specs.Items.{items_to_run}
 use Rattle.vtl_script.specs.Text.{text_of}
-use Rattle.vtl_script.specs.Inner.Reading.{Reading}
+use Rattle.vtl_script.specs.Inner.Reading.{LineReading}
 use Rattle.vtl_script.specs.Runs.{ScriptEnds, WritesPart, RunsPart}
 
 -- as at the end of a script, where it is run from the place of a reading on: lines are counted from its
 -- lines on, and bytes from its bytes on (own)
-abbrev pub EndsFrom : {P : Type 0} → (P → List Item → List Reply → P → Type 0) → Reading → ℕ → List ParsedLine
+abbrev pub EndsFrom : {P : Type 0} → (P → List Item → List Reply → P → Type 0) → LineReading → ℕ → List ParsedLine
     → List Item → List ℕ → P → Option (List ℕ) → P → Option (List ℕ) → Result (Unit {0}) ScriptFault → Type 0
 EndsFrom answers reading size parsed_list items text mid before new now (Ok done) =
     ScriptEnds answers (reading.bytes + size) parsed_list items text mid before new now (Ok done)
@@ -31,7 +31,7 @@ EndsFrom answers reading size parsed_list items text mid before new now (Err NoM
 
 -- what a reading has not taken up was run to its end (own)
 pub record FinishesScript {P : Type 0}
-    (is_configured : ℕ → Bool) (answers : P → List Item → List Reply → P → Type 0) (reading : Reading)
+    (is_configured : ℕ → Bool) (answers : P → List Item → List Reply → P → Type 0) (reading : LineReading)
     (old : P) (left before : Option (List ℕ)) (new : P) (now : Option (List ℕ))
     (result : Result (Unit {0}) ScriptFault) : Type 0 where
   pub text : List ℕ
@@ -47,8 +47,8 @@ pub record FinishesScript {P : Type 0}
 -- some items were run, and the text goes on (own)
 pub record GoesOn {P : Type 0}
     (is_configured : ℕ → Bool) (answers : P → List Item → List Reply → P → Type 0)
-    (reading : Reading) (old : P) (left before : Option (List ℕ))
-    (reading' : Reading) (new : P) (left' now : Option (List ℕ)) : Type 0 where
+    (reading : LineReading) (old : P) (left before : Option (List ℕ))
+    (reading' : LineReading) (new : P) (left' now : Option (List ℕ)) : Type 0 where
   pub read : List ℕ
   pub taken : Consumes left left' read
   pub parsed_list : List ParsedLine
@@ -101,7 +101,7 @@ RunsItems answers old items before new now (Err fault) = AnswersFirst answers ol
 
 -- a phase and the move behind it were run: at `true` the text goes on (own)
 abbrev pub RunsNext : {P : Type 0} (is_configured : ℕ → Bool) (answers : P → List Item → List Reply → P → Type 0)
-    (reading : Reading) (old : P) (left before : Option (List ℕ)) (reading' : Reading) (new : P)
+    (reading : LineReading) (old : P) (left before : Option (List ℕ)) (reading' : LineReading) (new : P)
     (left' now : Option (List ℕ)) → Result Bool ScriptFault → Type 0
 RunsNext is_configured answers reading old left before reading' new left' now (Ok true) =
     GoesOn is_configured answers reading old left before reading' new left' now

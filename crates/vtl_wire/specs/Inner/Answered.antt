@@ -35,13 +35,13 @@ pub record IsReplyHeader (header : Header) (status : Status) : Type 0 where
   pub most : header.payload ≤ MOST_DATA
 
 -- a reply goes to this host, or answers a move (own)
-abbrev pub GoesTo : FrameKind → ℕ → Option ℕ → Type 0
-GoesTo kind host (Some number) = (kind ≡ kinds.Command) × (host ≡ number) × (1 ≤ number) × (number ≤ NEXUSES)
-GoesTo kind host None = (kind ≡ kinds.Move) × (host ≡ 0)
+abbrev pub GoesToHost : FrameKind → ℕ → Option ℕ → Type 0
+GoesToHost kind host (Some number) = (kind ≡ kinds.Command) × (host ≡ number) × (1 ≤ number) × (number ≤ NEXUSES)
+GoesToHost kind host None = (kind ≡ kinds.Move) × (host ≡ 0)
 
 -- what the header of a reply says (own)
 pub record ReplySays (header : Header) (head : ReplyHead) : Type 0 where
-  pub goes : GoesTo header.kind header.host head.host
+  pub goes : GoesToHost header.kind header.host head.host
   pub reply : IsReplyHeader header head.status
   pub tag : head.tag ≡ header.tag
 
@@ -71,11 +71,11 @@ answer_with head sense bytes =
     answer_to head.host (record { status = head.status; sense = sense; bytes = bytes }) head.tag
 
 -- some request or some answer may have this header (own)
-abbrev pub MayStand : Header → Type 0
-MayStand header =
+abbrev pub MayBeHeader : Header → Type 0
+MayBeHeader header =
     ((head : RequestHead) × (request_head header ≡ Some head)) ⊎ ((head : AnswerHead) × HeadSays header head)
 
--- behind these bytes an answer was read up to its last byte; or its frame is refused (own)
+-- an answer that begins with these bytes was read up to its last byte; or its frame is refused (own)
 abbrev pub FindsBehind : List ℕ → Option (List ℕ) → Option (List ℕ) → Found Answer → Type 0
 FindsBehind read left left' (Frame answer) =
     IsAnswer answer × ((more : List ℕ) × Consumes left left' more × (read ++ more ≡ spell_answer answer))

@@ -5,13 +5,7 @@ use Rattle.vtl_wire.specs.declared.answers.Answer.{Answer}
 use Rattle.vtl_wire.specs.declared.faults.WireFault.{WireFault}
 use Rattle.vtl_wire.specs.declared.faults.WireFault.TheVariants.{BadFrame, ReadFault, WriteFault, NoMemory}
 use Rattle.vtl_wire.specs.declared.requests.Request.{Request}
-use Rattle.vtl_wire.specs.Serving.{Rests, ServesOne, ServingEnds, WritesAnswer, WritesFront}
-
--- a request is answered, and this is written of the answer (own)
-abbrev pub AnswersAndWrites : {S : Type 0} → (Option (List ℕ) → Option (List ℕ) → Answer → Type 0)
-    → (S → Request → Answer → S → Type 0) → S → Request → Option (List ℕ) → S → Option (List ℕ) → Type 0
-AnswersAndWrites writes answers old request before new now =
-    (answer : Answer) × answers old request answer new × writes before now answer
+use Rattle.vtl_wire.specs.Serving.{AnswersAndWrites, Rests, ServesOne, ServingEnds, WritesAnswer, WritesFront}
 
 -- a request was served, and its answer written; or a write failed, or there was no memory, and nothing was done (own)
 abbrev pub AnswersRequest : {S : Type 0} → (S → Request → Answer → S → Type 0) → (S → Request → Type 0) → S → Request

@@ -1,6 +1,6 @@
 use Rattle.std.proofs.Common.{ℕ, List, length, sym, ◌∙◌, ap, arith}
 use Rattle.aptpl_store.proofs.SpellingLemmas.{spelling_frame, spelling_short}
-use Rattle.aptpl_store.proofs.TellingLemmas.{one_state}
+use Rattle.aptpl_store.proofs.DecodingLemmas.{one_state}
 use Rattle.aptpl_store.proofs.laws.bytes_spell_one_state.Goals as goal
 
 pub returns : goal.returns

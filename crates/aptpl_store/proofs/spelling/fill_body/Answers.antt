@@ -5,7 +5,7 @@ use Rattle.std.proofs.Math.ListN.{get_or}
 use Rattle.std.proofs.lemmas.List.{append-nil, take_all}
 use Rattle.std.proofs.lemmas.List.Elements.{All-more, All-nil}
 use Rattle.aptpl_store.specs.Spelling.{IsKey, aptpl_byte, holder_byte, registration, type_byte}
-use Rattle.aptpl_store.specs.Inner.Told.{nexuses_from, registrations_of}
+use Rattle.aptpl_store.specs.Inner.Decoded.{nexuses_from, registrations_of}
 use Rattle.aptpl_store.proofs.SpellingLemmas.{nexuses_none, registrations_all, registrations_none, registration_short, spelled_more}
 use Rattle.aptpl_store.proofs.spelling.fill_body.Goals as goal
 

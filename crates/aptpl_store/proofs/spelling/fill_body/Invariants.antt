@@ -1,7 +1,7 @@
 use Rattle.std.proofs.Common.{◌≡◌, ◌≤◌, ◌+◌, ◌-◌, ◌*◌, ◌++◌, take, length}
 use Rattle.std.specs.List.{All}
 use Rattle.aptpl_store.specs.Spelling.{IsKey, spell_state}
-use Rattle.aptpl_store.specs.Inner.Told.{nexuses_from, registrations_of}
+use Rattle.aptpl_store.specs.Inner.Decoded.{nexuses_from, registrations_of}
 use Rattle.aptpl_store.proofs.spelling.fill_body.Given as goal
 
 abbrev pub invariant-loop-number : goal.invariant-loop-number

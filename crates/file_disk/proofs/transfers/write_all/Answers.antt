@@ -1,7 +1,7 @@
 use Rattle.std.proofs.Common.{inl, inr, ⊎_elim, ℕ, ◌-◌, ap, ◌∙◌, subst, arith}
 use Rattle.std.proofs.lemmas.List.{take_all}
 use Rattle.tape_disk.specs.Disk.{overwritten}
-use Rattle.file_disk.specs.Inner.Transfers.{HasWritten}
+use Rattle.file_disk.specs.Inner.Transfers.{HasTransferred}
 use Rattle.file_disk.specs.declared.transfers.TheConstants.{CALLS}
 use Rattle.file_disk.proofs.RunLemmas.{as_honest_both}
 use Rattle.file_disk.proofs.TransferLemmas.{calls_on, crash_more, on_err, smeared_more, written_more, written_none}
@@ -77,7 +77,7 @@ loop-left-preserved g c =
       c.in_ok-done.ensures.bound.1,
       λ honest.
           let mid = so.0.stays_honest honest in
-          subst (λ (calls : ℕ). HasWritten calls c.args.at c.in_ok-done.done bytes old new)
+          subst (λ (calls : ℕ). HasTransferred calls c.args.at c.in_ok-done.done bytes old new)
           (calls_on CALLS c.loop-left.left c.loop-left-test.true so.1)
           (written_more (CALLS - c.loop-left.left) c.args.at c.loop-left.done bytes old between new
           c.in_ok-done.done (c.requires.inside honest) c.in_ok-done.ensures.bound.0 c.in_ok-done.ensures.bound.1

@@ -1,6 +1,6 @@
 use Rattle.std.proofs.Common.{◌+◌, ◌-◌, ◌≤◌, length}
 use Rattle.file_disk.specs.RawFile.{AddsRange, IsAsHonest, ReachesRange, ReachesStill}
-use Rattle.file_disk.specs.Inner.Transfers.{HasWritten}
+use Rattle.file_disk.specs.Inner.Transfers.{HasTransferred}
 use Rattle.file_disk.specs.declared.transfers.TheConstants.{CALLS}
 use Rattle.file_disk.proofs.transfers.write_all.Given as goal
 
@@ -9,7 +9,7 @@ abbrev pub invariant-loop-left : goal.invariant-loop-left
 invariant-loop-left g l =
     IsAsHonest (g.F.RawFile.state l.fn.file) (g.F.RawFile.state l.file)
     × (l.left ≤ CALLS) × (l.done ≤ length l.bytes)
-    × ((g.F.RawFile.state l.fn.file).honest → HasWritten (CALLS - l.left) l.at l.done l.bytes
+    × ((g.F.RawFile.state l.fn.file).honest → HasTransferred (CALLS - l.left) l.at l.done l.bytes
     (g.F.RawFile.state l.fn.file) (g.F.RawFile.state l.file))
     × ((g.F.RawFile.state l.fn.file).honest →
     ReachesStill (g.F.RawFile.passed_over l.fn.file) (g.F.RawFile.passed_over l.file))

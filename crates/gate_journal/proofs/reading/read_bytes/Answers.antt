@@ -10,10 +10,10 @@ use Rattle.gate_journal.proofs.reading.read_bytes.Goals as goal
 
 -- a read of the first bytes, followed by others
 module _ (read more : List ℕ) (sized : length read ≡ 27) where
-  abbrev told : ℕ
-  told = get_or (read ++ more) 10 0
+  abbrev parsed : ℕ
+  parsed = get_or (read ++ more) 10 0
 
-  count_read : (image : List ℕ) → read ≡ slice_range image 0 27 → told ≡ get_or image 10 0
+  count_read : (image : List ℕ) → read ≡ slice_range image 0 27 → parsed ≡ get_or image 10 0
   count_read image is =
       get_or_append_left read more 0 10 (omega (arith, sized)) ∙ ap (λ (l : List ℕ). get_or l 10 0) is
       ∙ get_or-take 27 image 10 0 (omega arith)
@@ -26,7 +26,7 @@ module _ (read more : List ℕ) (sized : length read ≡ 27) where
     enough : 27 ≤ length (read ++ more)
     enough = omega (arith, sized, length-append read more)
 
-    count_stays : told ≡ get_or filled 10 0
+    count_stays : parsed ≡ get_or filled 10 0
     count_stays =
         sym (get_or-take 27 (read ++ more) 10 0 (omega arith))
         ∙ sym (get_or_append_left (take 27 (read ++ more)) (second ++ post_of 27 (27 + count - 27) (read ++ more))
@@ -43,7 +43,7 @@ returns-then-more-clause-answer g c = (
   λ honest.
       let seen = (g.D.Disk.state c.args.disk.now).seen in
       let read = c.read_at.new.buffer in
-      too_short seen (told read (replicate 44 0) c.read_at.auto.buffer)
+      too_short seen (parsed read (replicate 44 0) c.read_at.auto.buffer)
       (count_read read (replicate 44 0) c.read_at.auto.buffer seen (c.in_ok-read_at.ensures.bytes honest))
       (inr (omega (arith, c.size_behind-more.ensures, c.if-more.true))),
 )
@@ -54,7 +54,7 @@ returns-then-size-more-clause-answer g c = (
   λ honest.
       let seen = (g.D.Disk.state c.args.disk.now).seen in
       let read = c.read_at.new.buffer in
-      too_short seen (told read (replicate 44 0) c.read_at.auto.buffer)
+      too_short seen (parsed read (replicate 44 0) c.read_at.auto.buffer)
       (count_read read (replicate 44 0) c.read_at.auto.buffer seen (c.in_ok-read_at.ensures.bytes honest))
       (inl (omega (arith, c.size_behind-more.ensures, c.if-size-more.true, c.len-size.ensures.length honest))),
 )

@@ -7,14 +7,14 @@ pub returns-clause-answer : goal.returns-clause-answer
 returns-clause-answer g c =
     let found = c.in_ok-found.ensures.answer in
     let bytes = take c.in_ok-found.found.len c.in_ok-found.found.bytes in
-    let told = c.in_ok-found.told in
+    let parsed = c.in_ok-found.parsed in
     let read : ReadFront =
-    record { header = c.in_ok-header.header; copied = told.copied; pair = told.pair; start = told.size } in (
+    record { header = c.in_ok-header.header; copied = parsed.copied; pair = parsed.pair; start = parsed.size } in (
       found.0,
-      read_well bytes told read found.2 c.in_ok-header.ensures refl refl,
-      read_start bytes told read found.2 c.in_ok-header.ensures refl refl refl,
+      read_well bytes parsed read found.2 c.in_ok-header.ensures refl refl,
+      read_start bytes parsed read found.2 c.in_ok-header.ensures refl refl refl,
       λ honest.
           let begins = found.3 honest in
-          read_begins bytes told read found.2 c.in_ok-header.ensures refl refl
+          read_begins bytes parsed read found.2 c.in_ok-header.ensures refl refl
           (g.D.Disk.state c.args.disk.now).seen begins.0 begins.1,
     )

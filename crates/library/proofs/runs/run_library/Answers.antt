@@ -6,7 +6,7 @@ use Rattle.library.specs.Crews.{AnswersCrew}
 use Rattle.library.specs.Ends.{counts_of, sum_of_seats}
 use Rattle.library.specs.Inner.InPlace.{AreInPlace}
 use Rattle.library.proofs.HostLemmas.{hosts_differ, hosts_in_place}
-use Rattle.library.proofs.OutcomeLemmas.{told_of}
+use Rattle.library.proofs.OutcomeLemmas.{reported_of}
 use Rattle.library.proofs.runs.run_library.Goals as goal
 
 pub new-requires-clause-hosts : goal.new-requires-clause-hosts
@@ -37,8 +37,8 @@ returns-clause-runs g c =
           (record { drives = c.in_ok-library.library; seats = seats }) left before
           (record { drives = c.in_ok-library.library; seats = after }) now outcome)
           c.in_ok-library.ensures.seats c.run_opened-seats.ensures.runs);
-      told =
-          told_of c.finish.result.counts (counts_of c.finish.result.bays.items) (sum_of_seats after)
+      reported =
+          reported_of c.finish.result.counts (counts_of c.finish.result.bays.items) (sum_of_seats after)
           c.finish.ensures.counts;
       sums =
           c.finish.ensures.sums.same

@@ -12,6 +12,6 @@ found head (Some item) by = by item refl
 
 pub returns-clause-front : goal.returns-clause-front
 returns-clause-front c =
-    found c.args.head.now c.head_told.result
+    found c.args.head.now c.head_decoded.result
     (λ item is. head_found c.args.head.now (omega arith) (λ k. omega (arith, c.type_inv.head k)) item
-    (sym c.head_told.ensures ∙ is))
+    (sym c.head_decoded.ensures ∙ is))

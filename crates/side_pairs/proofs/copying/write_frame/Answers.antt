@@ -9,7 +9,7 @@ returns-in_err-put_behind-clause-err g c =
     rw (p.1, p.2) (inl (
       record {
         cause = c.in_err-put_behind.ensures.passes.cause;
-        told = c.in_err-put_behind.ensures.passes.told;
+        reported = c.in_err-put_behind.ensures.passes.reported;
       },
       (given.0 ∷ [], (c.give.new.self, given.3, refl)),
     ))

@@ -6,7 +6,7 @@ use Rattle.cartridge.specs.Answers.{IsNotOpened}
 use Rattle.cartridge.specs.Disks.{OnlyOfTwo}
 use Rattle.vtl_program.specs.Checks.{both, disks_checked}
 use Rattle.vtl_program.specs.SideText.{SideText}
-use Rattle.vtl_program.proofs.CheckLemmas.{TellsRefusal, moments_again, moved, refusal_told, told_again}
+use Rattle.vtl_program.proofs.CheckLemmas.{PrintsRefusal, moments_again, moved, refusal_shown, shown_again}
 use Rattle.vtl_program.proofs.checking.check_side.Goals as goal
 use Rattle.vtl_program.proofs.checking.check_side.Goals.{in-Damaged, in-BadRecord, in-Device, in-NoMemory}
 
@@ -23,7 +23,7 @@ returns-in-NotOurs-clause-text g c =
     let why =
     moved (IsNotOpened state NotOurs) old given mid left from c.into_disks-first-in-Err.ensures
     (subst (λ (error : CartridgeError). IsNotOpened state error given left) c.in-NotOurs.is c.in-Err.ensures.refused) in
-    told_again state old mid (disks_checked c.check_store.result) why keeps g.met.D.Disk.is_disk
+    shown_again state old mid (disks_checked c.check_store.result) why keeps g.met.D.Disk.is_disk
     c.check_store.ensures.rests c.check_store.result.lines c.check_store.ensures.text
 
 pub returns-in-NotOurs-clause-any_moment : goal.returns-in-NotOurs-clause-any_moment
@@ -49,7 +49,7 @@ returns-in-NotOurs-clause-any_moment g c = λ honest.
 pub returns-after-error-clause-text : goal.returns-after-error-clause-text
 returns-after-error-clause-text g c =
     let state = g.D.Disk.state in
-    let told : TellsRefusal c.in-Err.refused.error c.match-error.lines =
+    let printed : PrintsRefusal c.in-Err.refused.error c.match-error.lines =
     elim c.match-error.branch [
       | in-Damaged w ↦ rw (w.in-Damaged.is, w.lines-is) w.damaged_text-lines.ensures.ok
       | in-BadRecord w ↦ rw (w.in-BadRecord.is, w.lines-is) w.bad_record_text-lines.ensures.ok
@@ -64,4 +64,4 @@ returns-after-error-clause-text g c =
     (both c.args.first c.args.second) given
     (both c.into_disks-first-in-Err.result.0 c.into_disks-first-in-Err.result.1) left (sym c.of.ensures.disks)
     c.into_disks-first-in-Err.ensures
-    (refusal_told state given left c.in-Err.refused.error c.match-error.lines c.in-Err.ensures.refused told)
+    (refusal_shown state given left c.in-Err.refused.error c.match-error.lines c.in-Err.ensures.refused printed)

@@ -11,9 +11,9 @@ returns-in-Ok g c =
     g.F.SecondFiles.opens_second
     g.F.SecondFiles.closes_second)
     (CartridgeFile c.args.entry) c.in-Ok.fate
-    (g.W.Write.contents c.args.writer.now) (g.W.Write.contents c.tell_fate.new.writer) c.tell_fate.result
-    c.in-Ok.ensures.ok (rw is at c.tell_fate.ensures.ok)
-    (rw is at c.tell_fate.ensures.err)
+    (g.W.Write.contents c.args.writer.now) (g.W.Write.contents c.print_fate.new.writer) c.print_fate.result
+    c.in-Ok.ensures.ok (rw is at c.print_fate.ensures.ok)
+    (rw is at c.print_fate.ensures.err)
 
 pub returns-in-Err : goal.returns-in-Err
 returns-in-Err g c =

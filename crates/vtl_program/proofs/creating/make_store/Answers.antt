@@ -1,5 +1,5 @@
 use Rattle.std.proofs.Common.{◌∙◌}
-use Rattle.vtl_program.proofs.CreatingLemmas.{file_result, none_made, none_told}
+use Rattle.vtl_program.proofs.CreatingLemmas.{file_result, none_made, none_shown}
 use Rattle.vtl_program.specs.Creating.{StoreFile}
 use Rattle.vtl_program.specs.Creating.{makes_of}
 use Rattle.vtl_program.proofs.creating.make_store.Goals as goal
@@ -11,12 +11,12 @@ returns-in-Ok-label_of g c =
     g.F.SecondFiles.opens_second
     g.F.SecondFiles.closes_second)
     (StoreFile c.args.entry) c.in-Ok.fate
-    (g.W.Write.contents c.args.writer.now) (g.W.Write.contents c.tell_fate.new.writer) c.tell_fate.result
-    c.in-Ok.ensures.ok (rw is at c.tell_fate.ensures.ok) (rw is at c.tell_fate.ensures.err)
+    (g.W.Write.contents c.args.writer.now) (g.W.Write.contents c.print_fate.new.writer) c.print_fate.result
+    c.in-Ok.ensures.ok (rw is at c.print_fate.ensures.ok) (rw is at c.print_fate.ensures.err)
 
 pub returns-in-Err-label_of : goal.returns-in-Err-label_of
 returns-in-Err-label_of g c =
-    none_told g.D.Disk.state (makes_of g.F.MakeFiles.makes g.F.MakeFiles.leaves g.F.MakeFiles.takes_away
+    none_shown g.D.Disk.state (makes_of g.F.MakeFiles.makes g.F.MakeFiles.leaves g.F.MakeFiles.takes_away
     g.F.SecondFiles.opens_second
     g.F.SecondFiles.closes_second)
     (StoreFile c.args.entry) c.in-Ok.fate _ c.in-Ok.ensures.ok

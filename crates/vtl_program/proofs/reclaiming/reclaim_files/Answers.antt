@@ -8,8 +8,8 @@ returns-in-Ok g c = inl (record {
   first = c.in-Ok.ensures.ok.1;
   second = c.in-Ok.ensures.ok.2.1;
   last = disks_checked c.reclaim_side-lines.result;
-  closed = (rw (← c.in-Ok.ensures.ok.0) c.hand_back.ensures, rw (← c.in-Ok.ensures.ok.2.0) c.close_second.ensures);
+  closed = (rw (← c.in-Ok.ensures.ok.0) c.return_disk.ensures, rw (← c.in-Ok.ensures.ok.2.0) c.close_second.ensures);
   lines = c.reclaim_side-lines.result.lines;
   reclaims = c.reclaim_side-lines.ensures;
-  tells = c.tell_reclaim.ensures;
+  prints = c.print_reclaim.ensures;
 })

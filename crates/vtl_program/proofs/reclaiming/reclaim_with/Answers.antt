@@ -2,7 +2,7 @@ use Rattle.std.proofs.Common.{sym, Ok}
 use Rattle.vtl_program.specs.Checks.{both}
 use Rattle.vtl_program.specs.Reclaims.{Reclaims}
 use Rattle.vtl_program.proofs.CheckLemmas.{moved}
-use Rattle.vtl_program.proofs.ReclaimLemmas.{done_told, refused_told}
+use Rattle.vtl_program.proofs.ReclaimLemmas.{done_shown, refused_shown}
 use Rattle.vtl_program.proofs.reclaiming.reclaim_with.Goals as goal
 
 pub returns-in-Ok : goal.returns-in-Ok
@@ -13,7 +13,7 @@ returns-in-Ok g c =
     moved (λ a b. Reclaims state barcode a b (Ok line)) (both c.args.first c.args.second) c.of.result.disks
     (both c.into_disks-first.result.0 c.into_disks-first.result.1) c.in-Ok.shelved.disks (sym c.of.ensures.disks)
     c.into_disks-first.ensures
-    (done_told state barcode c.of.result c.in-Ok.shelved line c.epoch.result c.in-Ok.ensures c.known.ensures.shows
+    (done_shown state barcode c.of.result c.in-Ok.shelved line c.epoch.result c.in-Ok.ensures c.known.ensures.shows
     c.epoch.ensures c.reclaimed_text-line.ensures)
 
 pub returns-in-Err : goal.returns-in-Err
@@ -24,4 +24,4 @@ returns-in-Err g c =
     moved (λ a b. Reclaims state barcode a b lines) (both c.args.first c.args.second) c.of.result.disks
     (both c.into_disks-first-in-Err.result.0 c.into_disks-first-in-Err.result.1) c.in-Err.refused.shelved.disks
     (sym c.of.ensures.disks) c.into_disks-first-in-Err.ensures
-    (refused_told state barcode c.of.result c.in-Err.refused lines c.in-Err.ensures c.refusal_text-lines.ensures)
+    (refused_shown state barcode c.of.result c.in-Err.refused lines c.in-Err.ensures c.refusal_text-lines.ensures)

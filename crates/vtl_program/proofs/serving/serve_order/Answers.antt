@@ -16,15 +16,15 @@ serve_started-requires-after_bounds g c κs within =
 
 pub returns-in_err-labels : goal.returns-in_err-labels
 returns-in_err-labels g c =
-    let told = err_from_is_err_and c.from_residual.result c.from_residual.ensures.1 in
-    rw (c.in_default.is, told.1, told.2) (Err Faults.NoMemory, refl, (refl, (keeps_same _, keeps_same _)))
+    let printed = err_from_is_err_and c.from_residual.result c.from_residual.ensures.1 in
+    rw (c.in_default.is, printed.1, printed.2) (Err Faults.NoMemory, refl, (refl, (keeps_same _, keeps_same _)))
 
 pub returns-in_err-config : goal.returns-in_err-config
 returns-in_err-config g c =
-    let told =
+    let printed =
     err_from_is_err_and c.from_residual-in_err-config.result c.from_residual-in_err-config.ensures.1 in
-    rw (c.in-Some.is, told.1, told.2) (not_served g.D.Disk.state g.F.TextFiles.reads
-    (file_sides g.D.Disk.state g.F.ChangeFiles.opens g.F.SecondFiles.opens_second g.F.ChangeFiles.hands_back)
+    rw (c.in-Some.is, printed.1, printed.2) (not_served g.D.Disk.state g.F.TextFiles.reads
+    (file_sides g.D.Disk.state g.F.ChangeFiles.opens g.F.SecondFiles.opens_second g.F.ChangeFiles.returns_disk)
     g.F.TakesBack.closes_all
     g.F.TakesBack.gives_up c.args.memory _ c.in_err-config.field-0.0 _ _
     (rw c.as_str.ensures.value at c.in_err-config.ensures))

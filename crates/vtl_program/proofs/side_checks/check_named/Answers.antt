@@ -22,5 +22,5 @@ returns g c =
         cause = c.check_side-lines.ensures.cause;
         any_moment = c.check_side-lines.ensures.any_moment;
       };
-      tells = c.tell_lines.ensures;
+      prints = c.print_lines.ensures;
     })

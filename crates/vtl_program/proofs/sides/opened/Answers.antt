@@ -4,7 +4,7 @@ use Rattle.vtl_program.proofs.sides.opened.Goals as goal
 pub returns-in-Err-clause-err : goal.returns-in-Err-clause-err
 returns-in-Err-clause-err g c = record {
   error = c.in-Err.refused.error;
-  told = c.fault_of_store-fault.ensures;
+  printed = c.fault_of_store-fault.ensures;
   cause = c.in-Err.ensures.refused;
   keeps = c.in-Err.ensures.disk;
   same = λ honest none.

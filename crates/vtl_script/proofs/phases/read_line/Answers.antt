@@ -1,6 +1,6 @@
 use Rattle.std.proofs.Common.{◌≡◌, ◌+◌, take, false, true, length, ap, sym, ◌∙◌, refl, arith, ℕ}
 use Rattle.vtl_script.specs.Parsed.{parsed_line, without_return}
-use Rattle.vtl_script.specs.Inner.Reading.{Reading}
+use Rattle.vtl_script.specs.Inner.Reading.{LineReading}
 use Rattle.vtl_script.proofs.LineLemmas.{line_says, says_last, tells, refuses, refuses_long, work_same}
 use Rattle.std.proofs.lemmas.Result.{err_from_is_err_and}
 use Rattle.vtl_script.proofs.ReadingLemmas.{past_of, past_anyway, takes_comes}
@@ -20,13 +20,13 @@ returns-in_ok-parsed-in-Line-clause-ok g c =
     in
     let says = line_says is_configured mid.unread c.take_up.new.self.unread c.in-Line.count parsed
     (rw c.in-Line.is at c.in_ok-count.ensures.found) parsed_is
-    (ap (λ (r : Reading). r.unread) c.take_up.ensures.line) in
+    (ap (λ (r : LineReading). r.unread) c.take_up.ensures.line) in
     tells is_configured _ _ c.args.line_reader.now mid c.take_up.new.self parsed false (c.lines-number.result + 1)
     c.accepted.result (hosts_of is_configured c.in-Line.count (without_return (take c.in-Line.count mid.unread))
     parsed parsed_is) (drives_of is_configured c.in-Line.count (without_return (take c.in-Line.count mid.unread))
-    parsed parsed_is) c.in_ok-count.ensures.within (ap (λ (r : Reading). r.bytes) c.take_up.ensures.line)
+    parsed parsed_is) c.in_ok-count.ensures.within (ap (λ (r : LineReading). r.bytes) c.take_up.ensures.line)
     c.in_ok-count.ensures.comes says
-    (λ is. ap (λ (r : Reading). r.lines) c.take_up.ensures.line
+    (λ is. ap (λ (r : LineReading). r.lines) c.take_up.ensures.line
     ∙ ap (λ (n : ℕ). n + 1) c.in_ok-count.ensures.comes.lines)
     (λ is. let most = work_same _ _ c.args.line_reader.now mid c.in_ok-count.ensures.comes in omega
     (arith, c.take_up.ensures.less, most))
@@ -44,7 +44,7 @@ returns-in_ok-parsed-in-Line-clause-refused g c =
     in
     let says = line_says is_configured mid.unread c.take_up.new.self.unread c.in-Line.count parsed
     (rw c.in-Line.is at c.in_ok-count.ensures.found) parsed_is
-    (ap (λ (r : Reading). r.unread) c.take_up.ensures.line) in
+    (ap (λ (r : LineReading). r.unread) c.take_up.ensures.line) in
     refuses is_configured _ _ c.args.line_reader.now mid c.take_up.new.self parsed false (c.lines-number.result + 1)
     c.accepted.result c.in_ok-count.ensures.comes says
     (ap (λ (n : ℕ). n + 1) c.lines-number.ensures.lines) c.accepted.ensures
@@ -133,7 +133,7 @@ returns-in_ok-parsed-in-Line-clause-goes_on g c =
     shown_behind is_configured c.args.line_reader.now mid c.take_up.new.self c.in-Line.count parsed
     (c.lines-number.result + 1) c.accepted.result (λ shows. (c.find.ensures.due shows).1)
     (rw c.in-Line.is at c.in_ok-count.ensures.found) parsed_is
-    (ap (λ (r : Reading). r.unread) c.take_up.ensures.line) c.accepted.ensures
+    (ap (λ (r : LineReading). r.unread) c.take_up.ensures.line) c.accepted.ensures
 
 pub returns-in_ok-parsed-in-Last-clause-goes_on : goal.returns-in_ok-parsed-in-Last-clause-goes_on
 returns-in_ok-parsed-in-Last-clause-goes_on g c =

@@ -3,7 +3,7 @@ use Rattle.ledgers.specs.Ledgers.{SeatState}
 use Rattle.library.specs.Counts.{new_seat}
 use Rattle.library.specs.Ends.{counts_of, sum_of_counts, sum_of_seats}
 use Rattle.vtl_serve.specs.Libraries.{ServesOpened}
-use Rattle.vtl_serve.proofs.SharedLemmas.{hosts_differ, told_of}
+use Rattle.vtl_serve.proofs.SharedLemmas.{hosts_differ, reported_of}
 use Rattle.vtl_serve.proofs.libraries.serve_library.Goals as goal
 
 pub new-requires-clause-hosts : goal.new-requires-clause-hosts
@@ -29,8 +29,8 @@ returns-clause-serves g c =
           (λ (seats : List SeatState). ServesOpened state c.in_ok-library.library c.args.labels seats left before after
           left' now outcome)
           c.in_ok-library.ensures.seats c.serve_opened-seats.ensures.serves);
-      told =
-          told_of c.finish.result.counts (counts_of c.finish.result.bays.items)
+      reported =
+          reported_of c.finish.result.counts (counts_of c.finish.result.bays.items)
           (λ (counts : List (Option ℕ)). sum_of_counts counts ≡ sum_of_seats after) c.finish.ensures.counts;
       sums =
           c.finish.ensures.sums.same

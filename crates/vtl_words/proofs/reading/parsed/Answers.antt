@@ -5,7 +5,7 @@ use Rattle.clap.specs.Simple.{App}
 use Rattle.clap.specs.Values.{kind_of}
 use Rattle.vtl_words.specs.Commands.{vtl_command}
 use Rattle.vtl_words.specs.Orders.{texts_of}
-use Rattle.vtl_words.proofs.LineLemmas.{line_is_free, told_refused}
+use Rattle.vtl_words.proofs.LineLemmas.{line_is_free, reported_refused}
 use Rattle.vtl_words.proofs.reading.parsed.Goals as goal
 
 pub returns-in-Err-try_get_matches_from-clause-err : goal.returns-in-Err-try_get_matches_from-clause-err
@@ -15,7 +15,7 @@ returns-in-Err-try_get_matches_from-clause-err c =
     let has = c.in-Err-try_get_matches_from.ensures.kinds (ap is_simple_and_free c.in-Ok.ensures ∙ line_is_free) in
     let kinds : HasKind (fault_of vtl_command words) error =
     subst (λ (app : App). HasKind (fault_of app words) error) c.in-Ok.ensures has in
-    told_refused words (kind_of error) c.told.result c.told.ensures kinds
+    reported_refused words (kind_of error) c.parser_error.result c.parser_error.ensures kinds
 
 pub returns-in-Ok-try_get_matches_from-clause-no_fault : goal.returns-in-Ok-try_get_matches_from-clause-no_fault
 returns-in-Ok-try_get_matches_from-clause-no_fault c =

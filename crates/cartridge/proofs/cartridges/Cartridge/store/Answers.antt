@@ -8,7 +8,7 @@ use Rattle.cartridge.specs.Notes.{noted_as}
 use Rattle.cartridge.proofs.DisksLemmas.{fault_by, none_by}
 use Rattle.cartridge.proofs.ShownLemmas.{sure_now}
 use Rattle.cartridge.proofs.StoreLemmas.{all_records, broken_answer, broken_open, broken_own, broken_stores, counted_more, last_fits, last_sized, lies_before, room_made, shown_moments, stored_answer, stored_open, stored_own, stored_stores, stored_sure}
-use Rattle.cartridge.proofs.StoringLemmas.{grown_entries, lacks_told, same_open, same_own, same_stores, same_view, some_body}
+use Rattle.cartridge.proofs.StoringLemmas.{grown_entries, lacks_shown, same_open, same_own, same_stores, same_view, some_body}
 use Rattle.cartridge.proofs.cartridges.Cartridge.store.Goals as goal
 
 pub invariant_of-self : goal.invariant_of-self
@@ -58,7 +58,7 @@ returns-in_default-clause-answer g c =
       was_fine = fine;
       fitted = omega (arith, c.if-from-room.false, c.from.ensures, c.room.ensures, c.size_of_body-size.ensures);
       lacked =
-          lacks_told i.index j.reserved_extents _ _ c.args.changes.now c.size_of_body-size.ensures
+          lacks_shown i.index j.reserved_extents _ _ c.args.changes.now c.size_of_body-size.ensures
           c.in_default.ensures.err;
       same = same_view j k same i.which i.spare notes _;
       reserved = record {

@@ -6,8 +6,8 @@ use Rattle.cartridge.proofs.recovering.RecoveredDecodes.pass.Goals as goal
 
 pub walk_over-requires-clause-may : goal.walk_over-requires-clause-may
 walk_over-requires-clause-may c =
-    let under_way = c.requires.under_way in
-    (under_way.0.index, under_way.1, under_way.2.walked, under_way.3)
+    let in_flight = c.requires.in_flight in
+    (in_flight.0.index, in_flight.1, in_flight.2.walked, in_flight.3)
 
 pub returns : goal.returns
 returns c =

@@ -15,12 +15,12 @@ returns-then-not-needs_save g c =
     let keeps = g.K.Keeper.below in
     let before : c.self.inside.reservations ≡ c.args.self.now.reservations =
     ap (λ (d : DriveState g.row.M.Denot g.row.K.Denot). d.reservations) c.self.view_is in
-    let told = c.pr_out-answer.result.1 in
+    let established = c.pr_out-answer.result.1 in
     rw (c.install.ensures.reply, c.install.ensures.left)
     (unsaved_takes state below kept keeps g.met.M.Medium.advances_nowhere g.met.K.Keeper.advances_nowhere
-    c.args.order.now c.args.nexus c.args.self.now c.pr_out-answer.result.0 told c.pr_out-answer.new.self
+    c.args.order.now c.args.nexus c.args.self.now c.pr_out-answer.result.0 established c.pr_out-answer.new.self
     (subst (λ (s : PrState).
-    Orders s c.args.nexus c.args.order.now c.pr_out-answer.result.0 told c.pr_out-answer.new.self)
+    Orders s c.args.nexus c.args.order.now c.pr_out-answer.result.0 established c.pr_out-answer.new.self)
     before c.pr_out-answer.ensures)
     (subst (λ (s : PrState). needs_save s c.pr_out-answer.new.self ≡ false) before
     (sym c.needs_save.ensures ∙ c.if-not-needs_save.true)))

@@ -7,7 +7,7 @@ use Rattle.library.specs.Counts.{which_are_there}
 use Rattle.library.specs.Ends.{Balances, IsShort, counts_of, sum_of_counts, sum_of_seats}
 use Rattle.library.specs.Kept.{AreLeft, IsLeftAt}
 use Rattle.library.proofs.EndLemmas.{by_number, one_failed}
-use Rattle.library.proofs.OutcomeLemmas.{balances, tells_counts, tells_missing, tells_unwritten, tells_written}
+use Rattle.library.proofs.OutcomeLemmas.{balances, reports_counts, reports_missing, reports_unwritten, reports_written}
 use Rattle.library.proofs.libraries.Library.finish.Goals as goal
 
 pub returns-clause-drives : goal.returns-clause-drives
@@ -33,19 +33,19 @@ returns-clause-counts g c =
     (subst (λ (l : List (Option (BayState g.row.D.Denot))). IfOk c.outcome-counts.result (λ counts.
     (counts ≡ counts_of l) × (sum_of_counts counts ≡ c.take_seats.new.gathering.hosts.changes)))
     (sym c.into_places.ensures.row)
-    (tells_counts row c.take_seats.new.gathering.total c.take_seats.new.gathering.hosts.changes all
+    (reports_counts row c.take_seats.new.gathering.total c.take_seats.new.gathering.hosts.changes all
     c.end_drives-written.result c.counts_in.result c.compare.result c.outcome-counts.result c.outcome-counts.ensures
     c.counts_in.ensures c.compare.ensures.ok))
 
 pub returns-clause-unwritten : goal.returns-clause-unwritten
-returns-clause-unwritten g c = λ told.
+returns-clause-unwritten g c = λ reported.
     let ended = c.end_drives-written.ensures.ended in
     let row = c.end_drives-written.new.row in
     subst (λ (l : List (Option (BayState g.row.D.Denot))). (number : ℕ) × HasFailedAt g.D.Disk.state (bay_at l number))
     (sym c.into_places.ensures.row)
     (one_failed g.D.Disk.state row
-    (tells_unwritten _ c.end_drives-written.result c.counts_in.result c.compare.result c.outcome-counts.result
-    c.outcome-counts.ensures ended.err told))
+    (reports_unwritten _ c.end_drives-written.result c.counts_in.result c.compare.result c.outcome-counts.result
+    c.outcome-counts.ensures ended.err reported))
 
 pub returns-clause-written : goal.returns-clause-written
 returns-clause-written g c = λ differs number.
@@ -54,7 +54,7 @@ returns-clause-written g c = λ differs number.
     subst (λ (l : List (Option (BayState g.row.D.Denot))). IsWrittenAt g.D.Disk.state (bay_at l number))
     (sym c.into_places.ensures.row)
     (by_number (λ (bay : Option (BayState g.row.D.Denot)). IsWrittenAt g.D.Disk.state bay) tt row
-    (tells_written _ c.end_drives-written.result c.counts_in.result c.compare.result c.outcome-counts.result
+    (reports_written _ c.end_drives-written.result c.counts_in.result c.compare.result c.outcome-counts.result
     c.outcome-counts.ensures ended.ok differs) number)
 
 pub returns-clause-missing : goal.returns-clause-missing
@@ -75,7 +75,7 @@ returns-clause-missing g c =
     (subst (λ (l : List (Option (BayState g.row.D.Denot))). IfErr c.outcome-counts.result (λ e.
     IsShort e (sum_of_counts (counts_of l)) c.take_seats.new.gathering.hosts.changes))
     (sym c.into_places.ensures.row)
-    (tells_missing row c.take_seats.new.gathering.total c.take_seats.new.gathering.hosts.changes all
+    (reports_missing row c.take_seats.new.gathering.total c.take_seats.new.gathering.hosts.changes all
     c.end_drives-written.result c.counts_in.result c.compare.result c.outcome-counts.result c.outcome-counts.ensures
     c.compare.ensures.missing))
 

@@ -9,7 +9,7 @@ returns-clause-share g c =
     front_share g.D.Disk.state c.args.half.now c.execute_lent-reply.new.self
     (asked c.nexus.result c.args.cdb.now c.args.sent.now) c.execute_lent-reply.result c.execute_lent-reply.new.sent
     c.count_below_limit-before.result c.accepted-after.result c.args.share.now c.enter_if_risen.new.share
-    c.execute_lent-reply.ensures.step (λ reply step. c.replies_tell_changes_alone.ensures _ _ _ _ step)
+    c.execute_lent-reply.ensures.step (λ reply step. c.replies_show_changes_alone.ensures _ _ _ _ step)
     c.count_below_limit-before.ensures.count c.accepted-after.ensures c.count_below_limit-before.ensures.below
     c.requires (λ same. (c.enter_if_risen.ensures.same same).0) (λ risen. (c.enter_if_risen.ensures.risen risen).0)
 
@@ -23,6 +23,6 @@ returns-clause-serves g c =
     c.execute_lent-reply.result c.execute_lent-reply.new.sent c.count_below_limit-before.result c.accepted-after.result
     c.execute_lent-reply.ensures.step c.execute_lent-reply.ensures.end c.execute_lent-reply.ensures.waits
     c.execute_lent-reply.ensures.moments c.known.ensures.kept c.known-2.ensures.kept c.nexus.ensures
-    (λ reply step. c.replies_tell_changes_alone.ensures _ _ _ _ step) c.count_below_limit-before.ensures.count
+    (λ reply step. c.replies_show_changes_alone.ensures _ _ _ _ step) c.count_below_limit-before.ensures.count
     c.accepted-after.ensures c.count_below_limit-before.ensures.below
     (λ same. (c.enter_if_risen.ensures.same same).1) (λ risen. (c.enter_if_risen.ensures.risen risen).1))

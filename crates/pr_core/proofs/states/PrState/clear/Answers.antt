@@ -9,5 +9,5 @@ returns c = record {
   reservation = refl;
   aptpl = refl;
   generation = c.raised.ensures;
-  tells = c.tells_others.ensures;
+  establishes = c.establishes_for_others.ensures;
 }

@@ -13,6 +13,6 @@ returns c =
       reservation = refl;
       aptpl = refl;
       generation = c.raised.ensures;
-      tells =
-          c.told_of_preemption.ensures removed nobody c.preempted_by-removed.ensures (replicate_shows false);
+      establishes =
+          c.established_by_preemption.ensures removed nobody c.preempted_by-removed.ensures (replicate_shows false);
     }

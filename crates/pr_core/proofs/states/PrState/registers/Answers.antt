@@ -8,5 +8,5 @@ returns c = record {
   reservation = refl;
   aptpl = refl;
   generation = c.raised.ensures;
-  tells = c.none.ensures;
+  establishes = c.none.ensures;
 }

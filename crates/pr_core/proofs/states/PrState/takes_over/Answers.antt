@@ -9,5 +9,5 @@ returns c = λ set removed.
       reservation = ap Some c.made_by.ensures;
       aptpl = refl;
       generation = c.raised.ensures;
-      tells = c.told_of_preemption.ensures set _ removed (c.told_of_type-released.ensures set removed);
+      establishes = c.established_by_preemption.ensures set _ removed (c.released_by_type-released.ensures set removed);
     })

@@ -10,5 +10,5 @@ returns c =
       reservation = c.left_without.ensures;
       aptpl = refl;
       generation = c.raised.ensures;
-      tells = c.told_without.ensures;
+      establishes = c.established_without.ensures;
     }

@@ -1,5 +1,5 @@
 use Rattle.std.proofs.Common.{◌≡◌, ◌<◌, length, sym, ◌∙◌, arith, refl}
-use Rattle.record_index.proofs.ReaderLemmas.{bad_more, filled_bad, filled_short, filled_told, filled_whole}
+use Rattle.record_index.proofs.ReaderLemmas.{bad_more, filled_bad, filled_short, filled_decoded, filled_whole}
 use Rattle.record_index.proofs.reader.RecordReader.feed_head.Goals as goal
 
 pub returns-then-len-eq-HEAD_BYTES-clause-feeds : goal.returns-then-len-eq-HEAD_BYTES-clause-feeds
@@ -40,7 +40,7 @@ returns-then-self-gt0-clause-feeds c =
     let whole : length c.fill-count.new.self ≡ 10 =
     omega (arith, c.if-len-lt-HEAD_BYTES.false, c.len-2.ensures.len, c.len-2.ensures.bound) in
     c.feed_block.ensures.feeds before changes
-    (filled_told before c.args.piece.now changes _ _ c.fill-count.result after none missing
+    (filled_decoded before c.args.piece.now changes _ _ c.fill-count.result after none missing
     c.fill-count.ensures.taken c.fill-count.ensures.bytes whole (sym (c.item.ensures.item whole) ∙ c.in-Some.is)
     c.in-Some.ensures.front c.length_of-self-inside.ensures c.if-self-gt0.true refl refl))
 

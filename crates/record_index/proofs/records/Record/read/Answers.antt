@@ -3,8 +3,8 @@ use Rattle.std.specs.Prelude.{Option}
 use Rattle.record_index.specs.declared.records.Record.{Record}
 use Rattle.record_index.specs.Records.{BeginsWithRecord, IsAtFront}
 use Rattle.std.specs.Prelude.{IfSome, IfNone, List, ℕ}
-use Rattle.record_index.specs.Inner.Told.{told}
-use Rattle.record_index.proofs.Reading.{none_begins, told_found}
+use Rattle.record_index.specs.Inner.Decoded.{decoded}
+use Rattle.record_index.proofs.Reading.{none_begins, decoded_found}
 use Rattle.record_index.proofs.records.Record.read.Goals as goal
 
 found : (bytes : List ℕ) (result : Option Record) → ((item : Record) → result ≡ Some item → IsAtFront item bytes)
@@ -12,15 +12,16 @@ found : (bytes : List ℕ) (result : Option Record) → ((item : Record) → res
 found bytes None by = tt
 found bytes (Some item) by = by item refl
 
-none : (bytes : List ℕ) (result : Option Record) → result ≡ told bytes
+none : (bytes : List ℕ) (result : Option Record) → result ≡ decoded bytes
     → IfNone result (BeginsWithRecord bytes → ⊥)
 none bytes None is = none_begins bytes (sym is)
 none bytes (Some item) is = tt
 
 pub returns-clause-found : goal.returns-clause-found
 returns-clause-found c =
-    found c.args.bytes.now c.told.result
-    (λ item is. told_found c.args.bytes.now (λ k. omega (arith, c.type_inv.bytes k)) item (sym c.told.ensures ∙ is))
+    found c.args.bytes.now c.decoded.result
+    (λ item is. decoded_found c.args.bytes.now (λ k. omega (arith, c.type_inv.bytes k)) item
+    (sym c.decoded.ensures ∙ is))
 
 pub returns-clause-none : goal.returns-clause-none
-returns-clause-none c = none c.args.bytes.now c.told.result c.told.ensures
+returns-clause-none c = none c.args.bytes.now c.decoded.result c.decoded.ensures

@@ -1,5 +1,5 @@
 use Rattle.std.proofs.Common.{◌+◌, ap, ◌∙◌, arith, Ok}
-use Rattle.vtl_script.specs.Inner.Reading.{Reading, bytes_read}
+use Rattle.vtl_script.specs.Inner.Reading.{LineReading, bytes_read}
 use Rattle.vtl_script.proofs.ReadingLemmas.{comes_of}
 use Rattle.vtl_script.proofs.line_readers.LineReader.fill.Goals as goal
 
@@ -12,8 +12,8 @@ returns-in-Some-2-clause-comes g c =
       bytes = before.bytes + c.in-Some.count;
       reads = before.reads + 1;
       lines = before.lines;
-    }) before.buffer _ c.in-Some.count c.read.ensures.brings (ap (λ (r : Reading). r.unread) c.self.view_is)
+    }) before.buffer _ c.in-Some.count c.read.ensures.brings (ap (λ (r : LineReading). r.unread) c.self.view_is)
     (ap bytes_read (c.in_ok-read.was ∙ ap Ok c.in-Some.is))
-    (omega (arith, ap (λ (r : Reading). r.bytes) c.self.view_is))
-    (omega (arith, ap (λ (r : Reading). r.reads) c.self.view_is))
-    (ap (λ (r : Reading). r.lines) c.self.view_is)
+    (omega (arith, ap (λ (r : LineReading). r.bytes) c.self.view_is))
+    (omega (arith, ap (λ (r : LineReading). r.reads) c.self.view_is))
+    (ap (λ (r : LineReading). r.lines) c.self.view_is)

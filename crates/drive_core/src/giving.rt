@@ -1,0 +1,37 @@
+//! Commands that give data: READ POSITION, and what INQUIRY, READ BLOCK LIMITS and REQUEST SENSE share.
+ghost use Rattle.std.specs.Prelude.{◌≡◌, []};
+ghost use Rattle.drive_core.specs.State.{IsPositioned, mounted};
+ghost use Rattle.drive_core.specs.Giving.{Gives, ReadPositionWork};
+ghost use Rattle.drive_core.specs.Inner.Carries.{Carries, IsOnWorkingMedium};
+
+use crate::faults::Fault;
+use crate::storing::store_pending;
+use positioning::{Pos, report};
+use scsi_sense::Reply;
+use std::alloc::Global;
+use volume_core::Medium;
+use vtl_base::Bytes;
+
+/// GOOD with a copy of these bytes. A copy of at most 24 bytes takes no memory.
+pub fn give(alloc: Global, bytes: &[u8]) -> Result<Reply, Fault>
+    ensures { Gives bytes.now result }
+{
+    Ok(Reply::good(Bytes::from_slice(alloc, bytes)?))
+}
+
+/// Stores what is pending, and gives the position in 20 bytes (SSC-4, READ POSITION).
+pub fn read_position<M: Medium>(
+    alloc: Global,
+    medium: &mut M,
+    position: &Pos,
+) -> Result<Reply, Fault>
+    requires hand { M.below.at_hand medium.old }
+    requires ready { IsOnWorkingMedium (mounted (M.state medium.old) position.now) }
+    ensures carries { Carries M.state M.below
+        ReadPositionWork
+        medium.old position.now result [] medium.new position.now }
+    ensures on { IsPositioned (M.state medium.new) position.now }
+{
+    store_pending(medium)?;
+    give(alloc, &report(medium, *position))
+}
