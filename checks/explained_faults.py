@@ -15,7 +15,7 @@ import sys
 import tempfile
 
 from cartridge_files import SECOND as BESIDE
-from faults import FILES, STORE, Room, Run, made
+from fault_rooms import FILES, STORE, Room, Run, made
 from fault_script import FIRST, SCRIPT, SECOND, STATUS
 from real_library import PROVED, TOP
 from unproved import words_of

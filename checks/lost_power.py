@@ -1,7 +1,7 @@
 """Files as a loss of power may leave them, by the calls that were noted (faults.c)."""
 import collections
 
-from faults import content
+from cartridge_files import content
 
 Call = collections.namedtuple("Call", "letter name place bytes")
 # between the calls of two processes

@@ -8,8 +8,9 @@ import tempfile
 
 import cartridge_files
 from drive_model import MARK, check, good
+from fault_ends import brief, read_back
+from fault_rooms import EACH_FILE, FILES, Room
 from fault_script import FIRST
-from faults import EACH_FILE, FILES, Room, brief, read_back
 from lost_power import OPENED, World
 from stops import RUN, calls_of, failing_syncs, held_in, left_behind, looked_at, looking, put, stop
 

@@ -29,10 +29,11 @@ import sys
 import tempfile
 
 import front_end
-from cartridge_files import SECOND, reclaims
+from cartridge_files import SECOND, content, reclaims
 from drive_model import MARK, good
+from fault_ends import NEW, brief, judged, read_back
+from fault_rooms import EACH_FILE, FILES, Room, made
 from fault_script import FIRST, MARKED, SCRIPT, write
-from faults import EACH_FILE, FILES, NEW, Room, brief, content, judged, made, read_back
 from kill_script import TAPES, Script
 from real_library import PROVED, TOP, RealLibrary, objects_of
 from lost_power import OPENED, Disk, World, noted

@@ -7,31 +7,17 @@ sys.path.insert(0, os.path.dirname(os.path.dirname(os.path.abspath(__file__))))
 import rowfile  # noqa: E402
 
 from . import sides, words  # noqa: E402
+from .folder import FOLDER, Differs, Folder, is_possible  # noqa: E402
 from .library import Library, stripped  # noqa: E402
 from .work import Cartridge  # noqa: E402
 
 BUILT_IN = {"drive": [{"number": 1, "reservations": "drive1.pr"}],
             "cartridge": [{"barcode": "BUILTIN", "file": "builtin.tape", "capacities": [16_777_216], "home": 1}]}
 DEVICE = "vtl: device fault"
-FOLDER = "a folder"
 
 
-class Differs(Exception):
-    """A row is not as the model has it."""
-
-    def __init__(self, number, said):
-        super().__init__(said)
-        self.number = number
-
-
-class Walk:
-    """One row: `cells` are what it shows, each with the line that shows it first."""
-
-    def __init__(self, row):
-        self.row, self.folder, self.cells, self.number, self.said = row, {}, {}, 1, []
-
-    def see(self, cell):
-        self.cells.setdefault(cell, self.number)
+class Walk(Folder):
+    """A row that is gone through."""
 
     def all(self):
         try:
@@ -44,37 +30,6 @@ class Walk:
         except Differs as differs:
             self.said.append(f"{self.row.path}:{differs.number}: {differs}")
         return self
-
-    def step(self, step):
-        name = os.path.normpath(step.name)
-        if step.kind in ("config", "file"):
-            self.folder[name] = step.content
-        elif step.kind == "folder":
-            self.folder[name] = FOLDER
-        elif step.kind == "remove":
-            self.folder.pop(name, None)
-        elif step.kind == "gone" and name in self.folder:
-            raise Differs(step.number, "the name is there")
-        elif step.kind == "bytes":
-            self.bytes(step, name)
-
-    def bytes(self, step, name):
-        entry = self.folder.get(name)
-        if isinstance(entry, bytes):
-            if entry != step.content:
-                raise Differs(step.number, "the file has its old bytes")
-            self.see("files | a file that stays as it was")
-        elif isinstance(entry, sides.Side):
-            found, _ = sides.read(step.content)
-            if (found.lines(0), found.is_paired, found.epoch) != (entry.lines(0), entry.is_paired, entry.epoch):
-                raise Differs(step.number, f"{found.lines(0)} in the place of {entry.lines(0)}")
-            self.see(f"files | a {found.kind} with {'no frame' if not found.frames else 'frames'}, by its bytes")
-        else:
-            raise Differs(step.number, "there is no such file")
-
-    def find(self, name):
-        """What has this name of a configuration; the empty name is nobody's."""
-        return self.folder.get(os.path.normpath(os.fsencode(name))) if is_possible(name) else None
 
     # runs
 
@@ -128,10 +83,6 @@ class Walk:
             self.see(f"file | {note}")
         self.ends(run, 0, None, "done", side.lines(side.frames))
 
-    def pair(self, name):
-        """What has this name, and the same with `.2`."""
-        return self.find(name), self.find(name + ".2")
-
     def reclaim(self, run, asked):
         self.configured(run, asked)
 
@@ -165,18 +116,6 @@ class Walk:
         self.copy(name, side, which)
         self.see(f"reclaim | a copy in the {('second', 'first')[which]} file")
         self.ends(run, 0, None, "done", [f"reclaimed {barcode} epoch {side.epoch + 1}"])
-
-    def copy(self, name, side, which):
-        """The other file is a copy, and the first one's pair gate is open."""
-        copy, first = sides.copied(side), self.folder[name]
-        if which:
-            self.folder[name] = copy[:9] + b"\xa5" + copy[10:]
-            return
-        self.folder[name + b".2"] = copy
-        if isinstance(first, bytes):
-            self.folder[name] = first[:9] + b"\xa5" + first[10:]
-        else:
-            first.is_paired = True
 
     def configured(self, run, asked):
         if asked.config is None:
@@ -270,41 +209,6 @@ class Walk:
             if side.name:
                 self.folder[os.path.normpath(os.fsencode(name)) + b".2" * side.is_second] = side
 
-    def open(self, what, name, names):
-        """The side in a file, without a name where it is damaged; or why it ends the run."""
-        entry, at = self.find(name), os.path.normpath(os.fsencode(name))
-        if entry is None or entry is FOLDER:
-            return None, "a folder" if entry is FOLDER else "missing"
-        if at in names:
-            return None, "a second name of one file"
-        names[at] = True
-        second = self.find(name + ".2") if what == "cartridge" else None
-        if second is FOLDER:
-            return None, "a folder"
-        if what == "cartridge" and second is None:
-            self.see("run | a second file is made")
-            self.folder[at + b".2"] = second = b""
-        is_second = False
-        if isinstance(entry, bytes) or second:
-            try:
-                entry, _, is_second = sides.read_pair(entry, second)
-            except sides.Refused as why:
-                if what == "drive":
-                    return None, why.line.partition(" at ")[0]
-                self.see(f"damaged | run | {why.line.partition(' at ')[0]}")
-                return sides.Side("cartridge", None, Cartridge([4_096], damaged=True)), None
-        kind = "cartridge" if what == "cartridge" else "store"
-        if entry.kind != kind:
-            if what == "drive":
-                return None, "not a side"
-            self.see("damaged | run | a store's header")
-            return sides.Side("cartridge", None, Cartridge([4_096], damaged=True)), None
-        if kind == "store":
-            entry.content.see = self.see
-            entry.content.lose_power()
-        entry.is_second = bool(is_second)
-        return entry, None
-
     # scripts
 
     def script(self, run, library):
@@ -359,11 +263,6 @@ class Walk:
             if line.answer is not None and line.answer != answer.encode():
                 raise Differs(line.answered_at, f"{short(line.answer.decode())} in the place of {short(answer)}, "
                               "as the model has it")
-
-
-def is_possible(name):
-    """Whether a file may have this name: it is not empty, and no part of it is too long for a file system."""
-    return bool(name) and all(len(os.fsencode(part)) <= 255 for part in name.split("/"))
 
 
 def short(text):

@@ -1,3 +1,5 @@
+pub mod ApartLemmas
+pub mod BayHalvesLemmas
 pub mod FoundLemmas
 pub mod FrontLemmas
 pub mod HalvesLemmas
@@ -9,5 +11,6 @@ pub mod NearLemmas
 pub mod RingLemmas
 pub mod SpanLemmas
 pub mod TakenLemmas
+pub mod TurnedLemmas
 pub mod UnreportedLemmas
 pub mod ReportLemmas

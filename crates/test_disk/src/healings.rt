@@ -1,5 +1,6 @@
 //! What a sync writes again after one that failed.
-use crate::openings::{Row, are_written, leaves, noted};
+use crate::doubts::leaves;
+use crate::openings::{Row, are_written, noted};
 use crate::steps::{Step, fails};
 use file_disk::DiskOver;
 use std::test::Fail;

@@ -6,6 +6,8 @@ mod asserted;
 #[cfg(test)]
 mod doubles;
 #[cfg(test)]
+mod doubts;
+#[cfg(test)]
 mod files;
 #[cfg(test)]
 mod healings;

@@ -1,6 +1,8 @@
 //! The turns of hosts.
 mod calls;
+mod creations;
 mod failing;
+mod in_parts;
 mod lost_lines;
 mod noted;
 mod noted_disks;

@@ -3,6 +3,8 @@ mod IdleLemmas
 mod LookLemmas
 mod ReadLemmas
 mod RingLemmas
+mod RoundHostLemmas
 mod RoundLemmas
+mod ServingLemmas
 mod TurnLemmas
 mod WriteLemmas

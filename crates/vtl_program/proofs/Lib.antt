@@ -3,6 +3,7 @@ mod BuiltInLemmas
 pub mod CheckLemmas
 mod CreatingLemmas
 mod DistinctLemmas
+mod NotStartedLemmas
 pub mod OneTextLemmas
 mod OrdersLemmas
 mod ReclaimLemmas

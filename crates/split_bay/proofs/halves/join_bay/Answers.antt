@@ -4,7 +4,7 @@ use Rattle.drive_core.specs.declared.bays.Bay.TheVariants.{Empty, Unloaded, Load
 use Rattle.split_bay.specs.Fronts.{HasEnd, end_in}
 use Rattle.split_bay.specs.Halves.{JoinsBay}
 use Rattle.split_bay.specs.Rings.{AreEnds, SendingState}
-use Rattle.split_bay.proofs.HalvesLemmas.{joins_empty, joins_loaded, joins_unloaded, there_loaded, there_unloaded}
+use Rattle.split_bay.proofs.BayHalvesLemmas.{joins_empty, joins_loaded, joins_unloaded, there_loaded, there_unloaded}
 use Rattle.split_bay.proofs.halves.join_bay.Goals as goal
 
 pub join_empty-ends-requires : goal.join_empty-ends-requires

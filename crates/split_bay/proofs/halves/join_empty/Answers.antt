@@ -5,7 +5,7 @@ use Rattle.split_bay.specs.Backs.{FollowsIn}
 use Rattle.split_bay.specs.Fronts.{HasEnd}
 use Rattle.split_bay.specs.Rings.{SendingState}
 use Rattle.split_bay.specs.Spans.{Span, span_of}
-use Rattle.split_bay.proofs.HalvesLemmas.{never_there}
+use Rattle.split_bay.proofs.BayHalvesLemmas.{never_there}
 use Rattle.split_bay.proofs.halves.join_empty.Goals as goal
 
 pub join_ends-ends-requires-clause-none : goal.join_ends-ends-requires-clause-none

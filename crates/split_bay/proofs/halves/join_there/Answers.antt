@@ -5,7 +5,7 @@ use Rattle.split_bay.specs.Backs.{FollowsIn}
 use Rattle.split_bay.specs.Nears.{IsThere}
 use Rattle.split_bay.specs.Rings.{ReceivingState}
 use Rattle.split_bay.specs.Spans.{span_of}
-use Rattle.split_bay.proofs.HalvesLemmas.{there_to_both}
+use Rattle.split_bay.proofs.BayHalvesLemmas.{there_to_both}
 use Rattle.split_bay.proofs.halves.join_there.Goals as goal
 
 pub unreachable-requires : goal.unreachable-requires

@@ -3,7 +3,7 @@ use Rattle.drive_core.specs.declared.bays.Bay.{Bay}
 use Rattle.drive_core.specs.declared.bays.Bay.TheVariants.{Empty, Unloaded, Loaded}
 use Rattle.tape_buffer.specs.State.{BufferState}
 use Rattle.split_bay.specs.Halves.{PartsBay}
-use Rattle.split_bay.proofs.HalvesLemmas.{parts_empty, parts_loaded, parts_unloaded}
+use Rattle.split_bay.proofs.BayHalvesLemmas.{parts_empty, parts_loaded, parts_unloaded}
 use Rattle.split_bay.proofs.halves.part_bay.Goals as goal
 
 pub returns-in-Empty : goal.returns-in-Empty

@@ -1,4 +1,5 @@
-use Rattle.vtl_hosts.proofs.RoundLemmas.{pairs_still, round_idle, round_runs}
+use Rattle.vtl_hosts.proofs.RoundHostLemmas.{pairs_still}
+use Rattle.vtl_hosts.proofs.RoundLemmas.{round_idle, round_runs}
 use Rattle.vtl_hosts.proofs.rounds.run_round.Goals as goal
 
 pub are_empty-empty-requires : goal.are_empty-empty-requires

@@ -1,7 +1,7 @@
 use Rattle.std.proofs.Common.{Err, Ok}
 use Rattle.std.proofs.lemmas.Result.{err_from_is_err_and}
 use Rattle.vtl_hosts.specs.Inner.Idle.{servers_of}
-use Rattle.vtl_hosts.proofs.TurnLemmas.{serves_all, turns_none, turns_on}
+use Rattle.vtl_hosts.proofs.ServingLemmas.{serves_all, turns_none, turns_on}
 use Rattle.vtl_hosts.proofs.turns.serve_turns.Goals as goal
 
 pub returns-in_err-serve_turn-clause-serves : goal.returns-in_err-serve_turn-clause-serves

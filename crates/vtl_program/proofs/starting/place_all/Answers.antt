@@ -4,7 +4,8 @@ use Rattle.vtl_config.specs.Entries.{address_of}
 use Rattle.vtl_config.specs.declared.entries.CartridgeEntry.{CartridgeEntry}
 use Rattle.vtl_program.specs.Inner.Waiting.{AreHome}
 use Rattle.vtl_program.specs.Unfinished.{home_at}
-use Rattle.vtl_program.proofs.StartingLemmas.{double_home, home_on, home_yet, not_home, refused_home}
+use Rattle.vtl_program.proofs.NotStartedLemmas.{not_home, refused_home}
+use Rattle.vtl_program.proofs.StartingLemmas.{double_home, home_on, home_yet}
 use Rattle.vtl_program.proofs.TakenLemmas.{all_taken, one_more, parted}
 use Rattle.vtl_program.proofs.starting.place_all.Goals as goal
 

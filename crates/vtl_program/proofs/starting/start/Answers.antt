@@ -3,7 +3,8 @@ use Rattle.std.specs.Vec.Iter.{into_iter_items}
 use Rattle.vtl_config.specs.declared.entries.DriveEntry.{DriveEntry}
 use Rattle.vtl_program.specs.Starting.{AreOn, IsStarted}
 use Rattle.vtl_program.specs.Unfinished.{StartingState}
-use Rattle.vtl_program.proofs.StartingLemmas.{all_on, double_number, not_on, on_more, on_yet, refused_on}
+use Rattle.vtl_program.proofs.NotStartedLemmas.{not_on, refused_on}
+use Rattle.vtl_program.proofs.StartingLemmas.{all_on, double_number, on_more, on_yet}
 use Rattle.vtl_program.proofs.TakenLemmas.{all_taken, one_more, parted}
 use Rattle.vtl_program.proofs.starting.start.Goals as goal
 
