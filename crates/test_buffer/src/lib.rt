@@ -10,6 +10,8 @@ mod drives;
 #[cfg(test)]
 mod fault_tests;
 #[cfg(test)]
+mod loading_tests;
+#[cfg(test)]
 mod medium_tests;
 #[cfg(test)]
 mod reclaim_tests;
