@@ -1,5 +1,6 @@
 pub mod AnswerLemmas
 pub mod ContentsLemmas
+pub mod CoreLemmas
 pub mod DecidingLemmas
 pub mod OpeningLemmas
 pub mod SavingLemmas

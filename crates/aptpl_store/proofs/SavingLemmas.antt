@@ -1,18 +1,15 @@
 -- The invariant of an open store while a state is saved.
-use Rattle.std.proofs.Common.{◌≡◌, inl, inr, ℕ, ◌≤◌, ◌<◌, ◌+◌, List, [], ◌∷◌, ◌++◌, length, take, true, false, Option, None, Some, Ok, is_some, refl, sym, ◌∙◌, ap, subst, arith, length-append}
-use Rattle.std.proofs.lemmas.List.{take_all, take_at}
+use Rattle.std.proofs.Common.{◌≡◌, inl, ℕ, ◌≤◌, ◌<◌, ◌+◌, List, [], ◌∷◌, ◌++◌, length, true, false, Option, None, Some, Ok, is_some, sym, ◌∙◌, ap, subst, arith, length-append}
 use Rattle.std.proofs.lemmas.List.Elements.{All-push}
 use Rattle.vtl_base.specs.Below.{Advances, advances_nowhere}
 use Rattle.tape_disk.specs.Disk.{DiskState, Each, IsDisk, Keeps}
 use Rattle.tape_disk.specs.Moments.{LeavesOnly, holds_now, weakened}
 use Rattle.gate_journal.specs.Answers.{Appended, Broke, NoneFailed}
 use Rattle.gate_journal.specs.Crash.{WithOrWithout}
-use Rattle.gate_journal.specs.Side.{Front, Heading, StandsFor, plain}
+use Rattle.gate_journal.specs.Side.{Front, Heading, StandsFor}
 use Rattle.gate_journal.specs.State.{OpenSide, room_behind}
-use Rattle.accepting.specs.Core.{Core, IsCore, settled, with_item}
-use Rattle.accepting.specs.Device.{IsDevice, one_disk, one_is_device, one_keeps}
-use Rattle.accepting.specs.Events.{CoreMoves, core_moves_nowhere, core_moves_on}
-use Rattle.accepting.specs.Kinds.{GivesSoMany, moves_accepting, moves_failing, moves_storing}
+use Rattle.accepting.specs.Device.{one_disk, one_is_device}
+use Rattle.accepting.specs.Events.{CoreMoves, core_moves_nowhere}
 use Rattle.pr_core.specs.declared.states.PrState.{PrState}
 use Rattle.pr_core.specs.States.{power_loss}
 use Rattle.pr_core.specs.Keepers.{Broken, Stored, state_frame_size}
@@ -26,6 +23,7 @@ use Rattle.aptpl_store.specs.Spelling.{IsSavable, spell_state}
 use Rattle.aptpl_store.specs.State.{OpenStore}
 use Rattle.aptpl_store.proofs.ContentsLemmas.{gives_more, with_body, latest_more, none_torn, opens_either, shows_more}
 use Rattle.aptpl_store.proofs.SpellingLemmas.{spelling_frame, spelling_short}
+use Rattle.aptpl_store.proofs.CoreLemmas.{moves_broken, moves_saved}
 
 -- an open store over this side
 abbrev pub store_on : {D : Type 0} → OpenSide D → NotedStates → OpenStore D
@@ -55,77 +53,10 @@ pub frame_of : (state : PrState) (body : List ℕ) → IsSavable state → body 
 frame_of state body savable is =
     omega (arith, ap (λ (l : List ℕ). length l) is, spelling_frame state savable.sound.all)
 
--- the accepted and stored states are no more than were accepted
-core_is : (heading : Heading) (states : List PrState) → IsCore (core_with heading states None)
-core_is heading states = record { safe = omega arith; stored = omega arith }
-
-module _ {D : Type 0} (device : D → DiskState) (is_disk : (d : D) → (device d).honest → IsDisk (device d))
-    (disk disk' : D) (keeps : Keeps (device disk) (device disk'))
-    (heading : Heading) (states : List PrState) (state : PrState)
-    (leaves : (device disk).honest
-    → LeavesOnly (device disk) (device disk') (ShowsStates heading states (Some state))) where
-  abbrev old : Core Heading PrState
-  old = core_with heading states None
-
-  abbrev mid : Core Heading PrState
-  mid = with_item state old
-
-  is_device : IsDevice (one_disk device)
-  is_device = one_is_device device
-
-  accepts : CoreMoves store_rules (one_disk device) disk disk old mid (state ∷ [])
-  accepts =
-      moves_accepting store_rules (one_disk device) is_device disk old state (is_disk disk)
-      (core_is heading states) refl refl refl
-
-  counted : length (states ++ state ∷ []) ≡ length states + 1
-  counted = omega (arith, length-append states (state ∷ []))
-
-  before : take (length states) (states ++ state ∷ []) ≡ states
-  before = take_at states (state ∷ []) (length states) refl
-
-  after : take (length states + 1) (states ++ state ∷ []) ≡ states ++ state ∷ []
-  after = take_all (length states + 1) (states ++ state ∷ []) (omega (arith, counted))
-
-  either : (image : List ℕ) → ShowsStates heading states (Some state) image
-      → GivesSoMany store_rules mid 1 image
-  either image (inl gives) = inl (subst (λ (l : List PrState). GivesStates heading l image) (sym before) gives)
-  either image (inr gives) = inr (subst (λ (l : List PrState). GivesStates heading l image) (sym after) gives)
-
-  so_many : (device disk).honest → LeavesOnly (device disk) (device disk') (GivesSoMany store_rules mid 1)
-  so_many h =
-      weakened (device disk) (device disk') (ShowsStates heading states (Some state)) (GivesSoMany store_rules mid 1)
-      (leaves h) either
-
-  -- the state was saved
-  pub moves_saved : ((device disk).honest → Each (device disk') (GivesStates heading (states ++ state ∷ [])))
-      → CoreMoves store_rules (one_disk device) disk disk' old (core_with heading (states ++ state ∷ []) None)
-      (state ∷ [])
-  moves_saved sure =
-      let stored = moves_storing store_rules (one_disk device) is_device disk disk' mid 1
-      (one_keeps device disk disk' keeps) (refl, refl) refl (omega (arith, counted)) so_many
-      (λ h image left. subst (λ (l : List PrState). GivesStates heading l image) (sym after) (sure h image left)) in
-      subst (λ (core : Core Heading PrState). CoreMoves store_rules (one_disk device) disk disk' old core (state ∷ []))
-      (λ i. record {
-        base = heading;
-        accepted = states ++ state ∷ [];
-        stored = sym counted i;
-        safe = sym counted i;
-        fault = false;
-        stuck = false;
-        recovering = false;
-      })
-      (core_moves_on store_rules (one_disk device) is_device disk disk disk' old mid (settled 1 mid) (state ∷ []) []
-      accepts stored)
-
-  -- the disk failed in the save
-  pub moves_broken : (device disk).failures < (device disk').failures
-      → CoreMoves store_rules (one_disk device) disk disk' old (core_with heading states (Some state)) (state ∷ [])
-  moves_broken rose =
-      core_moves_on store_rules (one_disk device) is_device disk disk disk' old mid
-      (core_with heading states (Some state)) (state ∷ []) [] accepts
-      (moves_failing store_rules (one_disk device) is_device disk disk' mid 1 (is_disk disk')
-      (one_keeps device disk disk' keeps) rose (refl, refl) refl (omega (arith, counted)) so_many)
+-- the body spells the state that was given
+pub spells_given : {state given : PrState} {body : List ℕ} → body ≡ spell_state given → given ≡ state → IsSavable given
+    → (body ≡ spell_state state) × IsSavable state
+spells_given spelled same savable = (spelled ∙ ap spell_state same, subst IsSavable same savable)
 
 module _ {D : Type 0} (state : D → DiskState) (is_disk : (d : D) → (state d).honest → IsDisk (state d)) where
   -- a store that is unchanged

@@ -37,6 +37,7 @@ use Rattle.cartridge.proofs.ReclaimLemmas.{frame_count, lies_there}
 use Rattle.cartridge.specs.Contents.{Contents, GivesContents, IsContents, bodies_of, changes_in, volume_made}
 use Rattle.cartridge.specs.Disks.{OnlyOfTwo, disks_by}
 use Rattle.cartridge.specs.Reclaiming.{HasBodies, copy_frames, reclaimed_from}
+use Rattle.cartridge.specs.State.{OpenCartridge}
 
 objects_of_shape : (objects : List Object) → All IsObject (map blanked objects) → All IsObject objects
 objects_of_shape [] each = All-nil IsObject
@@ -106,6 +107,25 @@ capacities_made contents is =
     capacities_after contents.base (changes_in contents)
     ∙ ap capacities_of is.base
     ∙ capacities_empty contents.head.heading.capacities
+
+-- what is asked of an open cartridge that is reclaimed, and of the plan
+pub record IsAsked {D : Type 0} (state : D → DiskState) (header : Header) (copied : Copied)
+    (cartridge : OpenCartridge D) : Type 0 where
+  pub fine : cartridge.failed ≡ false
+  pub only : AreHonest state cartridge.disks → OnlyOfTwo state cartridge.disks cartridge.disks
+  pub heading : heading_of header ≡ cartridge.contents.head.heading
+  pub epoch : copied.epoch ≡ epoch_of cartridge.contents.head + 1
+  pub base : copied.base ≡ length (copy_frames cartridge.contents)
+
+-- it is so of what the cartridge was before it was taken apart
+pub asked_before : {D : Type 0} (state : D → DiskState) (was given : OpenCartridge D) (header : Header)
+    (copied : Copied) → was ≡ given → given.failed ≡ false
+    → (AreHonest state given.disks → OnlyOfTwo state given.disks given.disks)
+    → heading_of header ≡ given.contents.head.heading → copied.epoch ≡ epoch_of given.contents.head + 1
+    → copied.base ≡ length (copy_frames given.contents) → IsAsked state header copied was
+asked_before state was given header copied is fine only heading epoch base =
+    subst (IsAsked state header copied) (sym is)
+    (record { fine = fine; only = only; heading = heading; epoch = epoch; base = base })
 
 -- what a reclaimed cartridge holds can be held
 pub reclaimed_is : (contents : Contents) → IsContents contents → IsVolume (volume_made contents)

@@ -14,7 +14,8 @@ use Rattle.side_pairs.specs.Choosing.{Chooses}
 use Rattle.side_pairs.specs.Passes.{HasStart}
 use Rattle.side_pairs.specs.Inner.{HasOpenPair, IsGreater, OpensImage}
 use Rattle.side_pairs.proofs.CutLemmas.{front, less_counts, more_counts}
-use Rattle.side_pairs.specs.Inner.Decided.{both_closed, both_open, first_headless, headless_open, no_first, no_second, not_alone, one_side, open_shut, same_epochs, second_headless}
+use Rattle.side_pairs.specs.Inner.Counting.{both_closed, both_open, first_headless, no_first, no_second, not_alone, same_epochs, second_headless}
+use Rattle.side_pairs.specs.Inner.Images.{headless_open, one_side, open_shut}
 
 -- what the first bytes of two images show holds of the images
 pub chooses_whole : (first second : List ℕ) (found : Option Counted) → Chooses (front first) (front second) found →

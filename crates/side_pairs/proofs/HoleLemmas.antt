@@ -9,7 +9,8 @@ use Rattle.side_pairs.specs.declared.which.Which.{Which}
 use Rattle.side_pairs.specs.declared.which.Which.TheVariants.{First}
 use Rattle.side_pairs.specs.Pairs.{IsOpenSide, SideCounts, IsNoPair}
 use Rattle.side_pairs.specs.Passes.{HasWritten, IsCopy, IsShutPair, SidesStandFor, TakesOver, first_image, spell_copy}
-use Rattle.side_pairs.specs.Inner.Decided.{not_alone, one_side}
+use Rattle.side_pairs.specs.Inner.Counting.{not_alone}
+use Rattle.side_pairs.specs.Inner.Images.{one_side}
 use Rattle.side_pairs.proofs.PassLemmas.{opened_counts}
 
 shut : CLOSED ≢ OPEN

@@ -11,7 +11,7 @@ use Rattle.side_pairs.specs.declared.which.Which.{Which}
 use Rattle.side_pairs.specs.declared.which.Which.TheVariants.{First, Second}
 use Rattle.side_pairs.specs.Pairs.{begun, IsOfCartridge, IsOpenSide, IsClosedSide, YieldsTo, SideCounts, PairStandsFor}
 use Rattle.side_pairs.specs.Passes.{IsShutPair, IsPrepared, ReadsOpen, ReadsClosed, HasWritten, IsCopy, SidesStandFor, TakesOver, copy_head, spell_copy, other, first_image, second_image}
-use Rattle.side_pairs.specs.Inner.Decided.{same_pair}
+use Rattle.side_pairs.specs.Inner.Images.{same_pair}
 
 -- ten bytes and the rest, after a write of their first byte that ended in any way
 pub first_smeared : (side pair : ℕ) (rest image : List ℕ) → Smeared 0 1 (begun side pair ++ rest) image →

@@ -12,7 +12,9 @@ use Rattle.side_pairs.specs.declared.choosing.Counted.{Counted}
 use Rattle.side_pairs.specs.declared.which.Which.TheVariants.{First, Second}
 use Rattle.side_pairs.specs.Pairs.{IsClosedSide, IsOfCartridge, IsOpenSide, begun}
 use Rattle.side_pairs.specs.Choosing.{Chooses, IsFaultOfOne}
+pub mod Counting
 pub mod Decided
+pub mod Images
 pub mod Starts
 
 -- the bytes begin with a head of a cartridge's side (own)

@@ -5,7 +5,7 @@ use Rattle.gate_journal.specs.Heads.{Head, epoch_of, spell_side_head}
 use Rattle.gate_journal.specs.Side.{CLOSED, OPEN}
 use Rattle.side_pairs.specs.declared.which.Which.{Which}
 use Rattle.side_pairs.specs.declared.which.Which.TheVariants.{First, Second}
-use Rattle.side_pairs.specs.Inner.Decided.{same_pair, yields_start}
+use Rattle.side_pairs.specs.Inner.Images.{same_pair, yields_start}
 use Rattle.side_pairs.specs.Pairs.{IsOpenSide, StandsBeside, YieldsTo, begun}
 use Rattle.side_pairs.specs.Passes.{HasStart, IsPrepared, IsShutPair}
 use Rattle.side_reclaim.specs.Ready.{GivesSide, resting}

@@ -11,7 +11,7 @@ use Rattle.gate_journal.specs.Heads.{Head}
 use Rattle.side_pairs.specs.declared.which.Which.{Which}
 use Rattle.side_pairs.specs.declared.which.Which.TheVariants.{First, Second}
 use Rattle.gate_journal.specs.Side.{OPEN}
-use Rattle.side_pairs.specs.Inner.Decided.{same_pair}
+use Rattle.side_pairs.specs.Inner.Images.{same_pair}
 use Rattle.side_pairs.specs.Pairs.{PairStandsFor}
 use Rattle.side_pairs.specs.Passes.{IsClosedNow, IsPairedNow, IsPreparedBeside, IsShutPair, IsSureStart}
 use Rattle.side_reclaim.specs.Ready.{GivesSide, GivesSurely, IsPaired, IsPreparedIfShut, IsReady, StillGives, counting}

@@ -1,4 +1,4 @@
-use Rattle.std.proofs.Common.{◌≡◌, ◌<◌, ◌+◌, ◌^◌, ◌⊎◌, inl, inr, ⊎_elim, length, sym, subst, ap, ◌∙◌, arith, false}
+use Rattle.std.proofs.Common.{◌≡◌, ◌<◌, ◌^◌, ◌⊎◌, inl, inr, ⊎_elim, length, sym, subst, ap, ◌∙◌, arith}
 use Rattle.std.specs.Prelude.{OnOk, Result, Some}
 use Rattle.vtl_base.specs.declared.faults.DevFault.{DevFault}
 use Rattle.gate_journal.specs.declared.heads.Copied.{Copied}
@@ -8,16 +8,14 @@ use Rattle.tape_disk.specs.TwoDisks.{AreHonest, EachOfTwo, MayLeave, TwoDisks, T
 use Rattle.volume_core.specs.Volume.{IsVolume}
 use Rattle.record_index.specs.Indexes.{indexes_shape}
 use Rattle.volume_reclaim.specs.Reclaiming.{GivesCopy, MayReclaim}
-use Rattle.gate_journal.specs.Heads.{epoch_of}
-use Rattle.gate_journal.specs.Side.{heading_of}
 use Rattle.side_reclaim.specs.Ready.{GivesSide}
 use Rattle.cartridge.specs.Contents.{Contents, GivesContents, IsContents, bodies_of, volume_made}
-use Rattle.cartridge.specs.Disks.{OnlyOfTwo, disks_by}
+use Rattle.cartridge.specs.Disks.{disks_by}
 use Rattle.cartridge.specs.Lying.{LiesOnSide}
 use Rattle.cartridge.specs.Notes.{noted_as}
 use Rattle.cartridge.specs.Reclaiming.{GivesVolume, KeepsOldSide, copy_frames, reclaimed_from}
 use Rattle.cartridge.specs.State.{ClosedCartridge, OpenCartridge}
-use Rattle.cartridge.proofs.CopiedLemmas.{copy_gives, may_hold, may_reclaim, reclaimed_volume, volume_of_shape}
+use Rattle.cartridge.proofs.CopiedLemmas.{asked_before, copy_gives, may_hold, may_reclaim, reclaimed_volume, volume_of_shape}
 use Rattle.cartridge.proofs.reclaiming.copy_cartridge.Goals as goal
 
 pub returns-clause-any_moment : goal.returns-clause-any_moment
@@ -32,20 +30,8 @@ returns-clause-any_moment g c = λ honest.
     let disks = disks_by i.which side.disk i.spare in
     let header = c.args.plan.header in
     let copied = c.args.plan.copied in
-    let fine : side.failed ≡ false =
-    subst (λ (v : OpenCartridge g.row.D.Denot). v.failed ≡ false) (sym view) c.requires.fine in
-    let only : AreHonest state disks → OnlyOfTwo state disks disks =
-    subst (λ (v : OpenCartridge g.row.D.Denot). AreHonest state v.disks → OnlyOfTwo state v.disks v.disks) (sym view)
-    c.requires.sure in
-    let heading : heading_of header ≡ contents.head.heading =
-    subst (λ (v : OpenCartridge g.row.D.Denot). heading_of header ≡ v.contents.head.heading) (sym view)
-    c.requires.heading in
-    let epoch : copied.epoch ≡ epoch_of contents.head + 1 =
-    subst (λ (v : OpenCartridge g.row.D.Denot). copied.epoch ≡ epoch_of v.contents.head + 1) (sym view)
-    c.requires.epoch in
-    let base : copied.base ≡ length (copy_frames contents) =
-    subst (λ (v : OpenCartridge g.row.D.Denot). copied.base ≡ length (copy_frames v.contents)) (sym view)
-    c.requires.base in
+    let asked = asked_before state _ _ header copied view c.requires.fine c.requires.sure c.requires.heading
+    c.requires.epoch c.requires.base in
     let epoch_fits : copied.epoch < 2 ^ 64 = omega arith in
     let base_fits : copied.base < 2 ^ 32 = omega arith in
     let mid : TwoDisks g.row.D.Denot =
@@ -55,13 +41,13 @@ returns-clause-any_moment g c = λ honest.
     let new : TwoDisks g.row.D.Denot = record { first = ended.result.first; second = ended.result.second } in
     let volume = volume_made contents in
     let held = may_hold state laws i.which side i.spare i.index notes header copied c.cartridge.invariant.0
-    c.cartridge.invariant.1 c.parts.ensures.limits epoch_fits base_fits epoch base in
+    c.cartridge.invariant.1 c.parts.ensures.limits epoch_fits base_fits asked.epoch asked.base in
     let here : AreHonest state disks =
     subst (λ (v : OpenCartridge g.row.D.Denot). AreHonest state v.disks) (sym view) honest in
     let may = subst (λ (d : TwoDisks g.row.D.Denot). MayReclaim state d i.which header copied i.index contents.head
     (bodies_of notes.frames) volume) (sym mid_is)
     (may_reclaim state laws i.which side i.spare i.index notes header copied c.cartridge.invariant.0
-    c.cartridge.invariant.2 c.see_bodies.ensures fine only heading epoch base here) in
+    c.cartridge.invariant.2 c.see_bodies.ensures asked.fine asked.only asked.heading asked.epoch asked.base here) in
     let kept = reclaimed_volume contents c.cartridge.invariant.1
     (volume_of_shape (volume_made contents)
     (subst IsVolume (indexes_shape (LiesOnSide notes side.extents) (volume_made contents) i.index
@@ -94,20 +80,8 @@ returns-in-Ok-clause-any_moment g c = λ honest.
     let disks = disks_by i.which side.disk i.spare in
     let header = c.args.plan.header in
     let copied = c.args.plan.copied in
-    let fine : side.failed ≡ false =
-    subst (λ (v : OpenCartridge g.row.D.Denot). v.failed ≡ false) (sym view) c.requires.fine in
-    let only : AreHonest state disks → OnlyOfTwo state disks disks =
-    subst (λ (v : OpenCartridge g.row.D.Denot). AreHonest state v.disks → OnlyOfTwo state v.disks v.disks) (sym view)
-    c.requires.sure in
-    let heading : heading_of header ≡ contents.head.heading =
-    subst (λ (v : OpenCartridge g.row.D.Denot). heading_of header ≡ v.contents.head.heading) (sym view)
-    c.requires.heading in
-    let epoch : copied.epoch ≡ epoch_of contents.head + 1 =
-    subst (λ (v : OpenCartridge g.row.D.Denot). copied.epoch ≡ epoch_of v.contents.head + 1) (sym view)
-    c.requires.epoch in
-    let base : copied.base ≡ length (copy_frames contents) =
-    subst (λ (v : OpenCartridge g.row.D.Denot). copied.base ≡ length (copy_frames v.contents)) (sym view)
-    c.requires.base in
+    let asked = asked_before state _ _ header copied view c.requires.fine c.requires.sure c.requires.heading
+    c.requires.epoch c.requires.base in
     let epoch_fits : copied.epoch < 2 ^ 64 = omega arith in
     let base_fits : copied.base < 2 ^ 32 = omega arith in
     let mid : TwoDisks g.row.D.Denot =
@@ -117,13 +91,13 @@ returns-in-Ok-clause-any_moment g c = λ honest.
     let new : TwoDisks g.row.D.Denot = record { first = ended.result.first; second = ended.result.second } in
     let volume = volume_made contents in
     let held = may_hold state laws i.which side i.spare i.index notes header copied c.cartridge.invariant.0
-    c.cartridge.invariant.1 c.parts.ensures.limits epoch_fits base_fits epoch base in
+    c.cartridge.invariant.1 c.parts.ensures.limits epoch_fits base_fits asked.epoch asked.base in
     let here : AreHonest state disks =
     subst (λ (v : OpenCartridge g.row.D.Denot). AreHonest state v.disks) (sym view) honest in
     let may = subst (λ (d : TwoDisks g.row.D.Denot). MayReclaim state d i.which header copied i.index contents.head
     (bodies_of notes.frames) volume) (sym mid_is)
     (may_reclaim state laws i.which side i.spare i.index notes header copied c.cartridge.invariant.0
-    c.cartridge.invariant.2 c.see_bodies.ensures fine only heading epoch base here) in
+    c.cartridge.invariant.2 c.see_bodies.ensures asked.fine asked.only asked.heading asked.epoch asked.base here) in
     let kept = reclaimed_volume contents c.cartridge.invariant.1
     (volume_of_shape (volume_made contents)
     (subst IsVolume (indexes_shape (LiesOnSide notes side.extents) (volume_made contents) i.index
@@ -157,20 +131,8 @@ returns-in-Ok-clause-sides g c = λ honest.
     let disks = disks_by i.which side.disk i.spare in
     let header = c.args.plan.header in
     let copied = c.args.plan.copied in
-    let fine : side.failed ≡ false =
-    subst (λ (v : OpenCartridge g.row.D.Denot). v.failed ≡ false) (sym view) c.requires.fine in
-    let only : AreHonest state disks → OnlyOfTwo state disks disks =
-    subst (λ (v : OpenCartridge g.row.D.Denot). AreHonest state v.disks → OnlyOfTwo state v.disks v.disks) (sym view)
-    c.requires.sure in
-    let heading : heading_of header ≡ contents.head.heading =
-    subst (λ (v : OpenCartridge g.row.D.Denot). heading_of header ≡ v.contents.head.heading) (sym view)
-    c.requires.heading in
-    let epoch : copied.epoch ≡ epoch_of contents.head + 1 =
-    subst (λ (v : OpenCartridge g.row.D.Denot). copied.epoch ≡ epoch_of v.contents.head + 1) (sym view)
-    c.requires.epoch in
-    let base : copied.base ≡ length (copy_frames contents) =
-    subst (λ (v : OpenCartridge g.row.D.Denot). copied.base ≡ length (copy_frames v.contents)) (sym view)
-    c.requires.base in
+    let asked = asked_before state _ _ header copied view c.requires.fine c.requires.sure c.requires.heading
+    c.requires.epoch c.requires.base in
     let mid : TwoDisks g.row.D.Denot =
     record { first = c.in_order-first.result.0; second = c.in_order-first.result.1 } in
     let mid_is : mid ≡ disks = c.in_order-first.ensures ∙ ap (λ d. disks_by i.which d i.spare) c.close.ensures in
@@ -182,7 +144,7 @@ returns-in-Ok-clause-sides g c = λ honest.
     let may = subst (λ (d : TwoDisks g.row.D.Denot). MayReclaim state d i.which header copied i.index contents.head
     (bodies_of notes.frames) volume) (sym mid_is)
     (may_reclaim state laws i.which side i.spare i.index notes header copied c.cartridge.invariant.0
-    c.cartridge.invariant.2 c.see_bodies.ensures fine only heading epoch base here) in
+    c.cartridge.invariant.2 c.see_bodies.ensures asked.fine asked.only asked.heading asked.epoch asked.base here) in
     let each : EachOfTwo state new (KeepsOldSide contents (seen_of_two state mid)) =
     subst (λ (r : Result Unit DevFault).
     OnOk r (EachOfTwo state new (KeepsOldSide contents (seen_of_two state mid)))) c.in-Ok.is
@@ -211,20 +173,8 @@ with-requires-clause-contents g c =
     let disks = disks_by i.which side.disk i.spare in
     let header = c.args.plan.header in
     let copied = c.args.plan.copied in
-    let fine : side.failed ≡ false =
-    subst (λ (v : OpenCartridge g.row.D.Denot). v.failed ≡ false) (sym view) c.requires.fine in
-    let only : AreHonest state disks → OnlyOfTwo state disks disks =
-    subst (λ (v : OpenCartridge g.row.D.Denot). AreHonest state v.disks → OnlyOfTwo state v.disks v.disks) (sym view)
-    c.requires.sure in
-    let heading : heading_of header ≡ contents.head.heading =
-    subst (λ (v : OpenCartridge g.row.D.Denot). heading_of header ≡ v.contents.head.heading) (sym view)
-    c.requires.heading in
-    let epoch : copied.epoch ≡ epoch_of contents.head + 1 =
-    subst (λ (v : OpenCartridge g.row.D.Denot). copied.epoch ≡ epoch_of v.contents.head + 1) (sym view)
-    c.requires.epoch in
-    let base : copied.base ≡ length (copy_frames contents) =
-    subst (λ (v : OpenCartridge g.row.D.Denot). copied.base ≡ length (copy_frames v.contents)) (sym view)
-    c.requires.base in
+    let asked = asked_before state _ _ header copied view c.requires.fine c.requires.sure c.requires.heading
+    c.requires.epoch c.requires.base in
     let epoch_fits : copied.epoch < 2 ^ 64 = omega arith in
     let base_fits : copied.base < 2 ^ 32 = omega arith in
     let mid : TwoDisks g.row.D.Denot =
@@ -234,13 +184,14 @@ with-requires-clause-contents g c =
     let new : TwoDisks g.row.D.Denot = record { first = ended.result.first; second = ended.result.second } in
     let volume = volume_made contents in
     let held = may_hold state laws i.which side i.spare i.index notes header copied c.cartridge.invariant.0
-    c.cartridge.invariant.1 c.parts.ensures.limits epoch_fits base_fits epoch base in
+    c.cartridge.invariant.1 c.parts.ensures.limits epoch_fits base_fits asked.epoch asked.base in
     let now = c.other_side-now.result in
     let sized : copied.base ≡ length (bodies_of (copy_frames contents)) =
-    base ∙ sym (length-map (copy_frames contents) spell_all) in
+    asked.base ∙ sym (length-map (copy_frames contents) spell_all) in
     let same : reclaimed_from contents ≡ noted_as now (Some copied) c.copied.result.notes =
     λ k. noted_as (sym c.other_side-now.ensures k)
-    (Some (let one : Copied = record { epoch = sym epoch k; base = sym sized k } in one)) (sym c.copied.ensures k) in
+    (Some (let one : Copied = record { epoch = sym asked.epoch k; base = sym sized k } in one))
+    (sym c.copied.ensures k) in
     subst IsContents same held
 
 pub with-requires-clause-shows : goal.with-requires-clause-shows
@@ -255,20 +206,8 @@ with-requires-clause-shows g c = λ now_honest images left.
     let disks = disks_by i.which side.disk i.spare in
     let header = c.args.plan.header in
     let copied = c.args.plan.copied in
-    let fine : side.failed ≡ false =
-    subst (λ (v : OpenCartridge g.row.D.Denot). v.failed ≡ false) (sym view) c.requires.fine in
-    let only : AreHonest state disks → OnlyOfTwo state disks disks =
-    subst (λ (v : OpenCartridge g.row.D.Denot). AreHonest state v.disks → OnlyOfTwo state v.disks v.disks) (sym view)
-    c.requires.sure in
-    let heading : heading_of header ≡ contents.head.heading =
-    subst (λ (v : OpenCartridge g.row.D.Denot). heading_of header ≡ v.contents.head.heading) (sym view)
-    c.requires.heading in
-    let epoch : copied.epoch ≡ epoch_of contents.head + 1 =
-    subst (λ (v : OpenCartridge g.row.D.Denot). copied.epoch ≡ epoch_of v.contents.head + 1) (sym view)
-    c.requires.epoch in
-    let base : copied.base ≡ length (copy_frames contents) =
-    subst (λ (v : OpenCartridge g.row.D.Denot). copied.base ≡ length (copy_frames v.contents)) (sym view)
-    c.requires.base in
+    let asked = asked_before state _ _ header copied view c.requires.fine c.requires.sure c.requires.heading
+    c.requires.epoch c.requires.base in
     let epoch_fits : copied.epoch < 2 ^ 64 = omega arith in
     let base_fits : copied.base < 2 ^ 32 = omega arith in
     let mid : TwoDisks g.row.D.Denot =
@@ -278,7 +217,7 @@ with-requires-clause-shows g c = λ now_honest images left.
     let new : TwoDisks g.row.D.Denot = record { first = ended.result.first; second = ended.result.second } in
     let volume = volume_made contents in
     let held = may_hold state laws i.which side i.spare i.index notes header copied c.cartridge.invariant.0
-    c.cartridge.invariant.1 c.parts.ensures.limits epoch_fits base_fits epoch base in
+    c.cartridge.invariant.1 c.parts.ensures.limits epoch_fits base_fits asked.epoch asked.base in
     let counts = c.apart-counts.result.0 in
     let spare = c.apart-counts.result.1 in
     let now = c.other_side-now.result in
@@ -289,7 +228,7 @@ with-requires-clause-shows g c = λ now_honest images left.
     let may = subst (λ (d : TwoDisks g.row.D.Denot). MayReclaim state d i.which header copied i.index contents.head
     (bodies_of notes.frames) volume) (sym mid_is)
     (may_reclaim state laws i.which side i.spare i.index notes header copied c.cartridge.invariant.0
-    c.cartridge.invariant.2 c.see_bodies.ensures fine only heading epoch base here) in
+    c.cartridge.invariant.2 c.see_bodies.ensures asked.fine asked.only asked.heading asked.epoch asked.base here) in
     let each : EachOfTwo state new (GivesCopy i.which contents.head volume) =
     subst (λ (r : Result Unit DevFault). OnOk r (EachOfTwo state new (GivesCopy i.which contents.head volume)))
     c.in-Ok.is (ended.ensures.ok before contents.head (bodies_of notes.frames) volume may) in
@@ -297,10 +236,11 @@ with-requires-clause-shows g c = λ now_honest images left.
     subst (λ (d : TwoDisks g.row.D.Denot). MayLeave state d images) c.apart-counts.ensures left in
     let gives = copy_gives contents held images (each images moved) in
     let sized : copied.base ≡ length (bodies_of (copy_frames contents)) =
-    base ∙ sym (length-map (copy_frames contents) spell_all) in
+    asked.base ∙ sym (length-map (copy_frames contents) spell_all) in
     let same : reclaimed_from contents ≡ noted_as now (Some copied) c.copied.result.notes =
     λ k. noted_as (sym c.other_side-now.ensures k)
-    (Some (let one : Copied = record { epoch = sym epoch k; base = sym sized k } in one)) (sym c.copied.ensures k) in
+    (Some (let one : Copied = record { epoch = sym asked.epoch k; base = sym sized k } in one))
+    (sym c.copied.ensures k) in
     inl (subst (λ (v : Contents). GivesContents v images) same gives)
 
 pub returns-in-Ok-clause-volume : goal.returns-in-Ok-clause-volume

@@ -1,18 +1,15 @@
-use Rattle.std.proofs.Common.{◌≡◌, ◌≤◌, ap, subst, ◌∙◌, arith}
+use Rattle.std.proofs.Common.{◌≤◌, ap, arith}
 use Rattle.gate_journal.specs.State.{OpenSide}
 use Rattle.aptpl_store.specs.Kept.{store_kept}
-use Rattle.aptpl_store.specs.Spelling.{IsSavable, spell_state}
-use Rattle.aptpl_store.proofs.SavingLemmas.{broken_advances, broken_kept, broken_open, broken_stores, frame_of, is_body, opened, opens_saved, rests, saved_advances, saved_kept, saved_open, saved_stores, saved_value, store_on}
+use Rattle.aptpl_store.proofs.SavingLemmas.{broken_advances, broken_kept, broken_open, broken_stores, frame_of, is_body, opened, opens_saved, rests, saved_advances, saved_kept, saved_open, saved_stores, saved_value, spells_given, store_on}
 use Rattle.aptpl_store.proofs.saving.AptplStoreKeeper.save.Goals as goal
 
 pub append_frame-requires : goal.append_frame-requires
 append_frame-requires g c =
     let state = c.args.reservations.now in
     let body = c.fill_body.new.frame.body in
-    let body_is : body ≡ spell_state state =
-    c.fill_body.ensures.body ∙ ap spell_state c.state.ensures.state in
-    let savable : IsSavable state = subst IsSavable c.state.ensures.state c.fill_body.ensures.savable in
-    let is = is_body state body savable body_is in (is.0, omega (arith, is.1))
+    let spelled = spells_given c.fill_body.ensures.body c.state.ensures.state c.fill_body.ensures.savable in
+    let is = is_body state body spelled.1 spelled.0 in (is.0, omega (arith, is.1))
 
 pub invariant_of-self : goal.invariant_of-self
 invariant_of-self g c =
@@ -23,16 +20,14 @@ invariant_of-self g c =
     let body = c.fill_body.new.frame.body in
     let room : 580 ≤ c.append_frame.new.frame.room =
     omega (arith, c.self.invariant.0.body, c.fill_body.ensures.room, c.append_frame.ensures.frame.0) in
-    let body_is : body ≡ spell_state state =
-    c.fill_body.ensures.body ∙ ap spell_state c.state.ensures.state in
-    let savable : IsSavable state = subst IsSavable c.state.ensures.state c.fill_body.ensures.savable in
+    let spelled = spells_given c.fill_body.ensures.body c.state.ensures.state c.fill_body.ensures.savable in
     let said = c.in-Ok.ensures in (
       saved_open g.D.Disk.state g.met.D.Disk.is_disk old new _ _ notes c.self.invariant.0 c.self.invariant.1
-          room state savable body body_is said.disk said.front said.answer.0.was_fine
+          room state spelled.1 body spelled.0 said.disk said.front said.answer.0.was_fine
           (λ h. said.any_moment h said.answer.0.was_fine)
           said.answer.0 said.bodies said.sure c.with_state-self-inside.result.notes c.with_state-self-inside.ensures,
       saved_stores g.D.Disk.state g.met.D.Disk.is_disk old new _ _ notes c.self.invariant.0 c.self.invariant.1
-          room state savable body body_is said.disk said.front said.answer.0.was_fine
+          room state spelled.1 body spelled.0 said.disk said.front said.answer.0.was_fine
           (λ h. said.any_moment h said.answer.0.was_fine)
           said.answer.0 said.bodies said.sure c.with_state-self-inside.result.notes c.with_state-self-inside.ensures,
     )
@@ -46,17 +41,15 @@ invariant_of-self-in-Err-Device g c =
     let body = c.fill_body.new.frame.body in
     let room : 580 ≤ c.append_frame.new.frame.room =
     omega (arith, c.self.invariant.0.body, c.fill_body.ensures.room, c.append_frame.ensures.frame.0) in
-    let body_is : body ≡ spell_state state =
-    c.fill_body.ensures.body ∙ ap spell_state c.state.ensures.state in
-    let savable : IsSavable state = subst IsSavable c.state.ensures.state c.fill_body.ensures.savable in
+    let spelled = spells_given c.fill_body.ensures.body c.state.ensures.state c.fill_body.ensures.savable in
     let said = c.in-Err-Device.ensures in
     let broke = rw c.in-Err-Device.field-0-is at said.answer in (
       broken_open g.D.Disk.state g.met.D.Disk.is_disk old new _ _ notes c.self.invariant.0 c.self.invariant.1
-          room state savable body body_is said.disk said.front broke.0.was_fine
+          room state spelled.1 body spelled.0 said.disk said.front broke.0.was_fine
           (λ h. said.any_moment h broke.0.was_fine)
           broke.0 said.bodies c.with_torn_state-self-inside.result.notes c.with_torn_state-self-inside.ensures,
       broken_stores g.D.Disk.state g.met.D.Disk.is_disk old new _ _ notes c.self.invariant.0 c.self.invariant.1
-          room state savable body body_is said.disk said.front broke.0.was_fine
+          room state spelled.1 body spelled.0 said.disk said.front broke.0.was_fine
           (λ h. said.any_moment h broke.0.was_fine)
           broke.0 said.bodies c.with_torn_state-self-inside.result.notes c.with_torn_state-self-inside.ensures,
     )
@@ -71,13 +64,11 @@ returns-in-Ok-clause-answer g c =
     let body = c.fill_body.new.frame.body in
     let room : 580 ≤ c.append_frame.new.frame.room =
     omega (arith, c.self.invariant.0.body, c.fill_body.ensures.room, c.append_frame.ensures.frame.0) in
-    let body_is : body ≡ spell_state state =
-    c.fill_body.ensures.body ∙ ap spell_state c.state.ensures.state in
-    let savable : IsSavable state = subst IsSavable c.state.ensures.state c.fill_body.ensures.savable in
+    let spelled = spells_given c.fill_body.ensures.body c.state.ensures.state c.fill_body.ensures.savable in
     let said = c.in-Ok.ensures in (
       said.answer.0.was_fine,
       saved_kept g.D.Disk.state g.met.D.Disk.is_disk old new _ _ notes c.self.invariant.0 c.self.invariant.1
-          room state savable body body_is said.disk said.front said.answer.0.was_fine
+          room state spelled.1 body spelled.0 said.disk said.front said.answer.0.was_fine
           (λ h. said.any_moment h said.answer.0.was_fine)
           said.answer.0 said.bodies said.sure c.with_state-self-inside.result.notes c.with_state-self-inside.ensures,
     ))
@@ -92,12 +83,10 @@ returns-in-Ok-clause-advances g c =
     let body = c.fill_body.new.frame.body in
     let room : 580 ≤ c.append_frame.new.frame.room =
     omega (arith, c.self.invariant.0.body, c.fill_body.ensures.room, c.append_frame.ensures.frame.0) in
-    let body_is : body ≡ spell_state state =
-    c.fill_body.ensures.body ∙ ap spell_state c.state.ensures.state in
-    let savable : IsSavable state = subst IsSavable c.state.ensures.state c.fill_body.ensures.savable in
+    let spelled = spells_given c.fill_body.ensures.body c.state.ensures.state c.fill_body.ensures.savable in
     let said = c.in-Ok.ensures in
     saved_advances g.D.Disk.state g.met.D.Disk.is_disk old new _ _ notes c.self.invariant.0 c.self.invariant.1
-    room state savable body body_is said.disk said.front said.answer.0.was_fine
+    room state spelled.1 body spelled.0 said.disk said.front said.answer.0.was_fine
     (λ h. said.any_moment h said.answer.0.was_fine)
     said.answer.0 said.bodies said.sure c.with_state-self-inside.result.notes
     c.with_state-self-inside.ensures said.answer.1)
@@ -112,12 +101,10 @@ returns-in-Ok-clause-saves g c =
     let body = c.fill_body.new.frame.body in
     let room : 580 ≤ c.append_frame.new.frame.room =
     omega (arith, c.self.invariant.0.body, c.fill_body.ensures.room, c.append_frame.ensures.frame.0) in
-    let body_is : body ≡ spell_state state =
-    c.fill_body.ensures.body ∙ ap spell_state c.state.ensures.state in
-    let savable : IsSavable state = subst IsSavable c.state.ensures.state c.fill_body.ensures.savable in
+    let spelled = spells_given c.fill_body.ensures.body c.state.ensures.state c.fill_body.ensures.savable in
     let said = c.in-Ok.ensures in
     saved_value g.D.Disk.state g.met.D.Disk.is_disk old new _ _ notes c.self.invariant.0 c.self.invariant.1
-    room state savable body body_is said.disk said.front said.answer.0.was_fine
+    room state spelled.1 body spelled.0 said.disk said.front said.answer.0.was_fine
     (λ h. said.any_moment h said.answer.0.was_fine)
     said.answer.0 said.bodies said.sure c.with_state-self-inside.result.notes c.with_state-self-inside.ensures)
 
@@ -131,12 +118,10 @@ returns-in-Ok-clause-sure g c =
     let body = c.fill_body.new.frame.body in
     let room : 580 ≤ c.append_frame.new.frame.room =
     omega (arith, c.self.invariant.0.body, c.fill_body.ensures.room, c.append_frame.ensures.frame.0) in
-    let body_is : body ≡ spell_state state =
-    c.fill_body.ensures.body ∙ ap spell_state c.state.ensures.state in
-    let savable : IsSavable state = subst IsSavable c.state.ensures.state c.fill_body.ensures.savable in
+    let spelled = spells_given c.fill_body.ensures.body c.state.ensures.state c.fill_body.ensures.savable in
     let said = c.in-Ok.ensures in
     opens_saved g.D.Disk.state g.met.D.Disk.is_disk old new _ _ notes c.self.invariant.0 c.self.invariant.1
-    room state savable body body_is said.disk said.front said.answer.0.was_fine
+    room state spelled.1 body spelled.0 said.disk said.front said.answer.0.was_fine
     (λ h. said.any_moment h said.answer.0.was_fine)
     said.answer.0 said.bodies said.sure c.with_state-self-inside.result.notes c.with_state-self-inside.ensures)
 
@@ -150,12 +135,10 @@ returns-in-Ok-clause-any_moment g c =
     let body = c.fill_body.new.frame.body in
     let room : 580 ≤ c.append_frame.new.frame.room =
     omega (arith, c.self.invariant.0.body, c.fill_body.ensures.room, c.append_frame.ensures.frame.0) in
-    let body_is : body ≡ spell_state state =
-    c.fill_body.ensures.body ∙ ap spell_state c.state.ensures.state in
-    let savable : IsSavable state = subst IsSavable c.state.ensures.state c.fill_body.ensures.savable in
+    let spelled = spells_given c.fill_body.ensures.body c.state.ensures.state c.fill_body.ensures.savable in
     let said = c.in-Ok.ensures in
     (λ h fine. opened g.D.Disk.state g.met.D.Disk.is_disk old new _ _ notes c.self.invariant.0 c.self.invariant.1
-    room state savable body body_is said.disk said.front said.answer.0.was_fine
+    room state spelled.1 body spelled.0 said.disk said.front said.answer.0.was_fine
     (λ h. said.any_moment h said.answer.0.was_fine) h))
 
 pub returns-in-Err-Device-clause-answer : goal.returns-in-Err-Device-clause-answer
@@ -168,14 +151,12 @@ returns-in-Err-Device-clause-answer g c =
     let body = c.fill_body.new.frame.body in
     let room : 580 ≤ c.append_frame.new.frame.room =
     omega (arith, c.self.invariant.0.body, c.fill_body.ensures.room, c.append_frame.ensures.frame.0) in
-    let body_is : body ≡ spell_state state =
-    c.fill_body.ensures.body ∙ ap spell_state c.state.ensures.state in
-    let savable : IsSavable state = subst IsSavable c.state.ensures.state c.fill_body.ensures.savable in
+    let spelled = spells_given c.fill_body.ensures.body c.state.ensures.state c.fill_body.ensures.savable in
     let said = c.in-Err-Device.ensures in
     let broke = rw c.in-Err-Device.field-0-is at said.answer in (
       broke.0.was_fine,
       broken_kept g.D.Disk.state g.met.D.Disk.is_disk old new _ _ notes c.self.invariant.0 c.self.invariant.1
-          room state savable body body_is said.disk said.front broke.0.was_fine
+          room state spelled.1 body spelled.0 said.disk said.front broke.0.was_fine
           (λ h. said.any_moment h broke.0.was_fine)
           broke.0 said.bodies c.with_torn_state-self-inside.result.notes c.with_torn_state-self-inside.ensures,
     ))
@@ -190,13 +171,11 @@ returns-in-Err-Device-clause-advances g c =
     let body = c.fill_body.new.frame.body in
     let room : 580 ≤ c.append_frame.new.frame.room =
     omega (arith, c.self.invariant.0.body, c.fill_body.ensures.room, c.append_frame.ensures.frame.0) in
-    let body_is : body ≡ spell_state state =
-    c.fill_body.ensures.body ∙ ap spell_state c.state.ensures.state in
-    let savable : IsSavable state = subst IsSavable c.state.ensures.state c.fill_body.ensures.savable in
+    let spelled = spells_given c.fill_body.ensures.body c.state.ensures.state c.fill_body.ensures.savable in
     let said = c.in-Err-Device.ensures in
     let broke = rw c.in-Err-Device.field-0-is at said.answer in
     broken_advances g.D.Disk.state g.met.D.Disk.is_disk old new _ _ notes c.self.invariant.0 c.self.invariant.1
-    room state savable body body_is said.disk said.front broke.0.was_fine
+    room state spelled.1 body spelled.0 said.disk said.front broke.0.was_fine
     (λ h. said.any_moment h broke.0.was_fine)
     broke.0 said.bodies c.with_torn_state-self-inside.result.notes c.with_torn_state-self-inside.ensures broke.1.cause)
 
@@ -210,13 +189,11 @@ returns-in-Err-Device-clause-any_moment g c =
     let body = c.fill_body.new.frame.body in
     let room : 580 ≤ c.append_frame.new.frame.room =
     omega (arith, c.self.invariant.0.body, c.fill_body.ensures.room, c.append_frame.ensures.frame.0) in
-    let body_is : body ≡ spell_state state =
-    c.fill_body.ensures.body ∙ ap spell_state c.state.ensures.state in
-    let savable : IsSavable state = subst IsSavable c.state.ensures.state c.fill_body.ensures.savable in
+    let spelled = spells_given c.fill_body.ensures.body c.state.ensures.state c.fill_body.ensures.savable in
     let said = c.in-Err-Device.ensures in
     let broke = rw c.in-Err-Device.field-0-is at said.answer in
     (λ h fine. opened g.D.Disk.state g.met.D.Disk.is_disk old new _ _ notes c.self.invariant.0 c.self.invariant.1
-    room state savable body body_is said.disk said.front broke.0.was_fine
+    room state spelled.1 body spelled.0 said.disk said.front broke.0.was_fine
     (λ h. said.any_moment h broke.0.was_fine) h))
 
 pub returns-in-Err-NoMemory-clause-answer : goal.returns-in-Err-NoMemory-clause-answer
@@ -225,13 +202,11 @@ returns-in-Err-NoMemory-clause-answer g c =
     let notes = c.self.inside.noted.notes in
     let state = c.args.reservations.now in
     let body = c.fill_body.new.frame.body in
-    let body_is : body ≡ spell_state state =
-    c.fill_body.ensures.body ∙ ap spell_state c.state.ensures.state in
-    let savable : IsSavable state = subst IsSavable c.state.ensures.state c.fill_body.ensures.savable in
+    let spelled = spells_given c.fill_body.ensures.body c.state.ensures.state c.fill_body.ensures.savable in
     let said = c.in-Err-NoMemory.ensures in
     let why = rw c.in-Err-NoMemory.field-0-is at said.answer in (
       why.0,
-      λ full. omega (arith, full, frame_of state body savable body_is, why.1),
+      λ full. omega (arith, full, frame_of state body spelled.1 spelled.0, why.1),
       ap (λ (side : OpenSide g.row.D.Denot). store_kept (store_on side notes)) why.3,
     ))
 
@@ -255,13 +230,11 @@ returns-in-Err-NoMemory-clause-any_moment g c =
     let body = c.fill_body.new.frame.body in
     let room : 580 ≤ c.append_frame.new.frame.room =
     omega (arith, c.self.invariant.0.body, c.fill_body.ensures.room, c.append_frame.ensures.frame.0) in
-    let body_is : body ≡ spell_state state =
-    c.fill_body.ensures.body ∙ ap spell_state c.state.ensures.state in
-    let savable : IsSavable state = subst IsSavable c.state.ensures.state c.fill_body.ensures.savable in
+    let spelled = spells_given c.fill_body.ensures.body c.state.ensures.state c.fill_body.ensures.savable in
     let said = c.in-Err-NoMemory.ensures in
     let why = rw c.in-Err-NoMemory.field-0-is at said.answer in
     (λ h fine. opened g.D.Disk.state g.met.D.Disk.is_disk old new _ _ notes c.self.invariant.0 c.self.invariant.1
-    room state savable body body_is said.disk said.front why.0
+    room state spelled.1 body spelled.0 said.disk said.front why.0
     (λ h. said.any_moment h why.0) h))
 
 pub returns-in-Err-SideFull-clause-answer : goal.returns-in-Err-SideFull-clause-answer
@@ -270,13 +243,11 @@ returns-in-Err-SideFull-clause-answer g c =
     let notes = c.self.inside.noted.notes in
     let state = c.args.reservations.now in
     let body = c.fill_body.new.frame.body in
-    let body_is : body ≡ spell_state state =
-    c.fill_body.ensures.body ∙ ap spell_state c.state.ensures.state in
-    let savable : IsSavable state = subst IsSavable c.state.ensures.state c.fill_body.ensures.savable in
+    let spelled = spells_given c.fill_body.ensures.body c.state.ensures.state c.fill_body.ensures.savable in
     let said = c.in-Err-SideFull.ensures in
     let why = rw c.in-Err-SideFull.field-0-is at said.answer in (
       why.0,
-      omega (arith, frame_of state body savable body_is, why.1),
+      omega (arith, frame_of state body spelled.1 spelled.0, why.1),
       ap (λ (side : OpenSide g.row.D.Denot). store_kept (store_on side notes)) why.2,
     ))
 
@@ -300,13 +271,11 @@ returns-in-Err-SideFull-clause-any_moment g c =
     let body = c.fill_body.new.frame.body in
     let room : 580 ≤ c.append_frame.new.frame.room =
     omega (arith, c.self.invariant.0.body, c.fill_body.ensures.room, c.append_frame.ensures.frame.0) in
-    let body_is : body ≡ spell_state state =
-    c.fill_body.ensures.body ∙ ap spell_state c.state.ensures.state in
-    let savable : IsSavable state = subst IsSavable c.state.ensures.state c.fill_body.ensures.savable in
+    let spelled = spells_given c.fill_body.ensures.body c.state.ensures.state c.fill_body.ensures.savable in
     let said = c.in-Err-SideFull.ensures in
     let why = rw c.in-Err-SideFull.field-0-is at said.answer in
     (λ h fine. opened g.D.Disk.state g.met.D.Disk.is_disk old new _ _ notes c.self.invariant.0 c.self.invariant.1
-    room state savable body body_is said.disk said.front why.0
+    room state spelled.1 body spelled.0 said.disk said.front why.0
     (λ h. said.any_moment h why.0) h))
 
 pub returns-in-Err-Failed-clause-advances : goal.returns-in-Err-Failed-clause-advances
