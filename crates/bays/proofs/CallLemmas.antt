@@ -32,7 +32,8 @@ use Rattle.drive_core.specs.Work.{Request}
 use Rattle.aptpl_store.specs.Contents.{latest}
 use Rattle.aptpl_store.specs.Kept.{core_of, store_below, store_kept, store_rules}
 use Rattle.aptpl_store.specs.State.{OpenStore}
-use Rattle.bays.specs.Reservations.{Asked, Call, CallDoes, ChangesBay, IsHolding, IsOrdered, IsOrderedIn, MayStand, Moved, Turned}
+use Rattle.drive_core.specs.Run.{Asked, Turned}
+use Rattle.bays.specs.Reservations.{Call, CallDoes, ChangesBay, IsHolding, IsOrdered, IsOrderedIn, MayStand, Moved, Served}
 use Rattle.bays.proofs.MachineLemmas.{Goes, step_goes}
 use Rattle.bays.proofs.StoreCoreLemmas.{none_torn}
 
@@ -194,20 +195,21 @@ module _ {M D : Type 0} (medium : M → MediumState) (below : Below M Change) (d
         → StandsOnceSaved saving keeper ordered.answer state ordered.established (machine_of medium store_kept old)
         answer
         (machine_of medium store_kept new)
-        → made.saved ≡ saved_by saving state → CallGoes old (Asked request reply) new
+        → made.saved ≡ saved_by saving state → CallGoes old (Served (Asked request reply)) new
     once_saved (Ok done) keeper saves stands made_is =
-        asked_to_save old new holding (Asked request reply) made.saved moves state ordered sound (Ok done) keeper
+        asked_to_save old new holding (Served (Asked request reply)) made.saved moves state ordered sound (Ok done)
+            keeper
         saves (ap (λ (m : Machine). m.keeper) stands.1) made_is (ap (λ (m : Machine). m.reservations) stands.1)
     once_saved (Err error) keeper saves stands made_is =
-        asked_to_save old new holding (Asked request reply) made.saved moves state ordered sound (Err error)
+        asked_to_save old new holding (Served (Asked request reply)) made.saved moves state ordered sound (Err error)
         keeper saves (ap (λ (m : Machine). m.keeper) stands.1) made_is (ap (λ (m : Machine). m.reservations) stands.1)
 
     stands_by : (needed : Bool) → needs_save old.reservations state ≡ needed
         → StandsBy needed ordered.answer state ordered.established (machine_of medium store_kept old) answer made
-        (machine_of medium store_kept new) → CallGoes old (Asked request reply) new
+        (machine_of medium store_kept new) → CallGoes old (Served (Asked request reply)) new
     stands_by false needed stands =
         let is : new.reservations ≡ state = ap (λ (m : Machine). m.reservations) stands.2 in
-        unsaved old new holding (Asked request reply) made.saved moves (ap (λ (m : Made). m.saved) stands.1)
+        unsaved old new holding (Served (Asked request reply)) made.saved moves (ap (λ (m : Made). m.saved) stands.1)
         (ap (λ (m : Machine). m.keeper) stands.2) (subst IsSound (sym is) sound)
         (ap power_loss is
         ∙ sym (lost old.reservations state ((due old.reservations state holding.sound sound).0 needed)))
@@ -217,15 +219,16 @@ module _ {M D : Type 0} (medium : M → MediumState) (below : Below M Change) (d
   -- a host is answered
   asked_goes : (old new : DriveState M (OpenStore D)) (request : Request) (reply : Reply)
       → IsHolding medium below disk old → Answers medium below store_kept (store_below disk) old request reply new
-      → CallGoes old (Asked request reply) new
+      → CallGoes old (Served (Asked request reply)) new
   asked_goes old new request reply holding answers =
       by (step_goes _ (machine_of medium store_kept old) request answers.answer answers.taken.made
       (machine_of medium store_kept new) answers.taken.step)
     where
       by : Goes (machine_of medium store_kept old) request answers.answer answers.taken.made
-          (machine_of medium store_kept new) → CallGoes old (Asked request reply) new
+          (machine_of medium store_kept new) → CallGoes old (Served (Asked request reply)) new
       by (inl none) =
-          unsaved old new holding (Asked request reply) answers.taken.made.saved answers.taken.saves.moved none.saved
+          unsaved old new holding (Served (Asked request reply)) answers.taken.made.saved answers.taken.saves.moved
+              none.saved
           none.keeper (subst IsSound (sym none.reservations) holding.sound) (ap power_loss none.reservations)
       by (inr order) =
           stands_by old new holding request reply answers.answer answers.taken.made answers.taken.saves.moved
@@ -251,11 +254,11 @@ module _ {M D : Type 0} (medium : M → MediumState) (below : Below M Change) (d
 
   -- a flusher's turn
   turned_goes : (old new : DriveState M (OpenStore D)) (turn : Turn) → IsHolding medium below disk old
-      → CallDoes medium below disk old (Turned turn) new → CallGoes old (Turned turn) new
+      → CallDoes medium below disk old (Served (Turned turn)) new → CallGoes old (Served (Turned turn)) new
   turned_goes old new turn holding takes =
       let same = turn_leaves _ (machine_of medium store_kept old) takes.step.0 (machine_of medium store_kept new)
       takes.step.1 in
-      unsaved old new holding (Turned turn) []
+      unsaved old new holding (Served (Turned turn)) []
       (subst (λ (k : OpenStore D). CoreMoves store_rules (one_disk disk) old.keeper.disk k.disk
       (core_of old.keeper) (core_of k) []) (sym takes.keeper)
       (core_moves_nowhere store_rules (one_disk disk) (one_is_device disk) old.keeper.disk (core_of old.keeper)
@@ -277,6 +280,6 @@ module _ {M D : Type 0} (medium : M → MediumState) (below : Below M Change) (d
 
   pub call_goes : (old new : DriveState M (OpenStore D)) (call : Call) → IsHolding medium below disk old
       → CallDoes medium below disk old call new → CallGoes old call new
-  call_goes old new (Asked request reply) holding does = asked_goes old new request reply holding does
-  call_goes old new (Turned turn) holding does = turned_goes old new turn holding does
+  call_goes old new (Served (Asked request reply)) holding does = asked_goes old new request reply holding does
+  call_goes old new (Served (Turned turn)) holding does = turned_goes old new turn holding does
   call_goes old new Moved holding does = moved_goes old new holding does

@@ -31,7 +31,8 @@ use Rattle.drive_core.specs.State.{medium_in}
 use Rattle.drive_core.specs.Work.{Request}
 use Rattle.bays.specs.Bays.{AnswersInEvent, AnswersLentInEvent, EventIn, EventOn, EveryMoment, EveryMomentOff, EveryMomentOn, IsSafeIn, KeepsBoth, KeepsCartridge, KeepsCartridgeIn, SavesIn, loaded_or_back, out_or_in}
 use Rattle.bays.specs.Elements.{BayState}
-use Rattle.bays.specs.Reservations.{Asked, Call, CallDoes, ChangesBay, GivesHeld, HoldingGives, HoldingGoesOn, IsHolding, Turned, disk_of}
+use Rattle.drive_core.specs.Run.{Asked, Turned}
+use Rattle.bays.specs.Reservations.{Call, CallDoes, ChangesBay, GivesHeld, HoldingGives, HoldingGoesOn, IsHolding, Served, disk_of}
 use Rattle.bays.specs.Reservations as call
 use Rattle.bays.proofs.CallLemmas.{carried_stays}
 use Rattle.bays.proofs.CartridgeLemmas.{Moved, moved_by, moved_nowhere}
@@ -206,9 +207,11 @@ module _ {D : Type 0} (state : D → DiskState) (is_disk : (disk : D) → (state
 
     asked_moments : (old new : BayState D) (request : Request) (reply : Reply) → KeepsBoth state old
         → (answers : Answers (state_of state) (buffer_below state) store_kept (store_below state) old request reply new)
-        → EveryMoment state old (Asked request reply) answers.taken.made (medium_in old.bay) (medium_in new.bay) new
+        → EveryMoment state old (Served (Asked request reply)) answers.taken.made (medium_in old.bay)
+            (medium_in new.bay) new
     asked_moments old new request reply kept answers =
-        every_moment old new (Asked request reply) answers.taken.made (medium_in old.bay) (medium_in new.bay) kept
+        every_moment old new (Served (Asked request reply)) answers.taken.made (medium_in old.bay)
+            (medium_in new.bay) kept
         answers kept.cartridge
         (moved_by state is_disk (medium_in old.bay) (medium_in new.bay) answers.taken.made.changes
         (is_device_fault answers.answer) answers.taken.advances)
@@ -229,9 +232,9 @@ module _ {D : Type 0} (state : D → DiskState) (is_disk : (disk : D) → (state
 
     pub turn_moments : (old new : BayState D) (turn : Turn) → KeepsBoth state old
         → TakesTurn (state_of state) (buffer_below state) store_kept old turn new
-        → EveryMoment state old (Turned turn) made_nothing (medium_in old.bay) (medium_in new.bay) new
+        → EveryMoment state old (Served (Turned turn)) made_nothing (medium_in old.bay) (medium_in new.bay) new
     turn_moments old new turn kept takes =
-        every_moment old new (Turned turn) made_nothing (medium_in old.bay) (medium_in new.bay) kept takes
+        every_moment old new (Served (Turned turn)) made_nothing (medium_in old.bay) (medium_in new.bay) kept takes
         kept.cartridge
         (moved_by state is_disk (medium_in old.bay) (medium_in new.bay) [] (turn_met_fault turn) takes.advances)
         (saves_nothing old.keeper new.keeper takes.keeper)

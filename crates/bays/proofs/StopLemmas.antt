@@ -20,7 +20,8 @@ use Rattle.accepting.specs.Device.{one_disk}
 use Rattle.accepting.specs.Events.{IsEvent, ShowsCore}
 use Rattle.aptpl_store.specs.Kept.{core_of, core_with, store_kept, store_rules}
 use Rattle.aptpl_store.specs.State.{OpenStore}
-use Rattle.bays.specs.Reservations.{Asked, Call, CallDoes, Calls, GivesHeld, HoldingGives, HoldingGoesOn, IsHolding, LeavesHeld, MayStand, Moved, OrdersStand, ReservationsOutlive, SwitchedOnHolds, Turned, disk_of}
+use Rattle.drive_core.specs.Run.{Asked, Turned}
+use Rattle.bays.specs.Reservations.{Call, CallDoes, Calls, GivesHeld, HoldingGives, HoldingGoesOn, IsHolding, LeavesHeld, MayStand, Moved, OrdersStand, ReservationsOutlive, Served, SwitchedOnHolds, disk_of}
 use Rattle.bays.proofs.MachineLemmas.{step_goes}
 use Rattle.bays.proofs.StandLemmas.{good_stands, step_stands}
 use Rattle.bays.proofs.CallLemmas.{CallGoes, call_goes, carried_stays, turn_leaves}
@@ -168,13 +169,13 @@ module _ {M D : Type 0} (medium : M → MediumState) (below : Below M Change) (d
 
   -- the reservations after a call
   pub stand : OrdersStand medium below disk
-  stand old new (Turned turn) takes = (
+  stand old new (Served (Turned turn)) takes = (
     inl (turn_leaves medium below disk is_disk keep due lost _ (machine_of medium store_kept old) takes.step.0
         (machine_of medium store_kept new) takes.step.1),
     tt,
   )
   stand old new Moved carried = (inl (carried_stays medium below disk old new carried).1, tt)
-  stand old new (Asked request reply) answers = (
+  stand old new (Served (Asked request reply)) answers = (
     step_stands (machine_of medium store_kept old) request answers.answer answers.taken.made
         (machine_of medium store_kept new) (step_goes _ (machine_of medium store_kept old) request answers.answer
         answers.taken.made (machine_of medium store_kept new) answers.taken.step),

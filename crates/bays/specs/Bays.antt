@@ -26,7 +26,8 @@ use Rattle.drive_core.specs.State.{medium_in}
 use Rattle.drive_core.specs.Work.{Request}
 use Rattle.bays.specs.Accepted.{PrEvent, order_rules, orders_core, pr_after, pr_after_all}
 use Rattle.bays.specs.Elements.{BayState}
-use Rattle.bays.specs.Reservations.{Asked, Call, GivesHeld, IsHolding, LeavesHeld, disk_of}
+use Rattle.drive_core.specs.Run.{Asked}
+use Rattle.bays.specs.Reservations.{Call, GivesHeld, IsHolding, LeavesHeld, Served, disk_of}
 
 module _ {D : Type 0} (state : D → DiskState) where
   -- a medium was opened before, or a crash leaves only what reads return (own)
@@ -106,7 +107,8 @@ module _ {D : Type 0} (state : D → DiskState) where
   -- (own)
   pub record AnswersInEvent (old : BayState D) (request : Request) (reply : Reply) (new : BayState D) : Type 0 where
     pub step : Answers (state_of state) (buffer_below state) store_kept (store_below state) old request reply new
-    pub moments : EveryMoment old (Asked request reply) step.taken.made (medium_in old.bay) (medium_in new.bay) new
+    pub moments :
+        EveryMoment old (Served (Asked request reply)) step.taken.made (medium_in old.bay) (medium_in new.bay) new
 
   -- the same for a host that lends its data: this is left of them (own)
   pub record AnswersLentInEvent
@@ -114,7 +116,7 @@ module _ {D : Type 0} (state : D → DiskState) where
     pub step :
         AnswersLent (state_of state) (buffer_below state) store_kept (store_below state) old request reply new left
     pub moments :
-        EveryMoment old (Asked request reply) step.step.taken.made (medium_in old.bay) (medium_in new.bay) new
+        EveryMoment old (Served (Asked request reply)) step.step.taken.made (medium_in old.bay) (medium_in new.bay) new
 
   -- all that the medium in a drive has accepted is safe, if there is a medium (own)
   abbrev pub IsSafeIn : Option (BufferState D) → Type 0

@@ -13,7 +13,8 @@ use Rattle.changer.specs.Slots.{is_slot}
 use Rattle.bays.specs.Bays.{EveryMoment, IsSafeIn, KeepsCartridgeIn}
 use Rattle.bays.specs.Elements.{BayState, HeldState, bay_at}
 use Rattle.bays.specs.Moves.{BayIs}
-use Rattle.bays.specs.Reservations.{Asked}
+use Rattle.drive_core.specs.Run.{Asked}
+use Rattle.bays.specs.Reservations.{Served}
 
 module _ {D : Type 0} (state : D → DiskState) where
   -- The drive of this number, which is no slot's address, answers a host, and nothing else changes. The command's event
@@ -34,7 +35,8 @@ module _ {D : Type 0} (state : D → DiskState) where
     pub kept : KeepsCartridgeIn state (medium_in bay.bay)
     pub positioned : IsBayPositioned (state_of state) bay.bay bay.position
     pub moments :
-        EveryMoment state bay (Asked request reply) step.taken.made (medium_in bay.bay) (medium_in left.bay) left
+        EveryMoment state bay (Served (Asked request reply)) step.taken.made (medium_in bay.bay)
+            (medium_in left.bay) left
     pub safe :
         IsSynchronizing (machine_of (state_of state) store_kept bay) request.cdb → Acknowledges reply
         → HonestIn (buffer_below state) (medium_in bay.bay) → IsSafeIn state (medium_in left.bay)

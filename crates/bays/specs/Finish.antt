@@ -12,7 +12,8 @@ use Rattle.tape_buffer.specs.State.{BufferState, state_of}
 use Rattle.aptpl_store.specs.Kept.{store_kept}
 use Rattle.bays.specs.Bays.{EveryMoment}
 use Rattle.bays.specs.Elements.{BayState, HeldState, bay_at}
-use Rattle.bays.specs.Reservations.{Turned}
+use Rattle.drive_core.specs.Run.{Turned}
+use Rattle.bays.specs.Reservations.{Served}
 use Rattle.bays.specs.declared.finishing.Unwritten.{Unwritten}
 
 module _ {D : Type 0} (state : D → DiskState) where
@@ -31,7 +32,7 @@ module _ {D : Type 0} (state : D → DiskState) where
   TurnsAt None None = Unit {0}
   TurnsAt (Some old) (Some new) =
       (turn : Turn) × TakesTurn (state_of state) (buffer_below state) store_kept old turn new
-      × EveryMoment state old (Turned turn) made_nothing (medium_in old.bay) (medium_in new.bay) new
+      × EveryMoment state old (Served (Turned turn)) made_nothing (medium_in old.bay) (medium_in new.bay) new
   TurnsAt _ _ = ⊥
 
   -- the drive, if there is one, has nothing left to write (own)

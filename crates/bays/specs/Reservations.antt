@@ -23,16 +23,15 @@ use Rattle.drive_core.specs.Execute.{Answers}
 use Rattle.drive_core.specs.declared.bays.Bay.TheVariants.{Unloaded}
 use Rattle.drive_core.specs.Media.{GoesOut, SwitchesOn, TakesIn, TakesTurn}
 use Rattle.drive_core.specs.State.{DriveState, Machine, left_of, machine_of}
+use Rattle.drive_core.specs.Run.{Asked, Event, Turned}
 use Rattle.drive_core.specs.Work.{Request}
 use Rattle.aptpl_store.specs.Contents.{OpensAs, ShowsStates, latest}
 use Rattle.aptpl_store.specs.Kept.{store_below, store_kept}
 use Rattle.aptpl_store.specs.State.{OpenStore}
 
--- a call of a drive: a host's request, with its reply; a flusher's turn, with its result; or a cartridge in or out
--- (own)
+-- a call of a drive: an event that it serves, or a cartridge in or out (own)
 pub data Call : Type 0 where
-  Asked : (request : Request) → (reply : Reply) → Call
-  Turned : (turn : Turn) → Call
+  Served : (event : Event) → Call
   Moved : Call
 
 -- the state after the order of a request, which has passed all checks (SPC-4, PERSISTENT RESERVE OUT)
@@ -48,16 +47,16 @@ pub record IsOrdered (machine : Machine) (request : Request) (state : PrState) :
 
 -- the state after the order of a call, if it is one (own)
 abbrev pub IsOrderedIn : Machine → Call → PrState → Type 0
-IsOrderedIn machine (Asked request reply) state = IsOrdered machine request state
-IsOrderedIn machine (Turned turn) state = ⊥
+IsOrderedIn machine (Served (Asked request reply)) state = IsOrdered machine request state
+IsOrderedIn machine (Served (Turned turn)) state = ⊥
 IsOrderedIn machine Moved state = ⊥
 
 -- the state of an order with the reply GOOD is held (SPC-4, PERSISTENT RESERVE OUT)
 abbrev pub StandsWhereGood : Machine → Call → PrState → Type 0
-StandsWhereGood machine (Asked request reply) state =
+StandsWhereGood machine (Served (Asked request reply)) state =
     (action : PrAction) (bytes : ℕ) → verdict machine request ≡ Ok (PersistentReserveOut action bytes)
     → reply.status ≡ Good → IsOrdered machine request state
-StandsWhereGood machine (Turned turn) state = Unit {0}
+StandsWhereGood machine (Served (Turned turn)) state = Unit {0}
 StandsWhereGood machine Moved state = Unit {0}
 
 module _ {M D : Type 0} (medium : M → MediumState) (below : Below M Change) (disk : D → DiskState) where
@@ -70,8 +69,9 @@ module _ {M D : Type 0} (medium : M → MediumState) (below : Below M Change) (d
 
   -- a drive before and after a call (own)
   abbrev pub CallDoes : DriveState M (OpenStore D) → Call → DriveState M (OpenStore D) → Type 0
-  CallDoes old (Asked request reply) new = Answers medium below store_kept (store_below disk) old request reply new
-  CallDoes old (Turned turn) new = TakesTurn medium below store_kept old turn new
+  CallDoes old (Served (Asked request reply)) new =
+      Answers medium below store_kept (store_below disk) old request reply new
+  CallDoes old (Served (Turned turn)) new = TakesTurn medium below store_kept old turn new
   CallDoes old Moved new = ChangesBay old new
 
   -- calls one after another, each on the drive that the last one left (own)

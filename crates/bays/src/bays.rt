@@ -13,7 +13,8 @@ ghost use Rattle.tape_buffer.specs.State.{state_of};
 ghost use Rattle.aptpl_store.specs.Kept.{store_below, store_kept};
 ghost use Rattle.bays.specs.Bays.{AnswersInEvent, AnswersLentInEvent, EveryMoment, EveryMomentOff, EveryMomentOn, IsSafeIn, KeepsBoth, KeepsCartridgeIn, ShowsOrders, loaded_or_back, out_or_in};
 ghost use Rattle.bays.specs.Inner.Going.{IsAwakeIn};
-ghost use Rattle.bays.specs.Reservations.{GivesHeld, Moved, Turned};
+ghost use Rattle.drive_core.specs.Run.{Turned};
+ghost use Rattle.bays.specs.Reservations.{GivesHeld, Moved, Served};
 
 use crate::laws::reservations::reservations_outlive_each_stop;
 use crate::parked::Parked;
@@ -184,7 +185,7 @@ impl<D: Disk> Bay<D> {
     /// A flusher's turn: stores what is pending. It takes no memory.
     pub fn turn(&mut self) -> Turn
         ensures turned { TakesTurn (state_of D.state) (buffer_below D.state) store_kept self.old result self.new }
-        ensures moments { EveryMoment D.state self.old (Turned result) made_nothing (medium_in self.old.bay)
+        ensures moments { EveryMoment D.state self.old (Served (Turned result)) made_nothing (medium_in self.old.bay)
             (medium_in self.new.bay) self.new }
     {
         reservations_outlive_each_stop::<Cataloged<D>, D>();

@@ -2,7 +2,8 @@ use Rattle.std.proofs.Common.{subst}
 use Rattle.drive_core.specs.Execute.{asked}
 use Rattle.bays.specs.Bays.{AnswersInEvent}
 use Rattle.bays.specs.Elements.{BayState}
-use Rattle.bays.specs.Reservations.{Asked}
+use Rattle.drive_core.specs.Run.{Asked}
+use Rattle.bays.specs.Reservations.{Served}
 use Rattle.bays.proofs.MomentLemmas.{answers_in_event, call_keeps}
 use Rattle.bays.proofs.bays.Bay.execute.Goals as goal
 
@@ -10,7 +11,7 @@ pub invariant_of-self : goal.invariant_of-self
 invariant_of-self g c =
     call_keeps g.D.Disk.state g.met.D.Disk.is_disk c.reservations_outlive_each_stop.ensures.goes_on
     c.self.inside.drive c.execute-reply.new.self
-    (Asked (asked c.args.nexus c.args.cdb.now c.args.sent.now) c.execute-reply.result) c.self.invariant
+    (Served (Asked (asked c.args.nexus c.args.cdb.now c.args.sent.now) c.execute-reply.result)) c.self.invariant
     c.execute-reply.ensures.step c.known.ensures
 
 pub returns-clause-moments : goal.returns-clause-moments
