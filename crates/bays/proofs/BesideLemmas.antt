@@ -70,17 +70,17 @@ module _ {A : Type 0} where
 
 module _ {A B : Type 0} (f : A → B) where
   -- a mapped value belongs to the same line
-  kept_map : (test : Bool) (value : A) (values : List A) (made : List B) → made ≡ map f values
+  chosen_map : (test : Bool) (value : A) (values : List A) (made : List B) → made ≡ map f values
       → cond test (f value ∷ made) made ≡ map f (cond test (value ∷ values) values)
-  kept_map true value values made is = ap (λ (rest : List B). f value ∷ rest) is
-  kept_map false value values made is = is
+  chosen_map true value values made is = ap (λ (rest : List B). f value ∷ rest) is
+  chosen_map false value values made is = is
 
   pub beside_map : (number : ℕ) (lines : List Line) (values : List A)
       → beside number lines (map f values) ≡ map f (beside number lines values)
   beside_map number [] values = refl
   beside_map number (line ∷ lines) [] = refl
   beside_map number (line ∷ lines) (value ∷ values) =
-      kept_map (line.drive == number) value (beside number lines values) (beside number lines (map f values))
+      chosen_map (line.drive == number) value (beside number lines values) (beside number lines (map f values))
       (beside_map number lines values)
 
   -- the values of all lines, from those of each drive

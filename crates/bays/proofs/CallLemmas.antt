@@ -198,7 +198,7 @@ module _ {M D : Type 0} (medium : M → MediumState) (below : Below M Change) (d
         → made.saved ≡ saved_by saving state → CallGoes old (Served (Asked request reply)) new
     once_saved (Ok done) keeper saves stands made_is =
         asked_to_save old new holding (Served (Asked request reply)) made.saved moves state ordered sound (Ok done)
-            keeper
+        keeper
         saves (ap (λ (m : Machine). m.keeper) stands.1) made_is (ap (λ (m : Machine). m.reservations) stands.1)
     once_saved (Err error) keeper saves stands made_is =
         asked_to_save old new holding (Served (Asked request reply)) made.saved moves state ordered sound (Err error)
@@ -228,7 +228,7 @@ module _ {M D : Type 0} (medium : M → MediumState) (below : Below M Change) (d
           (machine_of medium store_kept new) → CallGoes old (Served (Asked request reply)) new
       by (inl none) =
           unsaved old new holding (Served (Asked request reply)) answers.taken.made.saved answers.taken.saves.moved
-              none.saved
+          none.saved
           none.keeper (subst IsSound (sym none.reservations) holding.sound) (ap power_loss none.reservations)
       by (inr order) =
           stands_by old new holding request reply answers.answer answers.taken.made answers.taken.saves.moved

@@ -19,8 +19,8 @@ module _ {D : Type 0} (state : D → DiskState) (from to : ℕ) (slots : List (O
       → Each (λ old new. MovesMedium state old from to reply new)
   each_answer moved bays named = (moved bays named).answer
 
-  pub each_kept : ((disk : D) → (state disk).honest → IsDisk (state disk))
+  pub each_keeps : ((disk : D) → (state disk).honest → IsDisk (state disk))
       → MovesLent state from to slots source destination reply slots' source' destination'
       → Each (λ old new. KeepsCartridges state old from to reply new)
-  each_kept is_disk moved bays named =
+  each_keeps is_disk moved bays named =
       let so = moved bays named in moves_keep state is_disk _ _ from to reply so.awake so.answer

@@ -208,10 +208,10 @@ module _ {D : Type 0} (state : D → DiskState) (is_disk : (disk : D) → (state
     asked_moments : (old new : BayState D) (request : Request) (reply : Reply) → KeepsBoth state old
         → (answers : Answers (state_of state) (buffer_below state) store_kept (store_below state) old request reply new)
         → EveryMoment state old (Served (Asked request reply)) answers.taken.made (medium_in old.bay)
-            (medium_in new.bay) new
+        (medium_in new.bay) new
     asked_moments old new request reply kept answers =
         every_moment old new (Served (Asked request reply)) answers.taken.made (medium_in old.bay)
-            (medium_in new.bay) kept
+        (medium_in new.bay) kept
         answers kept.cartridge
         (moved_by state is_disk (medium_in old.bay) (medium_in new.bay) answers.taken.made.changes
         (is_device_fault answers.answer) answers.taken.advances)

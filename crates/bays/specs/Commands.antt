@@ -32,11 +32,11 @@ module _ {D : Type 0} (state : D → DiskState) where
         (machine_of (state_of state) store_kept left)
     pub now : BayIs number left old new
     pub number_is : is_slot number ≡ false
-    pub kept : KeepsCartridgeIn state (medium_in bay.bay)
+    pub keeps : KeepsCartridgeIn state (medium_in bay.bay)
     pub positioned : IsBayPositioned (state_of state) bay.bay bay.position
     pub moments :
         EveryMoment state bay (Served (Asked request reply)) step.taken.made (medium_in bay.bay)
-            (medium_in left.bay) left
+        (medium_in left.bay) left
     pub safe :
         IsSynchronizing (machine_of (state_of state) store_kept bay) request.cdb → Acknowledges reply
         → HonestIn (buffer_below state) (medium_in bay.bay) → IsSafeIn state (medium_in left.bay)

@@ -15,7 +15,7 @@ impl<D: Disk> Bay<D> {
     /// The drive, with the bay's invariant of its cartridge and its store.
     pub fn into_drive(self) -> Drive<Cataloged<D>, AptplStore<D>>
         ensures same { result ≡ self }
-        ensures kept { KeepsBoth D.state self }
+        ensures keeps { KeepsBoth D.state self }
     {
         self.drive
     }

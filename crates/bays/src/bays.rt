@@ -82,7 +82,7 @@ pub(crate) fn known<D: Disk>(drive: &Drive<Cataloged<D>, AptplStore<D>>)
 fn medium_of<D: Disk>(cartridge: Option<Parked<D>>) -> Option<Cataloged<D>>
     ensures same { result ≡ cartridge }
     ensures parked { IfSome result (λ medium. (state_of D.state medium).awake ≡ false) }
-    ensures kept { KeepsCartridgeIn D.state result }
+    ensures keeps { KeepsCartridgeIn D.state result }
 {
     match cartridge {
         Some(cartridge) => Some(cartridge.into_medium()),
@@ -270,7 +270,7 @@ impl<D: Disk> Bay<D> {
     /// The type's invariant: over honest disks, what a crash may leave now of the cartridge, and of the
     /// reservations.
     pub fn known(&self)
-        ensures kept { KeepsBoth D.state self.now }
+        ensures keeps { KeepsBoth D.state self.now }
 
         // How an image of the store's disk opens, and what it gives of the orders that led to the
         // reservations.

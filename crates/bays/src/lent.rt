@@ -225,7 +225,7 @@ pub fn move_lent<D: Disk + Drop>(
     ensures answer { InEach from to slots.old (lent source.entry) (lent destination.entry)
         slots.new (back source.entry source.exit) (back destination.entry destination.exit)
         (λ old new. MovesMedium D.state old from to result new) }
-    ensures kept { InEach from to slots.old (lent source.entry) (lent destination.entry)
+    ensures keeps { InEach from to slots.old (lent source.entry) (lent destination.entry)
         slots.new (back source.entry source.exit) (back destination.entry destination.exit)
         (λ old new. KeepsCartridges D.state old from to result new) }
     ensures counted_out { KeepsCount (lent source.entry) (back source.entry source.exit) }

@@ -42,7 +42,7 @@ impl<D: Disk + Drop> Held<D> {
     /// its source, unloaded, and the reply is the drive's.
     pub fn move_medium(&mut self, from: u32, to: u32) -> Reply
         ensures answer { MovesMedium D.state self.old from to result self.new }
-        ensures kept { KeepsCartridges D.state self.old from to result self.new }
+        ensures keeps { KeepsCartridges D.state self.old from to result self.new }
         ensures bays { KeepsBays self.old self.new }
     {
         // A drive that both addresses name is taken out as the source; the destination is then None.

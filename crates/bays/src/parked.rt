@@ -50,7 +50,7 @@ impl<D: Disk> Parked<D> {
     pub fn into_medium(self) -> Cataloged<D>
         ensures same { result ≡ self }
         ensures parked { (state_of D.state result).awake ≡ false }
-        ensures kept { KeepsCartridge D.state result }
+        ensures keeps { KeepsCartridge D.state result }
     {
         self.medium
     }
@@ -58,7 +58,7 @@ impl<D: Disk> Parked<D> {
     /// The type's invariant.
     pub fn known(&self)
         ensures parked { (state_of D.state self.now).awake ≡ false }
-        ensures kept { KeepsCartridge D.state self.now }
+        ensures keeps { KeepsCartridge D.state self.now }
     {
         // Read for the proof: the facts are the type's invariant.
         let _ = &self.medium;

@@ -18,7 +18,7 @@ use Rattle.record_index.specs.Indexes.{LiesAt}
 use Rattle.record_index.specs.Inner.Spelled.{change_again, length-spell, rest_again}
 use Rattle.cartridge.specs.Lying.{IsPlaceOf, LiesIn}
 use Rattle.cartridge.proofs.WalkingLemmas.{lies_here}
-use Rattle.record_index.specs.Places.{PlacedPart, record_kept, record_part, placed_after, placed_by, placed_objects, reserved_in, reserved_of, runs_of, with_objects_in}
+use Rattle.record_index.specs.Places.{PlacedPart, record_staying, record_part, placed_after, placed_by, placed_objects, reserved_in, reserved_of, runs_of, with_objects_in}
 use Rattle.cartridge.specs.Answers.{entries_of}
 use Rattle.cartridge.specs.Inner.Growing.{TakesEntries}
 use Rattle.cartridge.proofs.RecordLemmas.{inside_of, same_length}
@@ -85,7 +85,7 @@ reserved_elsewhere index item place reserved p other = by (slice_get index (reco
   where
     by : (found : Option PlacedPart)
         → reserved_of (with_objects_in found index (record_part item)
-        (take (record_kept item) (placed_objects index (record_part item)) ++ placed_by item place) reserved) p
+        (take (record_staying item) (placed_objects index (record_part item)) ++ placed_by item place) reserved) p
         ≡ reserved_of index p
     by None = refl
     by (Some part) = ap reserved_in (set_elsewhere index (record_part item) p _ other)
@@ -139,8 +139,8 @@ none_of part volume (Marks p at count) none beyond =
     zero_unless (part == p) (λ e. absurd (omega (arith, eqb-true part p e, inside, beyond)))
 none_of part volume (Erase p at) none beyond = refl
 
-length_kept : (volume : List Part) (change : Change) → length (changed volume change) ≡ length volume
-length_kept volume change = same_length (slice_get volume (volumes.part_of change)) volume change
+length_same : (volume : List Part) (change : Change) → length (changed volume change) ≡ length volume
+length_same volume change = same_length (slice_get volume (volumes.part_of change)) volume change
 
 -- changes that apply take nothing of a partition that is not there
 pub entries_none : (volume : List Part) (changes : List Change) (part : ℕ) → AllApply volume changes
@@ -151,7 +151,7 @@ entries_none volume (change ∷ changes) part apply beyond =
       arith,
       sum_by-cons (entries_of part) change changes,
       none_of part volume change apply.0 beyond,
-      entries_none (changed volume change) changes part apply.1 (omega (arith, beyond, length_kept volume change)),
+      entries_none (changed volume change) changes part apply.1 (omega (arith, beyond, length_same volume change)),
     )
 
 -- a change's record stands at the front of its spelling, whatever follows

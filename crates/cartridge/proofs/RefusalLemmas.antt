@@ -10,7 +10,7 @@ use Rattle.volume_core.specs.declared.changes.Change.{Change}
 use Rattle.volume_core.specs.declared.changes.Refusal.{Refusal}
 use Rattle.volume_core.specs.declared.changes.Refusal.TheVariants.{NoPartition, NoRoom, PastEnd, TooLong}
 use Rattle.volume_core.specs.declared.objects.Object.{Object}
-use Rattle.volume_core.specs.Volume.{Part, added_by, capacity_in, capacity_of, cost_of, count_of, empty_part, has_room, is_well_formed, kept_of, objects_after, objects_in, part_of, refusal_in, refusal_of, used_of, used_up_to}
+use Rattle.volume_core.specs.Volume.{Part, added_by, capacity_in, capacity_of, cost_of, count_of, empty_part, has_room, is_well_formed, staying_of, objects_after, objects_in, part_of, refusal_in, refusal_of, used_of, used_up_to}
 
 -- the first of the three causes that holds: it is past the end, there is no room, or it is not well-formed
 abbrev cause : Bool → Bool → Bool → Option Refusal
@@ -18,54 +18,54 @@ cause past room fine =
     if past then Some PastEnd else (if not room then Some NoRoom else (if not fine then Some TooLong else None))
 
 -- how many objects a partition has after a change
-pub size_after : (objects : List Object) (change : Change) → kept_of change ≤ length objects
-    → length (objects_after objects change) ≡ kept_of change + length (added_by change)
-size_after objects change kept =
+pub size_after : (objects : List Object) (change : Change) → staying_of change ≤ length objects
+    → length (objects_after objects change) ≡ staying_of change + length (added_by change)
+size_after objects change staying =
     omega (
       arith,
-      length-append (take (kept_of change) objects) (added_by change),
-      length-take-le (kept_of change) objects kept,
+      length-append (take (staying_of change) objects) (added_by change),
+      length-take-le (staying_of change) objects staying,
     )
 
 past_end_in : (found : Option Part) (change : Change) → (found ≡ None → ⊥)
-    → length (objects_in found) < kept_of change → refusal_in found change ≡ Some PastEnd
+    → length (objects_in found) < staying_of change → refusal_in found change ≡ Some PastEnd
 past_end_in None change some past = absurd (some refl)
 past_end_in (Some part) change some past =
-    let is_past = lt-ltb (length part.objects) (kept_of change) past in
+    let is_past = lt-ltb (length part.objects) (staying_of change) past in
     λ i. cause (is_past i) (has_room part (objects_after part.objects change)) (is_well_formed change)
 
 no_room_in : (found : Option Part) (change : Change) → (found ≡ None → ⊥)
-    → kept_of change ≤ length (objects_in found)
-    → (MAX_OBJECTS < kept_of change + length (added_by change))
-    ⊎ (capacity_in found < used_of (take (kept_of change) (objects_in found)) + used_of (added_by change))
+    → staying_of change ≤ length (objects_in found)
+    → (MAX_OBJECTS < staying_of change + length (added_by change))
+    ⊎ (capacity_in found < used_of (take (staying_of change) (objects_in found)) + used_of (added_by change))
     → refusal_in found change ≡ Some NoRoom
-no_room_in None change some kept lacks = absurd (some refl)
-no_room_in (Some part) change some kept lacks =
+no_room_in None change some staying lacks = absurd (some refl)
+no_room_in (Some part) change some staying lacks =
     let objects = objects_after part.objects change in
-    let fits = le-ltb (length part.objects) (kept_of change) kept in
+    let fits = le-ltb (length part.objects) (staying_of change) staying in
     let none : has_room part objects ≡ false =
     ⊎_elim
     (λ many. and_left _ _ (lt-leb (length objects) MAX_OBJECTS
-    (omega (arith, many, size_after part.objects change kept))))
+    (omega (arith, many, size_after part.objects change staying))))
     (λ much. and_right _ _ (lt-leb (used_of objects) part.capacity
-    (omega (arith, much, sum_by-append cost_of (take (kept_of change) part.objects) (added_by change)))))
+    (omega (arith, much, sum_by-append cost_of (take (staying_of change) part.objects) (added_by change)))))
     lacks in
     λ i. cause (fits i) (none i) (is_well_formed change)
 
 rest_in : (found : Option Part) (change : Change) → (found ≡ None → ⊥)
-    → kept_of change ≤ length (objects_in found)
-    → kept_of change + length (added_by change) ≤ MAX_OBJECTS
-    → used_of (take (kept_of change) (objects_in found)) + used_of (added_by change) ≤ capacity_in found
+    → staying_of change ≤ length (objects_in found)
+    → staying_of change + length (added_by change) ≤ MAX_OBJECTS
+    → used_of (take (staying_of change) (objects_in found)) + used_of (added_by change) ≤ capacity_in found
     → refusal_in found change ≡ cause false true (is_well_formed change)
-rest_in None change some kept few fit = absurd (some refl)
-rest_in (Some part) change some kept few fit =
+rest_in None change some staying few fit = absurd (some refl)
+rest_in (Some part) change some staying few fit =
     let objects = objects_after part.objects change in
-    let fits = le-ltb (length part.objects) (kept_of change) kept in
+    let fits = le-ltb (length part.objects) (staying_of change) staying in
     let room : has_room part objects ≡ true =
     and_from _ _
-    (le-leb (length objects) MAX_OBJECTS (omega (arith, few, size_after part.objects change kept)))
+    (le-leb (length objects) MAX_OBJECTS (omega (arith, few, size_after part.objects change staying)))
     (le-leb (used_of objects) part.capacity
-    (omega (arith, fit, sum_by-append cost_of (take (kept_of change) part.objects) (added_by change)))) in
+    (omega (arith, fit, sum_by-append cost_of (take (staying_of change) part.objects) (added_by change)))) in
     λ i. cause (fits i) (room i) (is_well_formed change)
 
 -- why a volume refuses a change, by what is seen of the partition of this number
@@ -80,50 +80,50 @@ module _ (volume : List Part) (change : Change) (part : ℕ) (here : part ≡ pa
       none-some (get_or volume (part_of change) (empty_part 0))
       (sym none ∙ slice_get-get_or volume (part_of change) (empty_part 0) (omega (arith, inside, here)))
 
-  pub past_end : part < length volume → count_of volume part < kept_of change
+  pub past_end : part < length volume → count_of volume part < staying_of change
       → refusal_of volume change ≡ Some PastEnd
   past_end inside past =
       past_end_in (slice_get volume (part_of change)) change (there_is inside)
       (omega (arith, past, ap (λ (n : ℕ). count_of volume n) here))
 
-  pub no_room : part < length volume → kept_of change ≤ count_of volume part
-      → (MAX_OBJECTS < kept_of change + length (added_by change))
-      ⊎ (capacity_of volume part < used_up_to volume part (kept_of change) + used_of (added_by change))
+  pub no_room : part < length volume → staying_of change ≤ count_of volume part
+      → (MAX_OBJECTS < staying_of change + length (added_by change))
+      ⊎ (capacity_of volume part < used_up_to volume part (staying_of change) + used_of (added_by change))
       → refusal_of volume change ≡ Some NoRoom
-  no_room inside kept lacks =
+  no_room inside staying lacks =
       no_room_in (slice_get volume (part_of change)) change (there_is inside)
-      (omega (arith, kept, ap (λ (n : ℕ). count_of volume n) here))
+      (omega (arith, staying, ap (λ (n : ℕ). count_of volume n) here))
       (⊎_elim (λ many. inl many)
       (λ much. inr (omega (
         arith,
         much,
         ap (λ (n : ℕ). capacity_of volume n) here,
-        ap (λ (n : ℕ). used_up_to volume n (kept_of change)) here,
+        ap (λ (n : ℕ). used_up_to volume n (staying_of change)) here,
       )))
       lacks)
 
-  rest : part < length volume → kept_of change ≤ count_of volume part
-      → kept_of change + length (added_by change) ≤ MAX_OBJECTS
-      → used_up_to volume part (kept_of change) + used_of (added_by change) ≤ capacity_of volume part
+  rest : part < length volume → staying_of change ≤ count_of volume part
+      → staying_of change + length (added_by change) ≤ MAX_OBJECTS
+      → used_up_to volume part (staying_of change) + used_of (added_by change) ≤ capacity_of volume part
       → refusal_of volume change ≡ cause false true (is_well_formed change)
-  rest inside kept few fit =
+  rest inside staying few fit =
       rest_in (slice_get volume (part_of change)) change (there_is inside)
-      (omega (arith, kept, ap (λ (n : ℕ). count_of volume n) here)) few
+      (omega (arith, staying, ap (λ (n : ℕ). count_of volume n) here)) few
       (omega (
         arith,
         fit,
         ap (λ (n : ℕ). capacity_of volume n) here,
-        ap (λ (n : ℕ). used_up_to volume n (kept_of change)) here,
+        ap (λ (n : ℕ). used_up_to volume n (staying_of change)) here,
       ))
 
-  pub too_long : part < length volume → kept_of change ≤ count_of volume part
-      → kept_of change + length (added_by change) ≤ MAX_OBJECTS
-      → used_up_to volume part (kept_of change) + used_of (added_by change) ≤ capacity_of volume part
+  pub too_long : part < length volume → staying_of change ≤ count_of volume part
+      → staying_of change + length (added_by change) ≤ MAX_OBJECTS
+      → used_up_to volume part (staying_of change) + used_of (added_by change) ≤ capacity_of volume part
       → is_well_formed change ≡ false → refusal_of volume change ≡ Some TooLong
-  too_long inside kept few fit bad = rest inside kept few fit ∙ ap (cause false true) bad
+  too_long inside staying few fit bad = rest inside staying few fit ∙ ap (cause false true) bad
 
-  pub unrefused : part < length volume → kept_of change ≤ count_of volume part
-      → kept_of change + length (added_by change) ≤ MAX_OBJECTS
-      → used_up_to volume part (kept_of change) + used_of (added_by change) ≤ capacity_of volume part
+  pub unrefused : part < length volume → staying_of change ≤ count_of volume part
+      → staying_of change + length (added_by change) ≤ MAX_OBJECTS
+      → used_up_to volume part (staying_of change) + used_of (added_by change) ≤ capacity_of volume part
       → is_well_formed change ≡ true → refusal_of volume change ≡ None
-  unrefused inside kept few fit well = rest inside kept few fit ∙ ap (cause false true) well
+  unrefused inside staying few fit well = rest inside staying few fit ∙ ap (cause false true) well

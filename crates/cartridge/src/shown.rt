@@ -23,12 +23,12 @@ pub fn refusal_shown(index: &Index, change: &Change) -> Option<Refusal>
     if part >= index.parts() {
         return Some(Refusal::NoPartition);
     }
-    let kept = change.kept();
-    if kept > index.count(part) {
+    let staying = change.staying();
+    if staying > index.count(part) {
         return Some(Refusal::PastEnd);
     }
-    let left = index.capacity(part) - index.used(part, kept);
-    if change.added() > MAX_OBJECTS - kept || change.cost() > left {
+    let left = index.capacity(part) - index.used(part, staying);
+    if change.added() > MAX_OBJECTS - staying || change.cost() > left {
         return Some(Refusal::NoRoom);
     }
     if !change.is_well_formed() {

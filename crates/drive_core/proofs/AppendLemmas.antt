@@ -14,7 +14,7 @@ use Rattle.volume_core.specs.declared.media.MediumError.{MediumError}
 use Rattle.volume_core.specs.declared.media.MediumError.TheVariants as medium
 use Rattle.volume_core.specs.declared.objects.Object.{Object}
 use Rattle.volume_core.specs.declared.objects.Object.TheVariants.{Block}
-use Rattle.volume_core.specs.Volume.{Part, objects_of, capacity_of, used_up_to, used_of, cost_of, refusal_in, refusal_of, changed, part_after, added_by, part_of, kept_of, is_well_formed}
+use Rattle.volume_core.specs.Volume.{Part, objects_of, capacity_of, used_up_to, used_of, cost_of, refusal_in, refusal_of, changed, part_after, added_by, part_of, staying_of, is_well_formed}
 use Rattle.volume_core.specs.Medium.{Accepts, Fits, HasRoomFor, IsFull, MediumState, frame_size, met_fault, volume_of}
 use Rattle.positioning.specs.declared.positions.Pos.{Pos}
 use Rattle.drive_core.specs.declared.faults.Fault.{Fault}
@@ -44,21 +44,21 @@ slice_get-set (x ∷ xs) (suc p) part h = slice_get-set xs p part (omega (arith,
 
 -- behind a change stand the objects that stayed, and those that it adds
 count_changed : (volume : List Part) (change : Change) → part_of change < length volume
-    → kept_of change ≤ length (objects_of volume (part_of change))
-    → length (objects_of (changed volume change) (part_of change)) ≡ kept_of change + length (added_by change)
+    → staying_of change ≤ length (objects_of volume (part_of change))
+    → length (objects_of (changed volume change) (part_of change)) ≡ staying_of change + length (added_by change)
 count_changed volume change within at =
     let (part, is) = part_at volume (part_of change) within in
     let stands : changed volume change ≡ slice_set volume (part_of change) (part_after part change) = rw is refl in
     rw (stands, slice_get-set volume (part_of change) (part_after part change) within)
-    (simp length-append (omega (arith, length-take-le (kept_of change) part.objects (rw is at at))))
+    (simp length-append (omega (arith, length-take-le (staying_of change) part.objects (rw is at at))))
 
-refused_in : (part : Part) (change : Change) (cause : Refusal) → kept_of change ≤ length part.objects
+refused_in : (part : Part) (change : Change) (cause : Refusal) → staying_of change ≤ length part.objects
     → is_well_formed change ≡ true → refusal_in (Some part) change ≡ Some cause → cause ≡ NoRoom
 refused_in part change cause at formed e = grind (arith, nat_tests)
 
 -- a change that is well formed, at a position on the medium, is refused only where room is lacking
 refused_for_room : (volume : List Part) (change : Change) (cause : Refusal) → part_of change < length volume
-    → kept_of change ≤ length (objects_of volume (part_of change)) → is_well_formed change ≡ true
+    → staying_of change ≤ length (objects_of volume (part_of change)) → is_well_formed change ≡ true
     → refusal_of volume change ≡ Some cause → refusal_of volume change ≡ Some NoRoom
 refused_for_room volume change cause within at formed e =
     let (part, is) = part_at volume (part_of change) within in
@@ -70,7 +70,7 @@ within : (u : MediumState) (p : Pos) (change : Change) → IsOnWorkingMedium (mo
 within u p change ready at = rw at.part ready.on.on_tape.part
 
 reaches : (u : MediumState) (p : Pos) (change : Change) → IsOnWorkingMedium (mounted u p) → IsAt p change
-    → kept_of change ≤ length (objects_of (volume_of u) (part_of change))
+    → staying_of change ≤ length (objects_of (volume_of u) (part_of change))
 reaches u p change ready at = rw (at.part, at.object) ready.on.on_tape.object
 
 -- what does not fit adds something

@@ -47,7 +47,7 @@ one_more text line are = (
 )
 
 -- a line was added, or not
-pub kept : {E : Type 0} (result : Result (Unit {0}) E) (old line new : List ℕ) → AreLines old
+pub line_added : {E : Type 0} (result : Result (Unit {0}) E) (old line new : List ℕ) → AreLines old
     → new ≡ (if is_ok result then old ++ line_of line else old) → AreLines new
-kept (Ok done) old line new are is = rw is (one_more old line are)
-kept (Err why) old line new are is = rw is are
+line_added (Ok done) old line new are is = rw is (one_more old line are)
+line_added (Err why) old line new are is = rw is are

@@ -10,7 +10,7 @@ use Rattle.bays.specs.declared.finishing.Unwritten.{Unwritten}
 use Rattle.library.specs.Counts.{count_of_drive, one_if_there, or_none}
 use Rattle.library.specs.Ends.{counts_of}
 use Rattle.library.specs.Inner.Ending.{HaveEnded, OfEach, OneHasFailed, worse_of}
-use Rattle.library.specs.Kept.{IsLeftAt}
+use Rattle.library.specs.Keeps.{IsLeftAt}
 
 both : {b c : Bool} {bs cs : List Bool} → b ≡ c → bs ≡ cs → b ∷ bs ≡ c ∷ cs
 both {b = b} {cs = cs} one rest = ap (λ (xs : List Bool). b ∷ xs) rest ∙ ap (λ (x : Bool). x ∷ cs) one

@@ -20,7 +20,7 @@ use Rattle.split_bay.specs.Halves.{ExecutesBoth, ReportsBoth}
 use Rattle.split_bay.specs.Nears.{alone_near, near_below, state_near}
 use Rattle.split_bay.specs.Rings.{SendingState}
 use Rattle.library.specs.Halves.{EndsHeld, HasShare, HoldsBoth, JoinsHeld, PartsHeld}
-use Rattle.library.specs.Kept.{IsLeftBy}
+use Rattle.library.specs.Keeps.{IsLeftBy}
 use Rattle.library.specs.Served.{ServesFront, ServesHalves}
 use Rattle.library.proofs.CountLemmas.{seat_grows, share_stands}
 use Rattle.library.proofs.SaveLemmas.{saves_alone}
@@ -53,7 +53,7 @@ module _ {D : Type 0} (state : D → DiskState) where
           moments = moments;
           saves =
               saves_alone state old new.drive.keeper step.1.step.taken.made.saved kept step.1.step.taken.saves.moved;
-          kept = kept;
+          old_keeps = kept;
           keeps = keeps;
         },
         seat_grows state_near near_below store_kept (store_below state) old.drive request before reply new.drive after

@@ -12,7 +12,7 @@ use Rattle.bays.specs.declared.finishing.Unwritten.{Unwritten}
 use Rattle.library.specs.Counts.{count_of_drive, one_if_there, or_none}
 use Rattle.library.specs.Ends.{counts_of}
 use Rattle.library.specs.Inner.Ending.{HaveEnded, worse_of}
-use Rattle.library.specs.Kept.{IsLeftAt}
+use Rattle.library.specs.Keeps.{IsLeftAt}
 use Rattle.library.proofs.EndLemmas.{none_ended, one_ended}
 
 module _ {Y : Type 0} where

@@ -7,7 +7,7 @@ use Rattle.split_bay.specs.Backs.{BackState, TurnsBack, works_in}
 use Rattle.split_bay.specs.Fronts.{FrontState}
 use Rattle.split_bay.specs.Halves.{Joins, Parts, ReportsBoth, is_unreported}
 use Rattle.split_bay.specs.Rings.{SendingState}
-use Rattle.library.specs.Kept.{IsLeftBy}
+use Rattle.library.specs.Keeps.{IsLeftBy}
 
 module _ {D : Type 0} where
   -- the hosts' half is there, and the share of its drive is the count of what the drive accepted (own)

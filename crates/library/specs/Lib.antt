@@ -3,7 +3,7 @@ pub mod Crews
 pub mod Ends
 pub mod Halves
 pub mod Inner
-pub mod Kept
+pub mod Keeps
 pub mod MovesAt
 pub mod Ran
 pub mod RingRows

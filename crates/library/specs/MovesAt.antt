@@ -7,7 +7,7 @@ use Rattle.bays.specs.Elements.{BayState}
 use Rattle.bays.specs.Lent.{InEach}
 use Rattle.bays.specs.Moves.{KeepsCartridges, MovesMedium}
 use Rattle.library.specs.Counts.{has_drive}
-use Rattle.library.specs.Kept.{KeepsLent}
+use Rattle.library.specs.Keeps.{KeepsLent}
 
 module _ {D : Type 0} (state : D → DiskState) where
   -- In each library that has these slots, and these drives at the two addresses, a cartridge is moved, and none is
@@ -18,7 +18,7 @@ module _ {D : Type 0} (state : D → DiskState) where
     pub answer :
         InEach from to slots source destination slots' source' destination'
         (λ old new. MovesMedium state old from to reply new)
-    pub kept :
+    pub keeps :
         InEach from to slots source destination slots' source' destination'
         (λ old new. KeepsCartridges state old from to reply new)
     pub known : KeepsLent state slots source destination

@@ -10,7 +10,7 @@ use Rattle.bays.specs.Finish.{HasFailedAt, IsWrittenAt}
 use Rattle.library.specs.Counts.{has_drive, new_seat, which_are_there}
 use Rattle.library.specs.Crews.{AnswersCrew}
 use Rattle.library.specs.Ends.{counts_of, sum_of_counts, sum_of_seats}
-use Rattle.library.specs.Kept.{AreLeft}
+use Rattle.library.specs.Keeps.{AreLeft}
 use Rattle.library.specs.declared.finishing.FinishError.{FinishError}
 use Rattle.library.specs.declared.finishing.FinishError.TheVariants.{Unwritten}
 

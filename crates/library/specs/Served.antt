@@ -49,7 +49,7 @@ module _ {D : Type 0} (state : D → DiskState) where
         IsSynchronizing (machine_of state_near store_kept old.drive) request.cdb → Acknowledges reply → ⊥
     pub moments : LeavesOrders state old.drive request (Some reply) new.drive
     pub saves : SavesIn state old.drive.keeper new.drive.keeper step.1.step.taken.made.saved
-    pub kept : KeepsHostsHalf state old
+    pub old_keeps : KeepsHostsHalf state old
     pub keeps : KeepsHostsHalf state new
 
   -- Both halves of a drive answer a host, as the drive that they are together, which keeps what its type keeps, before

@@ -7,7 +7,7 @@ ghost use Rattle.bays.specs.Finish.{HasFailedAt, IsWrittenAt};
 ghost use Rattle.library.specs.Counts.{count_of_drive, one_if_there, or_none, which_are_there};
 ghost use Rattle.library.specs.Ends.{Balances, IsShort, counts_of, sum_of_counts, sum_of_seats};
 ghost use Rattle.library.specs.Inner.Ending.{HaveEnded, outcome_of, worse_of};
-ghost use Rattle.library.specs.Kept.{AreLeft, IsLeftAt, IsLeftByTurn};
+ghost use Rattle.library.specs.Keeps.{AreLeft, IsLeftAt, IsLeftByTurn};
 
 use crate::inventories::known_slots;
 use crate::libraries::Library;

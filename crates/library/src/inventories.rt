@@ -2,7 +2,7 @@
 ghost use Rattle.std.specs.Prelude.{◌≡◌, ◌<◌, ◌+◌, ℕ, None, Some, slice_index_or, true};
 ghost use Rattle.vtl_base.specs.declared.limits.TheConstants.{DRIVES, SLOTS};
 ghost use Rattle.library.specs.Counts.{has_drive};
-ghost use Rattle.library.specs.Kept.{KeepsShelvedIn, KeepsSlots};
+ghost use Rattle.library.specs.Keeps.{KeepsShelvedIn, KeepsSlots};
 ghost use Rattle.library.specs.Seen.{is_place_seen, seen_at};
 
 use crate::libraries::Library;

@@ -72,7 +72,7 @@ module _ (parts : List PlacedPart) (item : Record) (place : ℕ) (old new : Plac
   pub applies_here : (result : Result Unit ApplyError)
       → AppliesUnless (refusal_in (Some (filled_part blank old)) (outlined item)) old (record {
         capacity = old.capacity;
-        objects = take (places.record_kept item) old.objects ++ placed_by item place;
+        objects = take (places.record_staying item) old.objects ++ placed_by item place;
         reserved = new.reserved;
       }) result new
       → AppliesUnless (refusal_of (outline parts) (outlined item)) parts
@@ -82,9 +82,9 @@ module _ (parts : List PlacedPart) (item : Record) (place : ℕ) (old new : Plac
   applies_here (Ok done) answer = (
     refusal_here ∙ answer.0,
     set_is parts (places.record_part item) old new here
-        (take (places.record_kept item) old.objects ++ placed_by item place) answer.1
+        (take (places.record_staying item) old.objects ++ placed_by item place) answer.1
         ∙ ap (λ (l : List Placed). with_objects parts (places.record_part item)
-        (take (places.record_kept item) l ++ placed_by item place)
+        (take (places.record_staying item) l ++ placed_by item place)
         (reserved_of (slice_set parts (places.record_part item) new) (places.record_part item)))
         (sym (objects_here parts (places.record_part item) old new here)),
   )

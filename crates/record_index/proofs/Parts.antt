@@ -12,7 +12,7 @@ use Rattle.volume_core.specs.declared.objects.Object.TheVariants as Objects
 use Rattle.volume_core.specs.declared.changes.Change.{Change}
 use Rattle.volume_core.specs.declared.changes.Change.TheVariants as Changes
 use Rattle.volume_core.specs.declared.changes.Refusal.TheVariants.{PastEnd, NoRoom, TooLong}
-use Rattle.volume_core.specs.Volume.{IsObject, IsPart, Part, added_by, cost_of, has_room, is_well_formed, kept_of, objects_after, part_after, refusal_in, used_of}
+use Rattle.volume_core.specs.Volume.{IsObject, IsPart, Part, added_by, cost_of, has_room, is_well_formed, staying_of, objects_after, part_after, refusal_in, used_of}
 use Rattle.record_index.specs.declared.places.Placed.{Placed}
 use Rattle.record_index.specs.declared.places.Placed.TheVariants.{Block, Mark}
 use Rattle.record_index.specs.declared.records.Record.{Record}
@@ -20,7 +20,7 @@ use Rattle.record_index.specs.Places as places
 use Rattle.record_index.specs.Places.{PlacedPart, blank, filled, filled_part, outlined, placed_by}
 use Rattle.record_index.specs.Inner.Table.{Table}
 use Rattle.record_index.specs.Inner.Tables.{cost_of_objects, cost_of_placed}
-use Rattle.record_index.specs.Facts.{added_filled, filled_now, kept_filled}
+use Rattle.record_index.specs.Facts.{added_filled, filled_now, staying_filled}
 
 -- a partition by its capacity and its table
 abbrev pub placed_of : ℕ → Table → PlacedPart
@@ -73,59 +73,60 @@ module _ (part : PlacedPart) (item : Record) where
   abbrev change : Change
   change = outlined item
 
-  abbrev kept : ℕ
-  kept = places.record_kept item
+  abbrev staying : ℕ
+  staying = places.record_staying item
 
-  abbrev kept_objects : List Placed
-  kept_objects = take kept part.objects
+  abbrev staying_objects : List Placed
+  staying_objects = take staying part.objects
 
-  kept_is : kept_of change ≡ kept
-  kept_is = kept_filled blank item 0
+  staying_is : staying_of change ≡ staying
+  staying_is = staying_filled blank item 0
 
   abbrev past : Bool
-  past = nat_lt (length seen.objects) (kept_of change)
+  past = nat_lt (length seen.objects) (staying_of change)
 
   abbrev room : Bool
   room = has_room seen (objects_after seen.objects change)
 
-  reached : kept ≤ length part.objects → past ≡ false
-  reached few = le-ltb (length seen.objects) (kept_of change)
-      (omega (arith, few, kept_is, length-map part.objects (filled blank)))
+  reached : staying ≤ length part.objects → past ≡ false
+  reached few = le-ltb (length seen.objects) (staying_of change)
+      (omega (arith, few, staying_is, length-map part.objects (filled blank)))
 
-  length_after : length (objects_after seen.objects change) ≡ length kept_objects + length (added_by change)
+  length_after : length (objects_after seen.objects change) ≡ length staying_objects + length (added_by change)
   length_after =
-      length-append (take (kept_of change) seen.objects) (added_by change)
+      length-append (take (staying_of change) seen.objects) (added_by change)
       ∙ ap (λ (l : List Object). length l + length (added_by change))
-      (ap (λ (n : ℕ). take n seen.objects) kept_is ∙ take-map (filled blank) kept part.objects)
-      ∙ ap (λ (n : ℕ). n + length (added_by change)) (length-map kept_objects (filled blank))
+      (ap (λ (n : ℕ). take n seen.objects) staying_is ∙ take-map (filled blank) staying part.objects)
+      ∙ ap (λ (n : ℕ). n + length (added_by change)) (length-map staying_objects (filled blank))
 
-  used_after : used_of (objects_after seen.objects change) ≡ cost_of_objects kept_objects + used_of (added_by change)
+  used_after : used_of (objects_after seen.objects change) ≡ cost_of_objects staying_objects + used_of (added_by change)
   used_after =
-      sum_by-append cost_of (take (kept_of change) seen.objects) (added_by change)
+      sum_by-append cost_of (take (staying_of change) seen.objects) (added_by change)
       ∙ ap (λ (n : ℕ). n + used_of (added_by change))
-      (ap (λ (n : ℕ). used_of (take n seen.objects)) kept_is ∙ used_taken part.objects kept)
+      (ap (λ (n : ℕ). used_of (take n seen.objects)) staying_is ∙ used_taken part.objects staying)
 
   -- too many objects, or too many bytes
-  no_room : kept ≤ length part.objects → room ≡ false → refusal_in (Some seen) change ≡ Some NoRoom
+  no_room : staying ≤ length part.objects → room ≡ false → refusal_in (Some seen) change ≡ Some NoRoom
   no_room few full =
       cond-false past (Some PastEnd)
       (if not room then Some NoRoom else (if not (is_well_formed change) then Some TooLong else None)) (reached few)
       ∙ cond-true (not room) (Some NoRoom) (if not (is_well_formed change) then Some TooLong else None)
       (not_from_false room full)
 
-  pub too_many : kept ≤ length part.objects → MAX_OBJECTS < length kept_objects + length (added_by change)
+  pub too_many : staying ≤ length part.objects → MAX_OBJECTS < length staying_objects + length (added_by change)
       → refusal_in (Some seen) change ≡ Some NoRoom
   too_many few many = no_room few (and_left _ (nat_le (used_of (objects_after seen.objects change)) part.capacity)
       (lt-leb (length (objects_after seen.objects change)) MAX_OBJECTS (omega (arith, many, length_after))))
 
-  pub too_large : kept ≤ length part.objects
-      → part.capacity < cost_of_objects kept_objects + used_of (added_by change)
+  pub too_large : staying ≤ length part.objects
+      → part.capacity < cost_of_objects staying_objects + used_of (added_by change)
       → refusal_in (Some seen) change ≡ Some NoRoom
   too_large few large = no_room few (and_right (nat_le (length (objects_after seen.objects change)) MAX_OBJECTS) _
       (lt-leb (used_of (objects_after seen.objects change)) part.capacity (omega (arith, large, used_after))))
 
-  module _ (few : kept ≤ length part.objects) (enough : length kept_objects + length (added_by change) ≤ MAX_OBJECTS)
-      (fits : cost_of_objects kept_objects + used_of (added_by change) ≤ part.capacity) where
+  module _ (few : staying ≤ length part.objects) (enough : length staying_objects + length (added_by change) ≤
+      MAX_OBJECTS)
+      (fits : cost_of_objects staying_objects + used_of (added_by change) ≤ part.capacity) where
     roomy : room ≡ true
     roomy = and_from _ _
         (le-leb (length (objects_after seen.objects change)) MAX_OBJECTS (omega (arith, enough, length_after)))
@@ -165,14 +166,14 @@ module _ (part : PlacedPart) (item : Record) where
         few = leb-true (length (objects_after seen.objects change)) MAX_OBJECTS rooms.0;
         fits = leb-true (used_of (objects_after seen.objects change)) part.capacity rooms.1;
         well_formed =
-            All-append IsObject (take (kept_of change) seen.objects) (added_by change)
-            (All-take IsObject (kept_of change) seen.objects limits.well_formed) (formed_objects change parts.2);
+            All-append IsObject (take (staying_of change) seen.objects) (added_by change)
+            (All-take IsObject (staying_of change) seen.objects limits.well_formed) (formed_objects change parts.2);
       }
 
   pub limits_placed : (place reserved : ℕ) → IsPart seen → refusal_in (Some seen) change ≡ None
       → IsPart (filled_part blank (record {
         capacity = part.capacity;
-        objects = kept_objects ++ placed_by item place;
+        objects = staying_objects ++ placed_by item place;
         reserved = reserved;
       }))
   limits_placed place reserved limits none =
@@ -181,7 +182,7 @@ module _ (part : PlacedPart) (item : Record) where
 
   -- a change that is not refused takes no more than the capacity
   pub cost_after : refusal_in (Some seen) change ≡ None
-      → cost_of_objects kept_objects + used_of (added_by change) ≤ part.capacity
+      → cost_of_objects staying_objects + used_of (added_by change) ≤ part.capacity
   cost_after none =
       let parts = not_refused past room (is_well_formed change) none in
       let rooms = and_parts (nat_le (length (objects_after seen.objects change)) MAX_OBJECTS)
@@ -191,7 +192,7 @@ module _ (part : PlacedPart) (item : Record) where
 -- what a partition takes after a record is below 2^64
 pub cost_fits : (part : PlacedPart) (item : Record) (place : ℕ) → IsPart (filled_part blank part)
     → refusal_in (Some (filled_part blank part)) (outlined item) ≡ None
-    → cost_of_objects (take (places.record_kept item) part.objects ++ placed_by item place) < 2 ^ 64
+    → cost_of_objects (take (places.record_staying item) part.objects ++ placed_by item place) < 2 ^ 64
 cost_fits part item place limits none =
     let after = cost_after part item none in
     let added = ap used_of (sym (added_filled blank item place)) ∙ used_filled (placed_by item place) in
@@ -201,7 +202,7 @@ cost_fits part item place limits none =
       after,
       added,
       leb-true part.capacity MAX_CAPACITY room.1,
-      sum_by-append cost_of_placed (take (places.record_kept item) part.objects) (placed_by item place),
+      sum_by-append cost_of_placed (take (places.record_staying item) part.objects) (placed_by item place),
     )
 
 -- what a partition takes is below 2^64

@@ -12,20 +12,20 @@ use Rattle.record_index.specs.MarkRuns.{AreRunsOf, HasMarkAt, IsMarkRun, placed_
 use Rattle.record_index.specs.Inner.RunSearch.{IsLastBelow, IsNotBelow}
 use Rattle.record_index.proofs.PlacedMarks.{mark_within, same_run}
 use Rattle.record_index.proofs.RunLemmas.{first_rises, rest_later}
-use Rattle.record_index.proofs.Rows.{slice_get_kept, slice_get_left, slice_get_right, slice_get_row, slice_get_taken}
+use Rattle.record_index.proofs.Rows.{slice_get_staying, slice_get_left, slice_get_right, slice_get_row, slice_get_taken}
 
 module _ (objects : List Placed) (runs : List MarkRun) (are : AreRunsOf objects runs) where
   -- the runs before a place that does not follow a mark
-  module _ (end kept : ℕ) (last : Option MarkRun) (below : IsLastBelow runs First end kept last)
-      (behind : IsNotBelow (slice_get runs kept) First end)
+  module _ (end staying : ℕ) (last : Option MarkRun) (below : IsLastBelow runs First end staying last)
+      (behind : IsNotBelow (slice_get runs staying) First end)
       (starts : (at : ℕ) → at + 1 ≡ end → HasMarkAt objects at → ⊥) where
-    begins_below : (which : Option MarkRun) → IsLastBelow runs First end kept which
-        → (k : ℕ) (run : MarkRun) → k < kept → slice_get runs k ≡ Some run → run.first < end
+    begins_below : (which : Option MarkRun) → IsLastBelow runs First end staying which
+        → (k : ℕ) (run : MarkRun) → k < staying → slice_get runs k ≡ Some run → run.first < end
     begins_below None none k run less is = absurd (omega (arith, none, less))
     begins_below (Some other) some k run less is =
-        omega (arith, some.2, first_rises objects runs are k (kept - 1) run other (omega (arith, less)) is some.1)
+        omega (arith, some.2, first_rises objects runs are k (staying - 1) run other (omega (arith, less)) is some.1)
 
-    ends_before : (k : ℕ) (run : MarkRun) → k < kept → slice_get runs k ≡ Some run → run.first + run.count ≤ end
+    ends_before : (k : ℕ) (run : MarkRun) → k < staying → slice_get runs k ≡ Some run → run.first + run.count ≤ end
     ends_before k run less is =
         let begun = begins_below last below k run less is in
         elim (cases_lt end (run.first + run.count)) [
@@ -34,44 +34,44 @@ module _ (objects : List Placed) (runs : List MarkRun) (are : AreRunsOf objects 
               ((are.each k run is).marks (end - 1) (omega (arith, begun)) (omega (arith, past, begun))))
         ]
 
-    pub kept_runs : AreRunsOf (take end objects) (take kept runs)
-    kept_runs = record {
+    pub staying_runs : AreRunsOf (take end objects) (take staying runs)
+    staying_runs = record {
       each = λ k run is.
-          let old = slice_get_taken kept runs k run is in
+          let old = slice_get_taken staying runs k run is in
           let one = are.each k run old.1 in
           let within = ends_before k run old.0 old.1 in
           record {
             some = one.some;
             marks = λ at low high.
-                slice_get_kept end objects at (omega (arith, high, within)) ∙ one.marks at low high;
+                slice_get_staying end objects at (omega (arith, high, within)) ∙ one.marks at low high;
             before =
                 one.before
                 ∙ ap placed_marks (sym (take-take run.first end objects (omega (arith, within))));
           };
       apart = λ k n run other less is there.
-          are.apart k n run other less (slice_get_taken kept runs k run is).1
-          (slice_get_taken kept runs n other there).1;
+          are.apart k n run other less (slice_get_taken staying runs k run is).1
+          (slice_get_taken staying runs n other there).1;
       all = λ at mark.
           let old = slice_get_taken end objects at Mark mark in
           let found = are.all at old.1 in
-          let less : found.0 < kept = elim (cases_lt found.0 kept) [
+          let less : found.0 < staying = elim (cases_lt found.0 staying) [
             | inl less ↦ less
             | inr more ↦ absurd (omega (
               arith,
-              rest_later objects runs are end kept behind found.0 found.1 more
+              rest_later objects runs are end staying behind found.0 found.1 more
                   found.2,
               found.3,
               old.0,
             ))
           ] in
-          (found.0, found.1, slice_get_kept kept runs found.0 less ∙ found.2, found.3, found.4);
+          (found.0, found.1, slice_get_staying staying runs found.0 less ∙ found.2, found.3, found.4);
     }
 
     -- where it follows a mark, one more run begins there
-    pub one_behind : HasMarkAt objects end → kept < length runs
+    pub one_behind : HasMarkAt objects end → staying < length runs
     one_behind mark =
         let found = are.all end mark in
-        elim (cases_lt found.0 kept) [
+        elim (cases_lt found.0 staying) [
           | inl less ↦ absurd (omega (arith, ends_before found.0 found.1 less found.2, found.4))
           | inr more ↦ omega (arith, more, slice_get_within runs found.0 found.1 found.2)
         ]

@@ -11,9 +11,9 @@ use Rattle.record_index.specs.declared.halving.Key.TheVariants.{First}
 use Rattle.record_index.specs.MarkRuns.{AreRunsOf, HasMarkAt, placed_marks}
 use Rattle.record_index.specs.Inner.RunSearch.{IsLastBelow, IsNotBelow}
 use Rattle.record_index.specs.Inner.Tables.{AreTables, IsSplitAt, IsTable, blocks_of, cost_of_objects, cost_of_placed, objects_of, padded}
-use Rattle.record_index.proofs.Rows.{slice_get_kept}
+use Rattle.record_index.proofs.Rows.{slice_get_staying}
 use Rattle.record_index.proofs.PlacedMarks.{mark_within}
-use Rattle.record_index.proofs.RunChanges.{kept_runs, one_behind, runs_with_block, runs_with_marks}
+use Rattle.record_index.proofs.RunChanges.{staying_runs, one_behind, runs_with_block, runs_with_marks}
 use Rattle.record_index.proofs.TableLemmas.{blocks_push, length_padded, marks_of_blocks, no_mark_last, padded_none, padded_on, table_push, table_take}
 use Rattle.record_index.proofs.SplitLemmas.{cost_within, front_length, front_taken, mark_behind_front, taken}
 
@@ -42,13 +42,13 @@ module _ (entries : List BlockEntry) (objects : List Placed) (runs : List MarkRu
   ends at next mark =
       no_mark_last entries at (next ∙ end_is)
       (ap (λ (l : List Placed). slice_get l at) (sym begins)
-      ∙ slice_get_kept (length front) objects at (omega (arith, next, end_is)) ∙ mark)
+      ∙ slice_get_staying (length front) objects at (omega (arith, next, end_is)) ∙ mark)
 
-  kept_are : AreRunsOf front (take count runs)
-  kept_are =
+  staying_are : AreRunsOf front (take count runs)
+  staying_are =
       subst (λ (l : List Placed). AreRunsOf l (take count runs))
       (ap (λ (n : ℕ). take n objects) end_is ∙ begins)
-      (kept_runs objects runs are end count last below behind ends)
+      (staying_runs objects runs are end count last below behind ends)
 
   pub blocks_few : length entries ≤ end
   blocks_few = omega (arith, marks_of_blocks entries, end_is)
@@ -56,7 +56,7 @@ module _ (entries : List BlockEntry) (objects : List Placed) (runs : List MarkRu
   pub ended_with_none : (n : ℕ) → n ≡ end → AreRunsOf (padded front n) (take count runs)
   ended_with_none n same =
       subst (λ (l : List Placed). AreRunsOf l (take count runs))
-      (sym (ap (padded front) (same ∙ end_is) ∙ padded_none front)) kept_are
+      (sym (ap (padded front) (same ∙ end_is) ∙ padded_none front)) staying_are
 
   pub ended_with_run : (n : ℕ) (run : MarkRun) → end < n
       → run ≡ record { first = end; count = n - end; before = end - length entries }
@@ -67,37 +67,38 @@ module _ (entries : List BlockEntry) (objects : List Placed) (runs : List MarkRu
       let before_is : run.before ≡ end - length entries = ap (λ (r : MarkRun). r.before) is in
       let size : run.count ≡ n - length front = omega (arith, count_is, end_is) in
       subst (λ (m : ℕ). AreRunsOf (front ++ replicate m Mark) (take count runs ++ run ∷ [])) size
-      (runs_with_marks front (take count runs) kept_are (no_mark_last entries) run
+      (runs_with_marks front (take count runs) staying_are (no_mark_last entries) run
       (omega (arith, count_is, less)) (first_is ∙ end_is)
       (omega (arith, before_is, marks_of_blocks entries, end_is)))
 
 -- a cut
-module _ (entries : List BlockEntry) (runs : List MarkRun) (total n kept end count : ℕ) (last : Option MarkRun)
-    (tables : AreTables entries runs total) (split : IsSplitAt entries n kept) (few : kept ≤ length entries)
-    (less : n < total) (end_is : end ≡ length (blocks_of (take kept entries)))
+module _ (entries : List BlockEntry) (runs : List MarkRun) (total n staying end count : ℕ) (last : Option MarkRun)
+    (tables : AreTables entries runs total) (split : IsSplitAt entries n staying) (few : staying ≤ length entries)
+    (less : n < total) (end_is : end ≡ length (blocks_of (take staying entries)))
     (below : IsLastBelow runs First end count last) (behind : IsNotBelow (slice_get runs count) First end) where
   low : n ≤ total
   low = omega (arith, less)
 
-  begins_so : take (length (blocks_of (take kept entries))) (objects_of entries total) ≡ blocks_of (take kept entries)
-  begins_so = front_taken entries total n kept tables.table tables.within split few low
+  begins_so : take (length (blocks_of (take staying entries))) (objects_of entries total) ≡ blocks_of (take staying
+      entries)
+  begins_so = front_taken entries total n staying tables.table tables.within split few low
 
-  pub objects_cut : objects_of (take kept entries) n ≡ take n (objects_of entries total)
-  objects_cut = sym (taken entries total n kept tables.table tables.within split few low)
+  pub objects_cut : objects_of (take staying entries) n ≡ take n (objects_of entries total)
+  objects_cut = sym (taken entries total n staying tables.table tables.within split few low)
 
-  cut_within : length (blocks_of (take kept entries)) ≤ n
-  cut_within = front_length entries total n kept tables.table tables.within split few low
+  cut_within : length (blocks_of (take staying entries)) ≤ n
+  cut_within = front_length entries total n staying tables.table tables.within split few low
 
-  cut_cost : cost_of_objects (objects_of (take kept entries) n) < 2 ^ 64
+  cut_cost : cost_of_objects (objects_of (take staying entries) n) < 2 ^ 64
   cut_cost =
       omega (arith, ap cost_of_objects objects_cut, cost_within (objects_of entries total) n, tables.cost)
 
-  pub kept_few : kept ≤ end
-  kept_few =
+  pub staying_few : staying ≤ end
+  staying_few =
       omega (
         arith,
-        length-take-le kept entries few,
-        blocks_few (take kept entries) (objects_of entries total) runs tables.are_runs end count last below behind
+        length-take-le staying entries few,
+        blocks_few (take staying entries) (objects_of entries total) runs tables.are_runs end count last below behind
             end_is
             begins_so,
       )
@@ -105,31 +106,36 @@ module _ (entries : List BlockEntry) (runs : List MarkRun) (total n kept end cou
   pub run_there : end < n → count < length runs
   run_there more =
       one_behind (objects_of entries total) runs tables.are_runs end count last below behind
-      (ends (take kept entries) (objects_of entries total) runs tables.are_runs end count last below behind end_is
+      (ends (take staying entries) (objects_of entries total) runs tables.are_runs end count last below behind end_is
       begins_so)
       (subst (HasMarkAt (objects_of entries total)) (sym end_is)
-      (mark_behind_front entries total n kept tables.table tables.within split few low (omega (arith, more, end_is))))
+      (mark_behind_front entries total n staying tables.table tables.within split few low (omega (
+        arith,
+        more,
+        end_is,
+      ))))
 
-  pub cut_with_none : n ≤ end → AreTables (take kept entries) (take count runs) n
+  pub cut_with_none : n ≤ end → AreTables (take staying entries) (take count runs) n
   cut_with_none all = record {
-    table = table_take kept entries tables.table;
+    table = table_take staying entries tables.table;
     within = cut_within;
     are_runs =
-        ended_with_none (take kept entries) (objects_of entries total) runs tables.are_runs end count last below behind
+        ended_with_none (take staying entries) (objects_of entries total) runs tables.are_runs end count last below
+        behind
         end_is begins_so n (omega (arith, all, end_is, cut_within));
     cost = cut_cost;
   }
 
-  pub cut_with_run : (run : MarkRun) → end < n → run ≡ record { first = end; count = n - end; before = end - kept }
-      → AreTables (take kept entries) (take count runs ++ run ∷ []) n
+  pub cut_with_run : (run : MarkRun) → end < n → run ≡ record { first = end; count = n - end; before = end - staying }
+      → AreTables (take staying entries) (take count runs ++ run ∷ []) n
   cut_with_run run more is =
-      let size : length (take kept entries) ≡ kept = length-take-le kept entries few in
+      let size : length (take staying entries) ≡ staying = length-take-le staying entries few in
       let made : ℕ → MarkRun = λ m. record { first = end; count = n - end; before = end - m } in
       record {
-        table = table_take kept entries tables.table;
+        table = table_take staying entries tables.table;
         within = cut_within;
         are_runs =
-            ended_with_run (take kept entries) (objects_of entries total) runs tables.are_runs end count last below
+            ended_with_run (take staying entries) (objects_of entries total) runs tables.are_runs end count last below
             behind
             end_is begins_so n run more (is ∙ ap made (sym size));
         cost = cut_cost;

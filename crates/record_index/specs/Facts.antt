@@ -12,7 +12,7 @@ use Rattle.volume_core.specs.declared.objects.Object.TheVariants.{Block, Mark}
 use Rattle.volume_core.specs.declared.changes.Change.{Change}
 use Rattle.volume_core.specs.declared.changes.Change.TheVariants.{Put, Marks, Erase}
 use Rattle.volume_core.specs.declared.changes.Refusal.TheVariants.{PastEnd, NoRoom, TooLong}
-use Rattle.volume_core.specs.Volume.{Part, added_by, capacity_in, capacity_of, changed, changed_in, cost_of, count_of, has_room, is_well_formed, kept_of, kind_at, kind_in, objects_after, objects_in, objects_of, part_after, part_of, refusal_in, refusal_of, used_of, used_up_to}
+use Rattle.volume_core.specs.Volume.{Part, added_by, capacity_in, capacity_of, changed, changed_in, cost_of, count_of, has_room, is_well_formed, staying_of, kind_at, kind_in, objects_after, objects_in, objects_of, part_after, part_of, refusal_in, refusal_of, used_of, used_up_to}
 use Rattle.record_index.specs.declared.places.Placed.{Placed}
 use Rattle.record_index.specs.declared.places.Placed.TheVariants as Placeds
 use Rattle.record_index.specs.declared.records.Record.{Record}
@@ -88,10 +88,10 @@ used_by_shape volume number n =
     ∙ ap used_of (take-map blanked n (objects_of volume number))
     ∙ used_blanked (take n (objects_of volume number))
 
-kept_by_shape : (change : Change) → kept_of (shape_of_change change) ≡ kept_of change
-kept_by_shape (Put part at block) = refl
-kept_by_shape (Marks part at count) = refl
-kept_by_shape (Erase part at) = refl
+staying_by_shape : (change : Change) → staying_of (shape_of_change change) ≡ staying_of change
+staying_by_shape (Put part at block) = refl
+staying_by_shape (Marks part at count) = refl
+staying_by_shape (Erase part at) = refl
 
 target_by_shape : (change : Change) → part_of (shape_of_change change) ≡ part_of change
 target_by_shape (Put part at block) = refl
@@ -112,9 +112,10 @@ added_by_shape (Erase part at) = refl
 after_by_shape : (objects : List Object) (change : Change)
     → objects_after (map blanked objects) (shape_of_change change) ≡ map blanked (objects_after objects change)
 after_by_shape objects change =
-    (λ i. take (kept_by_shape change i) (map blanked objects) ++ added_by_shape change i)
-    ∙ ap (λ (kept : List Object). kept ++ map blanked (added_by change)) (take-map blanked (kept_of change) objects)
-    ∙ sym (map-append blanked (take (kept_of change) objects) (added_by change))
+    (λ i. take (staying_by_shape change i) (map blanked objects) ++ added_by_shape change i)
+    ∙ ap (λ (staying : List Object). staying ++ map blanked (added_by change)) (take-map blanked (staying_of change)
+    objects)
+    ∙ sym (map-append blanked (take (staying_of change) objects) (added_by change))
 
 room_by_shape : (part : Part) (objects : List Object)
     → has_room (shape_of_part part) (map blanked objects) ≡ has_room part objects
@@ -126,7 +127,7 @@ refusal_by_part : (part : Part) (change : Change)
 refusal_by_part part change =
     let room = ap (has_room (shape_of_part part)) (after_by_shape part.objects change)
     ∙ room_by_shape part (objects_after part.objects change) in
-    λ i. if nat_lt (length-map part.objects blanked i) (kept_by_shape change i) then Some PastEnd
+    λ i. if nat_lt (length-map part.objects blanked i) (staying_by_shape change i) then Some PastEnd
     else (if not (room i) then Some NoRoom
     else (if not (formed_by_shape change i) then Some TooLong
     else None))
@@ -186,17 +187,17 @@ target_filled read (Records.Marks part at count) place = refl
 target_filled read (Records.Erase part at) place = refl
 
 -- and leaves as many objects (own)
-pub kept_filled : (read : Reading) (item : Record) (place : ℕ) → kept_of (change_by read item place)
-    ≡ places.record_kept item
-kept_filled read (Records.Put part at size) place = refl
-kept_filled read (Records.Marks part at count) place = refl
-kept_filled read (Records.Erase part at) place = refl
+pub staying_filled : (read : Reading) (item : Record) (place : ℕ) → staying_of (change_by read item place)
+    ≡ places.record_staying item
+staying_filled read (Records.Put part at size) place = refl
+staying_filled read (Records.Marks part at count) place = refl
+staying_filled read (Records.Erase part at) place = refl
 
 -- the volume of an index after a record, with the bytes that reads return
 module _ (read : Reading) (parts : List PlacedPart) (item : Record) (place reserved : ℕ) where
   -- the objects after a record, in a partition that may be there (own)
   abbrev pub now : Option PlacedPart → List Placed
-  now part = take (places.record_kept item) (placed_objects_in part) ++ placed_by item place
+  now part = take (places.record_staying item) (placed_objects_in part) ++ placed_by item place
 
   -- the partition after a record (own)
   abbrev pub placed : PlacedPart → PlacedPart
@@ -206,14 +207,14 @@ module _ (read : Reading) (parts : List PlacedPart) (item : Record) (place reser
   pub filled_now : (part : PlacedPart)
       → map (filled read) (now (Some part)) ≡ objects_after (map (filled read) part.objects) (change_by read item place)
   filled_now part =
-      map-append (filled read) (take (places.record_kept item) part.objects) (placed_by item place)
-      ∙ (λ i. kept i ++ added_filled read item place i)
+      map-append (filled read) (take (places.record_staying item) part.objects) (placed_by item place)
+      ∙ (λ i. staying i ++ added_filled read item place i)
     where
-      kept : map (filled read) (take (places.record_kept item) part.objects)
-          ≡ take (kept_of (change_by read item place)) (map (filled read) part.objects)
-      kept =
-          sym (take-map (filled read) (places.record_kept item) part.objects)
-          ∙ ap (λ (n : ℕ). take n (map (filled read) part.objects)) (sym (kept_filled read item place))
+      staying : map (filled read) (take (places.record_staying item) part.objects)
+          ≡ take (staying_of (change_by read item place)) (map (filled read) part.objects)
+      staying =
+          sym (take-map (filled read) (places.record_staying item) part.objects)
+          ∙ ap (λ (n : ℕ). take n (map (filled read) part.objects)) (sym (staying_filled read item place))
 
   by_part : (part : Option PlacedPart)
       → volume_by read (with_objects_in part parts (places.record_part item) (now part) reserved)

@@ -6,7 +6,7 @@ use Rattle.volume_core.specs.declared.objects.Object.{Object}
 use Rattle.volume_core.specs.declared.objects.Object.TheVariants.{Block, Mark}
 use Rattle.volume_core.specs.declared.changes.Change.{Change}
 use Rattle.volume_core.specs.declared.changes.Change.TheVariants.{Put, Marks, Erase}
-use Rattle.volume_core.specs.Volume.{Part, added_by, block_at, block_in, changed, changed_in, empty_volume, kept_of, objects_in, part_of, part_after}
+use Rattle.volume_core.specs.Volume.{Part, added_by, block_at, block_in, changed, changed_in, empty_volume, staying_of, objects_in, part_of, part_after}
 use Rattle.record_index.specs.declared.places.Placed.{Placed}
 use Rattle.record_index.specs.declared.places.Placed.TheVariants as Placeds
 use Rattle.record_index.specs.Records.{record_of}
@@ -151,10 +151,10 @@ same_target (Put part at block) = refl
 same_target (Marks part at count) = refl
 same_target (Erase part at) = refl
 
-same_kept : (change : Change) → places.record_kept (record_of change) ≡ kept_of change
-same_kept (Put part at block) = refl
-same_kept (Marks part at count) = refl
-same_kept (Erase part at) = refl
+same_staying : (change : Change) → places.record_staying (record_of change) ≡ staying_of change
+same_staying (Put part at block) = refl
+same_staying (Marks part at count) = refl
+same_staying (Erase part at) = refl
 
 -- after a change whose block lies at that place
 pub indexes_after : (P : List ℕ → ℕ → Type 0) (volume : List Part) (parts : List PlacedPart) (change : Change)
@@ -163,14 +163,15 @@ pub indexes_after : (P : List ℕ → ℕ → Type 0) (volume : List Part) (part
 indexes_after P volume parts change place reserved here lies =
     subst (λ (number : ℕ). Indexes P (changed volume change)
     (with_objects parts number
-    (take (places.record_kept (record_of change)) (placed_objects parts number) ++ placed_by (record_of change) place)
+    (take (places.record_staying (record_of change)) (placed_objects parts number) ++ placed_by (record_of change)
+    place)
     reserved)) (sym (same_target change))
     (by (slice_get volume (part_of change)) (slice_get parts (part_of change))
     (both_at P volume parts (part_of change) lies))
   where
     by : (part : Option Part) (placed : Option PlacedPart) → BothAt P part placed
         → Indexes P (changed_in part volume change) (with_objects_in placed parts (part_of change)
-        (take (places.record_kept (record_of change)) (placed_objects_in placed) ++ placed_by
+        (take (places.record_staying (record_of change)) (placed_objects_in placed) ++ placed_by
         (record_of change) place) reserved)
     by None None both = lies
     by None (Some q) both = absurd both
@@ -178,13 +179,14 @@ indexes_after P volume parts change place reserved here lies =
     by (Some p) (Some q) both =
         set_one P volume parts (part_of change) (part_after p change) (record {
           capacity = q.capacity;
-          objects = take (places.record_kept (record_of change)) q.objects ++ placed_by (record_of change) place;
+          objects = take (places.record_staying (record_of change)) q.objects ++ placed_by (record_of change) place;
           reserved = reserved;
         }) lies both.0
-        (lie_append P (take (kept_of change) p.objects) (added_by change)
-        (take (places.record_kept (record_of change)) q.objects) (placed_by (record_of change) place)
-        (subst (λ (n : ℕ). AllLieAs P (take (kept_of change) p.objects) (take n q.objects)) (sym (same_kept change))
-        (lie_take P (kept_of change) p.objects q.objects both.1))
+        (lie_append P (take (staying_of change) p.objects) (added_by change)
+        (take (places.record_staying (record_of change)) q.objects) (placed_by (record_of change) place)
+        (subst (λ (n : ℕ). AllLieAs P (take (staying_of change) p.objects) (take n q.objects)) (sym (same_staying
+        change))
+        (lie_take P (staying_of change) p.objects q.objects both.1))
         (lie_added P change place here))
 
 written : (xs : List Part) (k : ℕ) (x : Part) → slice_get xs k ≡ Some x → slice_set xs k x ≡ xs

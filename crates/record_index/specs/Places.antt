@@ -118,10 +118,10 @@ record_part (Records.Marks part at count) = part
 record_part (Records.Erase part at) = part
 
 -- how many objects of the partition stay (own)
-abbrev pub record_kept : Record → ℕ
-record_kept (Records.Put part at length) = at
-record_kept (Records.Marks part at count) = at
-record_kept (Records.Erase part at) = at
+abbrev pub record_staying : Record → ℕ
+record_staying (Records.Put part at length) = at
+record_staying (Records.Marks part at count) = at
+record_staying (Records.Erase part at) = at
 
 -- the index with these objects, and this many runs reserved, in a partition, if it exists (own)
 abbrev pub with_objects_in : Option PlacedPart → List PlacedPart → ℕ → List Placed → ℕ → List PlacedPart
@@ -138,4 +138,4 @@ with_objects parts number objects reserved =
 abbrev pub placed_after : List PlacedPart → Record → ℕ → ℕ → List PlacedPart
 placed_after parts item place reserved =
     with_objects parts (record_part item)
-    (take (record_kept item) (placed_objects parts (record_part item)) ++ placed_by item place) reserved
+    (take (record_staying item) (placed_objects parts (record_part item)) ++ placed_by item place) reserved

@@ -5,7 +5,7 @@ ghost use Rattle.vtl_base.specs.Limits.{is_capacity};
 ghost use Rattle.volume_core.specs.Volume.{AppliesUnless, IsPart, refusal_in, used_of};
 ghost use Rattle.volume_core.specs.declared.volumes.ApplyError.TheVariants as Errors;
 ghost use Rattle.record_index.specs.MarkRuns.{AddsDigitsOfRuns, IsRunUpto, IsRunWith};
-ghost use Rattle.record_index.specs.Places.{CanAdd, IsPlace, blank, empty_placed, filled_part, record_kept, objects_of_run, outlined, placed_by, runs_of, unreserved, with_run};
+ghost use Rattle.record_index.specs.Places.{CanAdd, IsPlace, blank, empty_placed, filled_part, record_staying, objects_of_run, outlined, placed_by, runs_of, unreserved, with_run};
 
 use crate::places::{Placed, Run};
 use crate::records::Record;
@@ -118,7 +118,7 @@ impl PlacedPartition {
     pub(crate) fn refusal(&self, item: Record) -> Option<Refusal>
         ensures { result ≡ refusal_in (Some (filled_part blank self.now)) (outlined item) }
     {
-        let at = item.kept();
+        let at = item.staying();
         if at > self.table.count() {
             return Some(Refusal::PastEnd);
         }
@@ -180,7 +180,7 @@ impl PlacedPartition {
         ensures answer { AppliesUnless (refusal_in (Some (filled_part blank self.old)) (outlined item))
             self.old (record {
               capacity = self.old.capacity;
-              objects = take (record_kept item) self.old.objects ++ placed_by item place;
+              objects = take (record_staying item) self.old.objects ++ placed_by item place;
               reserved = self.new.reserved;
             }) result self.new }
         ensures reserved { self.old.reserved ≤ self.new.reserved + runs_of item }
@@ -192,10 +192,10 @@ impl PlacedPartition {
         }
         if let Some(run) = item.run(place) {
             self.table.reserve(1)?;
-            self.table.cut(item.kept());
+            self.table.cut(item.staying());
             self.table.add(run);
         } else {
-            self.table.cut(item.kept());
+            self.table.cut(item.staying());
         }
         Ok(())
     }

@@ -11,7 +11,7 @@
 ghost use Rattle.std.specs.Prelude.{◌≡◌, ◌≤◌, ◌<◌, ◌-◌, ◌^◌, IfOk, IfSome, IfNone, length};
 ghost use Rattle.record_index.specs.Records.{BeginsWithRecord, IsAtFront, IsRecord, change_in, record_of, size_of};
 ghost use Rattle.volume_core.specs.Volume.{added_by, is_well_formed, used_of};
-ghost use Rattle.record_index.specs.Places.{record_kept, outlined, record_part};
+ghost use Rattle.record_index.specs.Places.{record_staying, outlined, record_part};
 ghost use Rattle.record_index.specs.Inner.Tables.{AddsRun};
 ghost use Rattle.record_index.specs.Inner.Decoded.{block_decoded, erase_decoded, head_decoded, marks_decoded, decoded};
 
@@ -143,8 +143,8 @@ impl Record {
     }
 
     /// How many objects of the partition stay.
-    pub fn kept(self) -> ObjNo
-        ensures { result ≡ record_kept self }
+    pub fn staying(self) -> ObjNo
+        ensures { result ≡ record_staying self }
     {
         match self {
             Record::Put { at, .. } | Record::Marks { at, .. } | Record::Erase { at, .. } => at,

@@ -209,18 +209,18 @@ impl ObjectTable {
         if n >= self.count {
             return;
         }
-        let kept = blocks_before(&self.blocks, n);
-        let end = end_of(&self.blocks, kept);
+        let staying = blocks_before(&self.blocks, n);
+        let end = end_of(&self.blocks, staying);
         let mut steps = Steps::new();
         let whole = runs_below(&self.runs, Key::First, end as u64, &mut steps);
-        self.blocks.truncate(kept);
+        self.blocks.truncate(staying);
         self.runs.keep(whole.count);
         self.count = n;
         if end < n {
             self.runs.push(MarkRun {
                 first: end,
                 count: n - end,
-                before: end - kept as u32,
+                before: end - staying as u32,
             });
         }
     }

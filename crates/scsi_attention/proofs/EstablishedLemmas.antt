@@ -6,12 +6,12 @@ use Rattle.scsi_attention.specs.AttentionSets.{AttentionSet, union, with_attenti
 use Rattle.scsi_attention.specs.Attentions.{established_by, established_for_all, established_for_others, put_back}
 
 -- a place that was not reached yet has its old set
-kept_at : (sets established : List AttentionSet) (place : ℕ) (any : AttentionSet) → place < length established
+same_at : (sets established : List AttentionSet) (place : ℕ) (any : AttentionSet) → place < length established
     → get_or (established_by sets (take place established)) place any ≡ get_or sets place any
-kept_at sets [] place any h = absurd (omega arith)
-kept_at sets (more ∷ established) zero any h = refl
-kept_at [] (more ∷ established) (suc place) any h = refl
-kept_at (one ∷ sets) (more ∷ established) (suc place) any h = kept_at sets established place any (omega arith)
+same_at sets [] place any h = absurd (omega arith)
+same_at sets (more ∷ established) zero any h = refl
+same_at [] (more ∷ established) (suc place) any h = refl
+same_at (one ∷ sets) (more ∷ established) (suc place) any h = same_at sets established place any (omega arith)
 
 set_here : (sets established : List AttentionSet) (place : ℕ) (any other : AttentionSet)
     → place < length sets → place < length established
@@ -33,7 +33,7 @@ pub set_more : (sets established now : List AttentionSet) (place : ℕ) (here mo
 set_more sets established now place here more h k is at from =
     let before = established_by sets (take place established) in
     let was : here ≡ get_or sets place here =
-    at ∙ ap (λ (xs : List AttentionSet). get_or xs place here) is ∙ kept_at sets established place here k in
+    at ∙ ap (λ (xs : List AttentionSet). get_or xs place here) is ∙ same_at sets established place here k in
     ap (λ (xs : List AttentionSet). set xs place (union here more)) is
     ∙ ap (λ (x : AttentionSet). set before place (union x more)) was
     ∙ ap (λ (x : AttentionSet). set before place (union (get_or sets place here) x)) from
@@ -101,13 +101,13 @@ others_get : (found : Option AttentionSet) (sets : List AttentionSet) (nexus pla
 others_get None sets nexus place attention other = slice_get-map (with_attention attention) sets place
 others_get (Some own) sets nexus place attention other = set_but_one attention sets (nexus - 1) place own other
 
-one_kept : (found : Option AttentionSet) (sets : List AttentionSet) (nexus : ℕ) (attention : Attention)
+one_same : (found : Option AttentionSet) (sets : List AttentionSet) (nexus : ℕ) (attention : Attention)
     → slice_get sets (nexus - 1) ≡ found
     → slice_get (put_back found (established_for_all sets attention) nexus) (nexus - 1) ≡ slice_get sets (nexus - 1)
-one_kept None sets nexus attention is =
+one_same None sets nexus attention is =
     slice_get-map (with_attention attention) sets (nexus - 1)
     ∙ ap (λ (set : Option AttentionSet). option_map (with_attention attention) set) is ∙ sym is
-one_kept (Some own) sets nexus attention is = put_back_there attention sets (nexus - 1) own is ∙ sym is
+one_same (Some own) sets nexus attention is = put_back_there attention sets (nexus - 1) own is ∙ sym is
 
 -- a condition is established for every nexus but one
 pub each_other_gets : (sets : List AttentionSet) (nexus place : ℕ) (attention : Attention) → place ≢ nexus - 1
@@ -119,4 +119,4 @@ each_other_gets sets nexus place attention other =
 -- and not for that one
 pub the_one_gets_none : (sets : List AttentionSet) (nexus : ℕ) (attention : Attention)
     → slice_get (established_for_others sets nexus attention) (nexus - 1) ≡ slice_get sets (nexus - 1)
-the_one_gets_none sets nexus attention = one_kept (slice_get sets (nexus - 1)) sets nexus attention refl
+the_one_gets_none sets nexus attention = one_same (slice_get sets (nexus - 1)) sets nexus attention refl

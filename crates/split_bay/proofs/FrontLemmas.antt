@@ -92,8 +92,8 @@ module _ {M D : Type 0} (seen : M → MediumState) (below : Below M Change) (alo
   front_moments (Some reply) keeps answered =
       λ honest.
       let moments =
-          (goes_on old new (Served (Asked request reply)) (holding_hosts seen below state old keeps.2)
-          answered.1.step).1 honest
+      (goes_on old new (Served (Asked request reply)) (holding_hosts seen below state old keeps.2)
+      answered.1.step).1 honest
       in (
         moments.0,
         leaves_with seen below state (state old.keeper.disk) (state new.keeper.disk) old.bay (rest_of_drive old)

@@ -251,13 +251,13 @@ module _ {M D : Type 0} (state : M → MediumState) (below : Below M Change) (di
   leaves_with a b (Loaded (Whole medium)) rest call new apart leaves = absurd apart
 
 -- what the type of the hosts' half keeps
-pub front_kept : {M D : Type 0} (disk : D → DiskState) (state : M → MediumState)
+pub front_keeps : {M D : Type 0} (disk : D → DiskState) (state : M → MediumState)
     (drive : DriveState (Hosts SendingState M) (OpenStore D)) (end : Option SendingState) (front : FrontState D)
     → record { drive = drive_near drive; end = end } ≡ front → IsApartIn drive.bay
     → HasEnd (drive_near drive).bay end → KeepsOrders disk (drive_near drive)
     → KeepsLimits (span_of (end_of front).sent) → IsBayPositioned (state_hosts state) drive.bay drive.position
     → KeepsHostsHalf disk front
-front_kept disk state drive end front is apart has orders within on =
+front_keeps disk state drive end front is apart has orders within on =
     subst (KeepsHostsHalf disk) is
     (record {
       orders = orders;

@@ -116,9 +116,9 @@ module _ {D : Type 0} (state : D → DiskState) where
     pub joined : BayState D
     pub ends : SendingState
     pub joins : Joins front back joined ends
-    pub front_kept : KeepsHostsHalf state front
-    pub back_kept : KeepsDiskHalf state back
-    pub kept : KeepsBoth state joined
+    pub front_keeps : KeepsHostsHalf state front
+    pub back_keeps : KeepsDiskHalf state back
+    pub joined_keeps : KeepsBoth state joined
     pub stood : IsBayPositioned (state_of state) joined.bay joined.position
     pub answered : BayState D
     pub answers : AnswersLentInEvent state joined request reply answered left

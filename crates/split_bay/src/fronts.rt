@@ -138,7 +138,7 @@ impl<D: Disk, R: Rings> Front<D, R> {
     /// reservations as a loss of power leaves them, or those of the order whose save failed. No more was sent than the
     /// span allows. The position is on the volume that hosts see.
     pub fn known(&self)
-        ensures kept { KeepsHostsHalf D.state self.now }
+        ensures keeps { KeepsHostsHalf D.state self.now }
         ensures opens { GivesOrders D.state self.now.drive }
     {
         reservations_outlive_each_stop::<Hosts<Near<R>, Cataloged<D>>, D>();

@@ -26,20 +26,20 @@ use Rattle.tape_buffer.proofs.AddingLemmas.{well_formed}
 use Rattle.tape_buffer.proofs.TwoLemmas.{are_disks, stay_honest, were_honest}
 
 -- the block of a change that applies is no longer than a block
-pub short_block : (volume : List Part) (changes : List Change) (i part kept : ℕ) (block : List ℕ)
-    → AllApply volume changes → slice_get changes i ≡ Some (Put part kept block) → length block ≤ MAX_BLOCK
-short_block volume [] i part kept block all at = absurd (cc)
-short_block volume (change ∷ changes) zero part kept block all at =
-    let is : change ≡ Put part kept block = cc in
-    let well = well_formed volume (Put part kept block) (rw is at all.0) in
+pub short_block : (volume : List Part) (changes : List Change) (i part staying : ℕ) (block : List ℕ)
+    → AllApply volume changes → slice_get changes i ≡ Some (Put part staying block) → length block ≤ MAX_BLOCK
+short_block volume [] i part staying block all at = absurd (cc)
+short_block volume (change ∷ changes) zero part staying block all at =
+    let is : change ≡ Put part staying block = cc in
+    let well = well_formed volume (Put part staying block) (rw is at all.0) in
     leb-true (length block) 1048576 (and_parts _ _ well).1
-short_block volume (change ∷ changes) (suc i) part kept block all at =
-    short_block (changed volume change) changes i part kept block all.1 at
+short_block volume (change ∷ changes) (suc i) part staying block all at =
+    short_block (changed volume change) changes i part staying block all.1 at
 
 -- a block that is seen, and that is the block of the pending change of that number
 abbrev pub IsPendingBlock : List Part → List Change → ℕ → ℕ → ℕ → Type 0
 IsPendingBlock volume pending part at i =
-    (of : ℕ) × (kept : ℕ) × (block : List ℕ) × (slice_get pending i ≡ Some (Put of kept block))
+    (of : ℕ) × (staying : ℕ) × (block : List ℕ) × (slice_get pending i ≡ Some (Put of staying block))
     × (block_at (after volume pending) part at ≡ Some block)
 
 module _ (volume : List Part) (pending : List Change) (part at i : ℕ) (all : AllApply volume pending)

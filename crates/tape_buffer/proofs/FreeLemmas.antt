@@ -8,7 +8,7 @@ use Rattle.volume_core.specs.declared.changes.Change.TheVariants.{Put, Marks, Er
 use Rattle.volume_core.specs.Volume.{AllApply, Part, capacity_of, changed}
 use Rattle.record_index.specs.declared.records.Record.{Record}
 use Rattle.record_index.specs.declared.places.Placed.{Placed}
-use Rattle.record_index.specs.Places.{PlacedPart, empty_placed, outline, placed_after, placed_by, placed_objects, record_kept, record_part, reserved_in, reserved_of, runs_of, with_objects, with_objects_in}
+use Rattle.record_index.specs.Places.{PlacedPart, empty_placed, outline, placed_after, placed_by, placed_objects, record_staying, record_part, reserved_in, reserved_of, runs_of, with_objects, with_objects_in}
 use Rattle.record_index.specs.Records.{record_of}
 use Rattle.cartridge.specs.Inner.Growing.{HasEntries, IsGrown}
 use Rattle.tape_buffer.specs.Tail.{AreWide, IsFree, shifted}
@@ -39,7 +39,7 @@ none_placed (c ∷ cs) (suc n) = none_placed cs n
 -- a new index with room in each partition
 pub free_of : (old new : List PlacedPart) (entries : ℕ) → old ≡ map empty_placed (replicate 4 MAX_CAPACITY)
     → IsGrown old new → HasEntries new entries
-    → IsFree entries (record { kept = replicate 4 MAX_OBJECTS; parts = new })
+    → IsFree entries (record { staying = replicate 4 MAX_OBJECTS; parts = new })
 free_of old new entries is grown room =
     let wide : AreWide new = λ part inside.
     grown_capacity old new part grown
@@ -47,7 +47,7 @@ free_of old new entries is grown room =
     (wide_opened part inside) in
     record {
       wide = wide;
-      kept = λ part. row_same 4 part MAX_OBJECTS;
+      staying = λ part. row_same 4 part MAX_OBJECTS;
       empty = λ part.
           grown_objects old new part grown ∙ ap (λ (l : List PlacedPart). placed_objects l part) is
           ∙ none_placed (replicate 4 MAX_CAPACITY) part;
@@ -66,17 +66,17 @@ reserved_with parts number objects reserved part apart = by (slice_get parts num
         (get_set_other parts number part (record { capacity = p.capacity; objects = objects; reserved = reserved })
         apart)
 
-one_run : (kept : ℕ) (change : Change) → runs_of (record_of (shifted kept change)) ≤ 1
-one_run kept (Put part at block) = omega arith
-one_run kept (Marks part at count) = omega arith
-one_run kept (Erase part at) = omega arith
+one_run : (staying : ℕ) (change : Change) → runs_of (record_of (shifted staying change)) ≤ 1
+one_run staying (Put part at block) = omega arith
+one_run staying (Marks part at count) = omega arith
+one_run staying (Erase part at) = omega arith
 
 -- one entry at most is taken in each partition
-pub takes_one : (old new : List PlacedPart) (kept : ℕ) (change : Change) (item : Record) (number reserved : ℕ)
-    → item ≡ record_of (shifted kept change) → new ≡ placed_after old item number reserved
+pub takes_one : (old new : List PlacedPart) (staying : ℕ) (change : Change) (item : Record) (number reserved : ℕ)
+    → item ≡ record_of (shifted staying change) → new ≡ placed_after old item number reserved
     → reserved_of old (record_part item) ≤ reserved_of new (record_part item) + runs_of item
     → (part : ℕ) → reserved_of old part ≤ reserved_of new part + 1
-takes_one old new kept change item number reserved is entered here part = by (cases_eq part (record_part item))
+takes_one old new staying change item number reserved is entered here part = by (cases_eq part (record_part item))
   where
     by : ((part ≡ record_part item) ⊎ (part ≢ record_part item)) → reserved_of old part ≤ reserved_of new part + 1
     by (inl same) =
@@ -86,14 +86,15 @@ takes_one old new kept change item number reserved is entered here part = by (ca
           ap (reserved_of new) same,
           here,
           ap runs_of is,
-          one_run kept change,
+          one_run staying change,
         )
     by (inr apart) =
         omega (
           arith,
           ap (λ (l : List PlacedPart). reserved_of l part) entered,
           reserved_with old (record_part item)
-              (take (record_kept item) (placed_objects old (record_part item)) ++ placed_by item number) reserved part
+              (take (record_staying item) (placed_objects old (record_part item)) ++ placed_by item number) reserved
+              part
               apart,
         )
 
@@ -109,4 +110,4 @@ pub wide_after : (old new : List PlacedPart) (item : Record) (number reserved : 
 wide_after old new item number reserved wide is =
     subst (λ (l : List PlacedPart). AreWide l) (sym is)
     (wide_with old (record_part item)
-    (take (record_kept item) (placed_objects old (record_part item)) ++ placed_by item number) reserved wide)
+    (take (record_staying item) (placed_objects old (record_part item)) ++ placed_by item number) reserved wide)

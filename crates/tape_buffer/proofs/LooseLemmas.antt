@@ -5,10 +5,10 @@ use Rattle.std.proofs.Math.Seq.{take-suc}
 use Rattle.std.proofs.lemmas.List.{length-take-le, take-append-drop}
 use Rattle.vtl_base.specs.declared.limits.TheConstants.{MAX_CAPACITY, MAX_OBJECTS, MAX_PARTITIONS}
 use Rattle.volume_core.specs.declared.changes.Change.{Change}
-use Rattle.volume_core.specs.Volume.{AllApply, Part, after, capacity_of, count_of, kept_of, part_of}
+use Rattle.volume_core.specs.Volume.{AllApply, Part, after, capacity_of, count_of, staying_of, part_of}
 use Rattle.record_index.specs.Places.{placed_after}
 use Rattle.record_index.specs.Records.{record_of}
-use Rattle.tape_buffer.specs.Tail.{AppliesBehind, AreWide, IsTailOf, TailState, kept_in, shifted}
+use Rattle.tape_buffer.specs.Tail.{AppliesBehind, AreWide, IsTailOf, TailState, staying_in, shifted}
 use Rattle.tape_buffer.proofs.AddingLemmas.{inside_of}
 use Rattle.tape_buffer.proofs.FreeLemmas.{apply_front}
 use Rattle.tape_buffer.proofs.PutLemmas.{tail_put}
@@ -58,12 +58,13 @@ module _ (changes : List Change) (i : ℕ) (change : Change) (inside : i < lengt
   -- it is put
   pub tail_more : (old new : TailState) (number reserved : ℕ) → IsTailOf (take i changes) old → AreWide old.parts
       → AppliesBehind (take i changes) change → number ≡ i
-      → kept_in new (part_of change) ≡ min (kept_of change) (kept_in old (part_of change))
-      → ((part : ℕ) → (part ≡ part_of change → ⊥) → kept_in new part ≡ kept_in old part)
-      → new.parts ≡ placed_after old.parts (record_of (shifted (kept_in old (part_of change)) change)) number reserved
+      → staying_in new (part_of change) ≡ min (staying_of change) (staying_in old (part_of change))
+      → ((part : ℕ) → (part ≡ part_of change → ⊥) → staying_in new part ≡ staying_in old part)
+      → new.parts ≡ placed_after old.parts (record_of (shifted (staying_in old (part_of change)) change)) number
+      reserved
       → IsTailOf (take (i + 1) changes) new
   tail_more old new number reserved tail wide behind counted here others parts =
       subst (λ (l : List Change). IsTailOf l new) (sym first_more)
       (tail_put (take i changes) change old tail wide behind new reserved here others
       (subst (λ (n : ℕ). new.parts ≡ placed_after old.parts
-      (record_of (shifted (kept_in old (part_of change)) change)) n reserved) (counted ∙ sym as_many) parts))
+      (record_of (shifted (staying_in old (part_of change)) change)) n reserved) (counted ∙ sym as_many) parts))

@@ -20,7 +20,7 @@ use Rattle.record_index.specs.Indexes.{indexes_block, indexes_shape}
 use Rattle.record_index.specs.MarkFacts.{mark_count_by_shape, marks_by_shape, objects_outlined}
 use Rattle.record_index.specs.Places.{PlacedPart, blank, filled, outline, placed_objects}
 use Rattle.record_index.specs.Shapes.{shape_of}
-use Rattle.tape_buffer.specs.Tail.{IsBlockOf, IsSeenAs, IsTailOf, TailState, kept_in}
+use Rattle.tape_buffer.specs.Tail.{IsBlockOf, IsSeenAs, IsTailOf, TailState, staying_in}
 use Rattle.tape_buffer.proofs.CutLemmas.{get_behind, get_front, take_parts}
 
 -- 1 of a mark, 0 of a block
@@ -54,9 +54,9 @@ kind_placed parts part at found is =
 
 module _ (changes : List Change) (tail : TailState) (is : IsTailOf changes tail) (volume : List Part) (part : ℕ)
     (apply : AllApply volume changes) (few : count_of volume part ≤ MAX_OBJECTS) (front : ℕ)
-    (front_is : front ≡ min (kept_in tail part) (count_of volume part)) where
-  abbrev kept : ℕ
-  kept = kept_in tail part
+    (front_is : front ≡ min (staying_in tail part) (count_of volume part)) where
+  abbrev staying : ℕ
+  staying = staying_in tail part
 
   abbrev stored : List Object
   stored = objects_of volume part
@@ -64,7 +64,7 @@ module _ (changes : List Change) (tail : TailState) (is : IsTailOf changes tail)
   abbrev waiting : List Object
   waiting = objects_of is.waiting part
 
-  was : IsSeenAs (objects_of (after volume changes) part) stored waiting kept
+  was : IsSeenAs (objects_of (after volume changes) part) stored waiting staying
   was = is.shows volume part apply few
 
   shape : outline tail.parts ≡ shape_of is.waiting
@@ -83,8 +83,8 @@ module _ (changes : List Change) (tail : TailState) (is : IsTailOf changes tail)
         behind_is,
         count_waiting,
         ap (λ (l : List Object). length l) was.objects,
-        length-append (take kept stored) waiting,
-        length-take kept stored,
+        length-append (take staying stored) waiting,
+        length-take staying stored,
       )
 
   -- what stands in front is stored
@@ -92,13 +92,13 @@ module _ (changes : List Change) (tail : TailState) (is : IsTailOf changes tail)
       → slice_get (objects_of (after volume changes) part) at ≡ slice_get stored at
   object_front at before =
       ap (λ (l : List Object). slice_get l at) was.objects
-      ∙ get_front kept stored waiting at (omega (arith, before, front_is))
+      ∙ get_front staying stored waiting at (omega (arith, before, front_is))
 
   -- what stands behind it waits
   object_behind : (at : ℕ) → front ≤ at
       → slice_get (objects_of (after volume changes) part) at ≡ slice_get waiting (at - front)
   object_behind at past =
-      ap (λ (l : List Object). slice_get l at) was.objects ∙ get_behind kept stored waiting at front front_is past
+      ap (λ (l : List Object). slice_get l at) was.objects ∙ get_behind staying stored waiting at front front_is past
 
   pub kind_front : (at : ℕ) → at < front → kind_at volume part at ≡ kind_at (after volume changes) part at
   kind_front at before = ap kind_in (sym (object_front at before))
@@ -115,7 +115,7 @@ module _ (changes : List Change) (tail : TailState) (is : IsTailOf changes tail)
       ≡ used_up_to volume part (min n front) + used_up_to (outline tail.parts) part (n - front)
   used_shown n =
       ap (λ (l : List Object). used_of (take n l)) was.objects
-      ∙ ap used_of (take_parts n kept front stored waiting front_is)
+      ∙ ap used_of (take_parts n staying front stored waiting front_is)
       ∙ sum_by-append cost_of (take (min n front) stored) (take (n - front) waiting)
       ∙ ap (λ (m : ℕ). used_up_to volume part (min n front) + m)
       (sym (ap (λ (v : List Part). used_up_to v part (n - front)) shape ∙ used_by_shape is.waiting part (n - front)))
@@ -126,21 +126,21 @@ module _ (changes : List Change) (tail : TailState) (is : IsTailOf changes tail)
       ≡ marks_upto volume part (min n front) + marks_upto (outline tail.parts) part (n - front)
   marks_shown n =
       ap (λ (l : List Object). marks_in (take n l)) was.objects
-      ∙ ap marks_in (take_parts n kept front stored waiting front_is)
+      ∙ ap marks_in (take_parts n staying front stored waiting front_is)
       ∙ sum_by-append mark_number (take (min n front) stored) (take (n - front) waiting)
       ∙ ap (λ (m : ℕ). marks_upto volume part (min n front) + m)
       (sym (ap (λ (v : List Part). marks_upto v part (n - front)) shape ∙ marks_by_shape is.waiting part (n - front)))
 
-  front_taken : take kept stored ≡ take front stored
+  front_taken : take staying stored ≡ take front stored
   front_taken =
-      sym (take_min kept stored) ∙ ap (λ (m : ℕ). take m stored) (sym front_is)
+      sym (take_min staying stored) ∙ ap (λ (m : ℕ). take m stored) (sym front_is)
 
   -- how many there are
   pub all_marks : mark_count (after volume changes) part
       ≡ marks_upto volume part front + mark_count (outline tail.parts) part
   all_marks =
       ap marks_in was.objects
-      ∙ sum_by-append mark_number (take kept stored) waiting
+      ∙ sum_by-append mark_number (take staying stored) waiting
       ∙ (λ i. marks_in (front_taken i)
       + (sym (ap (λ (v : List Part). mark_count v part) shape ∙ mark_count_by_shape is.waiting part)) i)
 
@@ -207,7 +207,7 @@ module _ (changes : List Change) (tail : TailState) (is : IsTailOf changes tail)
   -- a block that waits is that of the change of its number
   pub block_behind : (at number size : ℕ) → front ≤ at
       → slice_get (placed_objects tail.parts part) (at - front) ≡ Some (Placeds.Block number size)
-      → (of : ℕ) × (kept : ℕ) × (block : List ℕ) × (slice_get changes number ≡ Some (Put of kept block))
+      → (of : ℕ) × (staying : ℕ) × (block : List ℕ) × (slice_get changes number ≡ Some (Put of staying block))
       × (block_at (after volume changes) part at ≡ Some block)
   block_behind at number size past there =
       let found =

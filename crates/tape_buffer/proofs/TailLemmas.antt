@@ -11,7 +11,7 @@ use Rattle.volume_core.specs.Volume.{AllApply, Part, after, capacity_of, count_o
 use Rattle.record_index.specs.declared.places.Placed.{Placed}
 use Rattle.record_index.specs.Indexes.{AllLieAs, Indexes, indexes_empty, indexes_reserved}
 use Rattle.record_index.specs.Places.{PlacedPart, outline, placed_objects, placed_objects_in, with_objects, with_objects_in}
-use Rattle.tape_buffer.specs.Tail.{AreWide, IsBlockOf, IsSeenAs, IsTailOf, TailState, kept_in, no_tail, opened}
+use Rattle.tape_buffer.specs.Tail.{AreWide, IsBlockOf, IsSeenAs, IsTailOf, TailState, staying_in, no_tail, opened}
 use Rattle.tape_buffer.proofs.VolumeLemmas.{get_set_other, get_set_same}
 
 -- what stands at a place that is there is the same, whatever stands for one that is not
@@ -33,12 +33,12 @@ row_same (suc n) zero a = refl
 row_same (suc n) (suc i) a = row_same n i a
 
 -- a number exchanged in a row
-pub kept_here : (xs : List ℕ) (i v a : ℕ) → i < length xs → slice_index_or (slice_set xs i v) i a ≡ v
-kept_here xs i v a inside = get_or-set_same xs i v a inside
+pub staying_here : (xs : List ℕ) (i v a : ℕ) → i < length xs → slice_index_or (slice_set xs i v) i a ≡ v
+staying_here xs i v a inside = get_or-set_same xs i v a inside
 
-pub kept_elsewhere : (xs : List ℕ) (i j v a : ℕ) → j ≢ i
+pub staying_elsewhere : (xs : List ℕ) (i j v a : ℕ) → j ≢ i
     → slice_index_or (slice_set xs i v) j a ≡ slice_index_or xs j a
-kept_elsewhere xs i j v a apart = get_or-set_other xs i j v a apart
+staying_elsewhere xs i j v a apart = get_or-set_other xs i j v a apart
 
 -- a partition is there whose capacity is not 0
 pub there_by_capacity : (volume : List Part) (part : ℕ) → 1 ≤ capacity_of volume part → part < length volume
@@ -174,7 +174,7 @@ bare_indexes P (p ∷ ps) none =
     by (o ∷ os) is = absurd (cc)
 
 -- where nothing waits, all that is stored is seen
-pub nothing_waits : (tail : TailState) → ((part : ℕ) → kept_in tail part ≡ MAX_OBJECTS)
+pub nothing_waits : (tail : TailState) → ((part : ℕ) → staying_in tail part ≡ MAX_OBJECTS)
     → ((part : ℕ) → placed_objects tail.parts part ≡ []) → IsTailOf [] tail
 nothing_waits tail all none =
     record {
@@ -200,30 +200,34 @@ empty_objects (c ∷ cs) (suc n) = empty_objects cs n
 
 -- what waits is shown still, once an index is made for it, and once there is more room in it
 module _ (changes : List Change) (old : TailState) (is : IsTailOf changes old) where
-  pub stays_opened : IsTailOf changes (record { kept = old.kept; parts = opened old.parts })
+  pub stays_opened : IsTailOf changes (record { staying = old.staying; parts = opened old.parts })
   stays_opened = by old.parts is.waiting is.named is.shows
     where
       Shown : List Part → Type 0
       Shown waiting = (volume : List Part) (part : ℕ) → AllApply volume changes → count_of volume part ≤ MAX_OBJECTS
           → IsSeenAs (objects_of (after volume changes) part) (objects_of volume part) (objects_of waiting part)
-          (kept_in old part)
+          (staying_in old part)
 
       by : (parts : List PlacedPart) (waiting : List Part) → Indexes (IsBlockOf changes) waiting parts
-          → Shown waiting → IsTailOf changes (record { kept = old.kept; parts = opened parts })
+          → Shown waiting → IsTailOf changes (record { staying = old.staying; parts = opened parts })
       by [] [] named shows =
           record {
             waiting = empty_volume (replicate 4 MAX_CAPACITY);
             named = indexes_empty (IsBlockOf changes) (replicate 4 MAX_CAPACITY);
             shows = λ volume part apply few.
                 subst (λ (w : List Object). IsSeenAs (objects_of (after volume changes) part) (objects_of volume part) w
-                (kept_in old part)) (sym (empty_objects (replicate 4 MAX_CAPACITY) part))
+                (staying_in old part)) (sym (empty_objects (replicate 4 MAX_CAPACITY) part))
                 (shows volume part apply few);
           }
       by [] (w ∷ ws) named shows = absurd named
       by (p ∷ ps) waiting named shows = record { waiting = waiting; named = named; shows = shows }
 
   pub stays_reserved : (number reserved : ℕ) → IsTailOf changes
-      (record { kept = old.kept; parts = with_objects old.parts number (placed_objects old.parts number) reserved })
+      (record {
+        staying = old.staying;
+        parts = with_objects old.parts number (placed_objects old.parts number)
+            reserved;
+      })
   stays_reserved number reserved =
       record {
         waiting = is.waiting;

@@ -8,7 +8,7 @@ use Rattle.vtl_base.specs.declared.limits.TheConstants.{MAX_OBJECTS}
 use Rattle.volume_core.specs.declared.changes.Change.{Change}
 use Rattle.volume_core.specs.declared.changes.Refusal.TheVariants.{PastEnd, NoRoom, TooLong}
 use Rattle.volume_core.specs.declared.objects.Object.{Object}
-use Rattle.volume_core.specs.Volume.{AllApply, Part, added_by, after, capacity_in, capacity_of, changed, count_of, has_room, is_well_formed, kept_of, objects_after, objects_in, objects_of, part_after, part_of, refusal_in, refusal_of, used_of}
+use Rattle.volume_core.specs.Volume.{AllApply, Part, added_by, after, capacity_in, capacity_of, changed, count_of, has_room, is_well_formed, staying_of, objects_after, objects_in, objects_of, part_after, part_of, refusal_in, refusal_of, used_of}
 
 -- what is set at a place that is there stands there
 pub get_set_same : {X : Type 0} (xs : List X) (i : ℕ) (x y : X) → slice_get xs i ≡ Some x
@@ -37,7 +37,7 @@ unless false true true e = (refl, refl, refl)
 
 -- a partition that takes a change
 record IsTaken (part : Part) (change : Change) : Type 0 where
-  pub kept : kept_of change ≤ length part.objects
+  pub staying : staying_of change ≤ length part.objects
   pub few : length (objects_after part.objects change) ≤ MAX_OBJECTS
   pub fits : used_of (objects_after part.objects change) ≤ part.capacity
 
@@ -46,13 +46,13 @@ taken : (found : Option Part) (change : Change) → refusal_in found change ≡ 
 taken None change none = absurd (cc)
 taken (Some part) change none =
     let told =
-    unless (nat_lt (length part.objects) (kept_of change)) (has_room part (objects_after part.objects change))
+    unless (nat_lt (length part.objects) (staying_of change)) (has_room part (objects_after part.objects change))
     (is_well_formed change) none in
     let room = and_parts _ _ told.1 in (
       part,
       refl,
       record {
-        kept = ltb-false (length part.objects) (kept_of change) told.0;
+        staying = ltb-false (length part.objects) (staying_of change) told.0;
         few = leb-true _ _ room.0;
         fits = leb-true _ _ room.1;
       },
@@ -61,11 +61,11 @@ taken (Some part) change none =
 -- a volume, and the same after a change that applies to it
 pub record IsChanged (old new : List Part) (change : Change) : Type 0 where
   pub objects :
-      objects_of new (part_of change) ≡ take (kept_of change) (objects_of old (part_of change)) ++ added_by change
+      objects_of new (part_of change) ≡ take (staying_of change) (objects_of old (part_of change)) ++ added_by change
   pub others : (part : ℕ) → part ≢ part_of change → objects_of new part ≡ objects_of old part
   pub capacities : (part : ℕ) → capacity_of new part ≡ capacity_of old part
   pub parts : length new ≡ length old
-  pub kept : kept_of change ≤ count_of old (part_of change)
+  pub staying : staying_of change ≤ count_of old (part_of change)
   pub few : count_of new (part_of change) ≤ MAX_OBJECTS
   pub fits : used_of (objects_of new (part_of change)) ≤ capacity_of old (part_of change)
 
@@ -83,7 +83,7 @@ changed_found volume change part at is =
     let was : objects_of volume (part_of change) ≡ part.objects = ap objects_in at in
     let room : capacity_of volume (part_of change) ≡ part.capacity = ap capacity_in at in
     record {
-      objects = now ∙ ap (λ (l : List Object). take (kept_of change) l ++ added_by change) (sym was);
+      objects = now ∙ ap (λ (l : List Object). take (staying_of change) l ++ added_by change) (sym was);
       others = λ number apart. ap objects_in (other number apart);
       capacities = λ number. ⊎_elim
           (λ e. ap (λ (n : ℕ). capacity_of (slice_set volume (part_of change) new) n) e ∙ ap capacity_in there
@@ -91,7 +91,7 @@ changed_found volume change part at is =
           (λ apart. ap capacity_in (other number apart))
           (cases_eq number (part_of change));
       parts = length-set volume (part_of change) new;
-      kept = omega (arith, is.kept, ap (λ (l : List Object). length l) was);
+      staying = omega (arith, is.staying, ap (λ (l : List Object). length l) was);
       few = omega (arith, is.few, ap (λ (l : List Object). length l) now);
       fits = omega (arith, is.fits, ap used_of now, room);
     }

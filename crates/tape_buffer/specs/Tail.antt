@@ -11,12 +11,12 @@ use Rattle.record_index.specs.Places.{PlacedPart, empty_placed, outline, placed_
 -- for each partition how many of the stored objects stay in front, at most, and the objects behind them: of a block the
 -- number of its change among the pending ones, and its length (own)
 pub record TailState : Type 0 where
-  pub kept : List ℕ
+  pub staying : List ℕ
   pub parts : List PlacedPart
 
 -- how many of the stored objects of a partition stay in front, at most (own)
-abbrev pub kept_in : TailState → ℕ → ℕ
-kept_in tail part = slice_index_or tail.kept part MAX_OBJECTS
+abbrev pub staying_in : TailState → ℕ → ℕ
+staying_in tail part = slice_index_or tail.staying part MAX_OBJECTS
 
 -- the partitions of an index, if there is one (own)
 abbrev pub parts_in : Option (List PlacedPart) → List PlacedPart
@@ -25,7 +25,7 @@ parts_in (Some parts) = parts
 
 -- nothing waits, and no memory is taken (own)
 abbrev pub no_tail : TailState
-no_tail = record { kept = replicate 4 MAX_OBJECTS; parts = [] }
+no_tail = record { staying = replicate 4 MAX_OBJECTS; parts = [] }
 
 -- there are four partitions at least, each as large as a partition can be (own)
 abbrev pub AreWide : List PlacedPart → Type 0
@@ -44,19 +44,19 @@ opened (part ∷ parts) = part ∷ parts
 -- nothing waits, and this many blocks and runs of filemarks may be added in each partition without memory (own)
 pub record IsFree (entries : ℕ) (tail : TailState) : Type 0 where
   pub wide : AreWide tail.parts
-  pub kept : (part : ℕ) → kept_in tail part ≡ MAX_OBJECTS
+  pub staying : (part : ℕ) → staying_in tail part ≡ MAX_OBJECTS
   pub empty : (part : ℕ) → placed_objects tail.parts part ≡ []
   pub roomy : (part : ℕ) → part < MAX_PARTITIONS → entries ≤ reserved_of tail.parts part
 
 -- the bytes are those of the block of the change with that number (own)
 abbrev pub IsBlockOf : List Change → List ℕ → ℕ → Type 0
-IsBlockOf changes bytes number = (part : ℕ) × (kept : ℕ) × (slice_get changes number ≡ Some (Put part kept bytes))
+IsBlockOf changes bytes number = (part : ℕ) × (staying : ℕ) × (slice_get changes number ≡ Some (Put part staying bytes))
 
 -- The objects that are seen: at most this many of those that are stored, then those that wait. Where objects wait, no
 -- fewer are stored (own).
-pub record IsSeenAs (seen stored waiting : List Object) (kept : ℕ) : Type 0 where
-  pub objects : seen ≡ take kept stored ++ waiting
-  pub front : (kept ≤ length stored) ⊎ (waiting ≡ [])
+pub record IsSeenAs (seen stored waiting : List Object) (staying : ℕ) : Type 0 where
+  pub objects : seen ≡ take staying stored ++ waiting
+  pub front : (staying ≤ length stored) ⊎ (waiting ≡ [])
 
 -- The tail has the objects that these changes put behind the stored ones. It names each block's change. With any volume
 -- to which the changes apply, it shows the volume that they make of it (own).
@@ -65,14 +65,14 @@ pub record IsTailOf (changes : List Change) (tail : TailState) : Type 0 where
   pub named : Indexes (IsBlockOf changes) waiting tail.parts
   pub shows : (volume : List Part) (part : ℕ) → AllApply volume changes → count_of volume part ≤ MAX_OBJECTS
       → IsSeenAs (objects_of (after volume changes) part) (objects_of volume part) (objects_of waiting part)
-      (kept_in tail part)
+      (staying_in tail part)
 
 -- the change as one of what waits, behind this many stored objects: it leaves that many objects fewer, and none below 0
 -- (own)
 abbrev pub shifted : ℕ → Change → Change
-shifted kept (Put part at block) = Put part (at - kept) block
-shifted kept (Marks part at count) = Marks part (at - kept) count
-shifted kept (Erase part at) = Erase part (at - kept)
+shifted staying (Put part at block) = Put part (at - staying) block
+shifted staying (Marks part at count) = Marks part (at - staying) count
+shifted staying (Erase part at) = Erase part (at - staying)
 
 -- a volume shows that the change applies behind these, in a partition that a volume can have (own)
 pub record AppliesBehind (changes : List Change) (change : Change) : Type 0 where

@@ -3,7 +3,7 @@ ghost use Rattle.std.specs.Prelude.{◌≡◌, ◌≤◌, ◌<◌, min};
 ghost use Rattle.vtl_base.specs.declared.limits.TheConstants.{MAX_OBJECTS};
 ghost use Rattle.volume_core.specs.Volume.{AllApply, IsMarkOf, after, capacity_of, count_of, kind_at, mark_count, marks_upto, refusal_of, used_up_to};
 ghost use Rattle.cartridge.specs.Contents.{volume_made};
-ghost use Rattle.tape_buffer.specs.Tail.{kept_in};
+ghost use Rattle.tape_buffer.specs.Tail.{staying_in};
 
 use crate::pending::Pending;
 use crate::tail::Tail;
@@ -15,10 +15,10 @@ use vtl_base::{ObjNo, PartNo};
 
 // How many of the stored objects of a partition come before those that wait.
 pub(crate) fn front_of<D: Disk>(cartridge: &Cartridge<D>, tail: &Tail, part: PartNo) -> ObjNo
-    ensures front { result ≡ min (kept_in tail.now part) (count_of (volume_made cartridge.now.contents) part) }
+    ensures front { result ≡ min (staying_in tail.now part) (count_of (volume_made cartridge.now.contents) part) }
     ensures few { count_of (volume_made cartridge.now.contents) part ≤ MAX_OBJECTS }
 {
-    tail.kept(part).min(cartridge.count(part))
+    tail.staying(part).min(cartridge.count(part))
 }
 
 // The kind of the object with this number; None where there is none.
@@ -125,12 +125,12 @@ pub(crate) fn refusal_seen<D: Disk>(
     if part >= cartridge.parts() {
         return Some(Refusal::NoPartition);
     }
-    let kept = change.kept();
-    if kept > count_seen(cartridge, pending, part) {
+    let staying = change.staying();
+    if staying > count_seen(cartridge, pending, part) {
         return Some(Refusal::PastEnd);
     }
-    let left = cartridge.capacity(part) - used_seen(cartridge, pending, part, kept);
-    if change.added() > MAX_OBJECTS - kept || change.cost() > left {
+    let left = cartridge.capacity(part) - used_seen(cartridge, pending, part, staying);
+    if change.added() > MAX_OBJECTS - staying || change.cost() > left {
         return Some(Refusal::NoRoom);
     }
     if !change.is_well_formed() {

@@ -1,11 +1,11 @@
 //! The tail: a catalog of the objects that wait, which pending changes put behind those that are stored.
 ghost use Rattle.std.specs.Prelude.{◌≡◌, ◌≤◌, ◌<◌, ◌+◌, ◌^◌, ◌-◌, ◌≢◌, ℕ, [], None, IfOk, OnErr, OnOk, min, slice_get, true};
 ghost use Rattle.vtl_base.specs.declared.limits.TheConstants.{MAX_CAPACITY, MAX_OBJECTS, MAX_PARTITIONS};
-ghost use Rattle.volume_core.specs.Volume.{IsMarkOf, capacity_of, count_of, is_well_formed, kept_of, kind_at, mark_count, marks_upto, part_of, refusal_of, used_up_to};
+ghost use Rattle.volume_core.specs.Volume.{IsMarkOf, capacity_of, count_of, is_well_formed, staying_of, kind_at, mark_count, marks_upto, part_of, refusal_of, used_up_to};
 ghost use Rattle.record_index.specs.Places.{outline, placed_after, placed_objects, reserved_of, with_objects};
 ghost use Rattle.record_index.specs.Records.{record_of};
 ghost use Rattle.record_index.specs.Shapes.{shape_of_change};
-ghost use Rattle.tape_buffer.specs.Tail.{AreWide, IsFree, shifted, kept_in, no_tail, opened};
+ghost use Rattle.tape_buffer.specs.Tail.{AreWide, IsFree, shifted, staying_in, no_tail, opened};
 
 use cartridge::reserving::reserve_each;
 use record_index::{Index, Placed, Record};
@@ -23,7 +23,7 @@ const PARTS: usize = 4;
 #[derive(Drop)]
 pub(crate) struct Tail {
     alloc: Global,
-    kept: [ObjNo; PARTS],
+    staying: [ObjNo; PARTS],
     index: Option<Index>,
 }
 
@@ -33,9 +33,9 @@ impl Model for Tail {
 
     ghost Value = { TailState };
 
-    ghost view = { λ t. record { kept = t.kept; parts = parts_in t.index } };
+    ghost view = { λ t. record { staying = t.staying; parts = parts_in t.index } };
 
-    ghost invariant = { λ t. (length t.kept ≡ 4) × AreWideIn t.index };
+    ghost invariant = { λ t. (length t.staying ≡ 4) × AreWideIn t.index };
 }
 
 impl Tail {
@@ -45,7 +45,7 @@ impl Tail {
     {
         Tail {
             alloc,
-            kept: [MAX_OBJECTS; PARTS],
+            staying: [MAX_OBJECTS; PARTS],
             index: None,
         }
     }
@@ -58,18 +58,18 @@ impl Tail {
         reserve_each(&mut index, entries)?;
         Ok(Tail {
             alloc,
-            kept: [MAX_OBJECTS; PARTS],
+            staying: [MAX_OBJECTS; PARTS],
             index: Some(index),
         })
     }
 
     // How many of the stored objects of a partition stay in front, at most.
-    pub(crate) fn kept(&self, part: PartNo) -> ObjNo
-        ensures { result ≡ kept_in self.now part }
+    pub(crate) fn staying(&self, part: PartNo) -> ObjNo
+        ensures { result ≡ staying_in self.now part }
     {
         let part = part as usize;
         if part < PARTS {
-            self.kept[part]
+            self.staying[part]
         } else {
             MAX_OBJECTS
         }
@@ -177,22 +177,22 @@ impl Tail {
         requires wide { AreWide self.old.parts }
         requires part { part_of change.now < MAX_PARTITIONS }
         requires applies { refusal_of (outline self.old.parts)
-            (shape_of_change (shifted (kept_in self.old (part_of change.now)) change.now)) ≡ None }
+            (shape_of_change (shifted (staying_in self.old (part_of change.now)) change.now)) ≡ None }
         requires formed { is_well_formed change.now ≡ true }
         requires reserved { 1 ≤ reserved_of self.old.parts (part_of change.now) }
         requires number { number < 2 ^ 64 - 1 }
-        ensures kept { kept_in self.new (part_of change.now)
-            ≡ min (kept_of change.now) (kept_in self.old (part_of change.now)) }
-        ensures others { (part : ℕ) → part ≢ part_of change.now → kept_in self.new part ≡ kept_in self.old part }
+        ensures staying { staying_in self.new (part_of change.now)
+            ≡ min (staying_of change.now) (staying_in self.old (part_of change.now)) }
+        ensures others { (part : ℕ) → part ≢ part_of change.now → staying_in self.new part ≡ staying_in self.old part }
         ensures parts { self.new.parts ≡ placed_after self.old.parts
-            (record_of (shifted (kept_in self.old (part_of change.now)) change.now)) number
+            (record_of (shifted (staying_in self.old (part_of change.now)) change.now)) number
             (reserved_of self.new.parts (part_of change.now)) }
         ensures left { (part : ℕ) → reserved_of self.old.parts part ≤ reserved_of self.new.parts part + 1 }
     {
         let part = change.part() as usize;
-        let kept = self.kept[part];
-        let item = record_behind(change, kept);
-        self.kept[part] = change.kept().min(kept);
+        let staying = self.staying[part];
+        let item = record_behind(change, staying);
+        self.staying[part] = change.staying().min(staying);
         match &mut self.index {
             Some(index) => match index.apply(item, number as u64) {
                 Ok(()) => {}
@@ -204,10 +204,10 @@ impl Tail {
 
     // Drops all objects. It takes no memory.
     pub(crate) fn clear(&mut self)
-        ensures kept { (part : ℕ) → kept_in self.new part ≡ MAX_OBJECTS }
+        ensures staying { (part : ℕ) → staying_in self.new part ≡ MAX_OBJECTS }
         ensures parts { (part : ℕ) → placed_objects self.new.parts part ≡ [] }
     {
-        self.kept = [MAX_OBJECTS; PARTS];
+        self.staying = [MAX_OBJECTS; PARTS];
         match &mut self.index {
             Some(index) => clear_index(index),
             None => {}
@@ -215,25 +215,25 @@ impl Tail {
     }
 }
 
-// The record of a change, with its objects counted from the first that waits: `kept` stored objects come before that.
-fn record_behind(change: &Change, kept: ObjNo) -> Record
+// The record of a change, with its objects counted from the first that waits. `staying` stored objects come before.
+fn record_behind(change: &Change, staying: ObjNo) -> Record
     requires { is_well_formed change.now ≡ true }
-    ensures { result ≡ record_of (shifted kept change.now) }
+    ensures { result ≡ record_of (shifted staying change.now) }
 {
     match change {
         Change::Put { part, at, block } => Record::Put {
             part: *part,
-            at: at.saturating_sub(kept),
+            at: at.saturating_sub(staying),
             length: block.len() as u32,
         },
         Change::Marks { part, at, count } => Record::Marks {
             part: *part,
-            at: at.saturating_sub(kept),
+            at: at.saturating_sub(staying),
             count: *count,
         },
         Change::Erase { part, at } => Record::Erase {
             part: *part,
-            at: at.saturating_sub(kept),
+            at: at.saturating_sub(staying),
         },
     }
 }

@@ -3,7 +3,7 @@ use Rattle.std.proofs.Common.{◌≡◌, ℕ, ◌+◌, List, [], length, drop, r
 use Rattle.std.proofs.lemmas.List.{append-nil}
 use Rattle.vtl_base.specs.declared.faults.DevFault.{DevFault}
 use Rattle.tape_disk.specs.Disk.{DiskState, Same, Smeared, Cut, Writes, Cuts, Syncs}
-use Rattle.tape_disk.specs.CallLog.{Synced, CallLog, IsImage, idled, kept, log_state, reads}
+use Rattle.tape_disk.specs.CallLog.{Synced, CallLog, IsImage, idled, log_state, reads, with_call}
 
 all_stays : (at n : ℕ) (xs : List ℕ) → Smeared at n xs xs
 all_stays at n xs = record {
@@ -36,7 +36,7 @@ module _ (log mid new : CallLog) (f f' : ℕ) where
       (record { seen = refl; crash = λ image left. left })
 
 module _ (log new : CallLog) (f f' : ℕ) where
-  pub is_synced : new ≡ kept (Synced log.idle) log → Syncs (Ok tt) (log_state log f) (log_state new f')
+  pub is_synced : new ≡ with_call (Synced log.idle) log → Syncs (Ok tt) (log_state log f) (log_state new f')
   is_synced is = subst (λ (p : CallLog). Syncs (Ok tt) (log_state log f) (log_state p f')) (sym is) (record {
     durable = λ image left. left;
     crash = λ image left. subst (IsImage log.base log.calls) (sym left) (reads log.base log.calls);

@@ -94,15 +94,15 @@ abbrev pub idled : CallLog → CallLog
 idled log = record log { idle = log.idle + 1 }
 
 -- after a call that is logged (own)
-abbrev pub kept : LoggedCall → CallLog → CallLog
-kept call log = record log { calls = call ∷ log.calls; idle = 0 }
+abbrev pub with_call : LoggedCall → CallLog → CallLog
+with_call call log = record log { calls = call ∷ log.calls; idle = 0 }
 
 -- after a call with the result Ok: a read changed nothing, any other call is logged (own)
 abbrev pub logged : DiskCall → CallLog → CallLog
 logged (ReadAt at count) log = idled log
-logged (WriteAt at bytes) log = kept (Wrote log.idle at bytes) log
-logged (CutAt len) log = kept (CutTo log.idle len) log
-logged SyncAll log = kept (Synced log.idle) log
+logged (WriteAt at bytes) log = with_call (Wrote log.idle at bytes) log
+logged (CutAt len) log = with_call (CutTo log.idle len) log
+logged SyncAll log = with_call (Synced log.idle) log
 
 -- the disk of this log, which is always honest (own)
 abbrev pub log_state : CallLog → ℕ → DiskState

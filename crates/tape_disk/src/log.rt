@@ -1,7 +1,7 @@
 //! The log of the calls of a disk in memory.
 ghost use Rattle.std.specs.Prelude.{◌≡◌, ◌-◌, length, OnOk, OnErr, IfOk};
 ghost use Rattle.tape_disk.specs.Disk.{WriteAt, CutAt, SyncAll};
-ghost use Rattle.tape_disk.specs.CallLog.{new_log, idled, kept, logged, syncs_of, landed, torn};
+ghost use Rattle.tape_disk.specs.CallLog.{new_log, idled, logged, with_call, syncs_of, landed, torn};
 
 use crate::count::Count;
 use crate::overwrite::overwrite;
@@ -109,7 +109,7 @@ impl Log {
     }
 
     fn keep(&mut self, call: Call) -> Result<(), AllocError>
-        ensures ok { OnOk result (log_of self.new ≡ kept (logged_call call) (log_of self.old)) }
+        ensures ok { OnOk result (log_of self.new ≡ with_call (logged_call call) (log_of self.old)) }
         ensures err { OnErr result (log_of self.new ≡ log_of self.old) }
     {
         self.calls.push_front(call)?;

@@ -35,7 +35,7 @@ pub struct Day {
     /// How many changes their seats have afterwards.
     pub amounts: &'static [u64],
     /// The place of the seat that is not returned at the end, if there is one.
-    pub kept: Option<usize>,
+    pub left_out: Option<usize>,
     /// The counts of drives 1 and 2, or why the library did not end well.
     pub end: Result<(u64, u64), FinishError>,
 }
@@ -86,9 +86,9 @@ fn have_amounts<H: Parties>(rt: &impl Abort, seats: &[Seat<H>], amounts: &[u64])
 }
 
 // All seats but the one that is not returned.
-fn handed_in<H: Parties>(seats: Vec<Seat<H>>, kept: Option<usize>) -> Vec<Seat<H>> {
+fn handed_in<H: Parties>(seats: Vec<Seat<H>>, left_out: Option<usize>) -> Vec<Seat<H>> {
     let mut seats = seats;
-    if let Some(place) = kept {
+    if let Some(place) = left_out {
         if place < seats.len() {
             let _ = seats.remove(place);
         }
@@ -126,7 +126,7 @@ fn spend_over<
             let mut seats = seats;
             all_play(rt, alloc, &library, stage, day.hosts, seats.as_mut_slice());
             have_amounts(rt, seats.as_slice(), day.amounts);
-            Ok(library.finish(rt, handed_in(seats, day.kept)))
+            Ok(library.finish(rt, handed_in(seats, day.left_out)))
         }
         Err(_) => Err(Fail::from("no library")),
     }

@@ -58,7 +58,7 @@ static STORES: Day = Day {
         FLUSHES,
     ],
     amounts: &[1, 0],
-    kept: None,
+    left_out: None,
     end: Ok((1, 0)),
 };
 
@@ -76,7 +76,7 @@ static FAILS: Day = Day {
         FLUSHES,
     ],
     amounts: &[1, 0],
-    kept: None,
+    left_out: None,
     end: Err(FinishError::Unwritten),
 };
 
@@ -95,7 +95,7 @@ static LOADED_AGAIN: Day = Day {
         FLUSHES,
     ],
     amounts: &[1, 0],
-    kept: None,
+    left_out: None,
     end: Ok((1, 0)),
 };
 

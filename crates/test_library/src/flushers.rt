@@ -39,7 +39,7 @@ static RESTS: Day = Day {
         &[Act::Flushes(1, Stands::Nowhere)],
     ],
     amounts: &[1, 0],
-    kept: None,
+    left_out: None,
     end: Ok((1, 0)),
 };
 
@@ -61,7 +61,7 @@ static ENDS_AT_ONCE: Day = Day {
         Act::Turns(2, (0, 0, 0, 0)),
     ]],
     amounts: &[1],
-    kept: None,
+    left_out: None,
     end: Ok((1, 0)),
 };
 

@@ -53,7 +53,7 @@ static BESIDE_A_TURN: Day = Day {
         &[Act::Flushes(1, Stands::Inside(Sign::Said, 1))],
     ],
     amounts: &[4, 0],
-    kept: None,
+    left_out: None,
     end: Ok((4, 0)),
 };
 
@@ -82,7 +82,7 @@ static A_FULL_BUFFER_BESIDE_A_TURN: Day = Day {
         FLUSHES,
     ],
     amounts: &[258, 0],
-    kept: None,
+    left_out: None,
     end: Ok((258, 0)),
 };
 
@@ -105,7 +105,7 @@ static LONG_BLOCKS_BESIDE_A_TURN: Day = Day {
         FLUSHES,
     ],
     amounts: &[18, 0],
-    kept: None,
+    left_out: None,
     end: Ok((18, 0)),
 };
 
@@ -148,7 +148,7 @@ static WAITS_FOR_A_TURN: Day = Day {
         &[Act::Flushes(1, Stands::Inside(Sign::Said, 1))],
     ],
     amounts: &[0, 0, 0],
-    kept: None,
+    left_out: None,
     end: Ok((0, 0)),
 };
 
@@ -172,7 +172,7 @@ static THE_257TH: Day = Day {
         Act::Counts(Sign::Synced, 4),
     ]],
     amounts: &[513],
-    kept: None,
+    left_out: None,
     end: Ok((513, 0)),
 };
 
@@ -187,7 +187,7 @@ static THE_17TH: Day = Day {
         Act::Counts(Sign::Synced, 2),
     ]],
     amounts: &[17],
-    kept: None,
+    left_out: None,
     end: Ok((17, 0)),
 };
 
@@ -228,7 +228,7 @@ static REPORTED_LATE: Day = Day {
         FLUSHES,
     ],
     amounts: &[3, 0],
-    kept: None,
+    left_out: None,
     end: Ok((3, 0)),
 };
 
@@ -252,7 +252,7 @@ static REPORTED_FIRST: Day = Day {
         &[Act::Flushes(1, Stands::Behind(Sign::Said, 1))],
     ],
     amounts: &[1, 0],
-    kept: None,
+    left_out: None,
     end: Err(FinishError::Unwritten),
 };
 

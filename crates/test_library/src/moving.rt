@@ -169,7 +169,7 @@ const ROUND: &'static [Act] = &[
 static GOES_ROUND: Day = Day {
     hosts: &[ROUND],
     amounts: &[0],
-    kept: None,
+    left_out: None,
     end: Ok((0, 0)),
 };
 
@@ -188,7 +188,7 @@ static MOVED_ABOUT: Day = Day {
         &[Act::MovesAbout],
     ],
     amounts: &[],
-    kept: None,
+    left_out: None,
     end: Ok((0, 0)),
 };
 

@@ -48,31 +48,31 @@ static ENDS: &'static [Day] = &[
     Day {
         hosts: ALONE,
         amounts: &[2],
-        kept: None,
+        left_out: None,
         end: Ok((2, 0)),
     },
     Day {
         hosts: ALONE,
         amounts: &[2],
-        kept: Some(0),
+        left_out: Some(0),
         end: Err(FinishError::SeatsMissing { total: 2, seats: 0 }),
     },
     Day {
         hosts: &[&[Act::Session(WRITTEN_AND_READ)], &[]],
         amounts: &[2, 0],
-        kept: Some(1),
+        left_out: Some(1),
         end: Ok((2, 0)),
     },
     Day {
         hosts: BOTH,
         amounts: &[2, 3],
-        kept: None,
+        left_out: None,
         end: Ok((3, 2)),
     },
     Day {
         hosts: BOTH,
         amounts: &[2, 3],
-        kept: Some(1),
+        left_out: Some(1),
         end: Err(FinishError::SeatsMissing { total: 5, seats: 2 }),
     },
 ];
@@ -154,7 +154,7 @@ static RESERVED: Day = Day {
         ],
     ],
     amounts: &[0, 1],
-    kept: None,
+    left_out: None,
     end: Ok((1, 0)),
 };
 
@@ -171,7 +171,7 @@ static LENT: Day = Day {
         Act::Lends((1, WRITE_1, b"x", GOOD), 0),
     ]],
     amounts: &[2],
-    kept: None,
+    left_out: None,
     end: Ok((2, 0)),
 };
 

@@ -63,7 +63,7 @@ static TWO_HOSTS: Day = Day {
         &[Act::Flushes(1, Stands::Nowhere)],
     ],
     amounts: &[4, 2, 0],
-    kept: None,
+    left_out: None,
     end: Ok((3, 3)),
 };
 
@@ -82,7 +82,7 @@ const COMES: &'static [Act] = &[
 static CROWD: Day = Day {
     hosts: &[COMES; 64],
     amounts: &[1; 64],
-    kept: None,
+    left_out: None,
     end: Ok((64, 0)),
 };
 

@@ -34,7 +34,7 @@ static STANDS_IN_ITS_TURN: Day = Day {
         &[Act::Flushes(2, Stands::Nowhere)],
     ],
     amounts: &[1, 20, 0, 0],
-    kept: None,
+    left_out: None,
     end: Ok((0, 21)),
 };
 
@@ -60,7 +60,7 @@ static STANDS_BEFORE_ITS_TURN: Day = Day {
         &[Act::Flushes(1, Stands::Before(Sign::Said, 1))],
     ],
     amounts: &[1, 0],
-    kept: None,
+    left_out: None,
     end: Ok((1, 0)),
 };
 
@@ -88,7 +88,7 @@ static LASTS: Day = Day {
         ],
     ],
     amounts: &[2, 1],
-    kept: None,
+    left_out: None,
     end: Ok((2, 1)),
 };
 

@@ -44,7 +44,7 @@ IsWhole medium = (medium.failed ≡ false) × (medium.awake ≡ false → medium
 -- What was stored stays, first of all that is, and so does the size below which a change is taken without the device.
 -- Where the medium works and its device does not fail, just these changes are added to what it holds (own).
 pub record StagedMoves (old : Staged) (made : List Change) (new : Staged) : Type 0 where
-  pub kept : (more : List Change) × (new.stored ≡ old.stored ++ more)
+  pub stored_more : (more : List Change) × (new.stored ≡ old.stored ++ more)
   pub counted : old.faults ≤ new.faults
   pub alone : new.alone_below ≡ old.alone_below
   pub whole :
@@ -65,7 +65,7 @@ staged_below =
 pub staged_moves_nowhere : (medium : Staged) → StagedMoves medium [] medium
 staged_moves_nowhere medium =
     record {
-      kept = ([], sym (append-nil medium.stored));
+      stored_more = ([], sym (append-nil medium.stored));
       counted = omega arith;
       alone = refl;
       whole = λ whole same. (whole, sym (append-nil (medium.stored ++ medium.rest)));
@@ -76,10 +76,10 @@ pub staged_moves_on : (a b c : Staged) (first second : List Change)
     → StagedMoves a first b → StagedMoves b second c → StagedMoves a (first ++ second) c
 staged_moves_on a b c first second one two =
     record {
-      kept = (
-        one.kept.0 ++ two.kept.0,
-        two.kept.1 ∙ ap (λ (l : List Change). l ++ two.kept.0) one.kept.1
-            ∙ append_assoc a.stored one.kept.0 two.kept.0,
+      stored_more = (
+        one.stored_more.0 ++ two.stored_more.0,
+        two.stored_more.1 ∙ ap (λ (l : List Change). l ++ two.stored_more.0) one.stored_more.1
+            ∙ append_assoc a.stored one.stored_more.0 two.stored_more.0,
       );
       counted = omega (arith, one.counted, two.counted);
       alone = two.alone ∙ one.alone;

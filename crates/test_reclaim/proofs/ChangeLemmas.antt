@@ -12,7 +12,7 @@ use Rattle.volume_core.specs.declared.changes.Refusal.{Refusal}
 use Rattle.volume_core.specs.declared.changes.Refusal.TheVariants.{NoRoom, PastEnd, TooLong}
 use Rattle.volume_core.specs.declared.objects.Object.{Object}
 use Rattle.volume_core.specs.Medium.{frame_size}
-use Rattle.volume_core.specs.Volume.{Part, added_by, capacity_in, capacity_of, cost_of, count_of, empty_part, has_room, is_well_formed, kept_of, objects_after, objects_in, part_of, refusal_in, refusal_of, used_of, used_up_to}
+use Rattle.volume_core.specs.Volume.{Part, added_by, capacity_in, capacity_of, cost_of, count_of, empty_part, has_room, is_well_formed, staying_of, objects_after, objects_in, part_of, refusal_in, refusal_of, used_of, used_up_to}
 use Rattle.record_index.specs.Records.{spell_all, spell_change, spell_head}
 
 -- the first of the three causes that holds: it is past the end, there is no room, or it is not well-formed
@@ -21,47 +21,47 @@ cause past room fine =
     if past then Some PastEnd else (if not room then Some NoRoom else (if not fine then Some TooLong else None))
 
 -- how many objects a partition has after a change
-size_after : (objects : List Object) (change : Change) → kept_of change ≤ length objects
-    → length (objects_after objects change) ≡ kept_of change + length (added_by change)
-size_after objects change kept =
+size_after : (objects : List Object) (change : Change) → staying_of change ≤ length objects
+    → length (objects_after objects change) ≡ staying_of change + length (added_by change)
+size_after objects change staying =
     omega (
       arith,
-      length-append (take (kept_of change) objects) (added_by change),
-      length-take-le (kept_of change) objects kept,
+      length-append (take (staying_of change) objects) (added_by change),
+      length-take-le (staying_of change) objects staying,
     )
 
 rest_in : (found : Option Part) (change : Change) → (found ≡ None → ⊥)
-    → kept_of change ≤ length (objects_in found)
-    → kept_of change + length (added_by change) ≤ MAX_OBJECTS
-    → used_of (take (kept_of change) (objects_in found)) + used_of (added_by change) ≤ capacity_in found
+    → staying_of change ≤ length (objects_in found)
+    → staying_of change + length (added_by change) ≤ MAX_OBJECTS
+    → used_of (take (staying_of change) (objects_in found)) + used_of (added_by change) ≤ capacity_in found
     → refusal_in found change ≡ cause false true (is_well_formed change)
-rest_in None change some kept few fit = absurd (some refl)
-rest_in (Some part) change some kept few fit =
+rest_in None change some staying few fit = absurd (some refl)
+rest_in (Some part) change some staying few fit =
     let objects = objects_after part.objects change in
-    let fits = le-ltb (length part.objects) (kept_of change) kept in
+    let fits = le-ltb (length part.objects) (staying_of change) staying in
     let room : has_room part objects ≡ true =
     and_from _ _
-    (le-leb (length objects) MAX_OBJECTS (omega (arith, few, size_after part.objects change kept)))
+    (le-leb (length objects) MAX_OBJECTS (omega (arith, few, size_after part.objects change staying)))
     (le-leb (used_of objects) part.capacity
-    (omega (arith, fit, sum_by-append cost_of (take (kept_of change) part.objects) (added_by change)))) in
+    (omega (arith, fit, sum_by-append cost_of (take (staying_of change) part.objects) (added_by change)))) in
     λ i. cause (fits i) (room i) (is_well_formed change)
 
 -- a change to which none of the causes applies is taken
 pub unrefused : (volume : List Part) (change : Change) (part : ℕ) → part ≡ part_of change
-    → part < length volume → kept_of change ≤ count_of volume part
-    → kept_of change + length (added_by change) ≤ MAX_OBJECTS
-    → used_up_to volume part (kept_of change) + used_of (added_by change) ≤ capacity_of volume part
+    → part < length volume → staying_of change ≤ count_of volume part
+    → staying_of change + length (added_by change) ≤ MAX_OBJECTS
+    → used_up_to volume part (staying_of change) + used_of (added_by change) ≤ capacity_of volume part
     → is_well_formed change ≡ true → refusal_of volume change ≡ None
-unrefused volume change part here inside kept few fit well =
+unrefused volume change part here inside staying few fit well =
     rest_in (slice_get volume (part_of change)) change
     (λ none. none-some (get_or volume (part_of change) (empty_part 0))
     (sym none ∙ slice_get-get_or volume (part_of change) (empty_part 0) (omega (arith, inside, here))))
-    (omega (arith, kept, ap (λ (n : ℕ). count_of volume n) here)) few
+    (omega (arith, staying, ap (λ (n : ℕ). count_of volume n) here)) few
     (omega (
       arith,
       fit,
       ap (λ (n : ℕ). capacity_of volume n) here,
-      ap (λ (n : ℕ). used_up_to volume n (kept_of change)) here,
+      ap (λ (n : ℕ). used_up_to volume n (staying_of change)) here,
     ))
     ∙ ap (cause false true) well
 

@@ -28,7 +28,7 @@ impl Dice {
     }
 
     // How many objects of a partition stay: mostly all, else some, or more than there are.
-    fn kept(&mut self, count: u32) -> ObjNo {
+    fn staying(&mut self, count: u32) -> ObjNo {
         match self.below(8) {
             0..=4 => count,
             _ => self.below(count.saturating_add(2)),
@@ -48,7 +48,7 @@ impl Dice {
     // A change of a volume, which may not apply.
     fn change(&mut self, alloc: Global, volume: &Volume) -> Result<Change, NoMemory> {
         let part = (self.below(u32::from(volume.parts())) % 4) as PartNo;
-        let at = self.kept(volume.count(part));
+        let at = self.staying(volume.count(part));
         match self.below(8) {
             0..=4 => {
                 let block = self.block(alloc)?;

@@ -74,12 +74,12 @@ fn applies<D: Disk>(cartridge: &Cartridge<D>, change: &Change) -> bool
     ensures { result ≡ true → refusal_of (volume_made cartridge.now.contents) change.now ≡ None }
 {
     let part = change.part();
-    let kept = change.kept();
-    if part >= cartridge.parts() || kept > cartridge.count(part) {
+    let staying = change.staying();
+    if part >= cartridge.parts() || staying > cartridge.count(part) {
         return false;
     }
-    let left = cartridge.capacity(part) - cartridge.used(part, kept);
-    if change.added() > MAX_OBJECTS - kept || change.cost() > left {
+    let left = cartridge.capacity(part) - cartridge.used(part, staying);
+    if change.added() > MAX_OBJECTS - staying || change.cost() > left {
         return false;
     }
     change.is_well_formed()

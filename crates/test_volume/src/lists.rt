@@ -51,7 +51,7 @@ static ROWS: &'static [Row] = &[
 
 // The plain list after a record that was not refused.
 fn follow(list: &mut Vec<Placed>, item: Record, place: u64) -> Result<(), Fail> {
-    list.truncate(item.kept() as usize);
+    list.truncate(item.staying() as usize);
     match item {
         Record::Put { length, .. } => list.push(Placed::Block { place, length })?,
         Record::Marks { count, .. } => {

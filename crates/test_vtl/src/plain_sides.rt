@@ -14,7 +14,7 @@ struct Partition {
 #[derive(Clone, Copy)]
 struct PlainRecord {
     partition: u64,
-    kept: u64,
+    staying: u64,
     count: u64,
     cost: u64,
     end: usize,
@@ -86,7 +86,7 @@ fn frame_end(bytes: &[u8], gate: usize) -> Option<usize> {
 fn record(body: &[u8], at: usize) -> Option<PlainRecord> {
     let kind = number(body, at, 1)?;
     let partition = number(body, at.checked_add(1)?, 1)?;
-    let kept = number(body, at.checked_add(2)?, 4)?;
+    let staying = number(body, at.checked_add(2)?, 4)?;
     let value = number(body, at.checked_add(6)?, 4)?;
     let head = at.checked_add(10)?;
     let (count, cost, end) = match kind {
@@ -103,7 +103,7 @@ fn record(body: &[u8], at: usize) -> Option<PlainRecord> {
     };
     Some(PlainRecord {
         partition,
-        kept,
+        staying,
         count,
         cost,
         end,
@@ -115,18 +115,18 @@ fn applies(partitions: &mut Vec<Partition>, record: PlainRecord) -> Result<bool,
     let Some(partition) = partitions.get_mut(record.partition as usize) else {
         return Ok(false);
     };
-    let kept = record.kept as usize;
-    if kept > partition.costs.len() || record.kept.saturating_add(record.count) > 16_000_000 {
+    let staying = record.staying as usize;
+    if staying > partition.costs.len() || record.staying.saturating_add(record.count) > 16_000_000 {
         return Ok(false);
     }
     let mut used = record.count.saturating_mul(record.cost);
-    for cost in partition.costs.iter().take(kept) {
+    for cost in partition.costs.iter().take(staying) {
         used = used.saturating_add(*cost);
     }
     if used > partition.capacity {
         return Ok(false);
     }
-    partition.costs.truncate(kept);
+    partition.costs.truncate(staying);
     for _ in 0..record.count {
         partition.costs.push(record.cost)?;
     }

@@ -11,7 +11,7 @@ use Rattle.volume_core.specs.declared.objects.Object.TheVariants.{Block, Mark}
 use Rattle.volume_core.specs.declared.changes.Change.{Change}
 use Rattle.volume_core.specs.declared.changes.Change.TheVariants.{Put, Marks}
 use Rattle.volume_core.specs.declared.changes.Refusal.TheVariants.{PastEnd, NoRoom, TooLong}
-use Rattle.volume_core.specs.Volume.{IsObject, IsPart, IsVolume, Part, added_by, changed, changed_in, cost_of, empty_part, empty_volume, has_room, is_well_formed, kept_of, objects_after, part_of, refusal_in, refusal_of, used_of}
+use Rattle.volume_core.specs.Volume.{IsObject, IsPart, IsVolume, Part, added_by, changed, changed_in, cost_of, empty_part, empty_volume, has_room, is_well_formed, staying_of, objects_after, part_of, refusal_in, refusal_of, used_of}
 use Rattle.std.proofs.lemmas.List.Elements.{All-head, All-tail}
 use Rattle.volume_copy.specs.Copies.{Makes, copy_objects, copy_of, copy_parts, marks_change}
 
@@ -59,7 +59,7 @@ module _ (before behind : List Part) (capacity : ℕ) (objects others : List Obj
   -- it is well formed, and leads to objects that fit (own)
   record Goes : Type 0 where
     target : part_of change ≡ length before
-    kept : kept_of change ≡ length objects
+    staying : staying_of change ≡ length objects
     formed : is_well_formed change ≡ true
     fits :
         IsPart
@@ -71,14 +71,14 @@ module _ (before behind : List Part) (capacity : ℕ) (objects others : List Obj
   now : Goes → objects_after objects change ≡ objects ++ added_by change
   now goes =
       ap (λ (l : List Object). l ++ added_by change)
-      (ap (λ (n : ℕ). take n objects) goes.kept ∙ take_all (length objects) objects (omega arith))
+      (ap (λ (n : ℕ). take n objects) goes.staying ∙ take_all (length objects) objects (omega arith))
 
   there : Goes → slice_get (grown before capacity objects behind) (part_of change) ≡ Some part
   there goes = ap (slice_get (grown before capacity objects behind)) goes.target ∙ part_at before behind part
 
   applies : Goes → refusal_of (grown before capacity objects behind) change ≡ None
   applies goes =
-      let past = le-ltb (length objects) (kept_of change) (omega (arith, goes.kept)) in
+      let past = le-ltb (length objects) (staying_of change) (omega (arith, goes.staying)) in
       let room = ap (has_room part) (now goes) ∙ has_room_of part (objects ++ added_by change) others goes.fits in
       ap (λ (p : Option Part). refusal_in p change) (there goes)
       ∙ (λ i. if past i then Some PastEnd
@@ -117,7 +117,7 @@ module _ (before behind : List Part) (capacity : ℕ) where
       (tt, ap (λ (l : List Object). grown before capacity l behind) (sym (append-nil objects)))
   makes_marks objects (suc count) others fits =
       makes_one before behind capacity objects others (Marks (length before) (length objects) (suc count))
-      (record { target = refl; kept = refl; formed = le-leb 1 (suc count) (omega arith); fits = fits })
+      (record { target = refl; staying = refl; formed = le-leb 1 (suc count) (omega arith); fits = fits })
 
   makes_block : (objects : List Object) (at : ℕ) (bytes : List ℕ) (others : List Object) → at ≡ length objects
       → FitsPart (objects ++ (Block bytes ∷ []) ++ others)
@@ -130,7 +130,7 @@ module _ (before behind : List Part) (capacity : ℕ) where
       makes_one before behind capacity objects others (Put (length before) at bytes)
       (record {
         target = refl;
-        kept = place;
+        staying = place;
         formed = and_from (nat_le 1 (length bytes)) (nat_le (length bytes) MAX_BLOCK) (le-leb 1 (length bytes) one.0)
             (le-leb (length bytes) MAX_BLOCK one.1);
         fits = fits;

@@ -145,10 +145,10 @@ part_of (Marks part at count) = part
 part_of (Erase part at) = part
 
 -- how many of its objects stay (own)
-abbrev pub kept_of : Change → ℕ
-kept_of (Put part at block) = at
-kept_of (Marks part at count) = at
-kept_of (Erase part at) = at
+abbrev pub staying_of : Change → ℕ
+staying_of (Put part at block) = at
+staying_of (Marks part at count) = at
+staying_of (Erase part at) = at
 
 -- the objects that a change puts behind those that stay (own)
 abbrev pub added_by : Change → List Object
@@ -170,7 +170,7 @@ HasLongBlock (Erase part at) = ⊥
 
 -- the objects after a change: what stood behind those that stay is gone (SSC-4, WRITE, WRITE FILEMARKS, ERASE)
 abbrev pub objects_after : List Object → Change → List Object
-objects_after objects change = take (kept_of change) objects ++ added_by change
+objects_after objects change = take (staying_of change) objects ++ added_by change
 
 -- these objects are no more than a partition has, and fit its capacity (own)
 abbrev pub has_room : Part → List Object → Bool
@@ -187,7 +187,7 @@ is_well_formed (Erase part at) = true
 abbrev pub refusal_in : Option Part → Change → Option Refusal
 refusal_in None change = Some NoPartition
 refusal_in (Some part) change =
-    if nat_lt (length part.objects) (kept_of change) then Some PastEnd
+    if nat_lt (length part.objects) (staying_of change) then Some PastEnd
     else (if not (has_room part (objects_after part.objects change)) then Some NoRoom
     else (if not (is_well_formed change) then Some TooLong
     else None))

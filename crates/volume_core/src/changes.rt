@@ -1,6 +1,6 @@
 //! Changes of a volume, and why one is refused.
 ghost use Rattle.std.specs.Prelude.{◌≡◌, IfOk, OnErr, length};
-ghost use Rattle.volume_core.specs.Volume.{part_of, kept_of, added_by, used_of, is_well_formed, HasLongBlock};
+ghost use Rattle.volume_core.specs.Volume.{part_of, staying_of, added_by, used_of, is_well_formed, HasLongBlock};
 ghost use Rattle.volume_core.specs.Medium.{frame_size};
 
 use std::alloc::Global;
@@ -93,8 +93,8 @@ impl Change {
     }
 
     /// How many objects stay (own).
-    pub fn kept(&self) -> ObjNo
-        ensures { result ≡ kept_of self.now }
+    pub fn staying(&self) -> ObjNo
+        ensures { result ≡ staying_of self.now }
     {
         match self {
             Change::Put { at, .. } | Change::Marks { at, .. } | Change::Erase { at, .. } => *at,

@@ -97,7 +97,7 @@ impl Partition {
     pub(crate) fn refusal(&self, change: &Change) -> Option<Refusal>
         ensures { result ≡ refusal_in (Some self.now) change.now }
     {
-        let at = change.kept() as usize;
+        let at = change.staying() as usize;
         if at > self.stock.len() {
             return Some(Refusal::PastEnd);
         }

@@ -188,24 +188,26 @@ module _ {D : Type 0} (state : D → DiskState) where
   sure_by Second counts spare head bodies gives = gives.second
 
   -- where the copy was written, the side that counted is unchanged, and the other has the copy alone
-  pub kept_beside : (which : Which) (counts counts_then spare spare_then : D) (head : Head) (bodies : List (List ℕ))
+  pub old_side_beside : (which : Which) (counts counts_then spare spare_then : D) (head : Head) (bodies : List (List ℕ))
       (volume : List Part) (copies : List (List ℕ)) → GivesSurely state (two_by which counts spare) which head bodies
       → Unwritten (state counts) (state counts_then) → copies ≡ copy_bodies volume
       → Each (state spare_then) (IsOpenSideOf (spell_copy head copies))
       → EachOfTwo state (two_by which counts_then spare_then)
       (KeepsBesideCopy which head volume (seen_of_two state (two_by which counts spare)))
-  kept_beside First counts counts_then spare spare_then head bodies volume copies gives still are alone images left =
+  old_side_beside First counts counts_then spare spare_then head bodies volume copies gives still are alone images
+      left =
       record {
-        kept =
+        old_side =
             subst (λ (l : List ℕ). IsOpenSideOf (drop 10 (state counts).seen) l)
             (sym (gives.first images.0 (still.images images.0 left.0)))
             (counts_open First head bodies (state counts).seen (state spare).seen gives.stands);
         written =
             subst (λ (l : List (List ℕ)). IsOpenSideOf (spell_copy head l) images.1) are (alone images.1 left.1);
       }
-  kept_beside Second counts counts_then spare spare_then head bodies volume copies gives still are alone images left =
+  old_side_beside Second counts counts_then spare spare_then head bodies volume copies gives still are alone images
+      left =
       record {
-        kept =
+        old_side =
             subst (λ (l : List ℕ). IsOpenSideOf (drop 10 (state counts).seen) l)
             (sym (gives.second images.1 (still.images images.1 left.1)))
             (counts_open Second head bodies (state spare).seen (state counts).seen gives.stands);
@@ -214,15 +216,15 @@ module _ {D : Type 0} (state : D → DiskState) where
       }
 
   -- the same since the disks were made ready, which left it unchanged after its ten bytes
-  pub kept_since : (which : Which) (head : Head) (bodies : List (List ℕ)) (volume : List Part)
+  pub old_side_since : (which : Which) (head : Head) (bodies : List (List ℕ)) (volume : List Part)
       (old mid new : TwoDisks D) (r : Result Unit DevFault) → StillGives state old mid which head bodies
       → OnOk r (EachOfTwo state new (KeepsBesideCopy which head volume (seen_of_two state mid)))
       → OnOk r (EachOfTwo state new (KeepsBesideCopy which head volume (seen_of_two state old)))
-  kept_since which head bodies volume old mid new (Err fault) still keeps = tt
-  kept_since which head bodies volume old mid new (Ok done) still keeps = λ images left.
+  old_side_since which head bodies volume old mid new (Err fault) still keeps = tt
+  old_side_since which head bodies volume old mid new (Ok done) still keeps = λ images left.
       let each = keeps images left in
       record {
-        kept = subst (λ (l : List ℕ). IsOpenSideOf l (counting which images)) still.same each.kept;
+        old_side = subst (λ (l : List ℕ). IsOpenSideOf l (counting which images)) still.same each.old_side;
         written = each.written;
       }
 

@@ -50,7 +50,7 @@ GivesCopy which head volume = GivesSide (other which) (copy_head head (copy_bodi
 -- Both sides are open. The one that counted before is unchanged from place 10 on; the other has the copy of the volume
 -- there, and nothing after it (own).
 pub record KeepsBesideCopy (which : Which) (head : Head) (volume : List Part) (before images : Images) : Type 0 where
-  pub kept : IsOpenSideOf (drop 10 (counting which before)) (counting which images)
+  pub old_side : IsOpenSideOf (drop 10 (counting which before)) (counting which images)
   pub written : IsOpenSideOf (spell_copy head (copy_bodies volume)) (resting which images)
 
 -- The premise of the promises about bytes. Two disks surely stand for a head and frames, and this index has their

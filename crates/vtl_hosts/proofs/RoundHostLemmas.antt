@@ -79,7 +79,7 @@ module _ {S : Type 0} (serves : S → Request → Answer → S → Type 0) where
       left = done.stray ++ known_items h''.requests;
       commands_are = commands_are;
       made = done.given;
-      kept = known_items a'';
+      held_back = known_items a'';
       made_are = made_are;
       answered = answered;
     }

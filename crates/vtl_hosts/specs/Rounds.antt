@@ -75,8 +75,8 @@ pub record AnswersBegun {S : Type 0} (answers : S → Request → Answer → S �
   pub left : List Request
   pub commands_are : commands ≡ done ++ left
   pub made : List Answer
-  pub kept : List Answer
-  pub made_are : made ≡ given ++ kept
+  pub held_back : List Answer
+  pub made_are : made ≡ given ++ held_back
   pub answered : AnswersAll answers old done made new
 
 -- of each host, whose place is its number less one, all commands were answered, each once and in their order, and there

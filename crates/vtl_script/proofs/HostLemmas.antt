@@ -112,16 +112,16 @@ ands : (a b : Bool) → (a && b) ≡ true → (a ≡ true) × (b ≡ true)
 ands true b h = (refl, h)
 ands false b h = absurd (cc)
 
-all_kept : (p : Line → Bool) (line : Line) (kept : List Line) (b : Bool) → p line ≡ true → list_all p kept ≡ true
+all_chosen : (p : Line → Bool) (line : Line) (kept : List Line) (b : Bool) → p line ≡ true → list_all p kept ≡ true
     → list_all p (cond b (line ∷ kept) kept) ≡ true
-all_kept p line kept true one rest = rw (one, rest) refl
-all_kept p line kept false one rest = rest
+all_chosen p line kept true one rest = rw (one, rest) refl
+all_chosen p line kept false one rest = rest
 
 all_filter : (p q : Line → Bool) (lines : List Line) → list_all p lines ≡ true → list_all p (filter q lines) ≡ true
 all_filter p q [] all = refl
 all_filter p q (line ∷ lines) all =
     let both = ands (p line) (list_all p lines) all in
-    all_kept p line (filter q lines) (q line) both.0 (all_filter p q lines both.1)
+    all_chosen p line (filter q lines) (q line) both.0 (all_filter p q lines both.1)
 
 all_flat : (p : Line → Bool) (f : ℕ → List Line) (ns : List ℕ) → ((n : ℕ) → list_all p (f n) ≡ true)
     → list_all p (flat_map f ns) ≡ true

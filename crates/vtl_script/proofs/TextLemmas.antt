@@ -72,9 +72,9 @@ written_more before mid now text at count fits so more =
           (Appends-trans before mid now (take at text) (take count (drop at text)) so.written (rw all at more));
     }
 
-pub written_kept : (before mid now : Option (List ℕ)) (text : List ℕ) (at : ℕ)
+pub written_same : (before mid now : Option (List ℕ)) (text : List ℕ) (at : ℕ)
     → IsWritten before mid text at → Keeps mid now → IsWritten before now text at
-written_kept before mid now text at so keeps = record {
+written_same before mid now text at so keeps = record {
   within = so.within;
   written = Appends-kept before mid now (take at text) so.written keeps;
 }

@@ -25,10 +25,10 @@ filled_more left mid left' old new filled count so same within more = record {
 }
 
 -- none came
-pub filled_kept : (left mid left' : Option (List ℕ)) (old new : List ℕ) (filled : ℕ)
+pub filled_same : (left mid left' : Option (List ℕ)) (old new : List ℕ) (filled : ℕ)
     → IsFilled left mid old filled → take filled new ≡ take filled old → filled + 0 ≤ length new
     → Consumes mid left' (take 0 (drop filled new)) → IsFilled left left' new filled
-filled_kept left mid left' old new filled so same within none =
+filled_same left mid left' old new filled so same within none =
     let same_place : filled + 0 ≡ filled = omega arith in
     subst (IsFilled left left' new) same_place (filled_more left mid left' old new filled 0 so same within none)
 
@@ -60,7 +60,7 @@ pub fewer_filled : (left mid left' : Option (List ℕ)) (old new : List ℕ) (fi
     → IsFilled left mid old filled → filled < length new → take filled new ≡ take filled old
     → Consumes mid left' (take 0 (drop filled new)) → TakesFewer left left' (length new)
 fewer_filled left mid left' old new filled so short same none =
-    let kept = filled_kept left mid left' old new filled so same (omega (arith, short)) none in
+    let kept = filled_same left mid left' old new filled so same (omega (arith, short)) none in
     (take filled new, omega (arith, short, length-take filled new), kept.taken)
 
 -- what was read before is counted too

@@ -38,9 +38,9 @@ out_more before mid now bytes at count fits so more =
           (Appends-trans before mid now (take at bytes) (take count (drop at bytes)) so.written (rw all at more));
     }
 
-pub out_kept : (before mid now : Option (List ℕ)) (bytes : List ℕ) (at : ℕ)
+pub out_same : (before mid now : Option (List ℕ)) (bytes : List ℕ) (at : ℕ)
     → IsOut before mid bytes at → Keeps mid now → IsOut before now bytes at
-out_kept before mid now bytes at so keeps =
+out_same before mid now bytes at so keeps =
     record { within = so.within; written = Appends-kept before mid now (take at bytes) so.written keeps }
 
 pub out_all : (before now : Option (List ℕ)) (bytes : List ℕ) (at : ℕ) → at ≡ length bytes

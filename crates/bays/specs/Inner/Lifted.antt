@@ -14,5 +14,5 @@ module _ {D : Type 0} (state : D → DiskState) where
   -- all facts of a move
   pub record IsCarried (from to : ℕ) (reply : Reply) (old new : HeldState D) : Type 0 where
     pub answer : MovesMedium state old from to reply new
-    pub kept : KeepsCartridges state old from to reply new
+    pub keeps : KeepsCartridges state old from to reply new
     pub bays : KeepsBays old new

@@ -7,7 +7,7 @@ use Rattle.volume_core.specs.declared.changes.Change.{Change}
 use Rattle.volume_core.specs.declared.changes.Change.TheVariants.{Put, Marks, Erase}
 use Rattle.volume_core.specs.declared.media.MediumError.{MediumError}
 use Rattle.volume_core.specs.declared.media.MediumError.TheVariants as medium
-use Rattle.volume_core.specs.Volume.{part_of, kept_of}
+use Rattle.volume_core.specs.Volume.{part_of, staying_of}
 use Rattle.volume_core.specs.Medium.{MediumState, volume_of, Works, Breaks}
 use Rattle.positioning.specs.declared.positions.Pos.{Pos}
 use Rattle.drive_core.specs.declared.faults.Fault.{Fault}
@@ -17,7 +17,7 @@ use Rattle.drive_core.specs.Append.{done_reply}
 -- a change is made at a position
 pub record IsAt (position : Pos) (change : Change) : Type 0 where
   pub part : part_of change ≡ position.part
-  pub object : kept_of change ≡ position.obj
+  pub object : staying_of change ≡ position.obj
 
 -- the outcome of a change that a medium did not accept
 abbrev pub refused_as : MediumError → Option ℕ → Result Reply Fault

@@ -8,7 +8,7 @@ use Rattle.bays.specs.Finish.{HasFailedAt, IsWrittenAt}
 use Rattle.bays.specs.declared.finishing.Unwritten.{Unwritten}
 use Rattle.library.specs.Counts.{places_filled, which_are_there}
 use Rattle.library.specs.Ends.{counts_of, sum_of_counts}
-use Rattle.library.specs.Kept.{IsLeftAt}
+use Rattle.library.specs.Keeps.{IsLeftAt}
 use Rattle.library.specs.declared.finishing.FinishError.{FinishError}
 use Rattle.library.specs.declared.finishing.FinishError.TheVariants as Errors
 

@@ -3,7 +3,7 @@ ghost use Rattle.std.specs.Prelude.{◌≡◌, None, is_some, true};
 ghost use Rattle.split_bay.specs.Fronts.{end_of};
 ghost use Rattle.split_bay.specs.Rings.{AreEnds};
 ghost use Rattle.library.specs.Halves.{JoinsHeld, PartsHeld};
-ghost use Rattle.library.specs.Kept.{KeepsDrive};
+ghost use Rattle.library.specs.Keeps.{KeepsDrive};
 
 use bays::Bay;
 use split_bay::{Back, Ends, Front, Rings, join, part};

@@ -1,5 +1,5 @@
 use Rattle.std.proofs.Common.{Some, None}
-use Rattle.bays.proofs.LentLemmas.{each_answer, each_kept}
+use Rattle.bays.proofs.LentLemmas.{each_answer, each_keeps}
 use Rattle.bays.proofs.ReturnLemmas.{at_args}
 use Rattle.bays.proofs.lent.move_lent.Goals as goal
 use Rattle.bays.proofs.lent.move_lent.Lts
@@ -42,7 +42,7 @@ returns g c =
           c.in-Some-destination-2.destination.now)
           c.between_drives.result c.between_drives.new.slots (Some c.between_drives.new.source) (Some
           c.between_drives.new.destination) c.between_drives.ensures.moved;
-      kept = each_kept g.D.Disk.state given.from given.to given.slots.now (Some c.in-Some.source.now) (Some
+      keeps = each_keeps g.D.Disk.state given.from given.to given.slots.now (Some c.in-Some.source.now) (Some
           c.in-Some-destination-2.destination.now)
           c.between_drives.result c.between_drives.new.slots (Some c.between_drives.new.source) (Some
           c.between_drives.new.destination) g.met.D.Disk.is_disk c.between_drives.ensures.moved;
@@ -89,7 +89,7 @@ returns-in_default-destination-2 g c =
       answer = each_answer g.D.Disk.state given.from given.to given.slots.now (Some c.in-Some.source.now) None
           c.out_of_drive.result c.out_of_drive.new.slots (Some c.out_of_drive.new.source) None
           c.out_of_drive.ensures.moved;
-      kept = each_kept g.D.Disk.state given.from given.to given.slots.now (Some c.in-Some.source.now) None
+      keeps = each_keeps g.D.Disk.state given.from given.to given.slots.now (Some c.in-Some.source.now) None
           c.out_of_drive.result c.out_of_drive.new.slots (Some c.out_of_drive.new.source) None g.met.D.Disk.is_disk
           c.out_of_drive.ensures.moved;
       counted_out = c.out_of_drive.ensures.counted;
@@ -118,7 +118,7 @@ returns-in_default g c =
           c.in-Some-destination.destination.now)
           c.into_drive.result c.into_drive.new.slots None (Some c.into_drive.new.destination)
           c.into_drive.ensures.moved;
-      kept = each_kept g.D.Disk.state given.from given.to given.slots.now None (Some
+      keeps = each_keeps g.D.Disk.state given.from given.to given.slots.now None (Some
           c.in-Some-destination.destination.now)
           c.into_drive.result c.into_drive.new.slots None (Some c.into_drive.new.destination) g.met.D.Disk.is_disk
           c.into_drive.ensures.moved;
@@ -164,7 +164,7 @@ returns-in_default-destination g c =
     (record {
       answer = each_answer g.D.Disk.state given.from given.to given.slots.now None None
           c.between_slots.result c.between_slots.new.slots None None c.between_slots.ensures;
-      kept = each_kept g.D.Disk.state given.from given.to given.slots.now None None
+      keeps = each_keeps g.D.Disk.state given.from given.to given.slots.now None None
           c.between_slots.result c.between_slots.new.slots None None g.met.D.Disk.is_disk c.between_slots.ensures;
       counted_out = tt;
       counted_in = tt;

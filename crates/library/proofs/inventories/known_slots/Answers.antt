@@ -2,7 +2,7 @@ use Rattle.std.proofs.Common.{All, List, Option, subst, arith}
 use Rattle.std.proofs.lemmas.List.{take_all}
 use Rattle.std.proofs.lemmas.List.Elements.{All-more, All-nil}
 use Rattle.tape_buffer.specs.State.{BufferState}
-use Rattle.library.specs.Kept.{KeepsShelvedIn}
+use Rattle.library.specs.Keeps.{KeepsShelvedIn}
 use Rattle.library.proofs.inventories.known_slots.Goals as goal
 
 pub loop-slot-init : goal.loop-slot-init

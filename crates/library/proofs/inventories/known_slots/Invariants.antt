@@ -1,5 +1,5 @@
 use Rattle.std.proofs.Common.{All, take}
-use Rattle.library.specs.Kept.{KeepsShelvedIn}
+use Rattle.library.specs.Keeps.{KeepsShelvedIn}
 use Rattle.library.proofs.inventories.known_slots.Given as goal
 
 -- the slots so far have their invariants

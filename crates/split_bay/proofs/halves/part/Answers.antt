@@ -35,7 +35,7 @@ invariant_of-result g c =
     c.args.ends
     (c.take_apart-bay.ensures.bay ∙ ap (λ (b : BayState g.row.D.Denot). b.bay) c.into_drive-drive.ensures.same)
     (c.take_apart-bay.ensures.rest ∙ ap rest_of_drive c.into_drive-drive.ensures.same) c.part_bay-bay.ensures
-    (drive_near c.assemble-drive.result) is c.into_drive-drive.ensures.kept.reservations in (
+    (drive_near c.assemble-drive.result) is c.into_drive-drive.ensures.keeps.reservations in (
       apart_whole c.hosts_bay-bay.result p.bay c.take_apart-bay.result.1 c.assemble-drive.result
           c.hosts_bay-bay.ensures c.assemble-drive.ensures,
       keeps.0,

@@ -11,4 +11,4 @@ returns g c =
     let back = c.part.result.1 in
     reports_both g.D.Disk.state c.args.front front c.args.back back (λ i. stuck i && not (not_seen i))
     (reports_fault g.D.Disk.state c.args.front front c.args.back back c.join-bay.result.0 c.join-bay.result.1
-    c.join-bay.ensures c.part.ensures c.known.ensures.kept.positioned stuck not_seen)
+    c.join-bay.ensures c.part.ensures c.known.ensures.keeps.positioned stuck not_seen)

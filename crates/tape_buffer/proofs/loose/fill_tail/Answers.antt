@@ -5,7 +5,7 @@ use Rattle.volume_core.specs.declared.changes.Change.{Change}
 use Rattle.volume_core.specs.Volume.{capacity_of, count_of, part_of}
 use Rattle.record_index.specs.Places.{reserved_of}
 use Rattle.record_index.specs.Records.{record_of}
-use Rattle.tape_buffer.specs.Tail.{IsTailOf, kept_in, shifted}
+use Rattle.tape_buffer.specs.Tail.{IsTailOf, staying_in, shifted}
 use Rattle.tape_buffer.proofs.FreeLemmas.{wide_after}
 use Rattle.tape_buffer.proofs.LooseLemmas.{behind, tail_more}
 use Rattle.tape_buffer.proofs.PutLemmas.{applies_behind, formed}
@@ -14,7 +14,7 @@ use Rattle.tape_buffer.proofs.loose.fill_tail.Goals as goal
 
 pub loop-change-init : goal.loop-change-init
 loop-change-init g c = record {
-  put = nothing_waits c.args.tail.now c.requires.free.kept c.requires.free.empty;
+  put = nothing_waits c.args.tail.now c.requires.free.staying c.requires.free.empty;
   wide = c.requires.free.wide;
   roomy = λ part inside. omega (arith, c.requires.free.roomy part inside);
   numbered = refl;
@@ -87,10 +87,10 @@ loop-change-preserved g c =
       put =
           tail_more c.args.changes.now c.loop-change.change-index change c.loop-change-test.true c.change-item.is old
           new c.loop-change.number (reserved_of new.parts (part_of change)) c.loop-change.invariant.put
-          c.loop-change.invariant.wide before c.loop-change.invariant.numbered c.put.ensures.kept
+          c.loop-change.invariant.wide before c.loop-change.invariant.numbered c.put.ensures.staying
           c.put.ensures.others c.put.ensures.parts;
       wide =
-          wide_after old.parts new.parts (record_of (shifted (kept_in old (part_of change)) change))
+          wide_after old.parts new.parts (record_of (shifted (staying_in old (part_of change)) change))
           c.loop-change.number (reserved_of new.parts (part_of change)) c.loop-change.invariant.wide
           c.put.ensures.parts;
       roomy = λ part inside.

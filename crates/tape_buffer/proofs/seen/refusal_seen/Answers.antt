@@ -4,7 +4,7 @@ use Rattle.cartridge.specs.Contents.{volume_made}
 use Rattle.tape_buffer.proofs.RefusalLemmas.{no_partition, no_room, past_end, too_long, unrefused}
 use Rattle.tape_buffer.proofs.VolumeLemmas.{stays_so}
 use Rattle.tape_buffer.proofs.seen.refusal_seen.Goals as goal
-use Rattle.tape_buffer.proofs.seen.refusal_seen.Goals.{then-added-kept-via-then-added-kept, then-added-kept-via-else-added-kept+then-cost-left}
+use Rattle.tape_buffer.proofs.seen.refusal_seen.Goals.{then-added-staying-via-then-added-staying, then-added-staying-via-else-added-staying+then-cost-left}
 
 pub returns-then-part-parts : goal.returns-then-part-parts
 returns-then-part-parts g c =
@@ -13,28 +13,28 @@ returns-then-part-parts g c =
     sym (no_partition (after volume c.args.pending.now) c.args.change.now c.part-part.result c.part-part.ensures
     (omega (arith, c.if-part-parts.true, c.parts.ensures.parts, so.parts)))
 
-pub returns-then-kept-count_seen : goal.returns-then-kept-count_seen
-returns-then-kept-count_seen g c =
+pub returns-then-staying-count_seen : goal.returns-then-staying-count_seen
+returns-then-staying-count_seen g c =
     let volume = volume_made c.args.cartridge.now.contents in
     let so = stays_so volume c.args.pending.now c.requires in
     sym (past_end (after volume c.args.pending.now) c.args.change.now c.part-part.result c.part-part.ensures
     (omega (arith, c.if-part-parts.false, c.parts.ensures.parts, so.parts))
-    (omega (arith, c.if-kept-count_seen.true, c.count_seen.ensures.count, c.kept-kept.ensures)))
+    (omega (arith, c.if-staying-count_seen.true, c.count_seen.ensures.count, c.staying-staying.ensures)))
 
-pub returns-then-added-kept : goal.returns-then-added-kept
-returns-then-added-kept g c =
+pub returns-then-added-staying : goal.returns-then-added-staying
+returns-then-added-staying g c =
     let volume = volume_made c.args.cartridge.now.contents in
     let seen = after volume c.args.pending.now in
     let so = stays_so volume c.args.pending.now c.requires in
     let used =
-    ap (λ (n : ℕ). used_up_to seen c.part-part.result n) c.kept-kept.ensures in
+    ap (λ (n : ℕ). used_up_to seen c.part-part.result n) c.staying-staying.ensures in
     sym (no_room seen c.args.change.now c.part-part.result c.part-part.ensures
     (omega (arith, c.if-part-parts.false, c.parts.ensures.parts, so.parts))
-    (omega (arith, c.if-kept-count_seen.false, c.count_seen.ensures.count, c.kept-kept.ensures))
-    (elim c.then-added-kept.branch [
-      | then-added-kept-via-then-added-kept w ↦
-          inl (omega (arith, w.if-added-kept.true, c.added.ensures, c.kept-kept.ensures))
-      | then-added-kept-via-else-added-kept+then-cost-left w ↦
+    (omega (arith, c.if-staying-count_seen.false, c.count_seen.ensures.count, c.staying-staying.ensures))
+    (elim c.then-added-staying.branch [
+      | then-added-staying-via-then-added-staying w ↦
+          inl (omega (arith, w.if-added-staying.true, c.added.ensures, c.staying-staying.ensures))
+      | then-added-staying-via-else-added-staying+then-cost-left w ↦
           inr (omega (
             arith,
             w.if-cost-left.true,
@@ -52,16 +52,16 @@ returns-then-not-is_well_formed g c =
     let seen = after volume c.args.pending.now in
     let so = stays_so volume c.args.pending.now c.requires in
     let used =
-    ap (λ (n : ℕ). used_up_to seen c.part-part.result n) c.kept-kept.ensures in
+    ap (λ (n : ℕ). used_up_to seen c.part-part.result n) c.staying-staying.ensures in
     sym (too_long seen c.args.change.now c.part-part.result c.part-part.ensures
     (omega (arith, c.if-part-parts.false, c.parts.ensures.parts, so.parts))
-    (omega (arith, c.if-kept-count_seen.false, c.count_seen.ensures.count, c.kept-kept.ensures))
+    (omega (arith, c.if-staying-count_seen.false, c.count_seen.ensures.count, c.staying-staying.ensures))
     (omega (
       arith,
-      c.if-added-kept.false,
+      c.if-added-staying.false,
       c.added.ensures,
-      c.kept-kept.ensures,
-      c.if-kept-count_seen.false,
+      c.staying-staying.ensures,
+      c.if-staying-count_seen.false,
       c.count_seen.ensures.bound,
     ))
     (omega (
@@ -82,16 +82,16 @@ returns g c =
     let seen = after volume c.args.pending.now in
     let so = stays_so volume c.args.pending.now c.requires in
     let used =
-    ap (λ (n : ℕ). used_up_to seen c.part-part.result n) c.kept-kept.ensures in
+    ap (λ (n : ℕ). used_up_to seen c.part-part.result n) c.staying-staying.ensures in
     sym (unrefused seen c.args.change.now c.part-part.result c.part-part.ensures
     (omega (arith, c.if-part-parts.false, c.parts.ensures.parts, so.parts))
-    (omega (arith, c.if-kept-count_seen.false, c.count_seen.ensures.count, c.kept-kept.ensures))
+    (omega (arith, c.if-staying-count_seen.false, c.count_seen.ensures.count, c.staying-staying.ensures))
     (omega (
       arith,
-      c.if-added-kept.false,
+      c.if-added-staying.false,
       c.added.ensures,
-      c.kept-kept.ensures,
-      c.if-kept-count_seen.false,
+      c.staying-staying.ensures,
+      c.if-staying-count_seen.false,
       c.count_seen.ensures.bound,
     ))
     (omega (

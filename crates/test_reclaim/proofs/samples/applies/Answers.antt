@@ -8,16 +8,16 @@ pub returns : goal.returns
 returns g c well =
     let volume = volume_made c.args.cartridge.now.contents in
     let used =
-    ap (λ (n : ℕ). used_up_to volume c.part-part.result n) c.kept-kept.ensures in
+    ap (λ (n : ℕ). used_up_to volume c.part-part.result n) c.staying-staying.ensures in
     unrefused volume c.args.change.now c.part-part.result c.part-part.ensures
     (omega (arith, c.if-part-parts.false, c.parts.ensures.parts))
-    (omega (arith, c.if-kept-count.false, c.count.ensures.count, c.kept-kept.ensures))
+    (omega (arith, c.if-staying-count.false, c.count.ensures.count, c.staying-staying.ensures))
     (omega (
       arith,
-      c.if-added-kept.false,
+      c.if-added-staying.false,
       c.added.ensures,
-      c.kept-kept.ensures,
-      c.if-kept-count.false,
+      c.staying-staying.ensures,
+      c.if-staying-count.false,
       c.count.ensures.bound,
     ))
     (omega (

@@ -29,7 +29,7 @@ use Rattle.volume_reclaim.specs.Inner.Giving.{SourceFails, SourceGives, disk_of,
 use Rattle.volume_reclaim.specs.Reading.{LiesOnDisk, OnlyRead}
 use Rattle.volume_reclaim.specs.Reclaiming.{GivesCopy, MayReclaim, copy_bodies, two_by}
 use Rattle.volume_reclaim.proofs.GivenLemmas.{all_given, all_read}
-use Rattle.volume_reclaim.proofs.SidesLemmas.{Rests, both_move, each_of_two, honest_by, kept_beside, lies_by, may_take, rests, stands_as, sure_by, takes_as}
+use Rattle.volume_reclaim.proofs.SidesLemmas.{Rests, both_move, each_of_two, honest_by, old_side_beside, lies_by, may_take, rests, stands_as, sure_by, takes_as}
 use Rattle.volume_reclaim.proofs.reclaiming.copy_sides.Goals as goal
 
 -- the entries that are left at the beginning of the copy
@@ -164,7 +164,7 @@ returns-clause-sides g c = λ honest head bodies volume may ready.
     (state spare) (state copied.new.spare) copied.ensures.ok copied.ensures.err in
     let both = honest_by state which counts spare honest in
     on_ok_weaker copied.result
-    (λ taken. kept_beside state which counts copied.new.source.blocks.disk spare copied.new.spare head bodies volume
+    (λ taken. old_side_beside state which counts copied.new.source.blocks.disk spare copied.new.spare head bodies volume
     taken.0 may.gives (rest.unwritten both.0)
     (copy_given state laws old copied.new.source c.args.index volume taken.0 c.args.copied.base
     (whole c.args.index c.start.result.part c.start.result.at c.start.ensures.part c.start.ensures.at) both.0

@@ -5,7 +5,7 @@ use Rattle.side_pairs.specs.declared.which.Which.{Which}
 use Rattle.side_pairs.specs.declared.which.Which.TheVariants.{First, Second}
 use Rattle.side_reclaim.specs.Ready.{GivesSide, IsReady}
 use Rattle.volume_reclaim.specs.Reclaiming.{GivesCopy, KeepsBesideCopy, MayReclaim, two_by}
-use Rattle.volume_reclaim.proofs.SidesLemmas.{kept_since, may_still}
+use Rattle.volume_reclaim.proofs.SidesLemmas.{old_side_since, may_still}
 use Rattle.volume_reclaim.proofs.reclaiming.reclaim_volume.Goals as goal
 
 pub returns-in-Err-clause-any_moment : goal.returns-in-Err-clause-any_moment
@@ -130,7 +130,7 @@ returns-in-First-clause-sides g c = λ honest head bodies volume may.
     subst (λ (w : Which). OnOk made.result.result
     (EachOfTwo state (two_by w made.result.counts made.result.spare)
     (KeepsBesideCopy which head volume (seen_of_two state old)))) c.in-First.is
-    (kept_since state which head bodies volume old mid (two_by which made.result.counts made.result.spare)
+    (old_side_since state which head bodies volume old mid (two_by which made.result.counts made.result.spare)
     made.result.result ready.0
     (subst (λ (d : TwoDisks g.row.D.Denot). OnOk made.result.result
     (EachOfTwo state (two_by which made.result.counts made.result.spare)
@@ -157,7 +157,7 @@ returns-in-Second-clause-sides g c = λ honest head bodies volume may.
     subst (λ (w : Which). OnOk made.result.result
     (EachOfTwo state (two_by w made.result.counts made.result.spare)
     (KeepsBesideCopy which head volume (seen_of_two state old)))) c.in-Second.is
-    (kept_since state which head bodies volume old mid (two_by which made.result.counts made.result.spare)
+    (old_side_since state which head bodies volume old mid (two_by which made.result.counts made.result.spare)
     made.result.result ready.0
     (subst (λ (d : TwoDisks g.row.D.Denot). OnOk made.result.result
     (EachOfTwo state (two_by which made.result.counts made.result.spare)

@@ -1,5 +1,5 @@
 use Rattle.std.proofs.Common.{◌+◌, arith}
-use Rattle.vtl_script.proofs.TextLemmas.{written_more, written_kept, written_all, written_part}
+use Rattle.vtl_script.proofs.TextLemmas.{written_more, written_same, written_all, written_part}
 use Rattle.vtl_script.proofs.texts.write_text.Goals as goal
 use Rattle.vtl_script.proofs.texts.write_text.Goals.{in-Ok, in-Err}
 
@@ -16,14 +16,14 @@ returns-in-Ok-eq0-clause-err g c =
 pub returns-in-Err-2-clause-err : goal.returns-in-Err-2-clause-err
 returns-in-Err-2-clause-err g c =
     written_part _ _ c.args.text.now c.loop.written
-    (written_kept _ _ _ c.args.text.now c.loop.written c.loop.invariant c.in-Err-2.ensures.bytes)
+    (written_same _ _ _ c.args.text.now c.loop.written c.loop.invariant c.in-Err-2.ensures.bytes)
 
 pub loop-preserved : goal.loop-preserved
 loop-preserved g c =
     elim c.match-write.branch [
       | in-Ok w ↦ rw w.written-is (written_more _ _ _ c.args.text.now c.loop.written w.in-Ok.count
           w.in-Ok.ensures.bound c.loop.invariant w.in-Ok.ensures.bytes)
-      | in-Err w ↦ rw w.written-is (written_kept _ _ _ c.args.text.now c.loop.written c.loop.invariant
+      | in-Err w ↦ rw w.written-is (written_same _ _ _ c.args.text.now c.loop.written c.loop.invariant
           w.in-Err.ensures.bytes)
     ]
 

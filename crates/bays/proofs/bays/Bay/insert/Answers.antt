@@ -21,7 +21,7 @@ returns-clause-moments g c =
     let given = c.into_medium-medium.result in
     let there =
     insert_moments state g.met.D.Disk.is_disk c.reservations_outlive_each_stop.ensures.goes_on c.self.inside.drive new
-    given c.self.invariant c.into_medium-medium.ensures.kept c.insert.ensures.inserted in
+    given c.self.invariant c.into_medium-medium.ensures.keeps c.insert.ensures.inserted in
     let at_self =
     subst
     (λ (d : BayState g.row.D.Denot). EveryMoment state d Moved made_nothing (Some given) (medium_in new.bay) new)

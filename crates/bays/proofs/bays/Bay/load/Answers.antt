@@ -29,7 +29,7 @@ returns-clause-moments g c =
     ] in
     let there =
     load_moments state g.met.D.Disk.is_disk c.reservations_outlive_each_stop.ensures.goes_on c.self.inside.drive new
-    given c.load-loaded.result c.self.invariant c.into_medium-medium.ensures.kept c.load-loaded.ensures.taken in
+    given c.load-loaded.result c.self.invariant c.into_medium-medium.ensures.keeps c.load-loaded.ensures.taken in
     let at_self =
     subst
     (λ (d : BayState g.row.D.Denot).

@@ -16,7 +16,7 @@ returns-in-Ok-clause-moments g c =
     (λ (m : Option (BufferState g.row.D.Denot)). EveryMomentOn state m c.args.store c.in-Ok.drive)
     c.medium_of.ensures.same
     (on_moments state g.met.D.Disk.is_disk c.medium_of.result c.args.reservations c.args.store c.in-Ok.drive
-    c.reservations_outlive_each_stop.ensures.gives c.medium_of.ensures.kept holding on)
+    c.reservations_outlive_each_stop.ensures.gives c.medium_of.ensures.keeps holding on)
 
 pub returns-after-medium-clause-moments_off : goal.returns-after-medium-clause-moments_off
 returns-after-medium-clause-moments_off g c =
@@ -29,7 +29,7 @@ returns-after-medium-clause-moments_off g c =
     ] in
     let there =
     off_moments state g.met.D.Disk.is_disk c.medium_of.result c.args.reservations c.args.store c.in-Err.medium
-    c.in-Err.store c.in-Err.field-0-2 c.medium_of.ensures.kept c.known.ensures.shows c.in-Err.ensures.switched in
+    c.in-Err.store c.in-Err.field-0-2 c.medium_of.ensures.keeps c.known.ensures.shows c.in-Err.ensures.switched in
     subst
     (λ (m : Option (BufferState g.row.D.Denot)).
     EveryMomentOff state c.args.cartridge c.args.store m c.in-Err.store)

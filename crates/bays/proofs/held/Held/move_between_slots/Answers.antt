@@ -17,7 +17,7 @@ returns g c =
     c.move_lent-reply.ensures.answer) in
     record {
       answer = answer;
-      kept =
+      keeps =
           none_named (λ old new. KeepsCartridges g.D.Disk.state old c.args.from c.args.to c.move_lent-reply.result new)
           c.self.inside.slots c.move_lent-reply.new.slots c.args.from c.args.to c.self.inside.bays.items
           c.self.invariant c.args.self.now c.self.view_is c.requires.source c.requires.destination
@@ -25,6 +25,6 @@ returns g c =
           (λ source destination left still.
           InEach c.args.from c.args.to c.self.inside.slots source destination c.move_lent-reply.new.slots left still
           (λ old new. KeepsCartridges g.D.Disk.state old c.args.from c.args.to c.move_lent-reply.result new))
-          c.move_lent-reply.ensures.kept);
+          c.move_lent-reply.ensures.keeps);
       bays = moves_stay g.D.Disk.state _ _ c.args.from c.args.to c.move_lent-reply.result answer;
     }

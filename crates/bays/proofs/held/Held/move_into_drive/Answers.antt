@@ -21,7 +21,7 @@ returns g c =
     c.move_lent-reply.ensures.answer) in
     record {
       answer = answer;
-      kept =
+      keeps =
           destination_lent
           (λ old new. KeepsCartridges g.D.Disk.state old c.args.from c.args.to c.move_lent-reply.result new)
           c.self.inside.slots c.move_lent-reply.new.slots c.args.from c.args.to c.self.inside.bays.items
@@ -32,6 +32,6 @@ returns g c =
           InEach c.args.from c.args.to c.self.inside.slots given (Some c.args.destination) c.move_lent-reply.new.slots
           left (Some c.move_lent-reply.new.destination.0)
           (λ old new. KeepsCartridges g.D.Disk.state old c.args.from c.args.to c.move_lent-reply.result new))
-          c.move_lent-reply.ensures.kept);
+          c.move_lent-reply.ensures.keeps);
       bays = moves_stay g.D.Disk.state _ _ c.args.from c.args.to c.move_lent-reply.result answer;
     }

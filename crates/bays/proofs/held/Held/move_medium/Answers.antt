@@ -6,8 +6,8 @@ use Rattle.bays.specs.Moves.{KeepsCartridges}
 use Rattle.bays.proofs.LiftedLemmas.{some_is}
 use Rattle.bays.proofs.held.Held.move_medium.Goals as goal
 
-pub returns-in-Some-Some-clause-kept : goal.returns-in-Some-Some-clause-kept
-returns-in-Some-Some-clause-kept g c =
+pub returns-in-Some-Some-clause-keeps : goal.returns-in-Some-Some-clause-keeps
+returns-in-Some-Some-clause-keeps g c =
     let second = some_is c.take_drive-destination.result c.in-Some-Some.destination
     (λ (bay : BayState g.row.D.Denot). IsDriveAddress c.args.to
     × (with_bay c.args.to bay c.take_drive-destination.new.self ≡ c.take_drive-source.new.self))
@@ -19,10 +19,10 @@ returns-in-Some-Some-clause-kept g c =
     subst (λ (h : HeldState g.row.D.Denot). KeepsCartridges g.D.Disk.state h c.args.from c.args.to
     c.move_between_drives.result c.move_between_drives.new.self)
     (ap (λ (h : HeldState g.row.D.Denot). with_bay c.args.from c.in-Some-Some.source h) second.1 ∙ first.1)
-    c.move_between_drives.ensures.kept
+    c.move_between_drives.ensures.keeps
 
-pub returns-in-Some-None-clause-kept : goal.returns-in-Some-None-clause-kept
-returns-in-Some-None-clause-kept g c =
+pub returns-in-Some-None-clause-keeps : goal.returns-in-Some-None-clause-keeps
+returns-in-Some-None-clause-keeps g c =
     let same = subst (λ (found : Option (BayState g.row.D.Denot)). IfNone found
     (c.take_drive-destination.new.self ≡ c.take_drive-source.new.self)) c.in-Some-None.is-1
     c.take_drive-destination.ensures.none in
@@ -33,4 +33,4 @@ returns-in-Some-None-clause-kept g c =
     subst (λ (h : HeldState g.row.D.Denot). KeepsCartridges g.D.Disk.state h c.args.from c.args.to
     c.move_out_of_drive.result c.move_out_of_drive.new.self)
     (ap (λ (h : HeldState g.row.D.Denot). with_bay c.args.from c.in-Some-None.source h) same ∙ first.1)
-    c.move_out_of_drive.ensures.kept
+    c.move_out_of_drive.ensures.keeps

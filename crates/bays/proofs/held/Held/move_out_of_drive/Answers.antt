@@ -19,7 +19,7 @@ returns g c =
     c.move_lent-reply.ensures.answer) in
     record {
       answer = answer;
-      kept =
+      keeps =
           source_lent (λ old new. KeepsCartridges g.D.Disk.state old c.args.from c.args.to c.move_lent-reply.result new)
           c.self.inside.slots c.move_lent-reply.new.slots c.args.from c.args.to c.self.inside.bays.items
           c.self.invariant c.args.source c.move_lent-reply.new.source.0 c.args.self.now c.return_drive.new.self
@@ -28,6 +28,6 @@ returns g c =
           InEach c.args.from c.args.to c.self.inside.slots (Some c.args.source) given c.move_lent-reply.new.slots
           (Some c.move_lent-reply.new.source.0) left
           (λ old new. KeepsCartridges g.D.Disk.state old c.args.from c.args.to c.move_lent-reply.result new))
-          c.move_lent-reply.ensures.kept);
+          c.move_lent-reply.ensures.keeps);
       bays = moves_stay g.D.Disk.state _ _ c.args.from c.args.to c.move_lent-reply.result answer;
     }

@@ -5,7 +5,7 @@ use Rattle.bays.specs.Elements.{BayState, bay_at}
 use Rattle.bays.specs.Finish.{HasFailedAt, IsWrittenAt}
 use Rattle.library.specs.Counts.{which_are_there}
 use Rattle.library.specs.Ends.{Balances, IsShort, counts_of, sum_of_counts, sum_of_seats}
-use Rattle.library.specs.Kept.{AreLeft, IsLeftAt}
+use Rattle.library.specs.Keeps.{AreLeft, IsLeftAt}
 use Rattle.library.proofs.EndLemmas.{by_number, one_failed}
 use Rattle.library.proofs.OutcomeLemmas.{balances, reports_counts, reports_missing, reports_unwritten, reports_written}
 use Rattle.library.proofs.libraries.Library.finish.Goals as goal

@@ -6,7 +6,7 @@ returns-clause-left g c =
     ends_held g.D.Disk.state c.self.inside.half c.args.self c.back.inside.half c.args.back c.join_held-bay.result.0
     c.write_out-written.new.self c.join_held-bay.result.1 c.self.view_is c.back.view_is c.join_held-bay.ensures
     (record {
-      kept = c.known_drive.ensures;
+      old_keeps = c.known_drive.ensures;
       turns = c.write_out-written.ensures.turns;
       keeps = c.known_drive-2.ensures;
     })

@@ -12,10 +12,11 @@ add-requires-clause-cost c =
     let part : PlacedPart = placed_of c.self.inside.capacity c.self.inside.table in
     let none = rw (← c.self.view_is) at (sym c.refusal.ensures ∙ c.in_default.is) in
     let made : c.cut.new.self.objects ++ objects_of_run c.in-Some-run.run'
-    ≡ take (places.record_kept c.args.item) part.objects ++ placed_by c.args.item c.args.place =
+    ≡ take (places.record_staying c.args.item) part.objects ++ placed_by c.args.item c.args.place =
     (λ i. c.cut.ensures.objects i ++ objects_of_run c.in-Some-run.run')
-    ∙ (λ i. take (c.kept.ensures i) (c.in_ok-reserve.ensures.objects i) ++ objects_of_run c.in-Some-run.run')
-    ∙ ap (λ (l : List Placed). take (places.record_kept c.args.item) part.objects ++ l) (sym c.in-Some-run.ensures.0) in
+    ∙ (λ i. take (c.staying.ensures i) (c.in_ok-reserve.ensures.objects i) ++ objects_of_run c.in-Some-run.run')
+    ∙ ap (λ (l : List Placed). take (places.record_staying c.args.item) part.objects ++ l) (sym
+    c.in-Some-run.ensures.0) in
     let fits = cost_fits part c.args.item c.args.place c.self.invariant none in
     omega (arith, fits, ap cost_of_objects made)
 
@@ -24,11 +25,12 @@ invariant_of-self-in-Some-run c =
     let part : PlacedPart = placed_of c.self.inside.capacity c.self.inside.table in
     let none = rw (← c.self.view_is) at (sym c.refusal.ensures ∙ c.in_default.is) in
     let made : c.add.new.self.objects
-    ≡ take (places.record_kept c.args.item) part.objects ++ placed_by c.args.item c.args.place =
+    ≡ take (places.record_staying c.args.item) part.objects ++ placed_by c.args.item c.args.place =
     c.add.ensures.objects
     ∙ (λ i. c.cut.ensures.objects i ++ objects_of_run c.in-Some-run.run')
-    ∙ (λ i. take (c.kept.ensures i) (c.in_ok-reserve.ensures.objects i) ++ objects_of_run c.in-Some-run.run')
-    ∙ ap (λ (l : List Placed). take (places.record_kept c.args.item) part.objects ++ l) (sym c.in-Some-run.ensures.0) in
+    ∙ (λ i. take (c.staying.ensures i) (c.in_ok-reserve.ensures.objects i) ++ objects_of_run c.in-Some-run.run')
+    ∙ ap (λ (l : List Placed). take (places.record_staying c.args.item) part.objects ++ l) (sym
+    c.in-Some-run.ensures.0) in
     rw made (limits_placed part c.args.item c.args.place c.add.new.self.reserved c.self.invariant none)
 
 pub invariant_of-self-in_default-run : goal.invariant_of-self-in_default-run
@@ -36,11 +38,11 @@ invariant_of-self-in_default-run c =
     let part : PlacedPart = placed_of c.self.inside.capacity c.self.inside.table in
     let none = rw (← c.self.view_is) at (sym c.refusal.ensures ∙ c.in_default.is) in
     let made : c.cut-in_default-run.new.self.objects
-    ≡ take (places.record_kept c.args.item) part.objects ++ placed_by c.args.item c.args.place =
+    ≡ take (places.record_staying c.args.item) part.objects ++ placed_by c.args.item c.args.place =
     c.cut-in_default-run.ensures.objects
-    ∙ ap (λ (n : ℕ). take n part.objects) c.kept-in_default-run.ensures
-    ∙ sym (append-nil (take (places.record_kept c.args.item) part.objects))
-    ∙ ap (λ (l : List Placed). take (places.record_kept c.args.item) part.objects ++ l) (sym
+    ∙ ap (λ (n : ℕ). take n part.objects) c.staying-in_default-run.ensures
+    ∙ sym (append-nil (take (places.record_staying c.args.item) part.objects))
+    ∙ ap (λ (l : List Placed). take (places.record_staying c.args.item) part.objects ++ l) (sym
     c.in_default-run.ensures.0) in
     rw made (limits_placed part c.args.item c.args.place c.cut-in_default-run.new.self.reserved c.self.invariant none)
 
@@ -49,11 +51,12 @@ returns-in_ok-reserve-clause-limits c =
     let part : PlacedPart = placed_of c.self.inside.capacity c.self.inside.table in
     let none = rw (← c.self.view_is) at (sym c.refusal.ensures ∙ c.in_default.is) in
     let made : c.add.new.self.objects
-    ≡ take (places.record_kept c.args.item) part.objects ++ placed_by c.args.item c.args.place =
+    ≡ take (places.record_staying c.args.item) part.objects ++ placed_by c.args.item c.args.place =
     c.add.ensures.objects
     ∙ (λ i. c.cut.ensures.objects i ++ objects_of_run c.in-Some-run.run')
-    ∙ (λ i. take (c.kept.ensures i) (c.in_ok-reserve.ensures.objects i) ++ objects_of_run c.in-Some-run.run')
-    ∙ ap (λ (l : List Placed). take (places.record_kept c.args.item) part.objects ++ l) (sym c.in-Some-run.ensures.0) in
+    ∙ (λ i. take (c.staying.ensures i) (c.in_ok-reserve.ensures.objects i) ++ objects_of_run c.in-Some-run.run')
+    ∙ ap (λ (l : List Placed). take (places.record_staying c.args.item) part.objects ++ l) (sym
+    c.in-Some-run.ensures.0) in
     rw made (limits_placed part c.args.item c.args.place c.add.new.self.reserved c.self.invariant none)
 
 pub returns-in_default-run-clause-limits : goal.returns-in_default-run-clause-limits
@@ -61,10 +64,10 @@ returns-in_default-run-clause-limits c =
     let part : PlacedPart = placed_of c.self.inside.capacity c.self.inside.table in
     let none = rw (← c.self.view_is) at (sym c.refusal.ensures ∙ c.in_default.is) in
     let made : c.cut-in_default-run.new.self.objects
-    ≡ take (places.record_kept c.args.item) part.objects ++ placed_by c.args.item c.args.place =
+    ≡ take (places.record_staying c.args.item) part.objects ++ placed_by c.args.item c.args.place =
     c.cut-in_default-run.ensures.objects
-    ∙ ap (λ (n : ℕ). take n part.objects) c.kept-in_default-run.ensures
-    ∙ sym (append-nil (take (places.record_kept c.args.item) part.objects))
-    ∙ ap (λ (l : List Placed). take (places.record_kept c.args.item) part.objects ++ l) (sym
+    ∙ ap (λ (n : ℕ). take n part.objects) c.staying-in_default-run.ensures
+    ∙ sym (append-nil (take (places.record_staying c.args.item) part.objects))
+    ∙ ap (λ (l : List Placed). take (places.record_staying c.args.item) part.objects ++ l) (sym
     c.in_default-run.ensures.0) in
     rw made (limits_placed part c.args.item c.args.place c.cut-in_default-run.new.self.reserved c.self.invariant none)

@@ -10,35 +10,35 @@ use Rattle.record_index.proofs.partitions.PlacedPartition.refusal.Goals as goal
 pub overflow_sub-self-inside : goal.overflow_sub-self-inside
 overflow_sub-self-inside c =
     let part : PlacedPart = placed_of c.self.inside.capacity c.self.inside.table in
-    omega (arith, c.used-used.ensures, used_within part c.kept-at.result c.self.invariant)
+    omega (arith, c.used-used.ensures, used_within part c.staying-at.result c.self.invariant)
 
 pub returns-then-cost-self : goal.returns-then-cost-self
 returns-then-cost-self c =
     let part : PlacedPart = placed_of c.self.inside.capacity c.self.inside.table in
-    let kept = c.kept-at.ensures in
-    let few : places.record_kept c.args.item ≤ length part.objects =
-    omega (arith, kept, c.count.ensures, c.if-at-count.false) in
-    let used : c.used-used.result ≡ cost_of_objects (take (places.record_kept c.args.item) part.objects) =
-    c.used-used.ensures ∙ ap (λ (n : ℕ). cost_of_objects (take n part.objects)) kept in
+    let staying = c.staying-at.ensures in
+    let few : places.record_staying c.args.item ≤ length part.objects =
+    omega (arith, staying, c.count.ensures, c.if-at-count.false) in
+    let used : c.used-used.result ≡ cost_of_objects (take (places.record_staying c.args.item) part.objects) =
+    c.used-used.ensures ∙ ap (λ (n : ℕ). cost_of_objects (take n part.objects)) staying in
     rw (← c.self.view_is)
     (sym (too_large part c.args.item few (omega (arith, used, c.cost.ensures, c.if-cost-self.true))))
 
 pub returns-then-not-is_well_formed : goal.returns-then-not-is_well_formed
 returns-then-not-is_well_formed c =
     let part : PlacedPart = placed_of c.self.inside.capacity c.self.inside.table in
-    let kept = c.kept-at.ensures in
-    let few : places.record_kept c.args.item ≤ length part.objects =
-    omega (arith, kept, c.count.ensures, c.if-at-count.false) in
-    let used : c.used-used.result ≡ cost_of_objects (take (places.record_kept c.args.item) part.objects) =
-    c.used-used.ensures ∙ ap (λ (n : ℕ). cost_of_objects (take n part.objects)) kept in
-    let sized = length-take-le (places.record_kept c.args.item) part.objects few in
-    let within = used_within part c.kept-at.result c.self.invariant in
-    let enough : length (take (places.record_kept c.args.item) part.objects) + length
+    let staying = c.staying-at.ensures in
+    let few : places.record_staying c.args.item ≤ length part.objects =
+    omega (arith, staying, c.count.ensures, c.if-at-count.false) in
+    let used : c.used-used.result ≡ cost_of_objects (take (places.record_staying c.args.item) part.objects) =
+    c.used-used.ensures ∙ ap (λ (n : ℕ). cost_of_objects (take n part.objects)) staying in
+    let sized = length-take-le (places.record_staying c.args.item) part.objects few in
+    let within = used_within part c.staying-at.result c.self.invariant in
+    let enough : length (take (places.record_staying c.args.item) part.objects) + length
     (added_by (outlined c.args.item)) ≤ 16000000 =
     omega (
       arith,
       sized,
-      kept,
+      staying,
       c.added.ensures,
       c.if-added-at.false,
       c.count.ensures,
@@ -46,7 +46,7 @@ returns-then-not-is_well_formed c =
       c.self.invariant.few,
       length-map part.objects (filled blank),
     ) in
-    let fits : cost_of_objects (take (places.record_kept c.args.item) part.objects) + used_of
+    let fits : cost_of_objects (take (places.record_staying c.args.item) part.objects) + used_of
     (added_by (outlined c.args.item))
     ≤ part.capacity = omega (arith, used, c.cost.ensures, c.if-cost-self.false, c.used-used.ensures, within) in
     rw (← c.self.view_is)
@@ -55,19 +55,19 @@ returns-then-not-is_well_formed c =
 pub returns : goal.returns
 returns c =
     let part : PlacedPart = placed_of c.self.inside.capacity c.self.inside.table in
-    let kept = c.kept-at.ensures in
-    let few : places.record_kept c.args.item ≤ length part.objects =
-    omega (arith, kept, c.count.ensures, c.if-at-count.false) in
-    let used : c.used-used.result ≡ cost_of_objects (take (places.record_kept c.args.item) part.objects) =
-    c.used-used.ensures ∙ ap (λ (n : ℕ). cost_of_objects (take n part.objects)) kept in
-    let sized = length-take-le (places.record_kept c.args.item) part.objects few in
-    let within = used_within part c.kept-at.result c.self.invariant in
-    let enough : length (take (places.record_kept c.args.item) part.objects) + length
+    let staying = c.staying-at.ensures in
+    let few : places.record_staying c.args.item ≤ length part.objects =
+    omega (arith, staying, c.count.ensures, c.if-at-count.false) in
+    let used : c.used-used.result ≡ cost_of_objects (take (places.record_staying c.args.item) part.objects) =
+    c.used-used.ensures ∙ ap (λ (n : ℕ). cost_of_objects (take n part.objects)) staying in
+    let sized = length-take-le (places.record_staying c.args.item) part.objects few in
+    let within = used_within part c.staying-at.result c.self.invariant in
+    let enough : length (take (places.record_staying c.args.item) part.objects) + length
     (added_by (outlined c.args.item)) ≤ 16000000 =
     omega (
       arith,
       sized,
-      kept,
+      staying,
       c.added.ensures,
       c.if-added-at.false,
       c.count.ensures,
@@ -75,7 +75,7 @@ returns c =
       c.self.invariant.few,
       length-map part.objects (filled blank),
     ) in
-    let fits : cost_of_objects (take (places.record_kept c.args.item) part.objects) + used_of
+    let fits : cost_of_objects (take (places.record_staying c.args.item) part.objects) + used_of
     (added_by (outlined c.args.item))
     ≤ part.capacity = omega (arith, used, c.cost.ensures, c.if-cost-self.false, c.used-used.ensures, within) in
     rw (← c.self.view_is) (sym

@@ -13,12 +13,13 @@ pub cost_up_to-requires-clause-behind : goal.cost_up_to-requires-clause-behind
 cost_up_to-requires-clause-behind c =
     let items = c.self.inside.blocks.items in
     let n = c.min-n.result in
-    let kept = c.blocks_before.result in
-    let split = subst (λ (l : List BlockEntry). IsSplitAt l n kept) c.deref-2.ensures.value
+    let staying = c.blocks_before.result in
+    let split = subst (λ (l : List BlockEntry). IsSplitAt l n staying) c.deref-2.ensures.value
     c.blocks_before.ensures.split in
-    let few = subst (λ (l : List BlockEntry). kept ≤ length l) c.deref-2.ensures.value c.blocks_before.ensures.within in
-    subst (λ (l : List BlockEntry). length (blocks_of (take kept l)) ≤ n) (sym c.deref.ensures.value)
-    (front_length items c.self.inside.count n kept c.self.invariant.0.table c.self.invariant.0.within split few
+    let few = subst (λ (l : List BlockEntry). staying ≤ length l) c.deref-2.ensures.value
+    c.blocks_before.ensures.within in
+    subst (λ (l : List BlockEntry). length (blocks_of (take staying l)) ≤ n) (sym c.deref.ensures.value)
+    (front_length items c.self.inside.count n staying c.self.invariant.0.table c.self.invariant.0.within split few
     (omega (arith, c.min-n.ensures)))
 
 pub cost_up_to-requires-clause-cost : goal.cost_up_to-requires-clause-cost
@@ -26,13 +27,14 @@ cost_up_to-requires-clause-cost c =
     let items = c.self.inside.blocks.items in
     let count = c.self.inside.count in
     let n = c.min-n.result in
-    let kept = c.blocks_before.result in
-    let split = subst (λ (l : List BlockEntry). IsSplitAt l n kept) c.deref-2.ensures.value
+    let staying = c.blocks_before.result in
+    let split = subst (λ (l : List BlockEntry). IsSplitAt l n staying) c.deref-2.ensures.value
     c.blocks_before.ensures.split in
-    let few = subst (λ (l : List BlockEntry). kept ≤ length l) c.deref-2.ensures.value c.blocks_before.ensures.within in
-    let is = taken items count n kept c.self.invariant.0.table c.self.invariant.0.within split few
+    let few = subst (λ (l : List BlockEntry). staying ≤ length l) c.deref-2.ensures.value
+    c.blocks_before.ensures.within in
+    let is = taken items count n staying c.self.invariant.0.table c.self.invariant.0.within split few
     (omega (arith, c.min-n.ensures)) in
-    subst (λ (l : List BlockEntry). cost_of_objects (padded (blocks_of (take kept l)) n) < 2 ^ 64)
+    subst (λ (l : List BlockEntry). cost_of_objects (padded (blocks_of (take staying l)) n) < 2 ^ 64)
     (sym c.deref.ensures.value)
     (omega (arith, ap cost_of_objects is, cost_within (objects_of items count) n, c.self.invariant.0.cost))
 
@@ -41,15 +43,16 @@ returns c =
     let items = c.self.inside.blocks.items in
     let count = c.self.inside.count in
     let n = c.min-n.result in
-    let kept = c.blocks_before.result in
-    let split = subst (λ (l : List BlockEntry). IsSplitAt l n kept) c.deref-2.ensures.value
+    let staying = c.blocks_before.result in
+    let split = subst (λ (l : List BlockEntry). IsSplitAt l n staying) c.deref-2.ensures.value
     c.blocks_before.ensures.split in
-    let few = subst (λ (l : List BlockEntry). kept ≤ length l) c.deref-2.ensures.value c.blocks_before.ensures.within in
-    let is = taken items count n kept c.self.invariant.0.table c.self.invariant.0.within split few
+    let few = subst (λ (l : List BlockEntry). staying ≤ length l) c.deref-2.ensures.value
+    c.blocks_before.ensures.within in
+    let is = taken items count n staying c.self.invariant.0.table c.self.invariant.0.within split few
     (omega (arith, c.min-n.ensures)) in
     let all = sym (length_padded (blocks_of items) count c.self.invariant.0.within) in
     rw (← c.self.view_is) (
     c.cost_up_to.ensures
-    ∙ ap (λ (l : List BlockEntry). cost_of_objects (padded (blocks_of (take kept l)) n)) c.deref.ensures.value
+    ∙ ap (λ (l : List BlockEntry). cost_of_objects (padded (blocks_of (take staying l)) n)) c.deref.ensures.value
     ∙ ap cost_of_objects (sym is ∙ (λ i. take (c.min-n.ensures i) (objects_of items count))
     ∙ taken_min (objects_of items count) c.args.n count all))

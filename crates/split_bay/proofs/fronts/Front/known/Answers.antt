@@ -2,13 +2,13 @@ use Rattle.std.proofs.Common.{subst}
 use Rattle.tape_buffer.specs.Moves.{buffer_below}
 use Rattle.tape_buffer.specs.State.{state_of}
 use Rattle.split_bay.specs.Fronts.{FrontState, GivesOrders}
-use Rattle.split_bay.proofs.HostsLemmas.{front_kept, holding_hosts}
+use Rattle.split_bay.proofs.HostsLemmas.{front_keeps, holding_hosts}
 use Rattle.split_bay.proofs.fronts.Front.known.Goals as goal
 
-pub returns-clause-kept : goal.returns-clause-kept
-returns-clause-kept g c =
+pub returns-clause-keeps : goal.returns-clause-keeps
+returns-clause-keeps g c =
     let state = g.D.Disk.state in
-    front_kept state (state_of state) c.self.inside.drive c.self.inside.end c.args.self.now c.self.view_is
+    front_keeps state (state_of state) c.self.inside.drive c.self.inside.end c.args.self.now c.self.view_is
     c.self.invariant.0 c.self.invariant.1 c.self.invariant.2 c.known_end.ensures c.medium.ensures.on
 
 pub returns-clause-opens : goal.returns-clause-opens

@@ -13,5 +13,5 @@ invariant_of-self c =
     (sym c.clear.ensures.items) (
       record { few = omega arith; short = omega arith },
       refl,
-      nothing_waits c.clear-2.new.self c.clear-2.ensures.kept c.clear-2.ensures.parts,
+      nothing_waits c.clear-2.new.self c.clear-2.ensures.staying c.clear-2.ensures.parts,
     )

@@ -6,7 +6,7 @@ use Rattle.volume_core.specs.Medium.{block_bytes}
 use Rattle.record_index.specs.Places.{placed_after, placed_objects, reserved_of}
 use Rattle.record_index.specs.Records.{record_of}
 use Rattle.tape_buffer.specs.Limits.{FitsBuffer}
-use Rattle.tape_buffer.specs.Tail.{AreWide, IsTailOf, TailState, shifted, kept_in}
+use Rattle.tape_buffer.specs.Tail.{AreWide, IsTailOf, TailState, shifted, staying_in}
 use Rattle.tape_buffer.proofs.PutLemmas.{applies_behind, formed, tail_put}
 use Rattle.tape_buffer.proofs.TailLemmas.{stays_opened, stays_reserved, wide_with}
 use Rattle.tape_buffer.proofs.pending.Pending.push.Goals as goal
@@ -92,7 +92,7 @@ invariant_of-self-2 c =
     ) in
     let parts =
     subst (λ (number : ℕ). c.put.new.self.parts ≡ placed_after c.reserve-2.new.self.parts
-    (record_of (shifted (kept_in c.reserve-2.new.self (part_of change)) change)) number left)
+    (record_of (shifted (staying_in c.reserve-2.new.self (part_of change)) change)) number left)
     last c.put.ensures.parts in
     subst (λ (l : List Change). FitsBuffer l × (c.self.inside.bytes + c.block_bytes.result ≡ sum_by block_bytes l)
     × IsTailOf l c.put.new.self)
@@ -100,5 +100,5 @@ invariant_of-self-2 c =
       rw (← c.self.view_is) at c.requires.few,
       omega (arith, sum_by-append block_bytes items (change ∷ []), c.self.invariant.1, c.block_bytes.ensures),
       tail_put items change c.reserve-2.new.self reserved wide (rw (← c.self.view_is) at c.requires.applies)
-          c.put.new.self left c.put.ensures.kept c.put.ensures.others parts,
+          c.put.new.self left c.put.ensures.staying c.put.ensures.others parts,
     )

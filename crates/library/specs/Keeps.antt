@@ -22,7 +22,7 @@ module _ {D : Type 0} (state : D → DiskState) where
   -- the invariant of a cartridge in a slot: it is closed, and what a crash may leave now of its two disks (own)
   pub record KeepsShelved (medium : BufferState D) : Type 0 where
     pub closed : (state_of state medium).awake ≡ false
-    pub kept : KeepsCartridge state medium
+    pub keeps : KeepsCartridge state medium
 
   -- the same for the content of a slot, if it is full (own)
   abbrev pub KeepsShelvedIn : Option (BufferState D) → Type 0
@@ -43,7 +43,7 @@ module _ {D : Type 0} (state : D → DiskState) where
   -- A flusher's turn of a drive with its invariant has left this drive. At each moment of the turn a crash leaves what
   -- the turn's event says. The drive still has its invariant (own).
   pub record IsLeftBy (old bay : BayState D) : Type 0 where
-    pub kept : KeepsDrive old
+    pub old_keeps : KeepsDrive old
     pub turns : TurnsAt state (Some old) (Some bay)
     pub keeps : KeepsDrive bay
 
