@@ -180,6 +180,8 @@ WORDS = {
     "write fault of a script": ["ScriptEnds"],
     "exit status": ["status_of", "EndsProgram"],
     "kept, created": ["fate_word", "IsMadeOrKept"],
+    "kept through a stop": ["IsKept", "AcknowledgedIsKept", "store_kept"],
+    "staying objects": ["staying_of", "objects_after"],
     "UNLOAD": ["UnloadsInto", "ParksAs", "LoadUnloadWork"],
     "LOAD": ["LoadsAgain", "ReloadsAs", "asks_load", "LoadUnloadWork"],
     "move, MOVE MEDIUM": ["MovesMedium", "refusal_of_move"],
