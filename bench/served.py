@@ -1,9 +1,10 @@
 #!/usr/bin/env python3
 """Speed of `vtl serve`, each beside a plain peer: TEST UNIT READY there and back beside a process that only exchanges
-the frames (peer.c, which takes `cc`); WRITE of 256 KiB blocks over files, a filemark each 64 MiB, beside the raw file
-with as many syncs (syncs.c counts them); READ of them beside a raw read through a pipe; two hosts at two drives beside
-one at one, also where each sync takes 20 milliseconds more, and two raw files beside one; how long short buffered
-WRITEs wait where each sync does; and the memory at rest, without a host and with 64 that have spoken.
+the frames (peer.c; `cc` has to be there); WRITE of 256 KiB blocks over files, a filemark each 64 MiB, beside the
+raw file with as many syncs (syncs.c counts them); READ of them beside a raw read through a pipe; two hosts at two
+drives beside one at one, also where each sync takes 20 milliseconds more, and two raw files beside one; how long
+short buffered WRITEs wait where each sync does; and the memory at rest, without a host and with 64 that have
+spoken.
 
 Of five times, taken in turns, the best and the median. --program PATH: another program than the proved one. The files
 lie in a new folder beside the repository's own, or in the one that a word names."""
@@ -20,13 +21,13 @@ import time
 TOP = os.path.dirname(os.path.dirname(os.path.abspath(__file__)))
 PROVED = os.path.join(TOP, "crates", "vtl", "out", "vtl")
 HEADER = struct.Struct(">BBBBII4x")
-READY, REWIND, MARK = bytes(6), bytes.fromhex("010000000000"), bytes.fromhex("100000000100")
+READY, REWIND = bytes(6), bytes.fromhex("010000000000")
 BLOCK, BLOCKS, GROUP, TRIPS, ROUNDS, HOSTS = 262_144, 2_048, 256, 20_000, 5, 64
 # a slow sync, in milliseconds, and so many blocks are written where each is
 SLOW, FEWER = 20, 512
 # and a host writes a short block this often, in seconds, so many times
 OFTEN, SHORT_WRITES = 0.001, 3_000
-WRITE, READ = b"\x0a\x00\x04\x00\x00\x00", b"\x08\x00\x04\x00\x00\x00"
+READ = b"\x08\x00\x04\x00\x00\x00"
 SHORT_WRITE = b"\x0a\x00\x00\x02\x00\x00"
 DATA = os.urandom(BLOCK)
 
@@ -54,14 +55,6 @@ class Peer:
         self.send(block, data, host, drive)
         self.flush()
         return self.answer()
-
-    def good(self):
-        """The host of the next answer."""
-        _, host, status, sense, length, _ = HEADER.unpack(self.answers.read(HEADER.size))
-        if status:
-            sys.exit(f"status {status:02x}h in the place of GOOD: {self.answers.read(sense).hex()}")
-        self.answers.read(length)
-        return host
 
     def memory(self):
         with open(f"/proc/{self.process.pid}/status", encoding="utf-8") as file:
@@ -104,6 +97,7 @@ def twice(one, two):
 class Bench:
     def __init__(self, program, folder):
         self.program, self.folder = program, folder
+        self.front = compiled(folder, "front.c")
         self.shim = {"LD_PRELOAD": compiled(folder, "syncs.c", "-shared", "-fPIC"),
                      "SYNCS_TOLD": os.path.join(folder, "syncs")}
 
@@ -129,27 +123,14 @@ class Bench:
 
     def writes(self, drives=1, blocks=BLOCKS, **environment):
         """So many blocks to each of these drives, by a host each, a filemark each 64 MiB; two commands of a host are
-        not answered at a time."""
+        not answered at a time. The front end is front.c, so that what it takes itself is little."""
         peer = self.library(drives, **environment)
         for at in range(1, drives + 1):
             peer.exchange(READY, b"", at, at)
-        groups = [(WRITE, DATA)] * GROUP + [(MARK, b"")]
-        orders = {at: iter(groups * (blocks // GROUP)) for at in range(1, drives + 1)}
-
-        def give(host):
-            order = next(orders[host], None)
-            if order:
-                peer.send(*order, host, host)
-                peer.flush()
-            return 1 if order else 0
-
-        def work():
-            waiting = sum(give(host) for _ in range(2) for host in orders)
-            while waiting:
-                waiting += give(peer.good()) - 1
-
-        seconds = timed(work)
-        return peer, seconds
+        words = [self.front, str(drives), str(blocks), str(GROUP), "2"]
+        seconds = subprocess.run(words, stdin=peer.answers, stdout=peer.process.stdin, stderr=subprocess.PIPE,
+                                 check=True).stderr
+        return peer, float(seconds)
 
     def written(self, drives=1, blocks=BLOCKS, **environment):
         peer, seconds = self.writes(drives, blocks, **environment)

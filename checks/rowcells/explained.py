@@ -1,10 +1,10 @@
-"""The words of sense data: FORMATS.md against the definitions of the crate vtl_explain, row by row."""
+"""The words of sense data: FORMATS.md against the definitions of the crate answer_meanings, row by row."""
 import os
 import re
 
 from .tables import TOP
 
-SPECS = os.path.join(TOP, "crates", "vtl_explain", "specs")
+SPECS = os.path.join(TOP, "crates", "answer_meanings", "specs")
 KEYS = {"NoSense": "0", "NotReady": "2", "MediumError": "3", "HardwareError": "4", "IllegalRequest": "5",
         "UnitAttention": "6", "BlankCheck": "8", "AbortedCommand": "Bh", "VolumeOverflow": "Dh"}
 
@@ -30,5 +30,5 @@ def faults(tables):
     """Where the table of FORMATS.md and the definitions differ."""
     told = {fields[0]: fields[1] for fields in tables["Sense data in words"][0][1:]}
     ours = rows()
-    return [f"FORMATS.md, Sense data in words: {it} is `{told.get(it)}`, and in vtl_explain `{ours.get(it)}`"
+    return [f"FORMATS.md, Sense data in words: {it} is `{told.get(it)}`, and in answer_meanings `{ours.get(it)}`"
             for it in dict.fromkeys([*told, *ours]) if told.get(it) != ours.get(it)]

@@ -3,11 +3,11 @@ use Rattle.std.specs.Prelude.{◌≡◌, ◌≢◌, ℕ, ◌==◌, List, take, d
 use Rattle.hex.specs.Hex.{decode_of}
 use Rattle.scsi_sense.specs.SenseData.{key_number, sense_bytes}
 use Rattle.scsi_sense.specs.declared.sense_data.SenseKey.{SenseKey}
-use Rattle.vtl_explain.specs.declared.answer_lines.AnswerLine.{AnswerLine}
-use Rattle.vtl_explain.specs.declared.answer_lines.Cause.{Cause}
-use Rattle.vtl_explain.specs.declared.answer_lines.Cause.TheVariants.{Check, Conflict}
-use Rattle.vtl_explain.specs.declared.sense_texts.Counted.{Counted}
-use Rattle.vtl_explain.specs.declared.sense_texts.Counted.TheVariants.{Bytes, Blocks, Filemarks}
+use Rattle.answer_meanings.specs.declared.answer_lines.AnswerLine.{AnswerLine}
+use Rattle.answer_meanings.specs.declared.answer_lines.Cause.{Cause}
+use Rattle.answer_meanings.specs.declared.answer_lines.Cause.TheVariants.{Check, Conflict}
+use Rattle.answer_meanings.specs.declared.sense_texts.Counted.{Counted}
+use Rattle.answer_meanings.specs.declared.sense_texts.Counted.TheVariants.{Bytes, Blocks, Filemarks}
 
 -- what INFORMATION counts in the answer to a command block: filemarks for WRITE FILEMARKS and for SPACE over filemarks,
 -- blocks for other SPACE, else bytes (SSC-4)

@@ -1,8 +1,8 @@
 -- What is written of an answer.
 use Rattle.std.specs.Prelude.{ℕ, ◌⊎◌, List, [], ◌∷◌, ◌++◌, Option}
 use Rattle.std.specs.Io.KnownBytes.{Keeps}
-use Rattle.vtl_explain.specs.AnswerLines.{line_text}
-use Rattle.vtl_explain.specs.declared.answer_lines.AnswerLine.{AnswerLine}
+use Rattle.answer_meanings.specs.AnswerLines.{line_text}
+use Rattle.answer_meanings.specs.declared.answer_lines.AnswerLine.{AnswerLine}
 use Rattle.vtl_script.specs.Text.{AppendsPart}
 use Rattle.answer_notes.specs.Causes.{IsMeaning}
 

@@ -7,11 +7,11 @@ ghost use Rattle.answer_notes.specs.Queues.{with_parsed};
 
 use crate::queues::{Asked, Queue};
 use crate::senses::sense_of;
+use answer_meanings::answer_lines::Cause;
+use answer_meanings::{AnswerLine, Counted, SenseText};
 use script_reasons::Drives;
 use std::alloc::{AllocError, Global};
 use std::sync::Mutex;
-use vtl_explain::answer_lines::Cause;
-use vtl_explain::{AnswerLine, Counted, SenseText};
 use vtl_script::lines::{ParsedLine, parse};
 
 // The digits of sense data in an answer.

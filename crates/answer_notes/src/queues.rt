@@ -2,9 +2,9 @@
 ghost use Rattle.std.specs.Prelude.{◌≡◌, ◌≤◌, ◌++◌, length, OnOk, OnErr, MatchOption};
 ghost use Rattle.answer_notes.specs.Queues.{lines_of_host, asked_in_turn, no_lines, with_line, with_end, with_move, IsNext, IsNone};
 
+use answer_meanings::Counted;
 use std::alloc::{AllocError, Global};
 use std::marker::Model;
-use vtl_explain::Counted;
 
 // A line that gets an answer: its number, its host, and what INFORMATION counts in the answer.
 #[derive(Clone, Copy)]

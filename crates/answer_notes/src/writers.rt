@@ -3,9 +3,9 @@ ghost use Rattle.std.specs.Prelude.{◌≡◌, min, take};
 ghost use Rattle.answer_notes.specs.Meanings.{WritesMeaning, ExplainsAnswer};
 
 use crate::answers::Answers;
+use answer_meanings::AnswerLine;
 use std::alloc::Global;
 use std::io::{self, Write};
-use vtl_explain::AnswerLine;
 use vtl_script::write_text;
 
 // The bytes of an answer that count here: `CHECK`, a space, and 36 digits.

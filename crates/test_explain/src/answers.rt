@@ -1,4 +1,5 @@
 //! Answers, and the line that says what each means.
+use answer_meanings::{AnswerLine, Counted};
 use scsi_attention::Attention;
 use scsi_sense::{Reply, Sense, SenseKey};
 use std::alloc::{AllocError, Global};
@@ -6,7 +7,6 @@ use std::process::Abort;
 use std::test::Fail;
 use test_assertions::assert_equal;
 use vtl_base::Bytes;
-use vtl_explain::{AnswerLine, Counted};
 
 // The line of a reply, or no text.
 fn line_of(

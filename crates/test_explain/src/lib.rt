@@ -1,4 +1,4 @@
-//! The tests of vtl_explain: each answer, and the line that was written for it by hand.
+//! The tests of answer_meanings: each answer, and the line that was written for it by hand.
 #![tactic(auto)]
 
 #[cfg(test)]

@@ -2,7 +2,7 @@
 use Rattle.std.specs.Prelude.{◌≡◌, ℕ, ◌<◌, ◌^◌, ◌-◌, [], true, false}
 use Rattle.std.specs.Fmt.{digits, padded_integral, format_spec}
 use Rattle.std.proofs.lemmas.Fmt.{hex_byte}
-use Rattle.vtl_explain.specs.SenseTexts.{hex}
+use Rattle.answer_meanings.specs.SenseTexts.{hex}
 
 -- what `{:02X}` writes of a byte
 pub hex_printed :

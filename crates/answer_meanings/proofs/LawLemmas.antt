@@ -3,9 +3,9 @@ use Rattle.std.proofs.Common.{refl, arith, true, false}
 use Rattle.std.specs.Prelude.{codes, None, Some}
 use Rattle.scsi_attention.specs.declared.attention_sets.Attention.TheVariants.{PowerOn, MediumChanged, ReservationsPreempted, RegistrationsPreempted, ReservationsReleased, ModeChanged}
 use Rattle.scsi_sense.specs.Senses.{filemark_detected, attention_sense, invalid_element_address, invalid_field, invalid_parameter, parameter_list_length_error, invalid_release, beginning, destination_full, early_warning, end_of_data, deferred_write_error, keeper_failed, medium_failed, insufficient_resources, volume_overflow, medium_not_present, no_sense, incorrect_length, read_error, source_empty, store_full, invalid_operation_code, write_error}
-use Rattle.vtl_explain.specs.Laws.{EachAttentionIsACondition, EachLineFits, EachSenseHasItsCondition}
-use Rattle.vtl_explain.specs.SenseTexts.{rest}
-use Rattle.vtl_explain.proofs.FitLemmas.{around, by_text, length_rest_fits, rest_fits}
+use Rattle.answer_meanings.specs.Laws.{EachAttentionIsACondition, EachLineFits, EachSenseHasItsCondition}
+use Rattle.answer_meanings.specs.SenseTexts.{rest}
+use Rattle.answer_meanings.proofs.FitLemmas.{around, by_text, length_rest_fits, rest_fits}
 
 pub each_sense : EachSenseHasItsCondition
 each_sense = record {

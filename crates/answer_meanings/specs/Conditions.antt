@@ -4,9 +4,9 @@ use Rattle.scsi_sense.specs.SenseData.{key_number}
 use Rattle.scsi_sense.specs.declared.sense_data.Sense.{Sense}
 use Rattle.scsi_sense.specs.declared.sense_data.SenseKey.{SenseKey}
 use Rattle.scsi_sense.specs.declared.sense_data.SenseKey.TheVariants.{NoSense, NotReady, MediumError, HardwareError, IllegalRequest, UnitAttention, BlankCheck, AbortedCommand, VolumeOverflow}
-use Rattle.vtl_explain.specs.declared.conditions.Condition.{Condition}
-use Rattle.vtl_explain.specs.declared.conditions.Condition.TheVariants as is
-use Rattle.vtl_explain.specs.declared.conditions.Row.{Row}
+use Rattle.answer_meanings.specs.declared.conditions.Condition.{Condition}
+use Rattle.answer_meanings.specs.declared.conditions.Condition.TheVariants as is
+use Rattle.answer_meanings.specs.declared.conditions.Row.{Row}
 
 -- a row: sense key, additional sense code and qualifier (SPC-4, fixed format)
 abbrev pub condition_row : SenseKey → ℕ → ℕ → Row

@@ -2,11 +2,11 @@
 use Rattle.std.proofs.Common.{ℕ, ◌<◌, ◌≤◌, ◌+◌, ◌^◌, List, [], ◌++◌, length, arith, length-append, true, false, cond}
 use Rattle.std.specs.Prelude.{codes, Some, decimal, ◌==◌, ◌-◌, nat_lt}
 use Rattle.std.proofs.lemmas.Fmt.{length-decimal-le}
-use Rattle.vtl_explain.specs.Laws.{FitsALine}
-use Rattle.vtl_explain.specs.SenseTexts.{left, rest, size, difference, sense_line}
+use Rattle.answer_meanings.specs.Laws.{FitsALine}
+use Rattle.answer_meanings.specs.SenseTexts.{left, rest, size, difference, sense_line}
 use Rattle.scsi_sense.specs.declared.sense_data.Sense.{Sense}
-use Rattle.vtl_explain.specs.declared.sense_texts.Counted.{Counted}
-use Rattle.vtl_explain.specs.declared.sense_texts.Counted.TheVariants.{Bytes, Blocks, Filemarks}
+use Rattle.answer_meanings.specs.declared.sense_texts.Counted.{Counted}
+use Rattle.answer_meanings.specs.declared.sense_texts.Counted.TheVariants.{Bytes, Blocks, Filemarks}
 
 number_fits : (n : ℕ) → n < 2 ^ 32 → length (decimal n) ≤ 10
 number_fits n small = length-decimal-le 10 n (omega arith) (omega (arith, small)) (omega (arith, small))

@@ -1,6 +1,6 @@
 //! What an answer means.
 ghost use Rattle.std.specs.Prelude.{◌≡◌};
-ghost use Rattle.vtl_explain.specs.AnswerLines.{answer_line};
+ghost use Rattle.answer_meanings.specs.AnswerLines.{answer_line};
 
 use crate::sense_texts::{Counted, SenseText};
 use scsi_sense::{Reply, Status};
@@ -43,7 +43,7 @@ impl AnswerLine {
 
 impl fmt::Display for AnswerLine {
     ghost use Rattle.std.specs.Prelude.{Some};
-    ghost use Rattle.vtl_explain.specs.AnswerLines.{line_text};
+    ghost use Rattle.answer_meanings.specs.AnswerLines.{line_text};
 
     ghost output = { λ it. Some (line_text it) };
 

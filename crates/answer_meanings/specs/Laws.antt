@@ -3,11 +3,11 @@ use Rattle.std.specs.Prelude.{◌≡◌, ◌≤◌, ◌<◌, ◌^◌, ℕ, lengt
 use Rattle.scsi_attention.specs.declared.attention_sets.Attention.TheVariants.{PowerOn, MediumChanged, ReservationsPreempted, RegistrationsPreempted, ReservationsReleased, ModeChanged}
 use Rattle.scsi_sense.specs.Senses.{filemark_detected, attention_sense, invalid_element_address, invalid_field, invalid_parameter, parameter_list_length_error, invalid_release, beginning, destination_full, early_warning, end_of_data, deferred_write_error, keeper_failed, medium_failed, insufficient_resources, volume_overflow, medium_not_present, no_sense, incorrect_length, read_error, source_empty, store_full, invalid_operation_code, write_error}
 use Rattle.scsi_sense.specs.declared.sense_data.Sense.{Sense}
-use Rattle.vtl_explain.specs.AnswerLines.{line_text}
-use Rattle.vtl_explain.specs.Conditions.{condition_of}
-use Rattle.vtl_explain.specs.declared.answer_lines.Cause.TheVariants.{Check}
-use Rattle.vtl_explain.specs.declared.conditions.Condition.TheVariants as is
-use Rattle.vtl_explain.specs.declared.sense_texts.Counted.{Counted}
+use Rattle.answer_meanings.specs.AnswerLines.{line_text}
+use Rattle.answer_meanings.specs.Conditions.{condition_of}
+use Rattle.answer_meanings.specs.declared.answer_lines.Cause.TheVariants.{Check}
+use Rattle.answer_meanings.specs.declared.conditions.Condition.TheVariants as is
+use Rattle.answer_meanings.specs.declared.sense_texts.Counted.{Counted}
 
 -- sense data that drives and changers report by a name are of the condition of that name (SPC-4, SSC-4, SMC-3)
 pub record EachSenseHasItsCondition : Type 0 where

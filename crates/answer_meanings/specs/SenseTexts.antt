@@ -2,11 +2,11 @@
 use Rattle.std.specs.Prelude.{ℕ, ◌-◌, ◌/◌, ◌%◌, ◌^◌, ◌==◌, nat_lt, Bool, true, if◌then◌else◌, List, [], ◌∷◌, ◌++◌, Option, None, Some, codes, decimal}
 use Rattle.std.specs.Fmt.{digit_glyph}
 use Rattle.scsi_sense.specs.declared.sense_data.Sense.{Sense}
-use Rattle.vtl_explain.specs.Conditions.{condition_of}
-use Rattle.vtl_explain.specs.Words.{words_of}
-use Rattle.vtl_explain.specs.declared.conditions.Condition.{Condition}
-use Rattle.vtl_explain.specs.declared.sense_texts.Counted.{Counted}
-use Rattle.vtl_explain.specs.declared.sense_texts.Counted.TheVariants.{Bytes, Blocks, Filemarks}
+use Rattle.answer_meanings.specs.Conditions.{condition_of}
+use Rattle.answer_meanings.specs.Words.{words_of}
+use Rattle.answer_meanings.specs.declared.conditions.Condition.{Condition}
+use Rattle.answer_meanings.specs.declared.sense_texts.Counted.{Counted}
+use Rattle.answer_meanings.specs.declared.sense_texts.Counted.TheVariants.{Bytes, Blocks, Filemarks}
 
 -- a byte as two digits in hexadecimal, in capitals (own)
 abbrev pub hex : ℕ → List ℕ

@@ -1,7 +1,7 @@
 //! The conditions that sense data report, each with its words.
 ghost use Rattle.std.specs.Prelude.{◌≡◌};
-ghost use Rattle.vtl_explain.specs.Conditions.{coded_condition, condition_of, is_in, row_of_condition};
-ghost use Rattle.vtl_explain.specs.Words.{words_of};
+ghost use Rattle.answer_meanings.specs.Conditions.{coded_condition, condition_of, is_in, row_of_condition};
+ghost use Rattle.answer_meanings.specs.Words.{words_of};
 
 use scsi_sense::{Sense, SenseKey};
 

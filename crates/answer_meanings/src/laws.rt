@@ -1,5 +1,5 @@
 //! Laws of the lines. Each is a function that does nothing, and its contract is the law.
-ghost use Rattle.vtl_explain.specs.Laws.{EachAttentionIsACondition, EachLineFits, EachSenseHasItsCondition};
+ghost use Rattle.answer_meanings.specs.Laws.{EachAttentionIsACondition, EachLineFits, EachSenseHasItsCondition};
 
 /// The sense data that drives and changers report under a name belong to the condition with that name.
 pub fn each_sense_has_its_condition()

@@ -1,7 +1,7 @@
 -- The words of each condition.
 use Rattle.std.specs.Prelude.{ℕ, List, codes}
-use Rattle.vtl_explain.specs.declared.conditions.Condition.{Condition}
-use Rattle.vtl_explain.specs.declared.conditions.Condition.TheVariants as is
+use Rattle.answer_meanings.specs.declared.conditions.Condition.{Condition}
+use Rattle.answer_meanings.specs.declared.conditions.Condition.TheVariants as is
 
 -- what a condition means, in plain English (own)
 abbrev pub words_of : Condition → List ℕ

@@ -1,6 +1,6 @@
 //! Sense data in words.
 ghost use Rattle.std.specs.Prelude.{◌≡◌, if◌then◌else◌, []};
-ghost use Rattle.vtl_explain.specs.SenseTexts.{words_in};
+ghost use Rattle.answer_meanings.specs.SenseTexts.{words_in};
 
 use crate::conditions::Condition;
 use scsi_sense::Sense;
@@ -20,7 +20,7 @@ struct Hex(u8);
 
 impl fmt::Display for Hex {
     ghost use Rattle.std.specs.Prelude.{Some};
-    ghost use Rattle.vtl_explain.specs.SenseTexts.{hex};
+    ghost use Rattle.answer_meanings.specs.SenseTexts.{hex};
 
     ghost output = { λ byte. Some (hex byte.0) };
 
@@ -37,7 +37,7 @@ struct Size(u32);
 
 impl fmt::Display for Size {
     ghost use Rattle.std.specs.Prelude.{Some};
-    ghost use Rattle.vtl_explain.specs.SenseTexts.{size};
+    ghost use Rattle.answer_meanings.specs.SenseTexts.{size};
 
     ghost output = { λ bytes. Some (size bytes.0) };
 
@@ -58,7 +58,7 @@ struct Left {
 
 impl fmt::Display for Left {
     ghost use Rattle.std.specs.Prelude.{Some};
-    ghost use Rattle.vtl_explain.specs.SenseTexts.{left};
+    ghost use Rattle.answer_meanings.specs.SenseTexts.{left};
 
     ghost output = { λ it. Some (left it.number it.counted) };
 
@@ -85,7 +85,7 @@ struct Rest {
 
 impl fmt::Display for Rest {
     ghost use Rattle.std.specs.Prelude.{Some};
-    ghost use Rattle.vtl_explain.specs.SenseTexts.{rest};
+    ghost use Rattle.answer_meanings.specs.SenseTexts.{rest};
 
     ghost output = { λ it. Some (rest it.information it.incorrect_length it.counted) };
 
@@ -138,7 +138,7 @@ pub struct SenseText {
 
 impl fmt::Display for SenseText {
     ghost use Rattle.std.specs.Prelude.{Some};
-    ghost use Rattle.vtl_explain.specs.SenseTexts.{sense_line};
+    ghost use Rattle.answer_meanings.specs.SenseTexts.{sense_line};
 
     ghost output = { λ it. Some (sense_line it.sense it.counted) };
 

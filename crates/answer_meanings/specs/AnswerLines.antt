@@ -5,11 +5,11 @@ use Rattle.scsi_sense.specs.declared.replies.Status.{Status}
 use Rattle.scsi_sense.specs.declared.replies.Status.TheVariants.{Good}
 use Rattle.scsi_sense.specs.declared.replies.Status.TheVariants as statuses
 use Rattle.scsi_sense.specs.declared.sense_data.Sense.{Sense}
-use Rattle.vtl_explain.specs.SenseTexts.{sense_line}
-use Rattle.vtl_explain.specs.declared.answer_lines.AnswerLine.{AnswerLine}
-use Rattle.vtl_explain.specs.declared.answer_lines.Cause.{Cause}
-use Rattle.vtl_explain.specs.declared.answer_lines.Cause.TheVariants.{Check, Conflict}
-use Rattle.vtl_explain.specs.declared.sense_texts.Counted.{Counted}
+use Rattle.answer_meanings.specs.SenseTexts.{sense_line}
+use Rattle.answer_meanings.specs.declared.answer_lines.AnswerLine.{AnswerLine}
+use Rattle.answer_meanings.specs.declared.answer_lines.Cause.{Cause}
+use Rattle.answer_meanings.specs.declared.answer_lines.Cause.TheVariants.{Check, Conflict}
+use Rattle.answer_meanings.specs.declared.sense_texts.Counted.{Counted}
 
 -- why an answer of this status and sense data is not GOOD, if it is not (SAM-5, status codes)
 abbrev pub cause_of : Status → Option Sense → Counted → Option Cause
