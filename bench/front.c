@@ -1,7 +1,10 @@
 // A front end of `vtl serve` without a copy of its own, for bench/served.py: answers are read from standard input,
 // requests are written to standard output. Each of HOSTS hosts has a drive of its own and writes BLOCKS blocks of
 // 262,144 bytes to it, a filemark behind each GROUP of them; WINDOW commands of a host are not answered at a time.
-// Each answer has to be GOOD. The seconds that it took are written to standard error.
+// Each answer has to be GOOD. The pipe to the library is made larger first, as a front end may do. The seconds that it
+// took are written to standard error.
+#define _GNU_SOURCE
+#include <fcntl.h>
 #include <stdint.h>
 #include <stdio.h>
 #include <stdlib.h>
@@ -10,23 +13,22 @@
 #include <time.h>
 #include <unistd.h>
 
-enum { BLOCK = 262144, HEADER = 16, MOST = 16 };
+enum { BLOCK = 262144, HEADER = 16, MOST = 16, PIPE = 1 << 20 };
 
 static unsigned char data[BLOCK];
 static unsigned long sent[MOST];
 static unsigned long blocks, group;
 
-static void fail(const char *why)
-{
+static void fail(const char *why) {
     fprintf(stderr, "front: %s\n", why);
     exit(1);
 }
 
-static void write_all(struct iovec *parts, int count)
-{
+static void write_all(struct iovec *parts, int count) {
     while (count) {
         ssize_t done = writev(1, parts, count);
-        if (done < 0) fail("a request was not written");
+        if (done < 0)
+            fail("a request was not written");
         while (count && (size_t)done >= parts->iov_len) {
             done -= parts->iov_len;
             parts++;
@@ -40,14 +42,15 @@ static void write_all(struct iovec *parts, int count)
 }
 
 // The next command of this host, a WRITE(6) or a WRITE FILEMARKS; 0 where there is none.
-static int give(int host)
-{
+static int give(int host) {
     unsigned long all = blocks + blocks / group;
-    if (sent[host] == all) return 0;
+    if (sent[host] == all)
+        return 0;
     int is_mark = sent[host] % (group + 1) == group;
     unsigned char front[HEADER + 6] = {1, host + 1, host + 1, 6};
     memcpy(front + HEADER, is_mark ? "\x10\0\0\0\1" : "\x0a\0\4\0\0", 6);
-    if (!is_mark) front[5] = BLOCK >> 16;
+    if (!is_mark)
+        front[5] = BLOCK >> 16;
     struct iovec parts[] = {{front, sizeof front}, {data, BLOCK}};
     write_all(parts, is_mark ? 1 : 2);
     sent[host]++;
@@ -55,32 +58,39 @@ static int give(int host)
 }
 
 // The host of the next answer.
-static int good(void)
-{
+static int good(void) {
     unsigned char answer[HEADER];
     for (size_t have = 0; have < sizeof answer;) {
         ssize_t more = read(0, answer + have, sizeof answer - have);
-        if (more <= 0) fail("the answers ended");
+        if (more <= 0)
+            fail("the answers ended");
         have += more;
     }
-    if (answer[2] || answer[3]) fail("a status in the place of GOOD");
+    if (answer[2] || answer[3])
+        fail("a status in the place of GOOD");
     return answer[1] - 1;
 }
 
-int main(int count, char **words)
-{
-    if (count != 5) fail("front HOSTS BLOCKS GROUP WINDOW");
+int main(int count, char **words) {
+    if (count != 5)
+        fail("front HOSTS BLOCKS GROUP WINDOW");
     int hosts = atoi(words[1]), window = atoi(words[4]);
     blocks = strtoul(words[2], NULL, 10);
     group = strtoul(words[3], NULL, 10);
-    if (hosts < 1 || hosts > MOST || !group || blocks % group) fail("front HOSTS BLOCKS GROUP WINDOW");
-    for (int at = 0; at < BLOCK; at++) data[at] = rand();
+    if (hosts < 1 || hosts > MOST || !group || blocks % group)
+        fail("front HOSTS BLOCKS GROUP WINDOW");
+    if (fcntl(1, F_SETPIPE_SZ, PIPE) < 0)
+        fail("the pipe was not made larger");
+    for (int at = 0; at < BLOCK; at++)
+        data[at] = rand();
     struct timespec start, end;
     clock_gettime(CLOCK_MONOTONIC, &start);
     long waiting = 0;
     for (int round = 0; round < window; round++)
-        for (int host = 0; host < hosts; host++) waiting += give(host);
-    while (waiting) waiting += give(good()) - 1;
+        for (int host = 0; host < hosts; host++)
+            waiting += give(host);
+    while (waiting)
+        waiting += give(good()) - 1;
     clock_gettime(CLOCK_MONOTONIC, &end);
     fprintf(stderr, "%.9f\n", end.tv_sec - start.tv_sec + (end.tv_nsec - start.tv_nsec) / 1e9);
 }

@@ -1,10 +1,10 @@
 #!/usr/bin/env python3
-"""Speed of `vtl serve`, each beside a plain peer: TEST UNIT READY there and back beside a process that only exchanges
-the frames (peer.c; `cc` has to be there); WRITE of 256 KiB blocks over files, a filemark each 64 MiB, beside the
-raw file with as many syncs (syncs.c counts them); READ of them beside a raw read through a pipe; two hosts at two
-drives beside one at one, also where each sync takes 20 milliseconds more, and two raw files beside one; how long
-short buffered WRITEs wait where each sync does; and the memory at rest, without a host and with 64 that have
-spoken.
+"""Speed of `vtl serve`, each beside a plain peer in C (`cc` has to be there): TEST UNIT READY there and back beside a
+process that only exchanges the frames (peer.c); WRITE of 256 KiB blocks over files by a front end in C (front.c), a
+filemark each 64 MiB, beside the raw file with as many syncs (syncs.c counts them) and beside a plain program behind the
+same pipe (files.c); READ of them beside a raw read through a pipe; two hosts at two drives beside one at one, and the
+same of the plain program, of raw files, and where each sync takes 20 milliseconds more; how long short buffered WRITEs
+wait where each sync does; and the memory at rest, without a host and with 64 that have spoken.
 
 Of five times, taken in turns, the best and the median. --program PATH: another program than the proved one. The files
 lie in a new folder beside the repository's own, or in the one that a word names."""
@@ -69,7 +69,7 @@ class Peer:
 
 def compiled(folder, source, *flags):
     path = os.path.join(folder, source.removesuffix(".c"))
-    path += ".so" if flags else ""
+    path += ".so" if "-shared" in flags else ""
     subprocess.run(["cc", "-O2", *flags, "-o", path, os.path.join(TOP, "bench", source)], check=True)
     return path
 
@@ -97,7 +97,7 @@ def twice(one, two):
 class Bench:
     def __init__(self, program, folder):
         self.program, self.folder = program, folder
-        self.front = compiled(folder, "front.c")
+        self.front, self.files = compiled(folder, "front.c"), compiled(folder, "files.c", "-pthread")
         self.shim = {"LD_PRELOAD": compiled(folder, "syncs.c", "-shared", "-fPIC"),
                      "SYNCS_TOLD": os.path.join(folder, "syncs")}
 
@@ -127,13 +127,24 @@ class Bench:
         peer = self.library(drives, **environment)
         for at in range(1, drives + 1):
             peer.exchange(READY, b"", at, at)
-        words = [self.front, str(drives), str(blocks), str(GROUP), "2"]
-        seconds = subprocess.run(words, stdin=peer.answers, stdout=peer.process.stdin, stderr=subprocess.PIPE,
-                                 check=True).stderr
-        return peer, float(seconds)
+        return peer, self.sent(peer, drives, blocks)
+
+    def sent(self, peer, hosts, blocks):
+        """How long the front end's blocks take at the other end, in seconds."""
+        words = [self.front, str(hosts), str(blocks), str(GROUP), "2"]
+        return float(subprocess.run(words, stdin=peer.answers, stdout=peer.process.stdin, stderr=subprocess.PIPE,
+                                    check=True).stderr)
 
     def written(self, drives=1, blocks=BLOCKS, **environment):
         peer, seconds = self.writes(drives, blocks, **environment)
+        peer.end()
+        return seconds
+
+    def plainly(self, hosts, syncs):
+        """The same blocks at a plain program in C, which only writes them to a file for each host, by a thread each,
+        with as many syncs."""
+        peer = Peer([self.files, self.folder, str(BLOCKS // syncs)], self.folder)
+        seconds = self.sent(peer, hosts, BLOCKS)
         peer.end()
         return seconds
 
@@ -230,13 +241,15 @@ def main():
         print(f"TEST UNIT READY there and back: {served[0] / TRIPS * 1e6:.1f} us, {ratio(served, plain)} of two "
               "processes that exchange the frames", flush=True)
         syncs = bench.syncs()
-        one, raw, two, both = best(bench.written, lambda: bench.raw(syncs), lambda: bench.written(2),
-                                   lambda: bench.raw(syncs, 2))
-        print(f"WRITE: {BLOCKS * BLOCK / one[0] / 1e6:,.0f} MB/s, {ratio(raw, one)} of the raw file with {syncs} syncs",
-              flush=True)
+        one, raw, two, both, plain_one, plain_two = best(
+            bench.written, lambda: bench.raw(syncs), lambda: bench.written(2), lambda: bench.raw(syncs, 2),
+            lambda: bench.plainly(1, syncs), lambda: bench.plainly(2, syncs))
+        print(f"WRITE: {BLOCKS * BLOCK / one[0] / 1e6:,.0f} MB/s, {ratio(raw, one)} of the raw file with {syncs} "
+              f"syncs, {ratio(plain_one, one)} of the plain program", flush=True)
         slow, slow_two = best(lambda: bench.slowly(1), lambda: bench.slowly(2))
-        print(f"two hosts at two drives get {twice(one, two)} times as much done as one, and two raw files "
-              f"{twice(raw, both)}; where a sync takes {SLOW} ms more {twice(slow, slow_two)}", flush=True)
+        print(f"two hosts at two drives get {twice(one, two)} times as much done as one, at the plain program "
+              f"{twice(plain_one, plain_two)}, and two raw files {twice(raw, both)}; where a sync takes {SLOW} ms more "
+              f"{twice(slow, slow_two)}", flush=True)
         cached, piped = best(bench.reads, bench.raw_reads)
         print(f"READ, cached: {BLOCKS * BLOCK / cached[0] / 1e6:,.0f} MB/s, {ratio(piped, cached)} of a raw read "
               "through a pipe", flush=True)
