@@ -3,46 +3,61 @@ ghost use Rattle.std.specs.Prelude.{◌≡◌, [], unwrap_or};
 ghost use Rattle.gate_journal.specs.Side.{heading_of};
 ghost use Rattle.cartridge.specs.Notes.{Notes, with_frame, with_torn};
 ghost use Rattle.cartridge.specs.Reclaiming.{notes_copied};
-ghost use Rattle.cartridge.specs.Codes.{notes_code};
 ghost use Rattle.record_index.specs.ChangesOn.{changes_on};
 
 use gate_journal::{Header, NotedBytes};
-use std::marker::{Model, PhantomData};
+use noted_values::{NotedValue, note};
+use std::marker::Model;
 use volume_core::Change;
+
+/// The kind of the notes. No value of this type is made.
+pub(crate) struct SideNote {}
+
+impl Model for SideNote {
+    ghost use Rattle.std.specs.Prelude.{[]};
+    ghost use Rattle.gate_journal.specs.declared.header.SideKind.TheVariants.{Cartridge};
+    ghost use Rattle.cartridge.specs.Notes.{Notes};
+    ghost use Rattle.cartridge.specs.Codes.{notes_code};
+
+    ghost Value = { Notes };
+
+    ghost coded = { notes_code };
+
+    ghost view = { λ _. record {
+      heading = record { kind = Cartridge; name = []; capacities = [] };
+      frames = [];
+      torn = [];
+    } };
+}
 
 /// The notes of a side.
 #[derive(Drop)]
 pub(crate) struct Noted {
-    marker: PhantomData<()>,
-    pub ghost notes: { Notes } by { notes_code },
-}
-
-impl Model for Noted {
-    ghost use base.Fml.{ftrue};
-    ghost use Rattle.cartridge.specs.Notes.{Notes};
-    ghost use Rattle.cartridge.specs.Codes.{notes_code};
-
-    ghost also_owns = { λ _. ftrue };
+    pub notes: NotedValue<SideNote>,
 }
 
 impl Noted {
     /// The notes of a side of which nothing is known.
     pub(crate) fn none() -> Noted {
-        made(&0)
+        Noted { notes: note(&0u8) }
     }
 
     /// The notes of a side with this header and no frames.
     pub(crate) fn new(header: &Header) -> Noted
         ensures { result.notes ≡ record { heading = heading_of header.now; frames = []; torn = [] } }
     {
-        by_header(header)
+        Noted {
+            notes: note(header),
+        }
     }
 
     /// The notes with one more frame, of these changes.
     pub(crate) fn with_frame(&self, changes: &[Change]) -> Noted
         ensures { result.notes ≡ with_frame self.now.notes changes.now }
     {
-        by_changes(self, changes)
+        Noted {
+            notes: note(&(self, changes)),
+        }
     }
 
     /// The notes with one more frame, of the changes that this body spells.
@@ -50,64 +65,24 @@ impl Noted {
         ensures { result.notes
             ≡ with_frame self.now.notes (unwrap_or (changes_on body.now.bytes) []) }
     {
-        by_body(self, body)
+        Noted {
+            notes: note(&(self, body)),
+        }
     }
 
     /// The notes of the copy of the volume, in its frames.
     pub(crate) fn copied(&self) -> Noted
         ensures { result.notes ≡ notes_copied self.now.notes }
     {
-        by_noted(self)
+        Noted { notes: note(self) }
     }
 
     /// The notes with these changes in a frame that is in flight.
     pub(crate) fn with_torn(&self, changes: &[Change]) -> Noted
         ensures { result.notes ≡ with_torn self.now.notes changes.now }
     {
-        by_changes(self, changes)
+        Noted {
+            notes: note(&(self, changes)),
+        }
     }
 }
-
-// The notes that the caller names, by a header.
-fn by_header(_header: &Header) -> Noted
-    ghost notes: { Notes }
-    ensures { result.notes ≡ notes }
-{
-    made(&0)
-}
-
-// The notes that the caller names, by earlier notes.
-fn by_noted(_noted: &Noted) -> Noted
-    ghost notes: { Notes }
-    ensures { result.notes ≡ notes }
-{
-    made(&0)
-}
-
-// The notes that the caller names, by earlier notes and by changes.
-fn by_changes(_noted: &Noted, _changes: &[Change]) -> Noted
-    ghost notes: { Notes }
-    ensures { result.notes ≡ notes }
-{
-    made(&0)
-}
-
-// The notes that the caller names, by earlier notes and by a body.
-fn by_body(_noted: &Noted, _body: &NotedBytes) -> Noted
-    ghost notes: { Notes }
-    ensures { result.notes ≡ notes }
-{
-    made(&0)
-}
-
-// The notes that the caller names.
-fn made(_any: &u64) -> Noted
-    ghost notes: { Notes }
-    ensures { result.notes ≡ notes }
-{
-    Noted {
-        marker: PhantomData,
-    }
-}
-
-unsafe impl Send for Noted {}

@@ -1,24 +1,30 @@
 //! A note of a span, for proofs alone. It takes no bytes: the hosts' half has no stored volume in memory.
 ghost use Rattle.std.specs.Prelude.{◌≡◌, option_map};
 ghost use Rattle.tape_buffer.specs.State.{state_of};
-ghost use Rattle.split_bay.specs.Beginnings.{Beginning, beginning_code};
 
-use std::marker::{Model, PhantomData};
+use noted_values::{NotedValue, note_both};
+use std::marker::Model;
 use tape_buffer::Lent;
 use tape_disk::Disk;
+
+/// The kind of the note: how a span began. No value of this type is made.
+pub struct BeginningNote {}
+
+impl Model for BeginningNote {
+    ghost use Rattle.std.specs.Prelude.{None};
+    ghost use Rattle.split_bay.specs.Beginnings.{Beginning, beginning_code};
+
+    ghost Value = { Beginning };
+
+    ghost coded = { beginning_code };
+
+    ghost view = { λ _. record { seen = None; left = 0; bytes = 0; room = 0 } };
+}
 
 /// How a span began.
 #[derive(Drop)]
 pub struct NotedBeginning {
-    marker: PhantomData<()>,
-    pub ghost begin: { Beginning } by { beginning_code },
-}
-
-impl Model for NotedBeginning {
-    ghost use base.Fml.{ftrue};
-    ghost use Rattle.split_bay.specs.Beginnings.{Beginning, beginning_code};
-
-    ghost also_owns = { λ _. ftrue };
+    pub begin: NotedValue<BeginningNote>,
 }
 
 impl NotedBeginning {
@@ -36,31 +42,8 @@ impl NotedBeginning {
           room = room.now;
         } }
     {
-        by_medium(medium, left, bytes, room)
+        NotedBeginning {
+            begin: note_both(medium, &(*left, *bytes, *room)),
+        }
     }
 }
-
-// The beginning that the caller names, in terms of a medium and of numbers.
-fn by_medium<D: Disk>(
-    _medium: &Option<Lent<D>>,
-    _left: &usize,
-    _bytes: &u64,
-    _room: &u64,
-) -> NotedBeginning
-    ghost begin: { Beginning }
-    ensures { result.begin ≡ begin }
-{
-    made(&0)
-}
-
-// The beginning that the caller names.
-fn made(_any: &u64) -> NotedBeginning
-    ghost begin: { Beginning }
-    ensures { result.begin ≡ begin }
-{
-    NotedBeginning {
-        marker: PhantomData,
-    }
-}
-
-unsafe impl Send for NotedBeginning {}

@@ -25,12 +25,12 @@ returns-clause-takes g c =
     c.pass.new.self extent (g.D.Disk.state journal.disk).honest body
     (λ h. let there = c.body_at-at.ensures.body h in omega (arith, there.sized, size_is))
     c.in_ok-good.good here before
-    (record { from = from + count; wide = 4096; bytes = c.with_unread-so_far.result }) count
+    (record { from = from + count; wide = 4096; bytes = c.with_unread.result }) count
     (padded_to count (drop from body)) here_is c.requires.so_far some inside (padded_long count (drop from body))
     (λ h. let there = c.body_at-at.ensures.body h in
     unread_next body from count (omega (arith, inside, there.sized, size_is)) before.bytes.bytes
     (c.requires.so_far.real h))
-    refl (omega arith) (omega arith) c.with_unread-so_far.ensures
+    refl (omega arith) (omega arith) c.with_unread.ensures
     (λ start within.
     c.in_ok-good.ensures start before.bytes.bytes (padded_to count (drop from body))
     (padded_long count (drop from body)) within)

@@ -40,7 +40,7 @@ returns-clause-takes g c =
     c.feed.new.self extent (g.D.Disk.state journal.disk).honest body
     (λ h. let there = c.body_at-at.ensures.body h in omega (arith, there.sized, size_is))
     c.in_ok-good.good here before
-    (record { from = from + count; wide = 65536; bytes = c.with-so_far.result }) count piece here_is c.requires.so_far
+    (record { from = from + count; wide = 65536; bytes = c.with.result }) count piece here_is c.requires.so_far
     some inside (ap (λ (l : List ℕ). length l) piece_is ∙ long)
     (λ h. read_next body from count (let there = c.body_at-at.ensures.body h in omega (
       arith,
@@ -52,5 +52,5 @@ returns-clause-takes g c =
     (piece_is
     ∙ c.in-Ok.ensures.bytes h frame from c.requires.frame (omega (arith, place_is)) (omega (arith, inside, long))
     ∙ ap (λ (n : ℕ). slice_range body from (from + n)) long))
-    refl (omega arith) (omega arith) c.with-so_far.ensures
+    refl (omega arith) (omega arith) c.with.ensures
     (λ start within. c.in_ok-good.ensures start before.bytes.bytes within)

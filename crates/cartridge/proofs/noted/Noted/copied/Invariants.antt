@@ -1,5 +1,5 @@
 use Rattle.cartridge.specs.Reclaiming.{notes_copied}
 use Rattle.cartridge.proofs.noted.Noted.copied.Given as goal
 
-abbrev pub ghost-by_noted : goal.ghost-by_noted
-ghost-by_noted a = notes_copied a._noted.now.notes
+abbrev pub ghost-note : goal.ghost-note
+ghost-note a = notes_copied a._from.now.notes

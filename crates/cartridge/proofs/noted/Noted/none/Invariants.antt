@@ -2,5 +2,5 @@ use Rattle.std.proofs.Common.{[]}
 use Rattle.gate_journal.specs.declared.header.SideKind.TheVariants.{Cartridge}
 use Rattle.cartridge.proofs.noted.Noted.none.Given as goal
 
-abbrev pub ghost-made : goal.ghost-made
-ghost-made a = record { heading = record { kind = Cartridge; name = []; capacities = [] }; frames = []; torn = [] }
+abbrev pub ghost-note : goal.ghost-note
+ghost-note a = record { heading = record { kind = Cartridge; name = []; capacities = [] }; frames = []; torn = [] }

@@ -1,5 +1,5 @@
 use Rattle.cartridge.specs.Notes.{with_frame}
 use Rattle.cartridge.proofs.noted.Noted.with_frame.Given as goal
 
-abbrev pub ghost-by_changes : goal.ghost-by_changes
-ghost-by_changes a = with_frame a._noted.now.notes a._changes.now
+abbrev pub ghost-note : goal.ghost-note
+ghost-note a = with_frame a._from.now.0.now.notes a._from.now.1.now

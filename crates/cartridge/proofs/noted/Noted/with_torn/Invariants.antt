@@ -1,5 +1,5 @@
 use Rattle.cartridge.specs.Notes.{with_torn}
 use Rattle.cartridge.proofs.noted.Noted.with_torn.Given as goal
 
-abbrev pub ghost-by_changes : goal.ghost-by_changes
-ghost-by_changes a = with_torn a._noted.now.notes a._changes.now
+abbrev pub ghost-note : goal.ghost-note
+ghost-note a = with_torn a._from.now.0.now.notes a._from.now.1.now

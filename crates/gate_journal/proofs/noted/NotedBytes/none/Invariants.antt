@@ -1,5 +1,5 @@
 use Rattle.std.proofs.Common.{[]}
 use Rattle.gate_journal.proofs.noted.NotedBytes.none.Given as goal
 
-abbrev pub ghost-made : goal.ghost-made
-ghost-made a = []
+abbrev pub ghost-note : goal.ghost-note
+ghost-note a = []

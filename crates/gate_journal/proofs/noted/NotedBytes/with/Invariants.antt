@@ -1,5 +1,5 @@
 use Rattle.std.proofs.Common.{◌++◌}
 use Rattle.gate_journal.proofs.noted.NotedBytes.with.Given as goal
 
-abbrev pub ghost-by_bytes : goal.ghost-by_bytes
-ghost-by_bytes a = a._noted.now.bytes ++ a._bytes.now
+abbrev pub ghost-note : goal.ghost-note
+ghost-note a = a._from.now.0.now.bytes ++ a._from.now.1.now

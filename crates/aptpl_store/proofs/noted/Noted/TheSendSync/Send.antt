@@ -1,6 +1,0 @@
--- The notes own nothing, so they may go to another thread.
-use denote.Param.Send.{IsSend, owning_send, sendable}
-use Rattle.aptpl_store.specs.contracts.noted.Noted.{the_row, the_type}
-
-pub send : IsSend the_row
-send = owning_send the_type (search sendable, tt) (λ d. tt) (λ k x w. tt)

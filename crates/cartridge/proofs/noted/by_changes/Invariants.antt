@@ -1,4 +1,0 @@
-use Rattle.cartridge.proofs.noted.by_changes.Given as goal
-
-abbrev pub ghost-made : goal.ghost-made
-ghost-made g a = g.notes

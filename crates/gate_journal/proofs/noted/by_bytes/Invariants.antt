@@ -1,4 +1,0 @@
-use Rattle.gate_journal.proofs.noted.by_bytes.Given as goal
-
-abbrev pub ghost-made : goal.ghost-made
-ghost-made g a = g.bytes
