@@ -13,7 +13,7 @@ returns-in_default c = λ start heading extents bodies had within.
 pub returns : goal.returns
 returns c = λ start heading extents bodies had within.
     let self = c.args.self.now in
-    read_behind start.noted.notes start.last heading extents bodies had c.with_state-self.result.notes
+    read_behind start.noted.notes start.last heading extents bodies had c.with_state.result.notes
     c.in-Some.state c.args._at c.args._body.now.bytes
     (subst (SpellsState c.in-Some.state) (within.body_is) (rw c.bytes.ensures at c.in-Some.ensures.some))
-    (c.with_state-self.ensures ∙ ap (λ (n : NotedStates). with_state n c.in-Some.state) within.notes_same)
+    (c.with_state.ensures ∙ ap (λ (n : NotedStates). with_state n c.in-Some.state) within.notes_same)

@@ -25,11 +25,11 @@ invariant_of-self g c =
       saved_open g.D.Disk.state g.met.D.Disk.is_disk old new _ _ notes c.self.invariant.0 c.self.invariant.1
           room state spelled.1 body spelled.0 said.disk said.front said.answer.0.was_fine
           (λ h. said.any_moment h said.answer.0.was_fine)
-          said.answer.0 said.bodies said.sure c.with_state-self-inside.result.notes c.with_state-self-inside.ensures,
+          said.answer.0 said.bodies said.sure c.with_state.result.notes c.with_state.ensures,
       saved_stores g.D.Disk.state g.met.D.Disk.is_disk old new _ _ notes c.self.invariant.0 c.self.invariant.1
           room state spelled.1 body spelled.0 said.disk said.front said.answer.0.was_fine
           (λ h. said.any_moment h said.answer.0.was_fine)
-          said.answer.0 said.bodies said.sure c.with_state-self-inside.result.notes c.with_state-self-inside.ensures,
+          said.answer.0 said.bodies said.sure c.with_state.result.notes c.with_state.ensures,
     )
 
 pub invariant_of-self-in-Err-Device : goal.invariant_of-self-in-Err-Device
@@ -47,11 +47,11 @@ invariant_of-self-in-Err-Device g c =
       broken_open g.D.Disk.state g.met.D.Disk.is_disk old new _ _ notes c.self.invariant.0 c.self.invariant.1
           room state spelled.1 body spelled.0 said.disk said.front broke.0.was_fine
           (λ h. said.any_moment h broke.0.was_fine)
-          broke.0 said.bodies c.with_torn_state-self-inside.result.notes c.with_torn_state-self-inside.ensures,
+          broke.0 said.bodies c.with_torn_state.result.notes c.with_torn_state.ensures,
       broken_stores g.D.Disk.state g.met.D.Disk.is_disk old new _ _ notes c.self.invariant.0 c.self.invariant.1
           room state spelled.1 body spelled.0 said.disk said.front broke.0.was_fine
           (λ h. said.any_moment h broke.0.was_fine)
-          broke.0 said.bodies c.with_torn_state-self-inside.result.notes c.with_torn_state-self-inside.ensures,
+          broke.0 said.bodies c.with_torn_state.result.notes c.with_torn_state.ensures,
     )
 
 pub returns-in-Ok-clause-answer : goal.returns-in-Ok-clause-answer
@@ -70,7 +70,7 @@ returns-in-Ok-clause-answer g c =
       saved_kept g.D.Disk.state g.met.D.Disk.is_disk old new _ _ notes c.self.invariant.0 c.self.invariant.1
           room state spelled.1 body spelled.0 said.disk said.front said.answer.0.was_fine
           (λ h. said.any_moment h said.answer.0.was_fine)
-          said.answer.0 said.bodies said.sure c.with_state-self-inside.result.notes c.with_state-self-inside.ensures,
+          said.answer.0 said.bodies said.sure c.with_state.result.notes c.with_state.ensures,
     ))
 
 pub returns-in-Ok-clause-advances : goal.returns-in-Ok-clause-advances
@@ -88,8 +88,8 @@ returns-in-Ok-clause-advances g c =
     saved_advances g.D.Disk.state g.met.D.Disk.is_disk old new _ _ notes c.self.invariant.0 c.self.invariant.1
     room state spelled.1 body spelled.0 said.disk said.front said.answer.0.was_fine
     (λ h. said.any_moment h said.answer.0.was_fine)
-    said.answer.0 said.bodies said.sure c.with_state-self-inside.result.notes
-    c.with_state-self-inside.ensures said.answer.1)
+    said.answer.0 said.bodies said.sure c.with_state.result.notes
+    c.with_state.ensures said.answer.1)
 
 pub returns-in-Ok-clause-saves : goal.returns-in-Ok-clause-saves
 returns-in-Ok-clause-saves g c =
@@ -106,7 +106,7 @@ returns-in-Ok-clause-saves g c =
     saved_value g.D.Disk.state g.met.D.Disk.is_disk old new _ _ notes c.self.invariant.0 c.self.invariant.1
     room state spelled.1 body spelled.0 said.disk said.front said.answer.0.was_fine
     (λ h. said.any_moment h said.answer.0.was_fine)
-    said.answer.0 said.bodies said.sure c.with_state-self-inside.result.notes c.with_state-self-inside.ensures)
+    said.answer.0 said.bodies said.sure c.with_state.result.notes c.with_state.ensures)
 
 pub returns-in-Ok-clause-sure : goal.returns-in-Ok-clause-sure
 returns-in-Ok-clause-sure g c =
@@ -123,7 +123,7 @@ returns-in-Ok-clause-sure g c =
     opens_saved g.D.Disk.state g.met.D.Disk.is_disk old new _ _ notes c.self.invariant.0 c.self.invariant.1
     room state spelled.1 body spelled.0 said.disk said.front said.answer.0.was_fine
     (λ h. said.any_moment h said.answer.0.was_fine)
-    said.answer.0 said.bodies said.sure c.with_state-self-inside.result.notes c.with_state-self-inside.ensures)
+    said.answer.0 said.bodies said.sure c.with_state.result.notes c.with_state.ensures)
 
 pub returns-in-Ok-clause-any_moment : goal.returns-in-Ok-clause-any_moment
 returns-in-Ok-clause-any_moment g c =
@@ -158,7 +158,7 @@ returns-in-Err-Device-clause-answer g c =
       broken_kept g.D.Disk.state g.met.D.Disk.is_disk old new _ _ notes c.self.invariant.0 c.self.invariant.1
           room state spelled.1 body spelled.0 said.disk said.front broke.0.was_fine
           (λ h. said.any_moment h broke.0.was_fine)
-          broke.0 said.bodies c.with_torn_state-self-inside.result.notes c.with_torn_state-self-inside.ensures,
+          broke.0 said.bodies c.with_torn_state.result.notes c.with_torn_state.ensures,
     ))
 
 pub returns-in-Err-Device-clause-advances : goal.returns-in-Err-Device-clause-advances
@@ -177,7 +177,7 @@ returns-in-Err-Device-clause-advances g c =
     broken_advances g.D.Disk.state g.met.D.Disk.is_disk old new _ _ notes c.self.invariant.0 c.self.invariant.1
     room state spelled.1 body spelled.0 said.disk said.front broke.0.was_fine
     (λ h. said.any_moment h broke.0.was_fine)
-    broke.0 said.bodies c.with_torn_state-self-inside.result.notes c.with_torn_state-self-inside.ensures broke.1.cause)
+    broke.0 said.bodies c.with_torn_state.result.notes c.with_torn_state.ensures broke.1.cause)
 
 pub returns-in-Err-Device-clause-any_moment : goal.returns-in-Err-Device-clause-any_moment
 returns-in-Err-Device-clause-any_moment g c =

@@ -163,15 +163,15 @@ invariant_of-self-in-Ok-append_frame g c =
     let said = c.in-Ok-append_frame.ensures in (
       stored_open old.journal mid.journal made.side old.index mid.index made.grown made.few old.noted.notes
           c.self.invariant.0 c.args.changes.now apply c.append_frame.new.self body body_is said.answer.0
-          c.with_frame-self-inside.result.notes c.with_frame-self-inside.ensures c.append_frame.ensures.front
+          c.with_frame.result.notes c.with_frame.ensures c.append_frame.ensures.front
           c.place_frame.new.index c.place_frame.ensures.lies,
       stored_own old.journal mid.journal made.side old.index mid.index made.grown made.few old.noted.notes
           c.self.invariant.0 c.args.changes.now apply c.append_frame.new.self body body_is said.answer.0
-          c.with_frame-self-inside.result.notes c.with_frame-self-inside.ensures c.append_frame.ensures.front
+          c.with_frame.result.notes c.with_frame.ensures c.append_frame.ensures.front
           old.which old.spare c.self.invariant.1,
       stored_stores old.journal mid.journal made.side old.index mid.index made.grown made.few old.noted.notes
           c.self.invariant.0 c.args.changes.now apply c.append_frame.new.self body body_is said.answer.0
-          c.with_frame-self-inside.result.notes c.with_frame-self-inside.ensures c.append_frame.ensures.front
+          c.with_frame.result.notes c.with_frame.ensures c.append_frame.ensures.front
           old.which old.spare c.self.invariant.1 g.D.Disk.state c.self.invariant.2 said.bodies said.sure
           c.append_frame.ensures.disk,
     )
@@ -188,14 +188,14 @@ invariant_of-self-in-Err-Device g c =
     let answer = rw c.in-Err-Device.field-0-is at said.answer in (
       broken_open old.journal mid.journal made.side old.index mid.index made.grown made.few old.noted.notes
           c.self.invariant.0 c.args.changes.now apply c.append_frame.new.self body body_is answer.0
-          c.with_torn-self-inside.result.notes c.with_torn-self-inside.ensures c.append_frame.ensures.front,
+          c.with_torn.result.notes c.with_torn.ensures c.append_frame.ensures.front,
       broken_own old.journal mid.journal made.side old.index mid.index made.grown made.few old.noted.notes
           c.self.invariant.0 c.args.changes.now apply c.append_frame.new.self body body_is answer.0
-          c.with_torn-self-inside.result.notes c.with_torn-self-inside.ensures c.append_frame.ensures.front
+          c.with_torn.result.notes c.with_torn.ensures c.append_frame.ensures.front
           old.which old.spare c.self.invariant.1,
       broken_stores old.journal mid.journal made.side old.index mid.index made.grown made.few old.noted.notes
           c.self.invariant.0 c.args.changes.now apply c.append_frame.new.self body body_is answer.0
-          c.with_torn-self-inside.result.notes c.with_torn-self-inside.ensures c.append_frame.ensures.front
+          c.with_torn.result.notes c.with_torn.ensures c.append_frame.ensures.front
           old.which old.spare c.self.invariant.1 g.D.Disk.state c.self.invariant.2
           (g.met.D.Disk.is_disk c.append_frame.new.self.disk) c.append_frame.ensures.disk said.bodies
           said.any_moment,
@@ -213,7 +213,7 @@ returns-in-Ok-append_frame-clause-answer g c =
     let said = c.in-Ok-append_frame.ensures in (
       stored_answer old.journal mid.journal made.side old.index mid.index made.grown made.few old.noted.notes
           c.self.invariant.0 c.args.changes.now apply c.append_frame.new.self body body_is
-          said.answer.0 c.with_frame-self-inside.result.notes c.with_frame-self-inside.ensures
+          said.answer.0 c.with_frame.result.notes c.with_frame.ensures
           c.append_frame.ensures.front old.which old.spare c.place_frame.new.index _ _
           (omega (arith, made.body, c.fill_body.ensures.room, c.append_frame.ensures.frame.0))
           c.place_frame.ensures.reserved,
@@ -233,7 +233,7 @@ returns-in-Ok-append_frame-clause-sure g c =
     let said = c.in-Ok-append_frame.ensures in
     stored_sure old.journal mid.journal made.side old.index mid.index made.grown made.few old.noted.notes
     c.self.invariant.0 c.args.changes.now apply c.append_frame.new.self body body_is
-    said.answer.0 c.with_frame-self-inside.result.notes c.with_frame-self-inside.ensures
+    said.answer.0 c.with_frame.result.notes c.with_frame.ensures
     c.append_frame.ensures.front old.which old.spare c.self.invariant.1 g.D.Disk.state c.self.invariant.2 said.bodies
     said.sure)
 
@@ -276,7 +276,7 @@ returns-in-Err-Device-clause-answer g c =
     let answer = rw c.in-Err-Device.field-0-is at said.answer in (
       broken_answer old.journal mid.journal made.side old.index mid.index made.grown made.few old.noted.notes
           c.self.invariant.0 c.args.changes.now apply c.append_frame.new.self body body_is
-          answer.0 c.with_torn-self-inside.result.notes c.with_torn-self-inside.ensures c.append_frame.ensures.front
+          answer.0 c.with_torn.result.notes c.with_torn.ensures c.append_frame.ensures.front
           old.which old.spare _ _
           (omega (arith, made.body, c.fill_body.ensures.room, c.append_frame.ensures.frame.0)),
       fault_by g.D.Disk.state old.which old.journal.disk old.spare c.append_frame.new.self.disk

@@ -18,9 +18,9 @@ pub returns : goal.returns
 returns c = λ start heading extents bodies had within.
     let self = c.args.self.now in
     let body = c.args.body.now.bytes in
-    read_behind start.index start.noted.notes heading extents bodies had self.index c.with_body-self.result.notes
+    read_behind start.index start.noted.notes heading extents bodies had self.index c.with_body.result.notes
     c.args._at body
     (walked_whole start.index c.args._at body self.index self.reader within.walked c.end.result
     (c.end.ensures body within.walked.changes within.walked.after) (sym c.is_err.ensures.value ∙ c.if-is_err.false))
-    (c.with_body-self.ensures
+    (c.with_body.ensures
     ∙ ap (λ (n : Notes). with_frame n (unwrap_or (changes_on body) [])) within.notes_same)
