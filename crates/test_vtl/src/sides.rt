@@ -6,8 +6,8 @@ use std::test::Fail;
 use tape_disk::{Disk, FuseDisk, MemDisk, OnceDisk};
 use test_assertions::{assert_equal, assert_holds};
 use vtl_base::Bytes;
-use vtl_program::checking::{Checked, check_side};
-use vtl_program::programs::VtlFault;
+use vtl_files::checking::{Checked, check_side};
+use vtl_files::faults::VtlFault;
 
 // A cartridge `T00001L6` of one partition of 4,096 bytes, with two frames, whose gates are at 35, 55 and 70:
 // a block `hello`, and a filemark after it.

@@ -6,13 +6,13 @@ use answer_notes::{AnswerWriter, Answers};
 use std::env;
 use std::io::{self, BufReader, ErrorKind};
 use std::process::ExitCode;
+use vtl_files::faults::VtlFault;
+use vtl_notes::noted_streams::NotingWriter;
+use vtl_notes::notes::Notes;
+use vtl_notes::noting::NotingReader;
+use vtl_notes::progress::GibLines;
 use vtl_program::explaining::{asks, asks_of_lines, run_explained};
-use vtl_program::files::SystemFiles;
-use vtl_program::noted_streams::NotingWriter;
-use vtl_program::notes::Notes;
-use vtl_program::noting::NotingReader;
-use vtl_program::programs::VtlFault;
-use vtl_program::progress::GibLines;
+use vtl_program::system_files::SystemFiles;
 use vtl_words::UnreadWord;
 
 // The words of the command line.

@@ -1,16 +1,10 @@
 -- What the calls for files answer, by the names of the files (own).
-use Rattle.std.specs.Prelude.{◌≡◌, ◌⊎◌, ℕ, List, Result, Ok, Err, Vec}
+use Rattle.std.specs.Prelude.{ℕ, List, Result, Vec}
 use Rattle.std.specs.declared.alloc.Global.{Global}
-use Rattle.std.specs.IoError.{error_kind}
 use Rattle.std.specs.declared.io.Error.{Error}
 use Rattle.file_disk.specs.declared.error.FileError.{FileError}
 use Rattle.bays.specs.Elements.{HeldState}
-use Rattle.vtl_config.specs.Configs.{Says}
-use Rattle.vtl_config.specs.declared.entries.Config.{Config}
-use Rattle.vtl_program.specs.declared.programs.VtlFault.{VtlFault}
-use Rattle.vtl_program.specs.Configured.{IsNoConfig}
-use Rattle.vtl_program.specs.Faults.{fault_of_error}
-use Rattle.vtl_program.specs.Unfinished.{NotStartedState}
+use Rattle.vtl_runs.specs.Unfinished.{NotStartedState}
 
 -- The answers that a call for the file of a name may have, and the disks that may be returned for one, or in a library.
 -- Nothing else is known of a file: whatever the program says that it read, opened or made, a call gave that answer; and
@@ -58,12 +52,3 @@ answers_of reads opens_to_read closes opens returns_disk closes_all gives_up ope
       leaves = leaves;
       takes_away = takes_away;
     }
-
--- the configuration that the file of a name says; or there is none, since the file is not read, its text is refused, or
--- memory runs out (own)
-abbrev pub ReadsConfig :
-    (List ℕ → Result (Vec ℕ Global) Error → Type 0) → List ℕ → Result Config VtlFault → Type 0
-ReadsConfig reads name (Ok config) = (text : Vec ℕ Global) × reads name (Ok text) × Says text.items config
-ReadsConfig reads name (Err fault) =
-    ((error : Error) × reads name (Err error) × (fault ≡ fault_of_error (error_kind error)))
-    ⊎ ((text : Vec ℕ Global) × reads name (Ok text) × IsNoConfig text.items fault)

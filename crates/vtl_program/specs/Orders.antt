@@ -1,79 +1,31 @@
 -- What the program does for the words of its command line (own).
-use Rattle.std.specs.Prelude.{◌≡◌, ◌⊎◌, ℕ, Bool, true, false, List, [], ◌∷◌, Option, None, Some, Result, Ok, Err, String, Vec, codes, string_bytes}
+use Rattle.std.specs.Prelude.{◌≡◌, ◌⊎◌, ℕ, List, Option, Result, Ok, Err, String, Vec, string_bytes}
 use Rattle.std.specs.Io.KnownBytes.{Appends, Keeps}
 use Rattle.std.specs.declared.alloc.Global.{Global}
 use Rattle.std.specs.declared.io.Error.{Error}
 use Rattle.tape_disk.specs.Disk.{DiskState}
 use Rattle.file_disk.specs.declared.error.FileError.{FileError}
-use Rattle.bays.specs.Elements.{HeldState}
 use Rattle.vtl_script.specs.Text.{AppendsPart}
 use Rattle.vtl_config.specs.declared.entries.Config.{Config}
 use Rattle.vtl_words.specs.Orders.{Asked, Asks, RefusesWords, check, create, reclaim, run, serve, texts_of}
 use Rattle.vtl_words.specs.declared.orders.WordsError.{WordsError}
 use Rattle.vtl_words.specs.declared.orders.WordsError.TheVariants.{Help, Refused, NoMemory}
 use Rattle.vtl_program.specs.declared.programs.Ended.{Ended}
-use Rattle.vtl_program.specs.declared.programs.Verdict.{Verdict}
-use Rattle.vtl_program.specs.declared.programs.Verdict.TheVariants.{Done}
-use Rattle.vtl_program.specs.declared.programs.VtlFault.{VtlFault}
-use Rattle.vtl_program.specs.declared.programs.VtlFault.TheVariants as Faults
-use Rattle.vtl_program.specs.Checks.{ChecksOrder}
-use Rattle.vtl_program.specs.Creating.{MakeAnswers, PrintsFiles, files_of, makes_of}
-use Rattle.vtl_program.specs.Faults.{IsFailure}
-use Rattle.vtl_program.specs.Files.{FileAnswers, ReadsConfig}
-use Rattle.vtl_program.specs.Program.{EndsProgram, IsIdle, RunsFrom}
-use Rattle.vtl_program.specs.Reclaims.{ReclaimsNamed}
-use Rattle.vtl_program.specs.Serving.{ServesOrder}
-use Rattle.vtl_program.specs.Sides.{SidesGiven, file_sides, memory_state, new_sides, takes_any}
-use Rattle.vtl_program.specs.Starting.{IsBuiltIn, IsNotStarted, IsStart, IsStarted, built_in_barcode, built_in_capacities}
-use Rattle.vtl_program.specs.Unfinished.{NotStartedState}
-
--- a library is switched on, a script is run over it, every buffer is written out, and the library is returned; or it
--- is not switched on, and nothing is read or written (own)
-abbrev pub RunsOver : {D : Type 0} → (D → DiskState) → (closes_all Is : HeldState D → Type 0) → (VtlFault → Type 0)
-    → (left left' before now : Option (List ℕ)) → Result (Unit {0}) VtlFault → Type 0
-RunsOver {D} state closes_all Is IsNot left left' before now outcome =
-    (start : Result (HeldState D) VtlFault) × IsStart Is IsNot start
-    × RunsFrom state closes_all start left left' before now outcome
-
--- A script is run over the library of a configuration, over such sides. That homes or numbers are double is no reason
--- not to. Or memory runs out before anything is asked of the sides, and nothing is read or written (own).
-abbrev pub RunsConfig : {D : Type 0} → (D → DiskState) → SidesGiven D → (closes_all : HeldState D → Type 0)
-    → (gives_up : NotStartedState D → Type 0) → Config
-    → (left left' before now : Option (List ℕ)) → Result (Unit {0}) VtlFault → Type 0
-RunsConfig state sides closes_all gives_up config left left' before now outcome =
-    ((outcome ≡ Err Faults.NoMemory) × IsIdle left left' before now)
-    ⊎ RunsOver state closes_all
-    (IsStarted sides.gives_cartridge state sides.gives_store config.cartridges.items config.drives.items)
-    (λ fault. IsFailure fault × IsNotStarted state sides gives_up config.cartridges.items config.drives.items fault)
-    left left' before now outcome
-
--- a script is run over the library of the configuration that a file says, over such sides; where there is no
--- configuration, nothing is read or written (own)
-abbrev pub RunsNamed : {D : Type 0} → (D → DiskState) → SidesGiven D → (closes_all : HeldState D → Type 0)
-    → (gives_up : NotStartedState D → Type 0) → Result Config VtlFault
-    → (left left' before now : Option (List ℕ)) → Result (Unit {0}) VtlFault → Type 0
-RunsNamed state sides closes_all gives_up (Ok config) left left' before now outcome =
-    RunsConfig state sides closes_all gives_up config left left' before now outcome
-RunsNamed state sides closes_all gives_up (Err fault) left left' before now outcome =
-    (outcome ≡ Err fault) × IsIdle left left' before now
+use Rattle.vtl_files.specs.declared.faults.Verdict.{Verdict}
+use Rattle.vtl_files.specs.declared.faults.Verdict.TheVariants.{Done}
+use Rattle.vtl_files.specs.declared.faults.VtlFault.{VtlFault}
+use Rattle.vtl_files.specs.declared.faults.VtlFault.TheVariants as Faults
+use Rattle.vtl_files.specs.Checks.{ChecksOrder}
+use Rattle.vtl_files.specs.Creating.{MakeAnswers, PrintsFiles, files_of, makes_of}
+use Rattle.vtl_program.specs.Files.{FileAnswers}
+use Rattle.vtl_files.specs.Configured.{ReadsConfig}
+use Rattle.vtl_program.specs.Program.{EndsProgram}
+use Rattle.vtl_runs.specs.Running.{IsIdle}
+use Rattle.vtl_files.specs.Reclaims.{ReclaimsNamed}
+use Rattle.vtl_runs.specs.Serving.{ServesOrder}
+use Rattle.vtl_runs.specs.Sides.{file_sides}
 
 module _ {D : Type 0} (state : D → DiskState) where
-  module _ (reads : List ℕ → Result (Vec ℕ Global) Error → Type 0) where
-    -- what `vtl run` does: over the built-in configuration in memory; over that of a file, in memory where that is
-    -- asked for, and else over the sides of its files (own)
-    abbrev pub RunsOrder : SidesGiven D → (closes_all : HeldState D → Type 0)
-        → (gives_up : NotStartedState D → Type 0) → Bool → Option (List ℕ)
-        → (left left' before now : Option (List ℕ)) → Result (Unit {0}) VtlFault → Type 0
-    RunsOrder sides closes_all gives_up memory None left left' before now outcome =
-        RunsOver memory_state takes_any (IsBuiltIn memory_state built_in_barcode built_in_capacities)
-        (λ fault. fault ≡ Faults.NoMemory) left left' before now outcome
-    RunsOrder sides closes_all gives_up true (Some name) left left' before now outcome =
-        (config : Result Config VtlFault) × ReadsConfig reads name config
-        × RunsNamed memory_state new_sides takes_any takes_any config left left' before now outcome
-    RunsOrder sides closes_all gives_up false (Some name) left left' before now outcome =
-        (config : Result Config VtlFault) × ReadsConfig reads name config
-        × RunsNamed state sides closes_all gives_up config left left' before now outcome
-
   module _ (made : MakeAnswers D) where
     -- the missing files of a configuration are made, and each is reported; where there is no configuration, nothing is
     -- written (own)

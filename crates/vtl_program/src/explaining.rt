@@ -5,11 +5,8 @@ ghost use Rattle.vtl_program.specs.Explained.{Explains, RunsExplained, asks};
 ghost use Rattle.vtl_program.specs.Files.{answers_of};
 ghost use Rattle.vtl_program.specs.Orders.{given_words};
 
-use crate::files::{ChangeFiles, MakeFiles, ReadFiles, SecondFiles, TakesBack, TextFiles};
-use crate::notes::Notes;
 use crate::orders::run;
-use crate::programs::{Ended, VtlFault};
-use crate::starting::NotStarted;
+use crate::programs::Ended;
 use bays::Held;
 use config_reasons::reason_of;
 use explanations::Explanation;
@@ -21,6 +18,10 @@ use std::time::Clock;
 use tape_disk::Disk;
 use vtl_base::Barcode;
 use vtl_config::{Config, ConfigError, read_config};
+use vtl_files::faults::VtlFault;
+use vtl_files::files::{ChangeFiles, MakeFiles, ReadFiles, SecondFiles, TakesBack, TextFiles};
+use vtl_notes::notes::Notes;
+use vtl_runs::starting::NotStarted;
 use vtl_script::write_text;
 use vtl_words::{Order, WordsReason, asks_to_explain, read_words};
 

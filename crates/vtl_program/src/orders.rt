@@ -1,24 +1,10 @@
 //! What the program does for the words of its command line.
-ghost use Rattle.std.specs.Prelude.{◌≡◌, ℕ, List, IfOk, option_map, string_bytes};
-ghost use Rattle.vtl_config.specs.Configs.{Says};
 ghost use Rattle.vtl_words.specs.Orders.{asked_of, texts_of};
-ghost use Rattle.vtl_program.specs.Creating.{makes_of};
+ghost use Rattle.vtl_files.specs.Creating.{makes_of};
 ghost use Rattle.vtl_program.specs.Files.{answers_of};
-ghost use Rattle.vtl_program.specs.Orders.{AnswersWords, CreatesOrder, DoesOrder, Obeys, ReclaimsOrder, RunsConfig, RunsOrder, RunsProgram, given_words};
-ghost use Rattle.vtl_program.specs.Program.{HaveAcceptedNone, RunsFrom};
-ghost use Rattle.vtl_program.specs.Sides.{file_sides};
+ghost use Rattle.vtl_program.specs.Orders.{AnswersWords, CreatesOrder, DoesOrder, Obeys, ReclaimsOrder, RunsProgram, given_words};
 
-use crate::configs::config_in;
-use crate::creating::create_missing;
-use crate::files::{ChangeFiles, MakeFiles, ReadFiles, SecondFiles, TakesBack, TextFiles};
-use crate::programs::{Ended, Verdict, VtlFault, end};
-use crate::reclaiming::reclaim_named;
-use crate::running::{Left, run_shared};
-use crate::serving::serve_order;
-use crate::side_checks::check_named;
-use crate::sides::{FileSides, NewSides, Sides};
-use crate::starting::{NotStarted, Starting, built_in, start};
-use crate::writing::print_text;
+use crate::programs::{Ended, end};
 use bays::Held;
 use std::alloc::Global;
 use std::io::{Read, Write};
@@ -27,100 +13,17 @@ use std::thread::Threads;
 use std::time::Clock;
 use tape_disk::Disk;
 use vtl_base::Barcode;
-use vtl_config::Config;
+use vtl_files::configs::config_in;
+use vtl_files::creating::create_missing;
+use vtl_files::faults::{Verdict, VtlFault};
+use vtl_files::files::{ChangeFiles, MakeFiles, ReadFiles, SecondFiles, TakesBack, TextFiles};
+use vtl_files::reclaiming::reclaim_named;
+use vtl_files::side_checks::check_named;
+use vtl_files::writing::print_text;
+use vtl_runs::running::run_order;
+use vtl_runs::serving::serve_order;
+use vtl_runs::starting::NotStarted;
 use vtl_words::{Order, WordsError, read_words};
-
-/// Runs a script over a library, if there is one, then writes every buffer out, whatever the script's end was, and
-/// returns the library. The first fault is returned: one of the script before one of the buffers. Where memory runs out
-/// before the script, nothing is read, and the library is returned as it was.
-pub fn run_started<
-    D: Disk + Drop + Send,
-    S: TakesBack<Held<D>, NotStarted<D>>,
-    R: Threads + Wait + Clock + Sync,
-    I: Read,
-    W: Write,
->(
-    rt: &R,
-    alloc: Global,
-    sides: &S,
-    start: Result<Held<D>, VtlFault>,
-    reader: &mut I,
-    writer: &mut W,
-) -> Result<(), VtlFault>
-    requires { IfOk start HaveAcceptedNone }
-    ensures { RunsFrom D.state S.closes_all start (I.remaining reader.old) (I.remaining reader.new)
-        (W.contents writer.old) (W.contents writer.new) result }
-{
-    let Left { held, outcome } = run_shared(rt, alloc, start?, reader, writer);
-    sides.close_all(held);
-    outcome
-}
-
-// Runs a script over the library of a configuration, over these sides.
-fn run_config<
-    D: Disk + Drop + Send,
-    S: Sides<D> + TakesBack<Held<D>, NotStarted<D>>,
-    R: Threads + Wait + Clock + Sync,
-    I: Read,
-    W: Write,
->(
-    rt: &R,
-    alloc: Global,
-    sides: &S,
-    config: Config,
-    reader: &mut I,
-    writer: &mut W,
-) -> Result<(), VtlFault>
-    requires { (text : List ℕ) × Says text config }
-    ensures { RunsConfig D.state S.given S.closes_all S.gives_up config
-        (I.remaining reader.old) (I.remaining reader.new)
-        (W.contents writer.old) (W.contents writer.new) result }
-{
-    let Config { cartridges, drives } = config;
-    let starting = Starting::new(alloc)?;
-    let held = start(alloc, sides, starting, cartridges, drives);
-    run_started(rt, alloc, sides, held, reader, writer)
-}
-
-// Runs a script over the library of the words.
-fn run_order<
-    D: Disk + Drop + Send,
-    F: TextFiles + ChangeFiles<D> + SecondFiles<D> + TakesBack<Held<D>, NotStarted<D>>,
-    R: Threads + Wait + Clock + Sync,
-    I: Read,
-    W: Write,
->(
-    rt: &R,
-    alloc: Global,
-    files: &F,
-    memory: bool,
-    config: Option<String>,
-    reader: &mut I,
-    writer: &mut W,
-) -> Result<(), VtlFault>
-    ensures { RunsOrder D.state F.reads (file_sides D.state F.opens F.opens_second F.returns_disk) F.closes_all
-        F.gives_up
-        memory (option_map string_bytes config)
-        (I.remaining reader.old) (I.remaining reader.new)
-        (W.contents writer.old) (W.contents writer.new) result }
-{
-    let Some(name) = config else {
-        return run_started(rt, alloc, &NewSides, built_in(alloc), reader, writer);
-    };
-    let config = config_in(alloc, files, name.as_str())?;
-    if memory {
-        run_config(rt, alloc, &NewSides, config, reader, writer)
-    } else {
-        run_config::<D, FileSides<F>, R, I, W>(
-            rt,
-            alloc,
-            &FileSides { files },
-            config,
-            reader,
-            writer,
-        )
-    }
-}
 
 // Makes the missing files of the configuration that a file says.
 fn create_order<D: Disk + Drop, F: TextFiles + MakeFiles<D> + SecondFiles<D>, W: Write>(

@@ -5,83 +5,9 @@ ghost use Rattle.vtl_program.specs.Program.{EndsProgram, Reports};
 
 use crate::lines::whole_line;
 use std::fmt;
-use std::io::{self, ErrorKind, Write};
-use vtl_base::NoMemory;
-use vtl_script::{ScriptFault, write_text};
-use vtl_wire::WireFault;
-
-/// Why the program ends with a status that is not 0.
-#[derive(Clone, Copy, PartialEq, Eq, Debug)]
-pub enum VtlFault {
-    /// The command words are refused.
-    Words,
-    /// The configuration is refused.
-    Config,
-    /// A line of the script is refused. Lines are counted from 1 on.
-    Script { line: u64 },
-    /// A frame of the input is refused. Frames are counted from 1 on.
-    Frame { frame: u64 },
-    /// A device, a file or a stream failed.
-    Device,
-    /// Memory ran out.
-    NoMemory,
-}
-
-impl From<ScriptFault> for VtlFault {
-    ghost use Rattle.std.specs.Prelude.{◌≡◌};
-    ghost use Rattle.vtl_program.specs.Faults.{fault_of};
-
-    ghost from_gives = { λ fault result. result ≡ fault_of fault };
-
-    fn from(fault: ScriptFault) -> Self {
-        match fault {
-            ScriptFault::BadLine { line } => VtlFault::Script { line },
-            ScriptFault::ReadFault | ScriptFault::WriteFault => VtlFault::Device,
-            ScriptFault::NoMemory => VtlFault::NoMemory,
-        }
-    }
-}
-
-impl From<WireFault> for VtlFault {
-    ghost use Rattle.std.specs.Prelude.{◌≡◌};
-    ghost use Rattle.vtl_program.specs.Faults.{fault_of_wire};
-
-    ghost from_gives = { λ fault result. result ≡ fault_of_wire fault };
-
-    fn from(fault: WireFault) -> Self {
-        match fault {
-            WireFault::BadFrame { frame } => VtlFault::Frame { frame },
-            WireFault::ReadFault | WireFault::WriteFault => VtlFault::Device,
-            WireFault::NoMemory => VtlFault::NoMemory,
-        }
-    }
-}
-
-impl From<io::Error> for VtlFault {
-    ghost use Rattle.std.specs.Prelude.{◌≡◌};
-    ghost use Rattle.std.specs.IoError.{error_kind};
-    ghost use Rattle.vtl_program.specs.Faults.{fault_of_error};
-
-    ghost from_gives = { λ error result. result ≡ fault_of_error (error_kind error) };
-
-    fn from(error: io::Error) -> Self {
-        match error.kind() {
-            ErrorKind::OutOfMemory => VtlFault::NoMemory,
-            _ => VtlFault::Device,
-        }
-    }
-}
-
-impl From<NoMemory> for VtlFault {
-    ghost use Rattle.std.specs.Prelude.{◌≡◌};
-    ghost use Rattle.vtl_program.specs.declared.programs.VtlFault.TheVariants.{NoMemory};
-
-    ghost from_gives = { λ _ result. result ≡ NoMemory };
-
-    fn from(_: NoMemory) -> Self {
-        VtlFault::NoMemory
-    }
-}
+use std::io::Write;
+use vtl_files::faults::{Verdict, VtlFault};
+use vtl_script::write_text;
 
 /// The line on standard error that reports a fault. It takes no memory.
 #[derive(Clone, Copy, PartialEq, Eq, Debug)]
@@ -119,15 +45,6 @@ pub fn fault_line(fault: &VtlFault) -> (u8, FaultLine)
         VtlFault::NoMemory => 3,
     };
     (status, FaultLine { fault: *fault })
-}
-
-/// How the program ends where nothing failed.
-#[derive(Clone, Copy, PartialEq, Eq, Debug)]
-pub enum Verdict {
-    /// What was asked for is done.
-    Done,
-    /// The file that was checked is refused, or the cartridge is not reclaimed; the line says why.
-    Refused,
 }
 
 /// How the program ends: its status, and whether the line of each fault was written.

@@ -11,8 +11,8 @@ use std::{env, fs};
 use tape_disk::{Disk, MemDisk, OnceDisk};
 use test_assertions::assert_equal;
 use vtl_base::DevFault;
-use vtl_program::notes::Notes;
-use vtl_program::open_files::{NotedDisk, OpenFiles, SaysFailed};
+use vtl_notes::notes::Notes;
+use vtl_notes::open_files::{NotedDisk, OpenFiles, SaysFailed};
 
 // A disk that says of each call that it failed so.
 #[derive(Drop)]

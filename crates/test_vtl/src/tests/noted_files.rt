@@ -6,8 +6,8 @@ use std::cell::{Cell, RefCell};
 use std::io::{self, ErrorKind};
 use tape_disk::{MemDisk, OnceDisk};
 use vtl_config::{FileName, UsedName};
-use vtl_program::files::{ChangeFiles, MakeFiles, ReadFiles, SecondFiles, TakesBack, TextFiles};
-use vtl_program::starting::NotStarted;
+use vtl_files::files::{ChangeFiles, MakeFiles, ReadFiles, SecondFiles, TakesBack, TextFiles};
+use vtl_runs::starting::NotStarted;
 
 /// An opening that failed.
 pub const DEVICE_ERROR: FileError = FileError::Device(FailedCall {

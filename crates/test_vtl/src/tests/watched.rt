@@ -4,8 +4,8 @@ use std::cell::Cell;
 use std::test::Fail;
 use tape_disk::{Disk, MemDisk, OnceDisk};
 use test_assertions::assert_equal;
-use vtl_program::progress::{ask_to_reclaim, full_gib, gib_line};
-use vtl_program::watched::{Progress, Watched};
+use vtl_notes::progress::{ask_to_reclaim, full_gib, gib_line};
+use vtl_notes::watched::{Progress, Watched};
 
 // How many writes were reported, and of how many bytes.
 #[derive(Drop)]

@@ -1,0 +1,26 @@
+use Rattle.std.proofs.Common.{◌≡◌, ◌∙◌, List, ℕ, inl, subst}
+use Rattle.vtl_config.specs.FileNames.{second_name}
+use Rattle.vtl_files.specs.Checks.{IsSecondRead, both, disks_checked}
+use Rattle.vtl_files.proofs.side_checks.check_named.Goals as goal
+
+pub returns : goal.returns
+returns g c =
+    let named : c.as_str.result.now ≡ second_name c.args.name.now = c.as_str.ensures.value ∙ c.in-Ok.ensures in
+    let again : c.as_str-2.result.now ≡ second_name c.args.name.now = c.as_str-2.ensures.value ∙ c.in-Ok.ensures in
+    inl (record {
+      disks = both c.in-Ok-open_to_read.first c.in-Some.second;
+      first = rw c.in-Ok-open_to_read.is at c.open_to_read.ensures;
+      second = subst (λ (name : List ℕ). IsSecondRead g.D.Disk.state g.F.ReadFiles.opens_to_read name c.in-Some.second)
+          named c.in-Some.ensures;
+      last = disks_checked c.check_side-lines.result;
+      closed = (c.close-2.ensures, rw again at c.close-3.ensures);
+      lines = c.check_side-lines.result.lines;
+      looks = record {
+        keeps = c.check_side-lines.ensures.disks;
+        none_failed = c.check_side-lines.ensures.ok;
+        text = c.check_side-lines.ensures.text;
+        cause = c.check_side-lines.ensures.cause;
+        any_moment = c.check_side-lines.ensures.any_moment;
+      };
+      prints = c.print_lines.ensures;
+    })

@@ -1,0 +1,91 @@
+-- What `vtl check` writes, and how it ends (own).
+use Rattle.std.specs.Prelude.{◌≡◌, ◌≢◌, ◌⊎◌, ◌==◌, ◌||◌, ℕ, List, [], codes, Option, Result, Ok, Err, IfOk, IfErr, OnOk, if◌then◌else◌}
+use Rattle.std.specs.List.{starts_with}
+use Rattle.std.specs.Io.KnownBytes.{Appends}
+use Rattle.std.specs.Io.KnownBytes as Known
+use Rattle.tape_disk.specs.Disk.{DiskState}
+use Rattle.tape_disk.specs.TwoDisks.{AreHonest, KeepsDisks, MayLeave, TwoDisks, TwoLeave, seen_of_two}
+use Rattle.file_disk.specs.declared.error.FileError.{FileError}
+use Rattle.file_disk.specs.declared.error.FileError.TheVariants.{Missing}
+use Rattle.cartridge.specs.Disks.{NoneOfTwo, OnlyOfTwo}
+use Rattle.vtl_config.specs.FileNames.{second_name}
+use Rattle.vtl_script.specs.Text.{AppendsPart}
+use Rattle.vtl_files.specs.declared.checking.Checked.{Checked}
+use Rattle.vtl_files.specs.declared.faults.Verdict.{Verdict}
+use Rattle.vtl_files.specs.declared.faults.Verdict.TheVariants.{Done, Refused}
+use Rattle.vtl_files.specs.declared.faults.VtlFault.{VtlFault}
+use Rattle.vtl_files.specs.declared.faults.VtlFault.TheVariants.{Device, NoMemory}
+use Rattle.vtl_files.specs.SideText.{IsNotShown, SideText}
+
+-- what the lines of a side say: what it holds, or why it gives nothing (own)
+abbrev pub verdict_of : List ℕ → Verdict
+verdict_of lines =
+    if starts_with (◌==◌) lines (codes "cartridge ") || starts_with (◌==◌) lines (codes "reservations ") then Done
+    else Refused
+
+-- two disks were checked: the lines are those of what they give, or there are none, for a cause that holds; their bytes
+-- are then sure, and at no moment a crash left anything new (own)
+pub record LooksAt {D : Type 0} (state : D → DiskState) (old new : TwoDisks D) (lines : Result (List ℕ) VtlFault) :
+    Type 0 where
+  pub keeps : KeepsDisks state old new
+  pub none_failed : OnOk lines (NoneOfTwo state old new)
+  pub text : IfOk lines (λ text. AreHonest state old → SideText (seen_of_two state old) text × OnlyOfTwo state old new)
+  pub cause : IfErr lines (λ fault. IsNotShown state fault old new)
+  pub any_moment : AreHonest state old → TwoLeave state old new (MayLeave state old)
+
+-- two disks, the first one first (own)
+abbrev pub both : {D : Type 0} → D → D → TwoDisks D
+both first second = record { first = first; second = second }
+
+-- the disks that lines come with (own)
+abbrev pub disks_checked : {D : Type 0} → Checked D → TwoDisks D
+disks_checked checked = record { first = checked.first; second = checked.second }
+
+-- the lines of a side were written, or a beginning of them, where the writer failed; where there are none, nothing was
+-- written (own)
+abbrev pub PrintsLines : Result (List ℕ) VtlFault → (before now : Option (List ℕ)) → Result Verdict VtlFault → Type 0
+PrintsLines (Ok lines) before now (Ok verdict) = (verdict ≡ verdict_of lines) × Appends before now lines
+PrintsLines (Ok lines) before now (Err fault) = (fault ≡ Device) × AppendsPart before now lines
+PrintsLines (Err why) before now result = (result ≡ Err why) × Known.Keeps before now
+
+module _ {D : Type 0} (state : D → DiskState) (opens_to_read : List ℕ → Result D FileError → Type 0) where
+  -- a disk for reading the second file of this name: that of its opening; where the file is missing, one of no bytes
+  -- (own)
+  abbrev pub IsSecondRead : List ℕ → D → Type 0
+  IsSecondRead name disk =
+      opens_to_read name (Ok disk)
+      ⊎ (opens_to_read name (Err Missing) × ((state disk).honest → (state disk).seen ≡ []))
+
+  -- a second file of this name is there, and is not opened (own)
+  abbrev pub IsSecondUnread : List ℕ → Type 0
+  IsSecondUnread name = (error : FileError) × (error ≢ Missing) × opens_to_read name (Err error)
+
+  module _ (closes : List ℕ → D → Type 0) (name : List ℕ) where
+    -- both files were opened, the second one by its name, or as one of no bytes where it is missing; their disks were
+    -- checked and returned, and the lines of what they give are written (own)
+    pub record ChecksBoth (before now : Option (List ℕ)) (result : Result Verdict VtlFault) : Type 0 where
+      pub disks : TwoDisks D
+      pub first : opens_to_read name (Ok disks.first)
+      pub second : IsSecondRead (second_name name) disks.second
+      pub last : TwoDisks D
+      pub closed : closes name last.first × closes (second_name name) last.second
+      pub lines : Result (List ℕ) VtlFault
+      pub looks : LooksAt state disks last lines
+      pub prints : PrintsLines lines before now result
+
+    -- the first file was opened, and the second one is there and was not: the first one's disk was returned as it was
+    -- opened (own)
+    pub record ChecksNeither : Type 0 where
+      pub disk : D
+      pub first : opens_to_read name (Ok disk)
+      pub closed : closes name disk
+      pub second : IsSecondUnread (second_name name)
+
+    -- What `vtl check` does with a name: both files are checked; or one is not opened, or memory runs out before that,
+    -- and nothing is written (own).
+    abbrev pub ChecksOrder : (before now : Option (List ℕ)) → Result Verdict VtlFault → Type 0
+    ChecksOrder before now result =
+        ChecksBoth before now result
+        ⊎ (((result ≡ Err Device) × Known.Keeps before now
+        × (((error : FileError) × opens_to_read name (Err error)) ⊎ ChecksNeither))
+        ⊎ ((result ≡ Err NoMemory) × Known.Keeps before now))

@@ -1,0 +1,7 @@
+pub mod Checks
+pub mod Configured
+pub mod Creating
+pub mod Faults
+pub mod Opened
+pub mod Reclaims
+pub mod SideText

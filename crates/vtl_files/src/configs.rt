@@ -1,0 +1,33 @@
+//! The configuration that a file says.
+ghost use Rattle.std.specs.Prelude.{IfOk, IfErr};
+ghost use Rattle.vtl_config.specs.Configs.{Says};
+ghost use Rattle.vtl_files.specs.Configured.{IsNoConfig, ReadsConfig};
+
+use crate::faults::VtlFault;
+use crate::files::TextFiles;
+use std::alloc::Global;
+use vtl_config::{Config, ConfigError, read_config};
+
+/// The configuration that a text says, as `read_config` reads it. A text that it refuses is a `Config`
+/// fault.
+pub fn config_of(alloc: Global, text: &[u8]) -> Result<Config, VtlFault>
+    ensures ok { IfOk result (Says text.now) }
+    ensures err { IfErr result (IsNoConfig text.now) }
+{
+    match read_config(alloc, text) {
+        Ok(config) => Ok(config),
+        Err(ConfigError::NoMemory) => Err(VtlFault::NoMemory),
+        Err(_) => Err(VtlFault::Config),
+    }
+}
+
+/// The configuration that the file of this name says. Errors: `Device` where the file can't be read, `Config` where its
+/// text is refused, `NoMemory` where memory runs out, in the read too.
+pub fn config_in<F: TextFiles>(alloc: Global, files: &F, name: &str) -> Result<Config, VtlFault>
+    ensures { ReadsConfig F.reads name.now result }
+{
+    match files.read(name) {
+        Ok(text) => config_of(alloc, text.as_slice()),
+        Err(error) => Err(VtlFault::from(error)),
+    }
+}

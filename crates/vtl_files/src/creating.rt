@@ -1,0 +1,284 @@
+//! Making the missing files of a configuration.
+ghost use Rattle.std.specs.Prelude.{◌≡◌, ◌++◌, ◌∷◌, [], IsTrue, IfOk, IfErr, OnOk, map, codes, decimal, string_bytes};
+ghost use Rattle.std.specs.Io.KnownBytes.{Appends};
+ghost use Rattle.volume_core.specs.Volume.{are_capacities};
+ghost use Rattle.vtl_files.specs.Creating.{CartridgeFile, IsMadeOrKept, IsNewFile, IsNotMade, IsNotOut, StoreFile, PrintsFiles, fate_line, fate_word, files_of, makes_of};
+
+use crate::faults::VtlFault;
+use crate::files::{MakeFiles, SecondFiles};
+use crate::writing::print_text;
+use aptpl_store::{AptplStore, StoreError, StoreRefused};
+use cartridge::{Cartridge, CartridgeError, NotCreated};
+use file_disk::FileError;
+use std::alloc::{AllocError, Global};
+use std::io::Write;
+use tape_disk::Disk;
+use vtl_base::{Barcode, DriveNo};
+use vtl_config::{Capacities, CartridgeEntry, Config, DriveEntry, FileName, UsedName};
+
+/// What `create` did with a file.
+#[derive(Clone, Copy, PartialEq, Eq, Debug)]
+pub enum Fate {
+    /// It was missing, and is made.
+    Created,
+    /// It was there, and was not touched.
+    Kept,
+}
+
+// A disk over a new file of this name, or nothing where a file has the name.
+fn new_file<D, F: MakeFiles<D>>(
+    files: &F,
+    name: FileName,
+) -> Result<Option<(UsedName, D)>, VtlFault>
+    ensures { IsNewFile F.makes name result }
+{
+    let (name, made) = files.make(name);
+    match made {
+        Ok(disk) => Ok(Some((name, disk))),
+        Err(FileError::Exists) => Ok(None),
+        Err(_) => Err(VtlFault::Device),
+    }
+}
+
+/// The capacities of a cartridge's partitions, which a volume can have.
+pub fn slice_of(capacities: &Capacities) -> &[u64]
+    ensures value { result.now ≡ capacities.now }
+    ensures valid { IsTrue (are_capacities result.now) }
+{
+    capacities.as_slice()
+}
+
+// Makes both files of a cartridge, where the first one is missing. Returns what became of the first one, and the
+// barcode. The second one is made with no bytes where it is missing, and else stays as it is.
+fn create_cartridge<D: Disk + Drop, F: MakeFiles<D> + SecondFiles<D>>(
+    alloc: Global,
+    files: &F,
+    entry: CartridgeEntry,
+) -> Result<(Fate, Barcode), VtlFault>
+    ensures ok { IfOk result (λ made. IsMadeOrKept D.state
+        (makes_of F.makes F.leaves F.takes_away F.opens_second F.closes_second)
+        (CartridgeFile entry) made.0) }
+    ensures label { IfOk result (λ made. made.1 ≡ entry.barcode) }
+    ensures err { IfErr result (IsNotMade D.state
+        (makes_of F.makes F.leaves F.takes_away F.opens_second F.closes_second)
+        (CartridgeFile entry)) }
+{
+    let CartridgeEntry {
+        barcode,
+        file,
+        second_file,
+        capacities,
+        ..
+    } = entry;
+    let Some((name, first)) = new_file::<D, F>(files, file)? else {
+        return Ok((Fate::Kept, barcode));
+    };
+    let (second_name, opened) = files.open_second(second_file);
+    let Ok(second) = opened else {
+        files.take_away(name, first);
+        return Err(VtlFault::Device);
+    };
+    match Cartridge::create(alloc, first, second, &barcode, slice_of(&capacities)) {
+        Ok(shelved) => {
+            let (first, second) = shelved.into_disks();
+            files.leave(name, first);
+            files.close_second(second_name, second);
+            Ok((Fate::Created, barcode))
+        }
+        Err(refused) => {
+            let NotCreated {
+                error,
+                first,
+                second,
+            } = refused;
+            files.take_away(name, first);
+            files.close_second(second_name, second);
+            match error {
+                CartridgeError::NoMemory => Err(VtlFault::NoMemory),
+                _ => Err(VtlFault::Device),
+            }
+        }
+    }
+}
+
+// Makes the file of a drive's reservations, where it is missing.
+fn create_store<D: Disk + Drop, F: MakeFiles<D> + SecondFiles<D>>(
+    alloc: Global,
+    files: &F,
+    entry: DriveEntry,
+) -> Result<Fate, VtlFault>
+    ensures ok { IfOk result (IsMadeOrKept D.state
+        (makes_of F.makes F.leaves F.takes_away F.opens_second F.closes_second)
+        (StoreFile entry)) }
+    ensures err { IfErr result (IsNotMade D.state
+        (makes_of F.makes F.leaves F.takes_away F.opens_second F.closes_second)
+        (StoreFile entry)) }
+{
+    let DriveEntry {
+        number,
+        reservations,
+    } = entry;
+    let Some((name, disk)) = new_file::<D, F>(files, reservations)? else {
+        return Ok(Fate::Kept);
+    };
+    match AptplStore::create(alloc, disk, number) {
+        Ok(store) => {
+            files.leave(name, store.close());
+            Ok(Fate::Created)
+        }
+        Err(refused) => {
+            let StoreRefused { error, disk } = refused;
+            files.take_away(name, disk);
+            match error {
+                StoreError::NoMemory => Err(VtlFault::NoMemory),
+                _ => Err(VtlFault::Device),
+            }
+        }
+    }
+}
+
+// The word that reports it.
+fn word_of(fate: Fate) -> &'static str
+    ensures { result.now ≡ fate_word fate }
+{
+    match fate {
+        Fate::Created => "created ",
+        Fate::Kept => "kept ",
+    }
+}
+
+// The line of the file with this label.
+fn line_of(alloc: Global, fate: Fate, label: &[u8]) -> Result<Vec<u8>, AllocError>
+    ensures { IfOk result (λ line. line.items ≡ fate_line label.now fate) }
+{
+    let mut line = Vec::new(alloc);
+    line.extend_from_slice(word_of(fate).as_bytes())?;
+    line.extend_from_slice(label)?;
+    line.push(b'\n')?;
+    Ok(line)
+}
+
+// Reports what became of the file with this label.
+fn print_fate<W: Write>(
+    alloc: Global,
+    writer: &mut W,
+    fate: Fate,
+    label: &[u8],
+) -> Result<(), VtlFault>
+    ensures ok { OnOk result
+        (Appends (W.contents writer.old) (W.contents writer.new) (fate_line label.now fate)) }
+    ensures err { IfErr result
+        (IsNotOut (fate_line label.now fate) (W.contents writer.old) (W.contents writer.new)) }
+{
+    match line_of(alloc, fate, label) {
+        Ok(line) => print_text(writer, line.as_slice()),
+        Err(_) => Err(VtlFault::NoMemory),
+    }
+}
+
+// The label of the file of a drive's reservations.
+fn label_of(alloc: Global, number: DriveNo) -> Result<String, AllocError>
+    ensures { IfOk result (λ label. string_bytes label ≡ codes "DRIVE" ++ decimal number) }
+{
+    let number = number.number();
+    format!(in alloc; "DRIVE{number}")
+}
+
+// Makes the missing file of a cartridge, and reports it.
+fn make_cartridge<D: Disk + Drop, F: MakeFiles<D> + SecondFiles<D>, W: Write>(
+    alloc: Global,
+    files: &F,
+    entry: CartridgeEntry,
+    writer: &mut W,
+) -> Result<(), VtlFault>
+    ensures { PrintsFiles D.state (makes_of F.makes F.leaves F.takes_away F.opens_second F.closes_second)
+        (CartridgeFile entry ∷ [])
+        (W.contents writer.old) (W.contents writer.new) result }
+{
+    match create_cartridge::<D, F>(alloc, files, entry) {
+        Ok((fate, barcode)) => print_fate(alloc, writer, fate, barcode.as_bytes()),
+        Err(fault) => Err(fault),
+    }
+}
+
+// Makes the missing files of cartridges, and reports each.
+fn make_cartridges<D: Disk + Drop, F: MakeFiles<D> + SecondFiles<D>, W: Write>(
+    alloc: Global,
+    files: &F,
+    entries: Vec<CartridgeEntry>,
+    writer: &mut W,
+) -> Result<(), VtlFault>
+    ensures { PrintsFiles D.state (makes_of F.makes F.leaves F.takes_away F.opens_second F.closes_second)
+        (map CartridgeFile entries.items)
+        (W.contents writer.old) (W.contents writer.new) result }
+{
+    for entry in entries {
+        if let Err(fault) = make_cartridge::<D, F, W>(alloc, files, entry, writer) {
+            return Err(fault);
+        }
+    }
+    Ok(())
+}
+
+// Makes the missing file of a drive's reservations, and reports it.
+fn make_store<D: Disk + Drop, F: MakeFiles<D> + SecondFiles<D>, W: Write>(
+    alloc: Global,
+    files: &F,
+    entry: DriveEntry,
+    writer: &mut W,
+) -> Result<(), VtlFault>
+    ensures { PrintsFiles D.state (makes_of F.makes F.leaves F.takes_away F.opens_second F.closes_second)
+        (StoreFile entry ∷ [])
+        (W.contents writer.old) (W.contents writer.new) result }
+{
+    let number = entry.number;
+    match create_store::<D, F>(alloc, files, entry) {
+        Ok(fate) => match label_of(alloc, number) {
+            Ok(label) => print_fate(alloc, writer, fate, label.as_bytes()),
+            Err(_) => Err(VtlFault::NoMemory),
+        },
+        Err(fault) => Err(fault),
+    }
+}
+
+// Makes the missing files of the reservations of drives, and reports each.
+fn make_stores<D: Disk + Drop, F: MakeFiles<D> + SecondFiles<D>, W: Write>(
+    alloc: Global,
+    files: &F,
+    entries: Vec<DriveEntry>,
+    writer: &mut W,
+) -> Result<(), VtlFault>
+    ensures { PrintsFiles D.state (makes_of F.makes F.leaves F.takes_away F.opens_second F.closes_second)
+        (map StoreFile entries.items)
+        (W.contents writer.old) (W.contents writer.new) result }
+{
+    for entry in entries {
+        if let Err(fault) = make_store::<D, F, W>(alloc, files, entry, writer) {
+            return Err(fault);
+        }
+    }
+    Ok(())
+}
+
+/// Makes the files of a configuration that are missing, cartridges first, then the stores of drives, each in the order
+/// of the configuration. It writes a line for each: `created NAME`, or `kept NAME` where something has the file's name
+/// already, which is not touched. NAME is the barcode, or `DRIVE` and the number. With a cartridge's first file its
+/// second one is made, where that is missing; where the first one is there, the second is not looked for. It ends at
+/// the first fault, and the file that was being made is removed again, if the system can remove it. Errors: `Device`
+/// where a file or the writer fails, or `NoMemory`.
+pub fn create_missing<D: Disk + Drop, F: MakeFiles<D> + SecondFiles<D>, W: Write>(
+    alloc: Global,
+    files: &F,
+    config: Config,
+    writer: &mut W,
+) -> Result<(), VtlFault>
+    ensures { PrintsFiles D.state (makes_of F.makes F.leaves F.takes_away F.opens_second F.closes_second)
+        (files_of config)
+        (W.contents writer.old) (W.contents writer.new) result }
+{
+    let Config { cartridges, drives } = config;
+    if let Err(fault) = make_cartridges::<D, F, W>(alloc, files, cartridges, writer) {
+        return Err(fault);
+    }
+    make_stores::<D, F, W>(alloc, files, drives, writer)
+}

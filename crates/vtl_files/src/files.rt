@@ -1,0 +1,122 @@
+//! The calls for files that the program makes, by the files' names. The traits say what a function may do with files:
+//! each order's function has just those that it needs. A file is made or opened for writing at most once, since its
+//! name is used up.
+ghost use Rattle.std.specs.Prelude.{◌≡◌, ℕ, List, [], Result, Ok, Vec};
+ghost use Rattle.std.specs.declared.alloc.Global.{Global};
+ghost use Rattle.std.specs.declared.io.Error.{Error};
+ghost use Rattle.file_disk.specs.declared.error.FileError.{FileError};
+
+use file_disk::FileError;
+use std::io;
+use tape_disk::Disk;
+use vtl_config::{FileName, UsedName};
+
+/// Files whose bytes are read.
+pub trait TextFiles {
+    // The answers that a call may have, by the name.
+    ghost reads: { List ℕ → Result (Vec ℕ Global) Error → Type 0 };
+
+    /// The bytes of the file of this name.
+    fn read(&self, name: &str) -> io::Result<Vec<u8>>
+        ensures { reads name.now result };
+}
+
+/// Files that are only read.
+pub trait ReadFiles<D: Disk> {
+    // The answers that a call may have, by the name.
+    ghost opens_to_read: { List ℕ → Result D FileError → Type 0 };
+
+    // The disk that was returned for a name.
+    ghost closes: { List ℕ → D → Type 0 };
+
+    /// A disk over the file of this name. Each of its calls that would change the file fails.
+    fn open_to_read(&self, name: &str) -> Result<D, FileError>
+        ensures { opens_to_read name.now result };
+
+    /// Takes a disk back, as it is.
+    fn close(&self, name: &str, disk: D)
+        ensures { closes name.now disk };
+
+    /// A disk of no bytes, which stands for a file that is missing. Each of its calls that would change it fails.
+    fn nothing(&self) -> D
+        ensures { (D.state result).honest → (D.state result).seen ≡ [] };
+}
+
+/// The second files of cartridges.
+pub trait SecondFiles<D> {
+    // The answers that a call may have, by the name.
+    ghost opens_second: { List ℕ → Result D FileError → Type 0 };
+
+    // The disk that was returned for a name: its file stays.
+    ghost closes_second: { List ℕ → D → Type 0 };
+
+    /// A disk over the file of this name, which is made with no bytes where it is missing. The name is used up.
+    fn open_second(&self, name: FileName) -> (UsedName, Result<D, FileError>)
+        ensures used { result.0 ≡ name }
+        ensures answer { opens_second name result.1 };
+
+    /// Takes a disk back, as it is. Its file stays.
+    fn close_second(&self, name: UsedName, disk: D)
+        ensures { closes_second name disk };
+}
+
+/// Files that are changed.
+pub trait ChangeFiles<D> {
+    // The answers that a call may have, by the name.
+    ghost opens: { List ℕ → Result D FileError → Type 0 };
+
+    // The disk that was returned for a name.
+    ghost returns_disk: { List ℕ → D → Type 0 };
+
+    /// A disk over the file of this name, which is used up.
+    fn open(&self, name: FileName) -> (UsedName, Result<D, FileError>)
+        ensures used { result.0 ≡ name }
+        ensures answer { opens name result.1 };
+
+    /// Takes a disk back, as it is.
+    fn return_disk(&self, name: UsedName, disk: D)
+        ensures { returns_disk name disk };
+}
+
+/// Takes back the disks of a library that is no longer used: of an `L` that was run, or of an `S` that was not switched
+/// on.
+pub trait TakesBack<L, S> {
+    // The library that was taken back.
+    ghost closes_all: { L → Type 0 };
+
+    ghost gives_up: { S → Type 0 };
+
+    /// Takes back the disks of a library, as they are.
+    fn close_all(&self, library: L)
+        ensures { closes_all library };
+
+    /// Takes back the disks of a library that was not switched on, as they are.
+    fn give_up(&self, starting: S)
+        ensures { gives_up starting };
+}
+
+/// Files that are made.
+pub trait MakeFiles<D> {
+    // The answers that a call may have, by the name.
+    ghost makes: { List ℕ → Result D FileError → Type 0 };
+
+    // The disk that was returned for a name: its file stays, or it is taken away.
+    ghost leaves: { List ℕ → D → Type 0 };
+
+    ghost takes_away: { List ℕ → D → Type 0 };
+
+    /// A disk over a new file of this name, which is used up; `Exists` where a file has the name, which is not
+    /// touched.
+    fn make(&self, name: FileName) -> (UsedName, Result<D, FileError>)
+        ensures used { result.0 ≡ name }
+        ensures answer { makes name result.1 };
+
+    /// Takes a disk back, as it is. Its file stays.
+    fn leave(&self, name: UsedName, disk: D)
+        ensures { leaves name disk };
+
+    /// Takes back a disk that `make` returned, and removes its file, if the system can remove it.
+    fn take_away(&self, name: UsedName, disk: D)
+        requires { (made : D) × makes name (Ok made) }
+        ensures { takes_away name disk };
+}

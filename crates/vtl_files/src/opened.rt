@@ -1,0 +1,32 @@
+//! Opens both files of a cartridge.
+ghost use Rattle.std.specs.Prelude.{IfOk, IfErr};
+ghost use Rattle.vtl_files.specs.Opened.{AreOpened, AreNotOpened};
+
+use crate::faults::VtlFault;
+use crate::files::{ChangeFiles, SecondFiles};
+use vtl_config::{FileName, UsedName};
+
+/// Disks over both files of a cartridge, and the files' names; the second one is made with no bytes where it is
+/// missing. Where it is not opened, the first one's disk is returned.
+pub fn opened_both<D, F: ChangeFiles<D> + SecondFiles<D>>(
+    files: &F,
+    file: FileName,
+    second_file: FileName,
+) -> Result<((UsedName, D), (UsedName, D)), VtlFault>
+    ensures ok { IfOk result (AreOpened F.opens F.opens_second file second_file) }
+    ensures err { IfErr result (AreNotOpened F.opens F.opens_second F.returns_disk file second_file) }
+{
+    let (name, opened) = files.open(file);
+    let first = match opened {
+        Ok(disk) => disk,
+        Err(_) => return Err(VtlFault::Device),
+    };
+    let (second_name, opened) = files.open_second(second_file);
+    match opened {
+        Ok(second) => Ok(((name, first), (second_name, second))),
+        Err(_) => {
+            files.return_disk(name, first);
+            Err(VtlFault::Device)
+        }
+    }
+}

@@ -1,0 +1,90 @@
+//! Reporting what two files hold.
+ghost use Rattle.std.specs.Prelude.{◌≡◌, ◌==◌, ◌||◌, List, ℕ, IfOk, IfErr, MatchOption, codes};
+ghost use Rattle.std.specs.List.{starts_with};
+ghost use Rattle.vtl_files.specs.Checks.{ChecksOrder, IsSecondRead, IsSecondUnread, PrintsLines, verdict_of};
+
+use crate::checking::{Checked, check_side};
+use crate::faults::{Verdict, VtlFault};
+use crate::files::ReadFiles;
+use crate::writing::print_text;
+use file_disk::FileError;
+use std::alloc::Global;
+use std::io::Write;
+use tape_disk::Disk;
+use vtl_base::Bytes;
+use vtl_config::second_file;
+
+// Whether the lines of a side say what it holds, or why it holds nothing.
+fn verdict_of(lines: &[u8]) -> Verdict
+    ensures { result ≡ verdict_of lines.now }
+{
+    if lines.starts_with(b"cartridge ") || lines.starts_with(b"reservations ") {
+        Verdict::Done
+    } else {
+        Verdict::Refused
+    }
+}
+
+/// Writes the lines of a side. Returns `Done` where they say what it holds, `Refused` where they say why it gives
+/// nothing. The error is `Device` where the writer fails. Where `lines` is a fault, nothing is written, and that fault
+/// is returned.
+pub fn print_lines<W: Write>(
+    lines: Result<Bytes, VtlFault>,
+    writer: &mut W,
+) -> Result<Verdict, VtlFault>
+    ensures { PrintsLines lines (W.contents writer.old) (W.contents writer.new) result }
+{
+    let lines = match lines {
+        Ok(lines) => lines,
+        Err(fault) => return Err(fault),
+    };
+    match print_text(writer, lines.as_slice()) {
+        Ok(()) => Ok(verdict_of(lines.as_slice())),
+        Err(fault) => Err(fault),
+    }
+}
+
+// A disk for reading the second file of this name; one of no bytes where the file is missing, None where it was not
+// opened.
+fn second_to_read<D: Disk, F: ReadFiles<D>>(files: &F, name: &str) -> Option<D>
+    ensures { MatchOption result (IsSecondUnread D.state F.opens_to_read name.now)
+        (IsSecondRead D.state F.opens_to_read name.now) }
+{
+    match files.open_to_read(name) {
+        Ok(disk) => Some(disk),
+        Err(FileError::Missing) => Some(files.nothing()),
+        Err(_) => None,
+    }
+}
+
+/// Reports what the file of this name holds, together with the one whose name has `.2` added, which may be missing.
+/// Returns `Done` where it is a cartridge or a store, `Refused` where it is neither. No file is made or changed.
+/// Errors: `Device` where a file is not opened, a disk or the writer fails, or `NoMemory`.
+pub fn check_named<D: Disk, F: ReadFiles<D>, W: Write>(
+    alloc: Global,
+    files: &F,
+    name: &str,
+    writer: &mut W,
+) -> Result<Verdict, VtlFault>
+    ensures { ChecksOrder D.state F.opens_to_read F.closes name.now
+        (W.contents writer.old) (W.contents writer.new) result }
+{
+    let Ok(second_name) = second_file(alloc, name) else {
+        return Err(VtlFault::NoMemory);
+    };
+    let Ok(first) = files.open_to_read(name) else {
+        return Err(VtlFault::Device);
+    };
+    let Some(second) = second_to_read::<D, F>(files, second_name.as_str()) else {
+        files.close(name, first);
+        return Err(VtlFault::Device);
+    };
+    let Checked {
+        lines,
+        first,
+        second,
+    } = check_side(alloc, first, second);
+    files.close(name, first);
+    files.close(second_name.as_str(), second);
+    print_lines(lines, writer)
+}

@@ -1,0 +1,23 @@
+//! Texts that are written whole, or up to where the writer fails.
+ghost use Rattle.std.specs.Prelude.{◌≡◌, OnOk, OnErr, IfErr};
+ghost use Rattle.std.specs.Io.KnownBytes.{Appends};
+ghost use Rattle.vtl_script.specs.Text.{AppendsPart};
+
+use crate::faults::VtlFault;
+use std::io::Write;
+use vtl_script::write_text;
+
+/// Writes a text and flushes it. Where that fails, the result is a `Device` fault, and a beginning of the text is
+/// written.
+pub fn print_text<W: Write>(writer: &mut W, text: &[u8]) -> Result<(), VtlFault>
+    ensures ok { OnOk result (Appends (W.contents writer.old) (W.contents writer.new) text.now) }
+    ensures err { OnErr result
+        (AppendsPart (W.contents writer.old) (W.contents writer.new) text.now) }
+    ensures fault { IfErr result (λ fault. fault ≡ VtlFault.Device) }
+{
+    write_text(writer, text)?;
+    if writer.flush().is_err() {
+        return Err(VtlFault::Device);
+    }
+    Ok(())
+}

@@ -1,6 +1,0 @@
-use Rattle.vtl_program.specs.Checks.{both}
-use Rattle.vtl_program.proofs.ReclaimLemmas.{none_shown}
-use Rattle.vtl_program.proofs.reclaiming.reclaim_side.Goals as goal
-
-pub returns-in-Err : goal.returns-in-Err
-returns-in-Err g c = none_shown g.D.Disk.state c.args.barcode.now (both c.args.first c.args.second)

@@ -1,0 +1,177 @@
+//! The files of the operating system, whose calls are noted.
+ghost use Rattle.std.specs.Prelude.{◌≡◌};
+
+use bays::Held;
+use file_disk::{FileDisk, FileError};
+use file_reasons::FileCall;
+use std::{fs, io};
+use vtl_config::{FileName, UsedName};
+use vtl_files::files::{ChangeFiles, MakeFiles, ReadFiles, SecondFiles, TakesBack, TextFiles};
+use vtl_notes::notes::Notes;
+use vtl_notes::open_files::NotedDisk;
+use vtl_notes::progress::GibLines;
+use vtl_notes::watched::Watched;
+use vtl_runs::starting::NotStarted;
+
+/// The files of the operating system. No contract of its calls says what they hold, so any answer is possible.
+#[derive(Clone, Copy)]
+pub struct SystemFiles<'a> {
+    /// The runtime, through which the system is called.
+    pub rt: &'a HostRuntime,
+    /// Where writes are reported.
+    pub progress: &'a GibLines<'a>,
+    /// Where the answers of calls are noted.
+    pub notes: &'a Notes,
+}
+
+/// A disk over a file of the operating system, whose writes are reported, and the first call that fails is noted.
+pub type SystemDisk<'a> = Watched<'a, NotedDisk<'a, FileDisk>, GibLines<'a>>;
+
+impl<'a> SystemFiles<'a> {
+    // The disk of the file of this number, whose writes are reported.
+    fn watched(&self, number: u64, disk: FileDisk) -> SystemDisk<'a>
+        ensures { result.disk.disk ≡ disk }
+    {
+        Watched {
+            disk: NotedDisk {
+                disk,
+                number,
+                files: self.notes.files(),
+            },
+            progress: self.progress,
+        }
+    }
+
+    // Notes that a file of this name is opened, made or read, and returns its number.
+    fn enter(&self, name: &str) -> u64 {
+        self.notes.files().enter(self.rt.alloc(), name)
+    }
+
+    // The disk of the file of this name and number, if there is one. Notes what was answered.
+    fn answer(
+        &self,
+        name: &str,
+        number: u64,
+        call: FileCall,
+        found: Result<FileDisk, FileError>,
+    ) -> Result<SystemDisk<'a>, FileError> {
+        self.notes.open(self.rt.alloc(), name, call, &found);
+        match found {
+            Ok(disk) => Ok(self.watched(number, disk)),
+            Err(error) => Err(error),
+        }
+    }
+}
+
+impl<'a> TextFiles for SystemFiles<'a> {
+    ghost reads = { λ name answer. Unit {0} };
+
+    fn read(&self, name: &str) -> io::Result<Vec<u8>> {
+        let _ = self.enter(name);
+        let read = fs::read(self.rt, name);
+        self.notes.read(self.rt.alloc(), name, &read);
+        read
+    }
+}
+
+impl<'a> ReadFiles<SystemDisk<'a>> for SystemFiles<'a> {
+    ghost opens_to_read = { λ name answer. Unit {0} };
+
+    ghost closes = { λ name disk. Unit {0} };
+
+    fn open_to_read(&self, name: &str) -> Result<SystemDisk<'a>, FileError> {
+        let number = self.enter(name);
+        let opened = file_disk::open_to_read(self.rt, name);
+        self.answer(name, number, FileCall::Open, opened)
+    }
+
+    fn close(&self, name: &str, mut disk: SystemDisk<'a>) {
+        self.notes.look(self.rt.alloc(), name, &mut disk);
+        drop(disk);
+    }
+
+    fn nothing(&self) -> SystemDisk<'a> {
+        self.notes.pass_over();
+        self.watched(0, file_disk::no_file())
+    }
+}
+
+impl<'a> SecondFiles<SystemDisk<'a>> for SystemFiles<'a> {
+    ghost opens_second = { λ name answer. Unit {0} };
+
+    ghost closes_second = { λ name disk. Unit {0} };
+
+    fn open_second(&self, name: FileName) -> (UsedName, Result<SystemDisk<'a>, FileError>) {
+        let name = name.use_up();
+        let number = self.enter(name.as_str());
+        let opened = file_disk::open_or_create(self.rt, name.as_str());
+        let answer = self.answer(name.as_str(), number, FileCall::Open, opened);
+        (name, answer)
+    }
+
+    fn close_second(&self, name: UsedName, mut disk: SystemDisk<'a>) {
+        self.notes.look(self.rt.alloc(), name.as_str(), &mut disk);
+        drop(disk);
+    }
+}
+
+impl<'a> ChangeFiles<SystemDisk<'a>> for SystemFiles<'a> {
+    ghost opens = { λ name answer. Unit {0} };
+
+    ghost returns_disk = { λ name disk. Unit {0} };
+
+    fn open(&self, name: FileName) -> (UsedName, Result<SystemDisk<'a>, FileError>) {
+        let name = name.use_up();
+        let number = self.enter(name.as_str());
+        let opened = file_disk::open(self.rt, name.as_str());
+        let answer = self.answer(name.as_str(), number, FileCall::Open, opened);
+        (name, answer)
+    }
+
+    fn return_disk(&self, name: UsedName, mut disk: SystemDisk<'a>) {
+        let number = disk.disk.number;
+        self.notes.give_back(self.rt.alloc(), name.as_str(), number);
+        self.notes.look(self.rt.alloc(), name.as_str(), &mut disk);
+        drop(disk);
+    }
+}
+
+impl<'a> TakesBack<Held<SystemDisk<'a>>, NotStarted<SystemDisk<'a>>> for SystemFiles<'a> {
+    ghost closes_all = { λ library. Unit {0} };
+
+    ghost gives_up = { λ starting. Unit {0} };
+
+    fn close_all(&self, library: Held<SystemDisk<'a>>) {
+        drop(library);
+    }
+
+    fn give_up(&self, starting: NotStarted<SystemDisk<'a>>) {
+        drop(starting);
+    }
+}
+
+impl<'a> MakeFiles<SystemDisk<'a>> for SystemFiles<'a> {
+    ghost makes = { λ name answer. Unit {0} };
+
+    ghost leaves = { λ name disk. Unit {0} };
+
+    ghost takes_away = { λ name disk. Unit {0} };
+
+    fn make(&self, name: FileName) -> (UsedName, Result<SystemDisk<'a>, FileError>) {
+        let name = name.use_up();
+        let number = self.enter(name.as_str());
+        let made = file_disk::create(self.rt, name.as_str());
+        let answer = self.answer(name.as_str(), number, FileCall::Make, made);
+        (name, answer)
+    }
+
+    fn leave(&self, _: UsedName, disk: SystemDisk<'a>) {
+        drop(disk);
+    }
+
+    // The disk has the lock, until the file is gone.
+    fn take_away(&self, name: UsedName, disk: SystemDisk<'a>) {
+        let _ = fs::remove_file(self.rt, name.as_str());
+        drop(disk);
+    }
+}
