@@ -4,7 +4,7 @@
 wrong.py [--alone] [--into FILE] [CRATE [EDIT..]]
                             every edit, those of a crate, or those named: for each, what refuses it, or PROVED (a hole)
 wrong.py --lint             tries none, and looks at the form of each edit of must-fail/ and wrong/, at
-                            docs/CLAIMS.md, and at where the sources make counts of steps
+                            docs/CLAIMS.md and rows/wrong.txt, and at where the sources make counts of steps
 wrong.py --selftest         tries none, and looks at how edits are put together and how a check is read
 
 Edits of different functions are tried in one check, as wrong_batches.py says; what isn't clearly refused so is tried by
@@ -17,6 +17,7 @@ import sys
 import tempfile
 from concurrent.futures import ThreadPoolExecutor
 
+import rows_wrong
 import wrong_runs
 import wrong_selftest
 from wrong_edits import TOP, crates, edits_in, fault_in, read
@@ -131,6 +132,8 @@ def lint():
     claimed = {(crate, name) for row in rows for named, name in edits_of(row) for crate in named}
     said += [f"docs/CLAIMS.md names no claim for the edit {crate}/{name}" for crate, name in sorted(guarded - claimed)]
     said += false_claims(rows, every)
+    said += [f"rows/wrong.txt: there is no edit {name}" for name in rows_wrong.listed()
+             if tuple(name.split("/")) not in every]
     print("\n".join([*said, f"edits: {len(every)} looked at, {len(said)} faults"]))
     return 1 if said else 0
 
