@@ -119,7 +119,7 @@ module _ {D : Type 0} (state : D → DiskState) where
         let same : one.bay ≡ bay = found_same one.bay bay (sym one.is ∙ is) in
         let at : one.bay.bay ≡ Loaded medium = ap (λ (b : BayState D). b.bay) same ∙ loaded in
         let there : medium_in one.bay.bay ≡ Some medium = ap medium_in at in
-        let kept = subst (λ (m : Option (BufferState D)). KeepsCartridgeIn state m) there one.kept in
+        let kept = subst (λ (m : Option (BufferState D)). KeepsCartridgeIn state m) there one.keeps in
         let on =
         subst (λ (b : Bay (BufferState D)). IsBayPositioned (state_of state) b one.bay.position) at one.positioned
         in
