@@ -69,6 +69,8 @@ fn move_known<D: Disk + Drop>(
     known_slots(slots);
     known_at(source);
     known_at(destination);
+    drop(none);
+    drop(nor);
     reply
 }
 
