@@ -8,6 +8,7 @@ use Rattle.tape_buffer.specs.Moves.{buffer_below}
 use Rattle.tape_buffer.specs.State.{state_of}
 use Rattle.aptpl_store.specs.Kept.{store_below, store_kept}
 use Rattle.bays.specs.Elements.{BayState}
+use Rattle.bays.specs.Lent.{KeepsCount}
 use Rattle.drive_core.specs.Alone.{AnswersAlone}
 use Rattle.drive_core.specs.Execute.{Answers}
 use Rattle.drive_core.specs.State.{machine_of}
@@ -141,6 +142,15 @@ module _ {D : Type 0} (state : D → DiskState) where
   pub front_there : (front : Option (FrontState D)) (share : ℕ) → HasShare front share → is_some front ≡ true
   front_there (Some front) share has = refl
   front_there None share has = absurd has
+
+  -- a drive that was lent is there again, with its count as it was
+  pub still_counted : (bay : BayState D) (held : Option (BayState D)) (bay' : BayState D) → KeepsCount (Some bay) held
+      → held ≡ Some bay' → bay'.accepted ≡ bay.accepted
+  still_counted bay held bay' keeps is = subst (λ (h : Option (BayState D)). KeepsCount (Some bay) h) is keeps
+
+  -- the same: it cannot be away
+  pub still_there : (bay : BayState D) (held : Option (BayState D)) → KeepsCount (Some bay) held → held ≡ None → ⊥
+  still_there bay held keeps is = subst (λ (h : Option (BayState D)). KeepsCount (Some bay) h) is keeps
 
   -- a fault that is reported leaves the count
   pub reported_share : (fault : Bool) (front front' : FrontState D) (back back' : BackState D)

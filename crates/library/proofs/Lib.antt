@@ -5,7 +5,6 @@ pub mod EndLemmas
 pub mod HalfLemmas
 pub mod HostLemmas
 pub mod JobLemmas
-pub mod LentLemmas
 pub mod LoopLemmas
 pub mod OutcomeLemmas
 pub mod RowLemmas

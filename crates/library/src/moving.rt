@@ -1,40 +1,29 @@
 //! Moves of cartridges between slots and drives that threads share.
-ghost use Rattle.std.specs.Prelude.{◌≡◌, ◌≢◌, None, Some, IfSome, is_some};
-ghost use Rattle.bays.specs.Elements.{BayState};
+ghost use Rattle.std.specs.Prelude.{◌≡◌, ◌≢◌, IfSome, is_some};
 ghost use Rattle.bays.specs.Lent.{IsDriveAddress};
 ghost use Rattle.library.specs.Counts.{has_drive};
-ghost use Rattle.library.specs.MovesAt.{IsMovedAmong, MovesEach};
+ghost use Rattle.library.specs.MovesAt.{IsMovedAmong};
 
-use crate::inventories::known_slots;
 use crate::libraries::Library;
+use crate::places::{LockedBay, move_locked};
 use crate::shared::SharedBay;
-use bays::{Parked, move_lent};
-use changer::Slots;
 use ledgers::Parties;
 use scsi_sense::Reply;
 use split_bay::Rings;
-use std::alloc::Global;
 use std::sync::Wait;
 use tape_disk::Disk;
 
-// A move where neither address names a drive.
-fn between_slots<D: Disk + Drop>(
-    alloc: Global,
-    slots: &mut Slots<Parked<D>>,
-    from: u32,
-    to: u32,
-) -> Reply
-    ensures { MovesEach D.state from to slots.old None None result slots.new None None }
+// The drive in this place, if there is one, with both its locks, that of the hosts' half taken first.
+fn lock_both<'a, D: Disk + Drop, B: Parties + Rings, R: Wait>(
+    place: Option<&'a SharedBay<D, B>>,
+    rt: &R,
+) -> Option<LockedBay<'a, D, B>>
+    ensures { is_some result ≡ is_some place.entry }
 {
-    let mut none = None;
-    let mut nor = None;
-    // The facts before and after the call, here and below, for the proof alone.
-    known_slots(slots);
-    let reply = move_lent(alloc, slots, none.as_mut(), nor.as_mut(), from, to);
-    known_slots(slots);
-    drop(none);
-    drop(nor);
-    reply
+    let bay = place?;
+    let front = bay.front.lock(rt);
+    let back = bay.back.lock(rt);
+    Some(LockedBay { front, back })
 }
 
 impl<D: Disk + Drop, B: Parties + Rings, H: Parties> Library<D, B, H> {
@@ -46,21 +35,14 @@ impl<D: Disk + Drop, B: Parties + Rings, H: Parties> Library<D, B, H> {
         let source = self.drive_at(from);
         let destination = self.other_drive_at(from, to);
         let mut slots = self.slots.lock(rt);
-        match (source, destination) {
-            (Some(source), Some(destination)) => {
-                self.move_between(rt, &mut slots, source, destination, from, to)
-            }
-            (Some(source), None) => {
-                let mut front = source.front.lock(rt);
-                let mut back = source.back.lock(rt);
-                front.move_out(&mut back, rt, self.alloc, &mut slots, from, to)
-            }
-            (None, Some(destination)) => {
-                let mut front = destination.front.lock(rt);
-                let mut back = destination.back.lock(rt);
-                front.move_in(&mut back, rt, self.alloc, &mut slots, from, to)
-            }
-            (None, None) => between_slots(self.alloc, &mut slots, from, to),
+        if from < to {
+            let source = lock_both(source, rt);
+            let destination = lock_both(destination, rt);
+            move_locked(source, destination, rt, self.alloc, &mut slots, from, to)
+        } else {
+            let destination = lock_both(destination, rt);
+            let source = lock_both(source, rt);
+            move_locked(source, destination, rt, self.alloc, &mut slots, from, to)
         }
     }
 
@@ -70,55 +52,5 @@ impl<D: Disk + Drop, B: Parties + Rings, H: Parties> Library<D, B, H> {
         ensures apart { IfSome result (λ bay. IsDriveAddress to × (from ≢ to)) }
     {
         if from == to { None } else { self.drive_at(to) }
-    }
-
-    // A move between two drives, under the locks of both.
-    fn move_between<R: Wait>(
-        &self,
-        rt: &R,
-        slots: &mut Slots<Parked<D>>,
-        source: &SharedBay<D, B>,
-        destination: &SharedBay<D, B>,
-        from: u32,
-        to: u32,
-    ) -> Reply
-        requires source { IsDriveAddress from }
-        requires destination { IsDriveAddress to }
-        requires apart { from ≢ to }
-        ensures { (source source' destination destination' : BayState D)
-            × MovesEach D.state from to slots.old (Some source) (Some destination) result
-            slots.new (Some source') (Some destination') }
-    {
-        if from < to {
-            let mut front = source.front.lock(rt);
-            let mut back = source.back.lock(rt);
-            let mut other = destination.front.lock(rt);
-            let mut behind = destination.back.lock(rt);
-            front.move_across(
-                &mut back,
-                &mut other,
-                &mut behind,
-                rt,
-                self.alloc,
-                slots,
-                from,
-                to,
-            )
-        } else {
-            let mut other = destination.front.lock(rt);
-            let mut behind = destination.back.lock(rt);
-            let mut front = source.front.lock(rt);
-            let mut back = source.back.lock(rt);
-            front.move_across(
-                &mut back,
-                &mut other,
-                &mut behind,
-                rt,
-                self.alloc,
-                slots,
-                from,
-                to,
-            )
-        }
     }
 }

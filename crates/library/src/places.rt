@@ -11,6 +11,7 @@ mod moves;
 use crate::inventories::Element;
 pub use ending::EndedPlace;
 use ledgers::{Parties, PartyShare};
+pub(crate) use moves::{LockedBay, move_locked};
 use split_bay::{Back, Front, Rings};
 use std::marker::Model;
 use tape_disk::Disk;

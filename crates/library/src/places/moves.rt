@@ -1,8 +1,9 @@
-//! Moves of cartridges out of locked drives, and into them.
-ghost use Rattle.std.specs.Prelude.{◌≡◌, ◌≢◌, None, Some};
+//! Moves of cartridges between two places, each of which may be a locked drive.
+ghost use Rattle.std.specs.Prelude.{◌≡◌, ◌≢◌, Option, None, Some, IfSome, is_some};
 ghost use Rattle.bays.specs.Elements.{BayState};
-ghost use Rattle.bays.specs.Lent.{IsDriveAddress};
+ghost use Rattle.bays.specs.Lent.{IsDriveAddress, KeepsCount};
 ghost use Rattle.library.specs.Halves.{HoldsBoth};
+ghost use Rattle.library.specs.Keeps.{KeepsAt};
 ghost use Rattle.library.specs.MovesAt.{MovesEach};
 
 use super::held::{join_held, known_drive, part_held};
@@ -14,130 +15,131 @@ use ledgers::Parties;
 use scsi_sense::Reply;
 use split_bay::Rings;
 use std::alloc::Global;
-use std::sync::Wait;
+use std::sync::{MutexGuard, Wait};
 use tape_disk::Disk;
 
-// A move out of this drive. `to` names no other drive.
-fn move_from<D: Disk + Drop>(
+/// A drive, while the locks of both its halves are held.
+#[derive(Drop)]
+pub(crate) struct LockedBay<'a, D: Disk, B: Parties + Rings> {
+    pub(crate) front: MutexGuard<'a, FrontPlace<D, B>>,
+    pub(crate) back: MutexGuard<'a, BackPlace<D, B>>,
+}
+
+// The invariant of a drive, if there is one.
+fn known_at<D: Disk>(bay: &Option<Bay<D>>)
+    ensures { KeepsAt D.state bay.now }
+{
+    if let Some(bay) = bay {
+        known_drive(bay);
+    }
+}
+
+// A move between two places. A drive that is both is the source alone.
+fn move_known<D: Disk + Drop>(
     alloc: Global,
     slots: &mut Slots<Parked<D>>,
-    source: &mut Bay<D>,
+    source: &mut Option<Bay<D>>,
+    destination: &mut Option<Bay<D>>,
     from: u32,
     to: u32,
 ) -> Reply
-    requires { IsDriveAddress from }
-    ensures moves { MovesEach D.state from to slots.old (Some source.old) None result slots.new (Some source.new) None }
-    ensures count { source.new.accepted ≡ source.old.accepted }
+    requires source { IfSome source.old (λ bay. IsDriveAddress from) }
+    requires destination { IfSome destination.old (λ bay. IsDriveAddress to × (from ≢ to)) }
+    ensures moves { MovesEach D.state from to slots.old source.old destination.old result
+        slots.new source.new destination.new }
+    ensures source { KeepsCount source.old source.new }
+    ensures destination { KeepsCount destination.old destination.new }
 {
     let mut none = None;
+    let mut nor = None;
+    // The facts before and after the call, for the proof alone.
     known_slots(slots);
-    known_drive(source);
-    let reply = move_lent(alloc, slots, Some(source), none.as_mut(), from, to);
+    known_at(source);
+    known_at(destination);
+    let reply = match (&mut *source, &mut *destination) {
+        (Some(source), Some(destination)) => {
+            move_lent(alloc, slots, Some(source), Some(destination), from, to)
+        }
+        (Some(source), None) => move_lent(alloc, slots, Some(source), none.as_mut(), from, to),
+        (None, Some(destination)) => {
+            move_lent(alloc, slots, none.as_mut(), Some(destination), from, to)
+        }
+        (None, None) => move_lent(alloc, slots, none.as_mut(), nor.as_mut(), from, to),
+    };
     known_slots(slots);
-    known_drive(source);
+    known_at(source);
+    known_at(destination);
     drop(none);
+    drop(nor);
     reply
 }
 
-// A move into this drive. `from` names no drive.
-fn move_to<D: Disk + Drop>(
+// The same where the destination may be a locked drive.
+fn move_to<D: Disk + Drop, B: Parties + Rings, R: Wait>(
+    source: &mut Option<Bay<D>>,
+    destination: Option<LockedBay<'_, D, B>>,
+    rt: &R,
     alloc: Global,
     slots: &mut Slots<Parked<D>>,
-    destination: &mut Bay<D>,
     from: u32,
     to: u32,
 ) -> Reply
-    requires destination { IsDriveAddress to }
-    requires apart { from ≢ to }
-    ensures moves { MovesEach D.state from to slots.old None (Some destination.old) result
-        slots.new None (Some destination.new) }
-    ensures count { destination.new.accepted ≡ destination.old.accepted }
+    requires source { IfSome source.old (λ bay. IsDriveAddress from) }
+    requires destination { IfSome destination (λ drive. IsDriveAddress to × (from ≢ to)) }
+    ensures moves { (bay bay' : Option (BayState D)) × (is_some bay ≡ is_some destination.entry)
+        × MovesEach D.state from to slots.old source.old bay result slots.new source.new bay' }
+    ensures count { KeepsCount source.old source.new }
 {
-    let mut none = None;
-    known_slots(slots);
-    known_drive(destination);
-    let reply = move_lent(alloc, slots, none.as_mut(), Some(destination), from, to);
-    known_slots(slots);
-    known_drive(destination);
-    drop(none);
-    reply
+    match destination {
+        Some(
+            LockedBay {
+                mut front,
+                mut back,
+            },
+        ) => front.move_in(&mut back, source, rt, alloc, slots, from, to),
+        None => {
+            let mut none = None;
+            move_known(alloc, slots, source, &mut none, from, to)
+        }
+    }
 }
 
-// A move out of one drive into the other.
-fn move_between<D: Disk + Drop>(
+/// A move between two places, each of which may be a locked drive. A drive that is both is the source alone.
+pub(crate) fn move_locked<D: Disk + Drop, B: Parties + Rings, R: Wait>(
+    source: Option<LockedBay<'_, D, B>>,
+    destination: Option<LockedBay<'_, D, B>>,
+    rt: &R,
     alloc: Global,
     slots: &mut Slots<Parked<D>>,
-    source: &mut Bay<D>,
-    destination: &mut Bay<D>,
     from: u32,
     to: u32,
 ) -> Reply
-    requires source { IsDriveAddress from }
-    requires destination { IsDriveAddress to }
-    requires apart { from ≢ to }
-    ensures moves { MovesEach D.state from to slots.old (Some source.old) (Some destination.old) result
-        slots.new (Some source.new) (Some destination.new) }
-    ensures source { source.new.accepted ≡ source.old.accepted }
-    ensures destination { destination.new.accepted ≡ destination.old.accepted }
+    requires source { IfSome source (λ drive. IsDriveAddress from) }
+    requires destination { IfSome destination (λ drive. IsDriveAddress to × (from ≢ to)) }
+    ensures { (bay end bay' end' : Option (BayState D)) × (is_some bay ≡ is_some source.entry)
+        × (is_some end ≡ is_some destination.entry)
+        × MovesEach D.state from to slots.old bay end result slots.new bay' end' }
 {
-    known_slots(slots);
-    known_drive(source);
-    known_drive(destination);
-    let reply = move_lent(alloc, slots, Some(source), Some(destination), from, to);
-    known_slots(slots);
-    known_drive(source);
-    known_drive(destination);
-    reply
+    match source {
+        Some(
+            LockedBay {
+                mut front,
+                mut back,
+            },
+        ) => front.move_out(&mut back, destination, rt, alloc, slots, from, to),
+        None => {
+            let mut none = None;
+            move_to(&mut none, destination, rt, alloc, slots, from, to)
+        }
+    }
 }
 
 impl<D: Disk + Drop, B: Parties + Rings> FrontPlace<D, B> {
-    /// A move out of this drive, whose disk's half is `back`. `to` names no other drive.
-    pub(crate) fn move_out<R: Wait>(
+    // A move out of this drive, whose disk's half is `back`.
+    fn move_out<R: Wait>(
         &mut self,
         back: &mut BackPlace<D, B>,
-        rt: &R,
-        alloc: Global,
-        slots: &mut Slots<Parked<D>>,
-        from: u32,
-        to: u32,
-    ) -> Reply
-        requires { IsDriveAddress from }
-        ensures { (bay bay' : BayState D) × HoldsBoth D.state self.old back.old bay bay' self.new back.new
-            × MovesEach D.state from to slots.old (Some bay) None result slots.new (Some bay') None }
-    {
-        let (mut bay, ends) = join_held(rt, &mut self.half, &mut back.half);
-        let reply = move_from(alloc, slots, &mut bay, from, to);
-        part_held(bay, ends, &mut self.half, &mut back.half);
-        reply
-    }
-
-    /// A move into this drive, whose disk's half is `back`. `from` names no drive.
-    pub(crate) fn move_in<R: Wait>(
-        &mut self,
-        back: &mut BackPlace<D, B>,
-        rt: &R,
-        alloc: Global,
-        slots: &mut Slots<Parked<D>>,
-        from: u32,
-        to: u32,
-    ) -> Reply
-        requires destination { IsDriveAddress to }
-        requires apart { from ≢ to }
-        ensures { (bay bay' : BayState D) × HoldsBoth D.state self.old back.old bay bay' self.new back.new
-            × MovesEach D.state from to slots.old None (Some bay) result slots.new None (Some bay') }
-    {
-        let (mut bay, ends) = join_held(rt, &mut self.half, &mut back.half);
-        let reply = move_to(alloc, slots, &mut bay, from, to);
-        part_held(bay, ends, &mut self.half, &mut back.half);
-        reply
-    }
-
-    /// A move out of this drive into another one. `back` and `behind` are their disk's halves.
-    pub(crate) fn move_across<R: Wait>(
-        &mut self,
-        back: &mut BackPlace<D, B>,
-        other: &mut FrontPlace<D, B>,
-        behind: &mut BackPlace<D, B>,
+        destination: Option<LockedBay<'_, D, B>>,
         rt: &R,
         alloc: Global,
         slots: &mut Slots<Parked<D>>,
@@ -145,17 +147,44 @@ impl<D: Disk + Drop, B: Parties + Rings> FrontPlace<D, B> {
         to: u32,
     ) -> Reply
         requires source { IsDriveAddress from }
-        requires destination { IsDriveAddress to }
-        requires apart { from ≢ to }
-        ensures { (bay bay' end end' : BayState D) × HoldsBoth D.state self.old back.old bay bay' self.new back.new
-            × HoldsBoth D.state other.old behind.old end end' other.new behind.new
-            × MovesEach D.state from to slots.old (Some bay) (Some end) result slots.new (Some bay') (Some end') }
+        requires destination { IfSome destination (λ drive. IsDriveAddress to × (from ≢ to)) }
+        ensures { (bay bay' : BayState D) × (end end' : Option (BayState D))
+            × (is_some end ≡ is_some destination.entry)
+            × HoldsBoth D.state self.old back.old bay bay' self.new back.new
+            × MovesEach D.state from to slots.old (Some bay) end result slots.new (Some bay') end' }
     {
-        let (mut source, ends) = join_held(rt, &mut self.half, &mut back.half);
-        let (mut destination, others) = join_held(rt, &mut other.half, &mut behind.half);
-        let reply = move_between(alloc, slots, &mut source, &mut destination, from, to);
-        part_held(source, ends, &mut self.half, &mut back.half);
-        part_held(destination, others, &mut other.half, &mut behind.half);
+        let (bay, ends) = join_held(rt, &mut self.half, &mut back.half);
+        let mut source = Some(bay);
+        let reply = move_to(&mut source, destination, rt, alloc, slots, from, to);
+        let Some(bay) = source else { unreachable!() };
+        part_held(bay, ends, &mut self.half, &mut back.half);
+        reply
+    }
+
+    // A move into this drive, whose disk's half is `back`. A drive at the source is put together.
+    fn move_in<R: Wait>(
+        &mut self,
+        back: &mut BackPlace<D, B>,
+        source: &mut Option<Bay<D>>,
+        rt: &R,
+        alloc: Global,
+        slots: &mut Slots<Parked<D>>,
+        from: u32,
+        to: u32,
+    ) -> Reply
+        requires source { IfSome source.old (λ bay. IsDriveAddress from) }
+        requires destination { IsDriveAddress to × (from ≢ to) }
+        ensures moves { (bay bay' : BayState D) × HoldsBoth D.state self.old back.old bay bay' self.new back.new
+            × MovesEach D.state from to slots.old source.old (Some bay) result slots.new source.new (Some bay') }
+        ensures count { KeepsCount source.old source.new }
+    {
+        let (bay, ends) = join_held(rt, &mut self.half, &mut back.half);
+        let mut destination = Some(bay);
+        let reply = move_known(alloc, slots, source, &mut destination, from, to);
+        let Some(bay) = destination else {
+            unreachable!()
+        };
+        part_held(bay, ends, &mut self.half, &mut back.half);
         reply
     }
 }
