@@ -1,6 +1,6 @@
 // A plain program in the place of `vtl serve` for served.py: frames come by standard input, answers go to standard
-// output. The blocks of each host go to a file of its own, FOLDER/N.plain, by a thread of its own, with a sync behind
-// each EACH blocks; a filemark is answered when all of them are in the file. Nothing is checked.
+// output. The blocks of each host go to a file of its own, FOLDER/N.plain, by a thread of its own, with SYNCS
+// syncs for each BLOCKS blocks; a filemark is answered when all of them are in the file. No command is checked.
 #include <fcntl.h>
 #include <pthread.h>
 #include <stdint.h>
@@ -25,7 +25,7 @@ static struct host {
     int file, ended;
 } hosts[HOSTS];
 
-static unsigned long each;
+static unsigned long most, syncs;
 
 static void fail(const char *why) {
     fprintf(stderr, "files: %s\n", why);
@@ -45,8 +45,10 @@ static void *write_blocks(void *given) {
         if (write(host->file, block.data, block.length) != (ssize_t)block.length)
             fail("a block was not written");
         free(block.data);
-        if ((host->written + 1) % each == 0 && fsync(host->file))
-            fail("a file was not synced");
+        unsigned long due = (host->written + 1) * syncs / most - host->written * syncs / most;
+        while (due--)
+            if (fsync(host->file))
+                fail("a file was not synced");
         pthread_mutex_lock(&host->lock);
         host->written++;
         pthread_cond_broadcast(&host->changed);
@@ -87,12 +89,13 @@ static void open_file(struct host *host, const char *folder, int number) {
 }
 
 int main(int count, char **words) {
-    if (count != 3 || !(each = strtoul(words[2], 0, 10)))
-        fail("files FOLDER EACH");
+    if (count != 4 || !(most = strtoul(words[2], 0, 10)))
+        fail("files FOLDER BLOCKS SYNCS");
+    syncs = strtoul(words[3], 0, 10);
     for (int at = 0; at < HOSTS; at++)
         open_file(&hosts[at], words[1], at + 1);
     unsigned char header[HEADER], command[HEADER];
-    while (whole(header, HEADER) && whole(command, header[3])) {
+    while (whole(header, HEADER) && header[3] <= HEADER && whole(command, header[3])) {
         size_t length = (size_t)header[4] << 24 | header[5] << 16 | header[6] << 8 | header[7];
         struct block block = {length ? malloc(length) : 0, length};
         if (header[1] < 1 || header[1] > HOSTS || !block.data != !length || !whole(block.data, length))

@@ -1,6 +1,6 @@
 // A front end of `vtl serve` without a copy of its own, for bench/served.py: answers are read from standard input,
 // requests are written to standard output. Each of HOSTS hosts has a drive of its own and writes BLOCKS blocks of
-// 262,144 bytes to it, a filemark behind each GROUP of them; WINDOW commands of a host are not answered at a time.
+// 262,144 bytes to it, a filemark behind each GROUP of them; at most WINDOW commands of a host wait for their answers.
 // Each answer has to be GOOD. The pipe to the library is made larger first, as a front end may do. The seconds that it
 // took are written to standard error.
 #define _GNU_SOURCE

@@ -122,8 +122,8 @@ class Bench:
         return seconds
 
     def writes(self, drives=1, blocks=BLOCKS, **environment):
-        """So many blocks to each of these drives, by a host each, a filemark each 64 MiB; two commands of a host are
-        not answered at a time. The front end is front.c, so that what it takes itself is little."""
+        """So many blocks to each of these drives, by a host each, a filemark each 64 MiB; at most two commands of a
+        host wait for their answers. The front end is front.c, so that what it takes itself is little."""
         peer = self.library(drives, **environment)
         for at in range(1, drives + 1):
             peer.exchange(READY, b"", at, at)
@@ -132,8 +132,10 @@ class Bench:
     def sent(self, peer, hosts, blocks):
         """How long the front end's blocks take at the other end, in seconds."""
         words = [self.front, str(hosts), str(blocks), str(GROUP), "2"]
-        return float(subprocess.run(words, stdin=peer.answers, stdout=peer.process.stdin, stderr=subprocess.PIPE,
-                                    check=True).stderr)
+        ran = subprocess.run(words, stdin=peer.answers, stdout=peer.process.stdin, stderr=subprocess.PIPE, check=False)
+        if ran.returncode:
+            sys.exit(ran.stderr.decode())
+        return float(ran.stderr)
 
     def written(self, drives=1, blocks=BLOCKS, **environment):
         peer, seconds = self.writes(drives, blocks, **environment)
@@ -143,7 +145,7 @@ class Bench:
     def plainly(self, hosts, syncs):
         """The same blocks at a plain program in C, which only writes them to a file for each host, by a thread each,
         with as many syncs."""
-        peer = Peer([self.files, self.folder, str(BLOCKS // syncs)], self.folder)
+        peer = Peer([self.files, self.folder, str(BLOCKS), str(syncs)], self.folder)
         seconds = self.sent(peer, hosts, BLOCKS)
         peer.end()
         return seconds

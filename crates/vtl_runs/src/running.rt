@@ -194,7 +194,7 @@ fn run_config<
     run_started(rt, alloc, sides, held, reader, writer)
 }
 
-/// Runs a script over the library of the words.
+/// Runs a script over the built-in library, or over that of the named configuration.
 pub fn run_order<
     D: Disk + Drop + Send,
     F: TextFiles + ChangeFiles<D> + SecondFiles<D> + TakesBack<Held<D>, NotStarted<D>>,

@@ -145,7 +145,7 @@ fn serve_config<
     serve_started(rt, alloc, sides, held, labels, reader, writer)
 }
 
-/// Serves all hosts over the library of the words.
+/// Serves all hosts over the built-in library, or over that of the named configuration.
 pub fn serve_order<
     D: Disk + Drop + Send,
     F: TextFiles + ChangeFiles<D> + SecondFiles<D> + TakesBack<Held<D>, NotStarted<D>>,
