@@ -20,7 +20,7 @@ use Rattle.vtl_files.specs.Creating.{MakeAnswers, PrintsFiles, files_of, makes_o
 use Rattle.vtl_program.specs.Files.{FileAnswers}
 use Rattle.vtl_files.specs.Configured.{ReadsConfig}
 use Rattle.vtl_program.specs.Program.{EndsProgram}
-use Rattle.vtl_runs.specs.Running.{IsIdle}
+use Rattle.vtl_runs.specs.Running.{IsIdle, RunsOrder}
 use Rattle.vtl_files.specs.Reclaims.{ReclaimsNamed}
 use Rattle.vtl_runs.specs.Serving.{ServesOrder}
 use Rattle.vtl_runs.specs.Sides.{file_sides}
