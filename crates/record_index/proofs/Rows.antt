@@ -70,8 +70,8 @@ set_here (y ∷ xs) zero x is = (let same : x ≡ y = cc in λ i. same i ∷ xs)
 set_here (y ∷ xs) (suc k) x is = ap (λ l. y ∷ l) (set_here xs k x is)
 
 -- an element at a place is there among more of the first as well
-pub slice_get_staying : {A : Type 0} (n : ℕ) (xs : List A) (k : ℕ) → k < n → slice_get (take n xs) k ≡ slice_get xs k
-slice_get_staying zero xs k within = absurd (omega (arith, within))
-slice_get_staying (suc n) [] k within = refl
-slice_get_staying (suc n) (x ∷ xs) zero within = refl
-slice_get_staying (suc n) (x ∷ xs) (suc k) within = slice_get_staying n xs k (omega (arith, within))
+pub slice_get_in_take : {A : Type 0} (n : ℕ) (xs : List A) (k : ℕ) → k < n → slice_get (take n xs) k ≡ slice_get xs k
+slice_get_in_take zero xs k within = absurd (omega (arith, within))
+slice_get_in_take (suc n) [] k within = refl
+slice_get_in_take (suc n) (x ∷ xs) zero within = refl
+slice_get_in_take (suc n) (x ∷ xs) (suc k) within = slice_get_in_take n xs k (omega (arith, within))

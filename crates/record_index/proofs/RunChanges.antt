@@ -12,7 +12,7 @@ use Rattle.record_index.specs.MarkRuns.{AreRunsOf, HasMarkAt, IsMarkRun, placed_
 use Rattle.record_index.specs.Inner.RunSearch.{IsLastBelow, IsNotBelow}
 use Rattle.record_index.proofs.PlacedMarks.{mark_within, same_run}
 use Rattle.record_index.proofs.RunLemmas.{first_rises, rest_later}
-use Rattle.record_index.proofs.Rows.{slice_get_staying, slice_get_left, slice_get_right, slice_get_row, slice_get_taken}
+use Rattle.record_index.proofs.Rows.{slice_get_in_take, slice_get_left, slice_get_right, slice_get_row, slice_get_taken}
 
 module _ (objects : List Placed) (runs : List MarkRun) (are : AreRunsOf objects runs) where
   -- the runs before a place that does not follow a mark
@@ -43,7 +43,7 @@ module _ (objects : List Placed) (runs : List MarkRun) (are : AreRunsOf objects 
           record {
             some = one.some;
             marks = λ at low high.
-                slice_get_staying end objects at (omega (arith, high, within)) ∙ one.marks at low high;
+                slice_get_in_take end objects at (omega (arith, high, within)) ∙ one.marks at low high;
             before =
                 one.before
                 ∙ ap placed_marks (sym (take-take run.first end objects (omega (arith, within))));
@@ -64,7 +64,7 @@ module _ (objects : List Placed) (runs : List MarkRun) (are : AreRunsOf objects 
               old.0,
             ))
           ] in
-          (found.0, found.1, slice_get_staying staying runs found.0 less ∙ found.2, found.3, found.4);
+          (found.0, found.1, slice_get_in_take staying runs found.0 less ∙ found.2, found.3, found.4);
     }
 
     -- where it follows a mark, one more run begins there

@@ -79,11 +79,11 @@ module _ (bytes : List ℕ) (changes : List Change) (begin at : ℕ) (head : Lis
   pub stands_over : (more : List ℕ) (to : ℕ) → length head ≡ 10 → to ≡ at + length more
       → Stands (bytes ++ more) changes begin to head
   stands_over more to whole is =
-      subst (λ (h : List ℕ). Stands (bytes ++ more) changes begin to h) staying
+      subst (λ (h : List ℕ). Stands (bytes ++ more) changes begin to h) same_head
       (subst (λ (n : ℕ). Stands (bytes ++ more) changes begin n (take 10 (head ++ more))) (sym is) (stands_more more))
     where
-      staying : take 10 (head ++ more) ≡ head
-      staying = take_at head more 10 whole
+      same_head : take 10 (head ++ more) ≡ head
+      same_head = take_at head more 10 whole
 
   -- with more bytes of a head
   pub stands_filled : (piece new : List ℕ) (count to : ℕ) → count ≡ min (10 - length head) (length piece)

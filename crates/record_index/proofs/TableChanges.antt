@@ -11,7 +11,7 @@ use Rattle.record_index.specs.declared.halving.Key.TheVariants.{First}
 use Rattle.record_index.specs.MarkRuns.{AreRunsOf, HasMarkAt, placed_marks}
 use Rattle.record_index.specs.Inner.RunSearch.{IsLastBelow, IsNotBelow}
 use Rattle.record_index.specs.Inner.Tables.{AreTables, IsSplitAt, IsTable, blocks_of, cost_of_objects, cost_of_placed, objects_of, padded}
-use Rattle.record_index.proofs.Rows.{slice_get_staying}
+use Rattle.record_index.proofs.Rows.{slice_get_in_take}
 use Rattle.record_index.proofs.PlacedMarks.{mark_within}
 use Rattle.record_index.proofs.RunChanges.{staying_runs, one_behind, runs_with_block, runs_with_marks}
 use Rattle.record_index.proofs.TableLemmas.{blocks_push, length_padded, marks_of_blocks, no_mark_last, padded_none, padded_on, table_push, table_take}
@@ -42,7 +42,7 @@ module _ (entries : List BlockEntry) (objects : List Placed) (runs : List MarkRu
   ends at next mark =
       no_mark_last entries at (next ∙ end_is)
       (ap (λ (l : List Placed). slice_get l at) (sym begins)
-      ∙ slice_get_staying (length front) objects at (omega (arith, next, end_is)) ∙ mark)
+      ∙ slice_get_in_take (length front) objects at (omega (arith, next, end_is)) ∙ mark)
 
   staying_are : AreRunsOf front (take count runs)
   staying_are =
