@@ -1,3 +1,3 @@
 mod FitLemmas
 mod LawLemmas
-pub mod TextLemmas
+mod TextLemmas

@@ -1,9 +1,9 @@
-pub mod AnswerLemmas
-pub mod ContentsLemmas
-pub mod CoreLemmas
-pub mod DecidingLemmas
-pub mod OpeningLemmas
-pub mod SavingLemmas
-pub mod SpellingLemmas
-pub mod DecodingLemmas
-pub mod UniqueLemmas
+mod AnswerLemmas
+mod ContentsLemmas
+mod CoreLemmas
+mod DecidingLemmas
+mod OpeningLemmas
+mod SavingLemmas
+mod SpellingLemmas
+mod DecodingLemmas
+mod UniqueLemmas

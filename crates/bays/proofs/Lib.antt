@@ -1,27 +1,27 @@
-pub mod AcceptedLemmas
-pub mod BayLemmas
-pub mod CarriedLemmas
-pub mod CartridgeLemmas
-pub mod CoreLemmas
-pub mod CountLemmas
-pub mod DrivesLemmas
-pub mod EndLemmas
-pub mod FinishLemmas
-pub mod JourneyLemmas
-pub mod LentLemmas
-pub mod LiftedLemmas
-pub mod MachineLemmas
-pub mod MomentLemmas
-pub mod MoveLemmas
-pub mod PlaceLemmas
-pub mod SameLemmas
-pub mod StandLemmas
-pub mod StopLemmas
-pub mod StoreCoreLemmas
-pub mod CallLemmas
-pub mod BesideLemmas
-pub mod ServedLemmas
-pub mod OneHostLemmas
-pub mod ReturnLemmas
-pub mod RunKeepsLemmas
-pub mod RunnerLemmas
+mod AcceptedLemmas
+mod BayLemmas
+mod CarriedLemmas
+mod CartridgeLemmas
+mod CoreLemmas
+mod CountLemmas
+mod DrivesLemmas
+mod EndLemmas
+mod FinishLemmas
+mod JourneyLemmas
+mod LentLemmas
+mod LiftedLemmas
+mod MachineLemmas
+mod MomentLemmas
+mod MoveLemmas
+mod PlaceLemmas
+mod SameLemmas
+mod StandLemmas
+mod StopLemmas
+mod StoreCoreLemmas
+mod CallLemmas
+mod BesideLemmas
+mod ServedLemmas
+mod OneHostLemmas
+mod ReturnLemmas
+mod RunKeepsLemmas
+mod RunnerLemmas

@@ -1,13 +1,13 @@
-pub mod FaultLemmas
-pub mod TakesLemmas
+mod FaultLemmas
+mod TakesLemmas
 pub mod QuietLemmas
-pub mod DataLemmas
-pub mod OrderLemmas
-pub mod CleanLemmas
+mod DataLemmas
+mod OrderLemmas
+mod CleanLemmas
 pub mod SettledLemmas
-pub mod AloneLemmas
-pub mod AppendLemmas
+mod AloneLemmas
+mod AppendLemmas
 pub mod ReadLemmas
-pub mod PassLemmas
-pub mod LoadLemmas
-pub mod LoadingLemmas
+mod PassLemmas
+mod LoadLemmas
+mod LoadingLemmas

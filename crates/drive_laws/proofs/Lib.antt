@@ -1,14 +1,14 @@
-pub mod CountLemmas
-pub mod AlikeLemmas
-pub mod CommandLemmas
-pub mod DeterminedLoads
-pub mod DeterminedParks
-pub mod DeterminedOrders
-pub mod DeterminedVerdicts
-pub mod DeterminedWorks
-pub mod DeterminedChecks
-pub mod DeterminedLemmas
-pub mod DeterminedRuns
-pub mod ShownLemmas
-pub mod StepLemmas
-pub mod RunLemmas
+mod CountLemmas
+mod AlikeLemmas
+mod CommandLemmas
+mod DeterminedLoads
+mod DeterminedParks
+mod DeterminedOrders
+mod DeterminedVerdicts
+mod DeterminedWorks
+mod DeterminedChecks
+mod DeterminedLemmas
+mod DeterminedRuns
+mod ShownLemmas
+mod StepLemmas
+mod RunLemmas

@@ -1,5 +1,5 @@
-pub mod BeginLemmas
-pub mod DoubtLemmas
-pub mod RestedLemmas
-pub mod RunLemmas
-pub mod TransferLemmas
+mod BeginLemmas
+mod DoubtLemmas
+mod RestedLemmas
+mod RunLemmas
+mod TransferLemmas

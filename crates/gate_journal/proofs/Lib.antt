@@ -1,15 +1,15 @@
-pub mod AskedLemmas
-pub mod Bodies
-pub mod DecodingLemmas
-pub mod Extents
-pub mod GateLemmas
-pub mod HeadLemmas
-pub mod Marks
-pub mod Names
-pub mod Numbers
-pub mod Parts
-pub mod PieceLemmas
-pub mod Smears
-pub mod SpelledLemmas
-pub mod Walks
-pub mod Writing
+mod AskedLemmas
+mod Bodies
+mod DecodingLemmas
+mod Extents
+mod GateLemmas
+mod HeadLemmas
+mod Marks
+mod Names
+mod Numbers
+mod Parts
+mod PieceLemmas
+mod Smears
+mod SpelledLemmas
+mod Walks
+mod Writing

@@ -1,15 +1,15 @@
-pub mod CountLemmas
-pub mod CrewLemmas
-pub mod DoneLemmas
-pub mod EndLemmas
-pub mod HalfLemmas
-pub mod HostLemmas
-pub mod JobLemmas
-pub mod LoopLemmas
-pub mod OutcomeLemmas
-pub mod RowLemmas
-pub mod SaveLemmas
-pub mod SeenLemmas
-pub mod ServedLemmas
-pub mod SessionLemmas
-pub mod ThreadLemmas
+mod CountLemmas
+mod CrewLemmas
+mod DoneLemmas
+mod EndLemmas
+mod HalfLemmas
+mod HostLemmas
+mod JobLemmas
+mod LoopLemmas
+mod OutcomeLemmas
+mod RowLemmas
+mod SaveLemmas
+mod SeenLemmas
+mod ServedLemmas
+mod SessionLemmas
+mod ThreadLemmas

@@ -1,5 +1,5 @@
-pub mod MarkLemmas
-pub mod CountLemmas
-pub mod EndLemmas
-pub mod WalkLemmas
-pub mod LawLemmas
+mod MarkLemmas
+mod CountLemmas
+mod EndLemmas
+mod WalkLemmas
+mod LawLemmas

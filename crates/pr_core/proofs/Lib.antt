@@ -1,6 +1,6 @@
-pub mod SetLemmas
-pub mod LawLemmas
-pub mod HeldLemmas
-pub mod RuleLemmas
-pub mod ReadLemmas
-pub mod SaveLemmas
+mod SetLemmas
+mod LawLemmas
+mod HeldLemmas
+mod RuleLemmas
+mod ReadLemmas
+mod SaveLemmas

@@ -1,16 +1,16 @@
-pub mod Rows
-pub mod StepLemmas
-pub mod PlacedMarks
-pub mod RunLemmas
-pub mod RunChanges
-pub mod TableLemmas
-pub mod SplitLemmas
-pub mod TableChanges
-pub mod Reading
-pub mod HeadLemmas
-pub mod StandLemmas
-pub mod ReaderLemmas
-pub mod Decoding
-pub mod Parts
-pub mod ChangedIndex
-pub mod IndexMarks
+mod Rows
+mod StepLemmas
+mod PlacedMarks
+mod RunLemmas
+mod RunChanges
+mod TableLemmas
+mod SplitLemmas
+mod TableChanges
+mod Reading
+mod HeadLemmas
+mod StandLemmas
+mod ReaderLemmas
+mod Decoding
+mod Parts
+mod ChangedIndex
+mod IndexMarks

@@ -1,2 +1,2 @@
-pub mod BitLemmas
-pub mod EstablishedLemmas
+mod BitLemmas
+mod EstablishedLemmas

@@ -1,9 +1,9 @@
-pub mod ChooseLemmas
-pub mod CopyLemmas
-pub mod CutLemmas
-pub mod GateLemmas
-pub mod GivenLemmas
-pub mod HoleLemmas
-pub mod PassLemmas
-pub mod RunLemmas
-pub mod SpellLemmas
+mod ChooseLemmas
+mod CopyLemmas
+mod CutLemmas
+mod GateLemmas
+mod GivenLemmas
+mod HoleLemmas
+mod PassLemmas
+mod RunLemmas
+mod SpellLemmas

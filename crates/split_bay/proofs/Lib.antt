@@ -1,16 +1,16 @@
-pub mod ApartLemmas
-pub mod BayHalvesLemmas
-pub mod FoundLemmas
-pub mod FrontLemmas
-pub mod HalvesLemmas
-pub mod HalvingLemmas
-pub mod HostsLemmas
-pub mod JoinedLemmas
-pub mod LookLemmas
-pub mod NearLemmas
-pub mod RingLemmas
-pub mod SpanLemmas
-pub mod TakenLemmas
-pub mod TurnedLemmas
-pub mod UnreportedLemmas
-pub mod ReportLemmas
+mod ApartLemmas
+mod BayHalvesLemmas
+mod FoundLemmas
+mod FrontLemmas
+mod HalvesLemmas
+mod HalvingLemmas
+mod HostsLemmas
+mod JoinedLemmas
+mod LookLemmas
+mod NearLemmas
+mod RingLemmas
+mod SpanLemmas
+mod TakenLemmas
+mod TurnedLemmas
+mod UnreportedLemmas
+mod ReportLemmas

@@ -1,22 +1,22 @@
-pub mod TwoLemmas
-pub mod AddingLemmas
-pub mod ClosingLemmas
-pub mod CoreLemmas
-pub mod CutLemmas
-pub mod FetchingLemmas
-pub mod FrameLemmas
-pub mod FreeLemmas
-pub mod HeldLemmas
-pub mod LentLemmas
-pub mod LooseLemmas
-pub mod MediumLemmas
-pub mod OpeningLemmas
-pub mod PendingLemmas
-pub mod PutLemmas
-pub mod ReclaimingLemmas
-pub mod RefusalLemmas
-pub mod RoomLemmas
-pub mod SeenLemmas
-pub mod TailLemmas
-pub mod VolumeLemmas
-pub mod WakingLemmas
+mod TwoLemmas
+mod AddingLemmas
+mod ClosingLemmas
+mod CoreLemmas
+mod CutLemmas
+mod FetchingLemmas
+mod FrameLemmas
+mod FreeLemmas
+mod HeldLemmas
+mod LentLemmas
+mod LooseLemmas
+mod MediumLemmas
+mod OpeningLemmas
+mod PendingLemmas
+mod PutLemmas
+mod ReclaimingLemmas
+mod RefusalLemmas
+mod RoomLemmas
+mod SeenLemmas
+mod TailLemmas
+mod VolumeLemmas
+mod WakingLemmas

@@ -1,4 +1,4 @@
-pub mod Replays
-pub mod Steps
-pub mod Torn
+mod Replays
+mod Steps
+mod Torn
 mod SparseLemmas

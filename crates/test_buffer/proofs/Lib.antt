@@ -1,1 +1,1 @@
-pub mod TestLemmas
+mod TestLemmas

@@ -1,1 +1,1 @@
-pub mod StagedLemmas
+mod StagedLemmas

@@ -1,1 +1,1 @@
-pub mod VolumeLemmas
+mod VolumeLemmas

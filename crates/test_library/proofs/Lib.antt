@@ -1,2 +1,2 @@
-pub mod FreshLemmas
-pub mod HostLemmas
+mod FreshLemmas
+mod HostLemmas

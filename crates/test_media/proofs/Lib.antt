@@ -1,1 +1,1 @@
-pub mod MediumLemmas
+mod MediumLemmas

@@ -1,1 +1,1 @@
-pub mod AwakeLemmas
+mod AwakeLemmas

@@ -1,2 +1,2 @@
-pub mod VolumeLemmas
-pub mod MarkLemmas
+mod VolumeLemmas
+mod MarkLemmas

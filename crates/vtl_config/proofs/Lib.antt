@@ -1,9 +1,9 @@
-pub mod KeyLemmas
-pub mod ValueLemmas
-pub mod ListLemmas
-pub mod DoubleLemmas
-pub mod CapacityLemmas
-pub mod EntryLemmas
-pub mod SameLemmas
-pub mod FitLemmas
-pub mod BreakLemmas
+mod KeyLemmas
+mod ValueLemmas
+mod ListLemmas
+mod DoubleLemmas
+mod CapacityLemmas
+mod EntryLemmas
+mod SameLemmas
+mod FitLemmas
+mod BreakLemmas

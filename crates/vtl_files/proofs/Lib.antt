@@ -1,7 +1,7 @@
-pub mod CheckLemmas
+mod CheckLemmas
 mod ConfigLemmas
 mod CreatingLemmas
-pub mod OneTextLemmas
+mod OneTextLemmas
 mod ReclaimLemmas
-pub mod SideTextLemmas
+mod SideTextLemmas
 pub mod TakenLemmas

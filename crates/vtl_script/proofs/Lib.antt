@@ -1,15 +1,15 @@
-pub mod BehindLemmas
-pub mod DueLemmas
-pub mod HostLemmas
-pub mod InOrderLemmas
-pub mod ItemLemmas
-pub mod LineLemmas
-pub mod PartLemmas
-pub mod PhaseLemmas
-pub mod ReadingLemmas
-pub mod RefusedLemmas
-pub mod RunLemmas
-pub mod ScriptLemmas
-pub mod SplitLemmas
-pub mod TextLemmas
-pub mod TurnLemmas
+mod BehindLemmas
+mod DueLemmas
+mod HostLemmas
+mod InOrderLemmas
+mod ItemLemmas
+mod LineLemmas
+mod PartLemmas
+mod PhaseLemmas
+mod ReadingLemmas
+mod RefusedLemmas
+mod RunLemmas
+mod ScriptLemmas
+mod SplitLemmas
+mod TextLemmas
+mod TurnLemmas

@@ -1,20 +1,20 @@
-pub mod AnswerHeadLemmas
-pub mod AnswerLemmas
-pub mod AnswerReadLemmas
-pub mod BeginLemmas
-pub mod BehindLemmas
-pub mod EntryLemmas
-pub mod EntryReadLemmas
-pub mod FillLemmas
-pub mod FrameLemmas
-pub mod HeadLemmas
-pub mod HeaderLemmas
-pub mod LawLemmas
-pub mod ReaderLemmas
-pub mod RequestLemmas
-pub mod RequestReadLemmas
-pub mod SenseLemmas
-pub mod SenseReadLemmas
-pub mod ServeLemmas
-pub mod TestLemmas
-pub mod WriteLemmas
+mod AnswerHeadLemmas
+mod AnswerLemmas
+mod AnswerReadLemmas
+mod BeginLemmas
+mod BehindLemmas
+mod EntryLemmas
+mod EntryReadLemmas
+mod FillLemmas
+mod FrameLemmas
+mod HeadLemmas
+mod HeaderLemmas
+mod LawLemmas
+mod ReaderLemmas
+mod RequestLemmas
+mod RequestReadLemmas
+mod SenseLemmas
+mod SenseReadLemmas
+mod ServeLemmas
+mod TestLemmas
+mod WriteLemmas
