@@ -48,74 +48,87 @@ fn other_lengths(rt: HostRuntime) -> Result<(), Fail> {
     Ok(())
 }
 
-// Each field alone, worked by hand.
+// Sense data of this key with these flags: deferred, filemark, end of medium, incorrect length.
+fn flagged(key: SenseKey, information: Option<u32>, flags: (bool, bool, bool, bool)) -> Sense {
+    Sense {
+        key,
+        code: 0,
+        qualifier: 0,
+        filemark: flags.1,
+        end_of_medium: flags.2,
+        incorrect_length: flags.3,
+        information,
+        deferred: flags.0,
+    }
+}
+
+// Each flag alone, worked by hand.
 #[test]
-fn each_field(rt: HostRuntime) -> Result<(), Fail> {
+fn each_flag(rt: HostRuntime) -> Result<(), Fail> {
     let rows = [
         (
             "710000000000000a00000000000000000000",
-            SenseKey::NoSense,
-            None,
-            (true, false, false, false),
+            flagged(SenseKey::NoSense, None, (true, false, false, false)),
         ),
         (
             "700083000000000a00000000000000000000",
-            SenseKey::MediumError,
-            None,
-            (false, true, false, false),
+            flagged(SenseKey::MediumError, None, (false, true, false, false)),
         ),
         (
             "700044000000000a00000000000000000000",
-            SenseKey::HardwareError,
-            None,
-            (false, false, true, false),
+            flagged(SenseKey::HardwareError, None, (false, false, true, false)),
         ),
         (
             "700025000000000a00000000000000000000",
-            SenseKey::IllegalRequest,
-            None,
-            (false, false, false, true),
+            flagged(SenseKey::IllegalRequest, None, (false, false, false, true)),
         ),
+    ];
+    for (text, wanted) in &rows {
+        assert_equal!(rt; read_sense(bytes(rt.alloc(), text)?.as_slice()), Some(*wanted); text);
+    }
+    Ok(())
+}
+
+// INFORMATION with VALID, and flags together, worked by hand.
+#[test]
+fn information_and_flags(rt: HostRuntime) -> Result<(), Fail> {
+    let rows = [
         (
             "f00006010203040a00000000000000000000",
-            SenseKey::UnitAttention,
-            Some(16_909_060),
-            (false, false, false, false),
+            flagged(
+                SenseKey::UnitAttention,
+                Some(16_909_060),
+                (false, false, false, false),
+            ),
         ),
         (
             "f10008ffffffff0a00000000000000000000",
-            SenseKey::BlankCheck,
-            Some(4_294_967_295),
-            (true, false, false, false),
+            flagged(
+                SenseKey::BlankCheck,
+                Some(4_294_967_295),
+                (true, false, false, false),
+            ),
         ),
         (
             "f000eb000000000a00000000000000000000",
-            SenseKey::AbortedCommand,
-            Some(0),
-            (false, true, true, true),
+            flagged(SenseKey::AbortedCommand, Some(0), (false, true, true, true)),
         ),
         (
             "70006d000000000a00000000000000000000",
-            SenseKey::VolumeOverflow,
-            None,
-            (false, false, true, true),
+            flagged(SenseKey::VolumeOverflow, None, (false, false, true, true)),
         ),
     ];
-    for (text, key, information, flags) in &rows {
-        let wanted = Sense {
-            key: *key,
-            code: 0,
-            qualifier: 0,
-            filemark: flags.1,
-            end_of_medium: flags.2,
-            incorrect_length: flags.3,
-            information: *information,
-            deferred: flags.0,
-        };
-        assert_equal!(rt; read_sense(bytes(rt.alloc(), text)?.as_slice()), Some(wanted); text);
+    for (text, wanted) in &rows {
+        assert_equal!(rt; read_sense(bytes(rt.alloc(), text)?.as_slice()), Some(*wanted); text);
     }
-    let code = read_sense(bytes(rt.alloc(), "700002000000000a000000003b0e00000000")?.as_slice());
-    match code {
+    Ok(())
+}
+
+// Both bytes of the code.
+#[test]
+fn code_and_qualifier(rt: HostRuntime) -> Result<(), Fail> {
+    let sense = read_sense(bytes(rt.alloc(), "700002000000000a000000003b0e00000000")?.as_slice());
+    match sense {
         Some(sense) => assert_equal!(rt; (sense.code, sense.qualifier), (0x3b, 0x0e)),
         None => assert_holds!(rt; false, "sense data"),
     }
