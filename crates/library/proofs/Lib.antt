@@ -1,15 +1,10 @@
 mod CountLemmas
-mod CrewLemmas
-mod DoneLemmas
 mod EndLemmas
 mod HalfLemmas
-mod HostLemmas
-mod JobLemmas
 mod LoopLemmas
 mod OutcomeLemmas
 mod RowLemmas
 mod SaveLemmas
 mod SeenLemmas
 mod ServedLemmas
-mod SessionLemmas
-mod ThreadLemmas
+pub mod SessionLemmas

@@ -102,9 +102,3 @@ balances seats hosts counted held total sum written counts compared result is al
   same = λ every. all ∙ sym (same every) ∙ summed;
   all = λ every. reports_all total sum written counts compared result is (same every) short;
 }
-
--- a good end reports the counts alone
-pub reported_of : (result : Result (List (Option ℕ)) FinishError) (counts : List (Option ℕ)) (sum : ℕ)
-    → IfOk result (λ c. (c ≡ counts) × (sum_of_counts c ≡ sum)) → IfOk result (λ c. c ≡ counts)
-reported_of (Ok found) counts sum both = both.0
-reported_of (Err error) counts sum both = tt

@@ -1,8 +1,12 @@
 -- The end of a library that threads shared.
-use Rattle.std.specs.Prelude.{◌≡◌, ◌<◌, ◌≤◌, ℕ, List, Option, Result, IfErr, map, sum_by}
+use Rattle.std.specs.Prelude.{◌≡◌, ◌≢◌, ◌<◌, ◌≤◌, ℕ, List, Option, Result, Err, IfErr, map, sum_by}
+use Rattle.tape_disk.specs.Disk.{DiskState}
 use Rattle.ledgers.specs.Ledgers.{SeatState}
-use Rattle.bays.specs.Elements.{BayState}
-use Rattle.library.specs.Counts.{count_of_drive, or_none}
+use Rattle.tape_buffer.specs.State.{BufferState}
+use Rattle.bays.specs.Elements.{BayState, bay_at}
+use Rattle.bays.specs.Finish.{HasFailedAt, IsWrittenAt}
+use Rattle.library.specs.Counts.{count_of_drive, or_none, which_are_there}
+use Rattle.library.specs.Keeps.{AreLeft}
 use Rattle.library.specs.declared.finishing.FinishError.{FinishError}
 use Rattle.library.specs.declared.finishing.FinishError.TheVariants.{Unwritten, SeatsMissing}
 
@@ -30,3 +34,17 @@ pub record Balances (seats hosts counted held : ℕ) (counts : Result (List (Opt
 abbrev pub IsShort : FinishError → ℕ → ℕ → Type 0
 IsShort Unwritten counted held = Unit {0}
 IsShort (SeatsMissing total seats) counted held = (total ≡ counted) × (seats ≡ held) × (held < counted)
+
+module _ {D : Type 0} (state : D → DiskState) where
+  -- A library with the same drives as before ended with these slots and drives. Each drive took a turn at the end, and
+  -- slots and drives have their invariants. Nothing is left to write, or a medium has failed, and that is reported; no
+  -- seat is missing (own).
+  pub record EndsShared
+      (bays bays' : List (Option (BayState D))) (slots' : List (Option (BufferState D)))
+      (counts : Result (List (Option ℕ)) FinishError) : Type 0 where
+    pub drives : which_are_there bays' ≡ which_are_there bays
+    pub left : AreLeft state slots' bays'
+    pub unwritten :
+        counts ≡ Err Unwritten → (number : ℕ) × HasFailedAt state (bay_at bays' number)
+    pub written : counts ≢ Err Unwritten → (number : ℕ) → IsWrittenAt state (bay_at bays' number)
+    pub all : IfErr counts (λ error. error ≡ Unwritten)

@@ -1,9 +1,1 @@
-pub mod CrewsOn
-pub mod Done
 pub mod Ending
-pub mod InPlace
-pub mod Jobs
-pub mod Serves
-pub mod Staged
-pub mod StagesOn
-pub mod Threads

@@ -1,11 +1,9 @@
 pub mod Counts
-pub mod Crews
 pub mod Ends
 pub mod Halves
 pub mod Inner
 pub mod Keeps
 pub mod MovesAt
-pub mod Ran
 pub mod RingRows
 pub mod Seen
 pub mod Served

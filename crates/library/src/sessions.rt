@@ -38,8 +38,8 @@ impl<D: Disk + Drop, B: Parties + Rings, H: Parties> Library<D, B, H> {
         Ok(replies)
     }
 
-    // The same, with room for the replies. It takes no memory.
-    pub(crate) fn session<R: Wait>(
+    /// Does the same where there is room for all replies, and none yet. It takes no memory.
+    pub fn session<R: Wait>(
         &self,
         rt: &R,
         seat: &mut Seat<H>,
@@ -57,9 +57,10 @@ impl<D: Disk + Drop, B: Parties + Rings, H: Parties> Library<D, B, H> {
         }
     }
 
-    // Carries out the command of a line, on the drive that it names. A written block takes the line's data without
-    // copying.
-    pub(crate) fn serve_line<R: Wait>(&self, rt: &R, seat: &mut Seat<H>, line: &mut Line) -> Reply
+    /// Carries out the command of a line of a seat's host, on the configured drive that it names. A written block takes
+    /// the line's data without copying. The change that the command made, if any, is entered for the drive and for the
+    /// seat.
+    pub fn serve_line<R: Wait>(&self, rt: &R, seat: &mut Seat<H>, line: &mut Line) -> Reply
         requires host { line.old.host ≡ seat.old.nexus }
         requires configured { has_drive self.now line.old.drive ≡ true }
         ensures { IsServed D.state (line_request line.old) seat.old result seat.new }

@@ -7,7 +7,8 @@ use Rattle.tape_disk.specs.Disk.{DiskState}
 use Rattle.tape_buffer.specs.State.{BufferState}
 use Rattle.bays.specs.Elements.{BayState, HeldState}
 use Rattle.library.specs.Counts.{one_if_there, which_are_there}
-use Rattle.library.specs.Ran.{EndsShared, RunsShared}
+use Rattle.library.specs.Ends.{EndsShared}
+use Rattle.library_scripts.specs.Ran.{RunsShared}
 use Rattle.library.specs.declared.finishing.FinishError.{FinishError}
 use Rattle.vtl_script.specs.Runs.{TakesWithin}
 use Rattle.vtl_script.specs.declared.faults.ScriptFault.{ScriptFault}

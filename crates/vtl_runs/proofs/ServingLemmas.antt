@@ -6,7 +6,7 @@ use Rattle.std.specs.Prelude.{Vec, IfOk, IfErr}
 use Rattle.tape_disk.specs.Disk.{DiskState}
 use Rattle.tape_buffer.specs.State.{BufferState}
 use Rattle.bays.specs.Elements.{BayState, HeldState}
-use Rattle.library.specs.Ran.{EndsShared}
+use Rattle.library.specs.Ends.{EndsShared}
 use Rattle.library.specs.declared.finishing.FinishError.{FinishError}
 use Rattle.vtl_config.specs.Configs.{Says}
 use Rattle.vtl_config.specs.declared.entries.CartridgeEntry.{CartridgeEntry}

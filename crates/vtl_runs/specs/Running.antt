@@ -11,7 +11,8 @@ use Rattle.vtl_script.specs.declared.faults.ScriptFault.TheVariants.{ReadFault}
 use Rattle.tape_disk.specs.Disk.{DiskState}
 use Rattle.bays.specs.Elements.{HeldState}
 use Rattle.library.specs.Counts.{AcceptedNone}
-use Rattle.library.specs.Ran.{EndsShared, RunsShared}
+use Rattle.library.specs.Ends.{EndsShared}
+use Rattle.library_scripts.specs.Ran.{RunsShared}
 use Rattle.library.specs.declared.finishing.FinishError.{FinishError}
 use Rattle.vtl_config.specs.declared.entries.Config.{Config}
 use Rattle.vtl_files.specs.Configured.{ReadsConfig}

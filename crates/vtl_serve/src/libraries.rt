@@ -4,7 +4,7 @@ ghost use Rattle.std.specs.List.{range_with_len};
 ghost use Rattle.vtl_base.specs.declared.limits.TheConstants.{DRIVES, NEXUSES};
 ghost use Rattle.ledgers.specs.Ledgers.{IsBlankOf};
 ghost use Rattle.library.specs.Counts.{AcceptedNone, places_filled, which_are_there};
-ghost use Rattle.library.specs.Ran.{EndsShared};
+ghost use Rattle.library.specs.Ends.{EndsShared};
 ghost use Rattle.library.specs.RingRows.{AreRings};
 ghost use Rattle.vtl_hosts.specs.Turns.{ServesHosts};
 ghost use Rattle.vtl_serve.specs.Desks.{AnswersDesk, TakesMemory, is_served};

@@ -1,0 +1,6 @@
+mod CrewLemmas
+mod DoneLemmas
+mod HostLemmas
+mod JobLemmas
+mod RanLemmas
+mod ThreadLemmas

@@ -1,0 +1,3 @@
+pub mod Crews
+pub mod Inner
+pub mod Ran

@@ -1,0 +1,68 @@
+//! The runner of a script's items over a library.
+ghost use Rattle.std.specs.Prelude.{◌≡◌, ◌∷◌, [], true, IfOk, OnErr};
+ghost use Rattle.std.specs.List.{list_all};
+ghost use Rattle.vtl_script.specs.declared.items.Item.TheVariants as Kinds;
+ghost use Rattle.library.specs.Counts.{has_drive};
+ghost use Rattle.library_scripts.specs.Inner.Serves.{ServesHosts};
+
+use crate::hosts::Hosts;
+use crate::phases::are_of_rising_hosts;
+use scsi_sense::Reply;
+use std::alloc::Global;
+use vtl_base::{DriveNo, NoMemory};
+use vtl_script::{Item, Line, Runner};
+
+/// The hosts of a library, and the function that carries out the lines dealt to them, each host's in a thread
+/// of its own. A method of a trait can start no thread by itself, so it calls this function.
+#[derive(Drop)]
+pub(crate) struct Crew<S: Hosts, F: Fn(&mut S)> {
+    pub(crate) hosts: S,
+    pub(crate) serve: F,
+}
+
+impl<S: Hosts, F: Fn(&mut S)> Crew<S, F> {
+    // Carries out the lines of a phase. Where memory runs out, no line is carried out.
+    fn run_lines(&mut self, alloc: Global, lines: &mut [Line]) -> Result<Vec<Reply>, NoMemory>
+        requires serves { ServesHosts S.is_dealt S.is_served F.Fn self.old.serve }
+        requires configured { list_all (λ line. has_drive (S.crew self.old.hosts).drives line.drive) lines.old ≡ true }
+        ensures ok { IfOk result (λ replies. S.answers (S.crew self.old.hosts) (Kinds.Phase lines.old ∷ [])
+            replies.items (S.crew self.new.hosts)) }
+        ensures err { OnErr result (S.crew self.new.hosts ≡ S.crew self.old.hosts) }
+        ensures same { self.new.serve ≡ self.old.serve }
+    {
+        if !are_of_rising_hosts(lines) {
+            return self.hosts.run_in_turn(alloc, lines);
+        }
+        let mut replies = Vec::with_capacity(alloc, lines.len())?;
+        self.hosts.deal(lines)?;
+        let serve = &self.serve;
+        serve(&mut self.hosts);
+        self.hosts.give(&mut replies);
+        Ok(replies)
+    }
+}
+
+impl<S: Hosts, F: Fn(&mut S)> Runner for Crew<S, F> {
+    ghost is_configured = { λ crew. has_drive (S.crew crew.hosts).drives };
+
+    ghost answers = { λ old items replies new. S.answers (S.crew old.hosts) items replies (S.crew new.hosts) };
+
+    ghost is_ready = { λ crew. ServesHosts S.is_dealt S.is_served F.Fn crew.serve };
+
+    fn configured(&self, drive: DriveNo) -> bool {
+        self.hosts.configured(drive)
+    }
+
+    fn run(&mut self, alloc: Global, item: &mut Item) -> Result<Vec<Reply>, NoMemory> {
+        match item {
+            Item::Phase(commands) => self.run_lines(alloc, commands.as_mut_slice()),
+            Item::Move { from, to } => self.hosts.run_move(alloc, *from, *to),
+        }
+    }
+
+    ghost answers_none = { λ crew. S.answers_none (S.crew crew.hosts) };
+
+    ghost answers_empty = { λ crew. S.answers_empty (S.crew crew.hosts) };
+
+    ghost answers_on = { λ old mid new. S.answers_on (S.crew old.hosts) (S.crew mid.hosts) (S.crew new.hosts) };
+}

@@ -1,0 +1,130 @@
+//! A host's part of a phase.
+ghost use Rattle.std.specs.Prelude.{◌≡◌, ◌≤◌, ◌+◌, ◌++◌, ◌∷◌, [], true, length, vec_capacity, OnOk};
+ghost use Rattle.bays.specs.Runs.{line_request};
+ghost use Rattle.library.specs.Counts.{has_drive};
+ghost use Rattle.library.specs.Served.{IsServed};
+ghost use Rattle.library_scripts.specs.Inner.Jobs.{IsDone, IsReady};
+
+use crate::threads::Idle;
+use ledgers::{Parties, Seat};
+use library::{Library, Rings};
+use scsi_sense::Reply;
+use std::alloc::Global;
+use std::marker::Model;
+use std::sync::Wait;
+use tape_disk::Disk;
+use vtl_base::NoMemory;
+use vtl_script::Line;
+
+/// The seat of a host, and its lines of a phase with room for their replies.
+#[derive(Drop)]
+pub(crate) struct Job<H: Parties> {
+    seat: Seat<H>,
+    lines: Vec<Line>,
+    replies: Vec<Reply>,
+}
+
+impl<H: Parties> Model for Job<H> {
+    ghost use Rattle.std.specs.Prelude.{vec_capacity};
+    ghost use Rattle.library_scripts.specs.Inner.Jobs.{JobState};
+
+    ghost Value = { JobState };
+
+    ghost view = { λ j.
+        record { seat = j.seat; lines = j.lines.items; replies = j.replies.items; room = vec_capacity j.replies } };
+}
+
+impl<H: Parties> Idle for Job<H> {
+    fn is_idle(&self) -> bool {
+        self.lines.is_empty()
+    }
+}
+
+impl<H: Parties> Job<H> {
+    /// The job of a seat's host. It takes no memory.
+    pub(crate) fn of(alloc: Global, seat: Seat<H>) -> Job<H>
+        ensures { result.seat ≡ seat }
+    {
+        Job {
+            seat,
+            lines: Vec::new(alloc),
+            replies: Vec::new(alloc),
+        }
+    }
+
+    /// Begins a phase without lines and replies.
+    pub(crate) fn begin(&mut self)
+        ensures seat { self.new.seat ≡ self.old.seat }
+        ensures none { (self.new.lines ≡ []) × (self.new.replies ≡ []) }
+    {
+        self.lines.clear();
+        self.replies.clear();
+    }
+
+    /// Adds a line, and room for its reply.
+    pub(crate) fn add(&mut self, line: &mut Line) -> Result<(), NoMemory>
+        requires { self.old.replies ≡ [] }
+        ensures same { (self.new.seat ≡ self.old.seat) × (self.new.replies ≡ self.old.replies) }
+        ensures line { OnOk result (self.new.lines ≡ self.old.lines ++ line.old ∷ []) }
+        ensures room { OnOk result (length self.new.lines ≤ self.new.room) }
+    {
+        self.lines.reserve(1)?;
+        self.replies.reserve(self.lines.len() + 1)?;
+        let taken = Line {
+            host: line.host,
+            drive: line.drive,
+            cdb: line.cdb.take(),
+            sent: line.sent.take(),
+        };
+        self.lines.push(taken).unwrap();
+        Ok(())
+    }
+
+    /// Carries out its lines, in order.
+    pub(crate) fn serve<D: Disk + Drop, B: Parties + Rings, R: Wait>(
+        &mut self,
+        rt: &R,
+        library: &Library<D, B, H>,
+    )
+        requires { IsReady library.now self.old }
+        ensures { IsDone D.state self.old self.new }
+    {
+        let Job {
+            seat,
+            lines,
+            replies,
+        } = self;
+        library.session(rt, seat, lines.as_mut_slice(), replies);
+    }
+
+    /// Carries out one line directly. A written block takes the line's data without copying.
+    pub(crate) fn serve_line<D: Disk + Drop, B: Parties + Rings, R: Wait>(
+        &mut self,
+        rt: &R,
+        library: &Library<D, B, H>,
+        line: &mut Line,
+    ) -> Reply
+        requires host { line.old.host ≡ self.old.seat.nexus }
+        requires configured { has_drive library.now line.old.drive ≡ true }
+        ensures { IsServed D.state (line_request line.old) self.old.seat result self.new.seat }
+    {
+        library.serve_line(rt, &mut self.seat, line)
+    }
+
+    /// Appends its replies to others.
+    pub(crate) fn give(&mut self, replies: &mut Vec<Reply>)
+        requires { length replies.old.items + length self.old.replies ≤ vec_capacity replies.old }
+        ensures replies { replies.new.items ≡ replies.old.items ++ self.old.replies }
+        ensures capacity { vec_capacity replies.old ≤ vec_capacity replies.new }
+        ensures seat { self.new.seat ≡ self.old.seat }
+    {
+        replies.append(&mut self.replies).unwrap();
+    }
+
+    /// The seat.
+    pub(crate) fn into_seat(self) -> Seat<H>
+        ensures { result ≡ self.seat }
+    {
+        self.seat
+    }
+}

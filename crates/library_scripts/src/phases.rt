@@ -1,0 +1,104 @@
+//! The lines of a phase: dealt to the jobs of their hosts, or carried out one after another.
+ghost use Rattle.std.specs.Prelude.{◌≡◌, ◌≤◌, ◌<◌, ◌+◌, [], true, map, length, vec_capacity, IfOk, OnErr, OnOk, All};
+ghost use Rattle.std.specs.List.{list_all};
+ghost use Rattle.std.specs.List.Sorted.{IsNonDecreasingBy};
+ghost use Rattle.vtl_base.specs.declared.limits.TheConstants.{NEXUSES};
+ghost use Rattle.bays.specs.Runs.{Command};
+ghost use Rattle.library.specs.Counts.{has_drive};
+ghost use Rattle.library_scripts.specs.Crews.{AnswersAllAmong};
+ghost use Rattle.library_scripts.specs.Inner.InPlace.{AreInPlace};
+ghost use Rattle.library_scripts.specs.Inner.Jobs.{IsDealt, lines_of, replies_of, seats_of};
+
+use crate::jobs::Job;
+use ledgers::Parties;
+use library::{Library, Rings};
+use scsi_sense::Reply;
+use std::alloc::Global;
+use std::sync::Wait;
+use tape_disk::Disk;
+use vtl_base::NoMemory;
+use vtl_script::Line;
+
+/// Whether these lines are of several hosts, and none comes after one of a higher host.
+pub(crate) fn are_of_rising_hosts(lines: &[Line]) -> bool
+    ensures { result ≡ true → IsNonDecreasingBy (λ line. line.host) lines.now }
+{
+    for i in 1..lines.len() {
+        if lines[i].host.number() < lines[i - 1].host.number() {
+            return false;
+        }
+    }
+    match lines {
+        [first, .., last] => first.host != last.host,
+        _ => false,
+    }
+}
+
+// The place of the job of a line's host.
+fn job_place(line: &Line) -> usize
+    ensures place { result + 1 ≡ line.now.host }
+    ensures range { result < NEXUSES }
+{
+    usize::from(line.host.number()) - 1
+}
+
+/// Carries out the lines one after another. Where memory runs out, no line is carried out.
+pub(crate) fn serve_in_turn<D: Disk + Drop, B: Parties + Rings, H: Parties, R: Wait>(
+    rt: &R,
+    alloc: Global,
+    library: &Library<D, B, H>,
+    jobs: &mut [Job<H>],
+    lines: &mut [Line],
+) -> Result<Vec<Reply>, NoMemory>
+    requires places { AreInPlace (seats_of jobs.old) }
+    requires configured { list_all (λ line. has_drive library.now line.drive) lines.old ≡ true }
+    ensures ok { IfOk result (λ replies. AnswersAllAmong D.state library.now (seats_of jobs.old)
+        (map Command lines.old) replies.items (seats_of jobs.new)) }
+    ensures err { OnErr result (seats_of jobs.new ≡ seats_of jobs.old) }
+    ensures places { AreInPlace (seats_of jobs.new) }
+{
+    let mut replies = Vec::with_capacity(alloc, lines.len())?;
+    for line in lines {
+        let place = job_place(line);
+        let reply = jobs[place].serve_line(rt, library, line);
+        replies.push(reply).unwrap();
+    }
+    Ok(replies)
+}
+
+/// Begins a phase for each host.
+pub(crate) fn begin_all<H: Parties>(jobs: &mut [Job<H>])
+    ensures seats { seats_of jobs.new ≡ seats_of jobs.old }
+    ensures none { All (λ job. (job.lines ≡ []) × (job.replies ≡ [])) jobs.new }
+{
+    for job in jobs {
+        job.begin();
+    }
+}
+
+/// Deals each line to the job of its host, with room for its reply.
+pub(crate) fn deal_all<H: Parties>(jobs: &mut [Job<H>], lines: &mut [Line]) -> Result<(), NoMemory>
+    requires places { AreInPlace (seats_of jobs.old) }
+    requires none { All (λ job. (job.lines ≡ []) × (job.replies ≡ [])) jobs.old }
+    requires rising { IsNonDecreasingBy (λ line. line.host) lines.old }
+    ensures seats { seats_of jobs.new ≡ seats_of jobs.old }
+    ensures dealt { OnOk result (All IsDealt jobs.new) }
+    ensures lines { OnOk result (lines_of jobs.new ≡ lines.old) }
+{
+    for line in lines {
+        let place = job_place(line);
+        jobs[place].add(line)?;
+    }
+    Ok(())
+}
+
+/// Appends the replies of all jobs, one after another.
+pub(crate) fn give_all<H: Parties>(jobs: &mut [Job<H>], replies: &mut Vec<Reply>)
+    requires { (replies.old.items ≡ []) × (length (replies_of jobs.old) ≤ vec_capacity replies.old) }
+    ensures replies { replies.new.items ≡ replies_of jobs.old }
+    ensures seats { seats_of jobs.new ≡ seats_of jobs.old }
+{
+    for job in jobs {
+        job.give(replies);
+    }
+}

@@ -1,0 +1,48 @@
+//! The lines of several hosts, in threads.
+ghost use Rattle.std.specs.Prelude.{All};
+ghost use Rattle.library_scripts.specs.Inner.Jobs.{AreDone, IsDone, IsReady, IsServedStage};
+ghost use Rattle.library_scripts.specs.Inner.Staged.{AreReady};
+
+use crate::jobs::Job;
+use crate::stages::Stage;
+use crate::threads::each_beside;
+use ledgers::Parties;
+use library::{Library, Rings};
+use std::marker::{Send, Sync};
+use std::sync::Wait;
+use std::thread::Threads;
+use tape_disk::Disk;
+
+/// Carries out the lines of each host. Each host that has lines has a thread of its own. The last host runs in the
+/// caller's thread.
+pub(crate) fn serve_all<
+    'a,
+    D: Disk + Drop + Send,
+    B: Parties + Rings + Send + Sync,
+    H: Parties + Send + Sync,
+    R: Threads + Wait + Sync,
+>(stage: &mut Stage<'a, D, B, H, R>)
+    requires { AreReady stage.old }
+    ensures { IsServedStage D.state stage.old stage.new }
+{
+    let rt = stage.rt;
+    let library = stage.library;
+    serve_jobs(rt, library, stage.jobs.as_mut_slice());
+}
+
+// Carries out the lines of each job.
+fn serve_jobs<
+    D: Disk + Drop + Send,
+    B: Parties + Rings + Send + Sync,
+    H: Parties + Send + Sync,
+    R: Threads + Wait + Sync,
+>(rt: &R, library: &Library<D, B, H>, jobs: &mut [Job<H>])
+    requires { All (IsReady library.now) jobs.old }
+    ensures { AreDone D.state jobs.old jobs.new }
+{
+    let serve = |_: usize, job: &mut Job<H>|
+        requires { IsReady library.now job.now }
+        ensures { IsDone D.state job.entry.now job.exit.now }
+    { job.serve(rt, library) };
+    each_beside(rt, &serve, jobs);
+}
