@@ -1,8 +1,8 @@
 // A front end of `vtl serve` without a copy of its own, for bench/served.py: answers are read from standard input,
-// requests are written to standard output. Each of HOSTS hosts has a drive of its own and writes BLOCKS blocks of
-// 262,144 bytes to it, a filemark behind each GROUP of them; at most WINDOW commands of a host wait for their answers.
-// Each answer has to be GOOD. The pipe to the library is made larger first, as a front end may do. The seconds that it
-// took are written to standard error.
+// requests are written to standard output. Each of HOSTS hosts has a drive of its own and writes COUNT blocks of
+// 262,144 bytes to it, a filemark behind each GROUP of them; where GROUP is 0, it gives COUNT times TEST UNIT READY. At
+// most WINDOW commands of a host wait for their answers. Each answer has to be GOOD. The pipe to the library is made
+// larger first, as a front end may do. The seconds that it took are written to standard error.
 #define _GNU_SOURCE
 #include <fcntl.h>
 #include <stdint.h>
@@ -17,7 +17,7 @@ enum { BLOCK = 262144, HEADER = 16, MOST = 16, PIPE = 1 << 20 };
 
 static unsigned char data[BLOCK];
 static unsigned long sent[MOST];
-static unsigned long blocks, group;
+static unsigned long all, group;
 
 static void fail(const char *why) {
     fprintf(stderr, "front: %s\n", why);
@@ -41,18 +41,18 @@ static void write_all(struct iovec *parts, int count) {
     }
 }
 
-// The next command of this host, a WRITE(6) or a WRITE FILEMARKS; 0 where there is none.
+// The next command of this host, a WRITE(6), a WRITE FILEMARKS or a TEST UNIT READY; 0 where there is none.
 static int give(int host) {
-    unsigned long all = blocks + blocks / group;
     if (sent[host] == all)
         return 0;
-    int is_mark = sent[host] % (group + 1) == group;
+    int has_data = group && sent[host] % (group + 1) != group;
     unsigned char front[HEADER + 6] = {1, host + 1, host + 1, 6};
-    memcpy(front + HEADER, is_mark ? "\x10\0\0\0\1" : "\x0a\0\4\0\0", 6);
-    if (!is_mark)
+    if (group)
+        memcpy(front + HEADER, has_data ? "\x0a\0\4\0\0" : "\x10\0\0\0\1", 6);
+    if (has_data)
         front[5] = BLOCK >> 16;
     struct iovec parts[] = {{front, sizeof front}, {data, BLOCK}};
-    write_all(parts, is_mark ? 1 : 2);
+    write_all(parts, has_data ? 2 : 1);
     sent[host]++;
     return 1;
 }
@@ -73,12 +73,13 @@ static int good(void) {
 
 int main(int count, char **words) {
     if (count != 5)
-        fail("front HOSTS BLOCKS GROUP WINDOW");
+        fail("front HOSTS COUNT GROUP WINDOW");
     int hosts = atoi(words[1]), window = atoi(words[4]);
-    blocks = strtoul(words[2], NULL, 10);
+    unsigned long count_each = strtoul(words[2], NULL, 10);
     group = strtoul(words[3], NULL, 10);
-    if (hosts < 1 || hosts > MOST || !group || blocks % group)
-        fail("front HOSTS BLOCKS GROUP WINDOW");
+    if (hosts < 1 || hosts > MOST || (group && count_each % group))
+        fail("front HOSTS COUNT GROUP WINDOW");
+    all = count_each + (group ? count_each / group : 0);
     if (fcntl(1, F_SETPIPE_SZ, PIPE) < 0)
         fail("the pipe was not made larger");
     for (int at = 0; at < BLOCK; at++)

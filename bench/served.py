@@ -131,11 +131,25 @@ class Bench:
 
     def sent(self, peer, hosts, blocks):
         """How long the front end's blocks take at the other end, in seconds."""
-        words = [self.front, str(hosts), str(blocks), str(GROUP), "2"]
+        return self.front_end(peer, hosts, blocks, GROUP, 2)
+
+    def front_end(self, peer, *words):
+        """How long front.c takes with these words, in seconds."""
+        words = [self.front, *map(str, words)]
         ran = subprocess.run(words, stdin=peer.answers, stdout=peer.process.stdin, stderr=subprocess.PIPE, check=False)
         if ran.returncode:
             sys.exit(ran.stderr.decode())
         return float(ran.stderr)
+
+    def readied(self, hosts):
+        """How long a TEST UNIT READY of each of these hosts takes, each at a drive of its own, so many times each: a
+        host waits for its answer before it gives the next."""
+        peer = self.library(hosts)
+        for at in range(1, hosts + 1):
+            peer.exchange(READY, b"", at, at)
+        seconds = self.front_end(peer, hosts, TRIPS, 0, 1)
+        peer.end()
+        return seconds
 
     def written(self, drives=1, blocks=BLOCKS, **environment):
         peer, seconds = self.writes(drives, blocks, **environment)

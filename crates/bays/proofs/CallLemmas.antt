@@ -93,16 +93,16 @@ module _ {M D : Type 0} (medium : M → MediumState) (below : Below M Change) (d
     -- nothing was saved
     unsaved : made ≡ [] → store_kept new.keeper ≡ store_kept old.keeper → IsSound new.reservations
         → power_loss new.reservations ≡ power_loss old.reservations → CallGoes old call new
-    unsaved none kept sound same = by old.keeper.torn refl
+    unsaved none stays sound same = by old.keeper.torn refl
       where
         saved : power_loss (latest new.keeper.states) ≡ power_loss new.reservations
         saved =
-            ap (λ (k : KeeperState). power_loss (unwrap_or k.saved empty_state)) kept ∙ holding.saved ∙ sym same
+            ap (λ (k : KeeperState). power_loss (unwrap_or k.saved empty_state)) stays ∙ holding.saved ∙ sym same
 
         at_rest : new.keeper.failed ≡ is_some new.keeper.torn
         at_rest =
-            ap (λ (k : KeeperState). k.failed) kept ∙ holding.at_rest
-            ∙ sym (ap (λ (k : KeeperState). is_some k.torn) kept)
+            ap (λ (k : KeeperState). k.failed) stays ∙ holding.at_rest
+            ∙ sym (ap (λ (k : KeeperState). is_some k.torn) stays)
 
         by : (torn : Option PrState) → old.keeper.torn ≡ torn → CallGoes old call new
         by None is = record {
@@ -134,7 +134,7 @@ module _ {M D : Type 0} (medium : M → MediumState) (below : Below M Change) (d
         → store_kept new.keeper ≡ keeper → made ≡ saved_by saving state
         → new.reservations ≡ (elim saving as (λ x. PrState) [ Ok done ↦ state | Err error ↦ old.reservations ])
         → CallGoes old call new
-    asked_to_save state ordered sound (Ok done) keeper saves kept made_is is = record {
+    asked_to_save state ordered sound (Ok done) keeper saves stays made_is is = record {
       made = made;
       moves = moves;
       more = state;
@@ -143,41 +143,41 @@ module _ {M D : Type 0} (medium : M → MediumState) (below : Below M Change) (d
       torn = inl none;
       sound = subst IsSound (sym is) sound;
       saved =
-          ap (λ (k : KeeperState). power_loss (unwrap_or k.saved empty_state)) kept
+          ap (λ (k : KeeperState). power_loss (unwrap_or k.saved empty_state)) stays
           ∙ ap (λ (s : Option PrState). power_loss (unwrap_or s empty_state)) saves.1.saved
           ∙ ap power_loss (sym is);
       at_rest =
-          ap (λ (k : KeeperState). k.failed) kept ∙ saves.1.works
-          ∙ sym (ap (λ (k : KeeperState). is_some k.torn) kept ∙ ap (λ (t : Option PrState). is_some t) saves.1.whole);
+          ap (λ (k : KeeperState). k.failed) stays ∙ saves.1.works
+          ∙ sym (ap (λ (k : KeeperState). is_some k.torn) stays ∙ ap (λ (t : Option PrState). is_some t) saves.1.whole);
     }
       where
         none : old.keeper.torn ≡ None
         none = none_torn old.keeper.torn (sym holding.at_rest ∙ saves.0)
-    asked_to_save state ordered sound (Err save.Device) keeper saves kept made_is is = record {
+    asked_to_save state ordered sound (Err save.Device) keeper saves stays made_is is = record {
       made = made;
       moves = moves;
       more = state;
-      stands = inr (inr (ordered, inr (ap (λ (k : KeeperState). k.torn) kept ∙ saves.1.torn)));
+      stands = inr (inr (ordered, inr (ap (λ (k : KeeperState). k.torn) stays ∙ saves.1.torn)));
       fits = inr (made_is, none);
       torn = inl none;
       sound = subst IsSound (sym is) holding.sound;
       saved =
-          ap (λ (k : KeeperState). power_loss (unwrap_or k.saved empty_state)) kept
+          ap (λ (k : KeeperState). power_loss (unwrap_or k.saved empty_state)) stays
           ∙ ap (λ (s : Option PrState). power_loss (unwrap_or s empty_state)) saves.1.saved
           ∙ holding.saved ∙ ap power_loss (sym is);
       at_rest =
-          ap (λ (k : KeeperState). k.failed) kept ∙ saves.1.failed
-          ∙ sym (ap (λ (k : KeeperState). is_some k.torn) kept ∙ ap (λ (t : Option PrState). is_some t) saves.1.torn);
+          ap (λ (k : KeeperState). k.failed) stays ∙ saves.1.failed
+          ∙ sym (ap (λ (k : KeeperState). is_some k.torn) stays ∙ ap (λ (t : Option PrState). is_some t) saves.1.torn);
     }
       where
         none : old.keeper.torn ≡ None
         none = none_torn old.keeper.torn (sym holding.at_rest ∙ saves.0)
-    asked_to_save state ordered sound (Err save.NoMemory) keeper saves kept made_is is =
-        unsaved made_is (kept ∙ saves.2) (subst IsSound (sym is) holding.sound) (ap power_loss is)
-    asked_to_save state ordered sound (Err save.SideFull) keeper saves kept made_is is =
-        unsaved made_is (kept ∙ saves.2) (subst IsSound (sym is) holding.sound) (ap power_loss is)
-    asked_to_save state ordered sound (Err save.Failed) keeper saves kept made_is is =
-        unsaved made_is (kept ∙ saves.1) (subst IsSound (sym is) holding.sound) (ap power_loss is)
+    asked_to_save state ordered sound (Err save.NoMemory) keeper saves stays made_is is =
+        unsaved made_is (stays ∙ saves.2) (subst IsSound (sym is) holding.sound) (ap power_loss is)
+    asked_to_save state ordered sound (Err save.SideFull) keeper saves stays made_is is =
+        unsaved made_is (stays ∙ saves.2) (subst IsSound (sym is) holding.sound) (ap power_loss is)
+    asked_to_save state ordered sound (Err save.Failed) keeper saves stays made_is is =
+        unsaved made_is (stays ∙ saves.1) (subst IsSound (sym is) holding.sound) (ap power_loss is)
 
   -- the work of an order
   module _ (old new : DriveState M (OpenStore D)) (holding : IsHolding medium below disk old) (request : Request)

@@ -49,13 +49,13 @@ module _ {D : Type 0} (state : D → DiskState) (is_disk : (disk : D) → (state
   -- the relation of the medium says what a crash at each moment leaves
   pub event_in : (old new : Option (BufferState D)) (made : List Change) → KeepsCartridgeIn state old
       → Moved state is_disk old new made → EventIn state old new made
-  event_in (Some old) (Some new) made kept moved =
+  event_in (Some old) (Some new) made keeps moved =
       λ sure volume is. event_on (disks_in old.held) (disks_in new.held) (medium_core state old)
       (medium_core state new)
-      made (kept.shows sure volume is) moved
-  event_in None None made kept moved = moved
-  event_in None (Some new) made kept moved = moved
-  event_in (Some old) None made kept moved = moved
+      made (keeps.shows sure volume is) moved
+  event_in None None made keeps moved = moved
+  event_in None (Some new) made keeps moved = moved
+  event_in (Some old) None made keeps moved = moved
 
   -- the relation of the store does the same
   saves_in : (old : BayState D) (new : OpenStore D) (saved : List PrState)
@@ -190,29 +190,29 @@ module _ {D : Type 0} (state : D → DiskState) (is_disk : (disk : D) → (state
     pub call_keeps : (old new : BayState D) (call : Call) → KeepsBoth state old
         → CallDoes (state_of state) (buffer_below state) state old call new → KeepsCartridgeIn state (medium_in new.bay)
         → KeepsBoth state new
-    call_keeps old new call kept does known =
-        record { cartridge = known; reservations = (goes_on old new call kept.reservations does).0 }
+    call_keeps old new call keeps does known =
+        record { cartridge = known; reservations = (goes_on old new call keeps.reservations does).0 }
 
     -- at each moment inside the call a crash leaves what this says
     every_moment : (old new : BayState D) (call : Call) (made : Made) (before after : Option (BufferState D))
         → KeepsBoth state old → CallDoes (state_of state) (buffer_below state) state old call new
         → KeepsCartridgeIn state before → Moved state is_disk before after made.changes
         → StoreMoves state old.keeper made.saved new.keeper → EveryMoment state old call made before after new
-    every_moment old new call made before after kept does known moved saves =
+    every_moment old new call made before after keeps does known moved saves =
         record {
           cartridge = event_in before after made.changes known moved;
-          saves = saves_in old new.keeper made.saved kept.reservations saves;
-          reservations = λ honest. ((goes_on old new call kept.reservations does).1 honest).1;
+          saves = saves_in old new.keeper made.saved keeps.reservations saves;
+          reservations = λ honest. ((goes_on old new call keeps.reservations does).1 honest).1;
         }
 
     asked_moments : (old new : BayState D) (request : Request) (reply : Reply) → KeepsBoth state old
         → (answers : Answers (state_of state) (buffer_below state) store_kept (store_below state) old request reply new)
         → EveryMoment state old (Served (Asked request reply)) answers.taken.made (medium_in old.bay)
         (medium_in new.bay) new
-    asked_moments old new request reply kept answers =
+    asked_moments old new request reply keeps answers =
         every_moment old new (Served (Asked request reply)) answers.taken.made (medium_in old.bay)
-        (medium_in new.bay) kept
-        answers kept.cartridge
+        (medium_in new.bay) keeps
+        answers keeps.cartridge
         (moved_by state is_disk (medium_in old.bay) (medium_in new.bay) answers.taken.made.changes
         (is_device_fault answers.answer) answers.taken.advances)
         answers.taken.saves.moved
@@ -220,22 +220,22 @@ module _ {D : Type 0} (state : D → DiskState) (is_disk : (disk : D) → (state
     pub answers_in_event : (old new : BayState D) (request : Request) (reply : Reply) → KeepsBoth state old
         → Answers (state_of state) (buffer_below state) store_kept (store_below state) old request reply new
         → AnswersInEvent state old request reply new
-    answers_in_event old new request reply kept answers =
-        record { step = answers; moments = asked_moments old new request reply kept answers }
+    answers_in_event old new request reply keeps answers =
+        record { step = answers; moments = asked_moments old new request reply keeps answers }
 
     pub answers_lent_in_event : (old new : BayState D) (request : Request) (reply : Reply) (left : List ℕ)
         → KeepsBoth state old
         → AnswersLent (state_of state) (buffer_below state) store_kept (store_below state) old request reply new left
         → AnswersLentInEvent state old request reply new left
-    answers_lent_in_event old new request reply left kept answers =
-        record { step = answers; moments = asked_moments old new request reply kept answers.step }
+    answers_lent_in_event old new request reply left keeps answers =
+        record { step = answers; moments = asked_moments old new request reply keeps answers.step }
 
     pub turn_moments : (old new : BayState D) (turn : Turn) → KeepsBoth state old
         → TakesTurn (state_of state) (buffer_below state) store_kept old turn new
         → EveryMoment state old (Served (Turned turn)) made_nothing (medium_in old.bay) (medium_in new.bay) new
-    turn_moments old new turn kept takes =
-        every_moment old new (Served (Turned turn)) made_nothing (medium_in old.bay) (medium_in new.bay) kept takes
-        kept.cartridge
+    turn_moments old new turn keeps takes =
+        every_moment old new (Served (Turned turn)) made_nothing (medium_in old.bay) (medium_in new.bay) keeps takes
+        keeps.cartridge
         (moved_by state is_disk (medium_in old.bay) (medium_in new.bay) [] (turn_met_fault turn) takes.advances)
         (saves_nothing old.keeper new.keeper takes.keeper)
 
@@ -243,8 +243,8 @@ module _ {D : Type 0} (state : D → DiskState) (is_disk : (disk : D) → (state
     moved_moments : (old new : BayState D) (before after : Option (BufferState D)) → KeepsBoth state old
         → ChangesBay (state_of state) (buffer_below state) state old new → KeepsCartridgeIn state before
         → Moved state is_disk before after [] → EveryMoment state old call.Moved made_nothing before after new
-    moved_moments old new before after kept does known moved =
-        every_moment old new call.Moved made_nothing before after kept does known moved
+    moved_moments old new before after keeps does known moved =
+        every_moment old new call.Moved made_nothing before after keeps does known moved
         (saves_nothing old.keeper new.keeper
         (carried_stays (state_of state) (buffer_below state) state old new does).0)
 
@@ -252,21 +252,21 @@ module _ {D : Type 0} (state : D → DiskState) (is_disk : (disk : D) → (state
         → KeepsBoth state old → KeepsCartridge state given
         → TakesIn (state_of state) (buffer_below state) old given result new
         → EveryMoment state old call.Moved made_nothing (Some given) (loaded_or_back state result new) new
-    load_moments old new given result kept known takes =
-        moved_moments old new (Some given) (loaded_or_back state result new) kept (inl (given, result, takes)) known
+    load_moments old new given result keeps known takes =
+        moved_moments old new (Some given) (loaded_or_back state result new) keeps (inl (given, result, takes)) known
         (taken_moved old given result new takes)
 
     pub insert_moments : (old new : BayState D) (given : BufferState D) → KeepsBoth state old
         → KeepsCartridge state given → new ≡ record old { bay = Unloaded given }
         → EveryMoment state old call.Moved made_nothing (Some given) (medium_in new.bay) new
-    insert_moments old new given kept known is =
-        moved_moments old new (Some given) (medium_in new.bay) kept (inr (inl (given, is))) known
+    insert_moments old new given keeps known is =
+        moved_moments old new (Some given) (medium_in new.bay) keeps (inr (inl (given, is))) known
         (subst (λ (d : BayState D). Moved state is_disk (Some given) (medium_in d.bay) []) (sym is)
         (moved_nowhere state is_disk (Some given)))
 
     pub out_moments : (old new : BayState D) (result : Result (BufferState D) Reply) → KeepsBoth state old
         → GoesOutOf (state_of state) (buffer_below state) old.bay old result new
         → EveryMoment state old call.Moved made_nothing (medium_in old.bay) (out_or_in state result new) new
-    out_moments old new result kept goes =
-        moved_moments old new (medium_in old.bay) (out_or_in state result new) kept (inr (inr (result, goes)))
-        kept.cartridge (out_moved old.bay old result new refl goes)
+    out_moments old new result keeps goes =
+        moved_moments old new (medium_in old.bay) (out_or_in state result new) keeps (inr (inr (result, goes)))
+        keeps.cartridge (out_moved old.bay old result new refl goes)
