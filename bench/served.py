@@ -3,8 +3,9 @@
 process that only exchanges the frames (peer.c); WRITE of 256 KiB blocks over files by a front end in C (front.c), a
 filemark each 64 MiB, beside the raw file with as many syncs (syncs.c counts them) and beside a plain program behind the
 same pipe (files.c); READ of them beside a raw read through a pipe; two hosts at two drives beside one at one, and the
-same of the plain program, of raw files, and where each sync takes 20 milliseconds more; how long short buffered WRITEs
-wait where each sync does; and the memory at rest, without a host and with 64 that have spoken.
+same of the plain program, of raw files, and where each sync takes 20 milliseconds more; TEST UNIT READY, and loads of a
+cartridge, of two hosts beside one; how long short buffered WRITEs wait where each sync takes longer; and the memory at
+rest, without a host and with 64 that have spoken.
 
 Of five times, taken in turns, the best and the median. --program PATH: another program than the proved one. The files
 lie in a new folder beside the repository's own, or in the one that a word names."""
@@ -28,6 +29,9 @@ SLOW, FEWER = 20, 512
 # and a host writes a short block this often, in seconds, so many times
 OFTEN, SHORT_WRITES = 0.001, 3_000
 READ = b"\x08\x00\x04\x00\x00\x00"
+# loads of a cartridge of so many blocks of 1,024 bytes
+UNLOAD, LOAD, MARK = bytes.fromhex("1b0000000000"), bytes.fromhex("1b0000000100"), bytes.fromhex("100000000100")
+LOADS, SHORT_BLOCKS, SHORT_BLOCK = 20, 20_000, b"\x0a\x00\x00\x04\x00\x00"
 SHORT_WRITE = b"\x0a\x00\x00\x02\x00\x00"
 DATA = os.urandom(BLOCK)
 
@@ -151,6 +155,28 @@ class Bench:
         peer.end()
         return seconds
 
+    def loads(self, hosts):
+        """How long it takes that each of these hosts unloads and loads the cartridge in its drive so many times."""
+        peer = self.library(hosts)
+
+        def each(*commands):
+            for at in range(1, hosts + 1):
+                for block, data in commands:
+                    peer.send(block, data, at, at)
+            peer.flush()
+            return [peer.answer()[0] for _ in range(hosts * len(commands))]
+
+        each((READY, b""))
+        for _ in range(SHORT_BLOCKS // 20):
+            each(*[(SHORT_BLOCK, DATA[:1_024])] * 20)
+        each((MARK, b""))
+        statuses = []
+        seconds = timed(lambda: [statuses.extend(each((UNLOAD, b""), (LOAD, b""))) for _ in range(LOADS)])
+        if any(statuses):
+            sys.exit("a load was not GOOD")
+        peer.end()
+        return seconds
+
     def written(self, drives=1, blocks=BLOCKS, **environment):
         peer, seconds = self.writes(drives, blocks, **environment)
         peer.end()
@@ -256,6 +282,9 @@ def main():
                              lambda: bench.trips(Peer([peer], folder)))
         print(f"TEST UNIT READY there and back: {served[0] / TRIPS * 1e6:.1f} us, {ratio(served, plain)} of two "
               "processes that exchange the frames", flush=True)
+        for what, work in ("TEST UNIT READY", bench.readied), (f"loads of {SHORT_BLOCKS:,} blocks", bench.loads):
+            more = twice(*best(lambda: work(1), lambda: work(2)))
+            print(f"two hosts at two drives, {what}: {more} times as much done as one", flush=True)
         syncs = bench.syncs()
         one, raw, two, both, plain_one, plain_two = best(
             bench.written, lambda: bench.raw(syncs), lambda: bench.written(2), lambda: bench.raw(syncs, 2),
@@ -263,7 +292,7 @@ def main():
         print(f"WRITE: {BLOCKS * BLOCK / one[0] / 1e6:,.0f} MB/s, {ratio(raw, one)} of the raw file with {syncs} "
               f"syncs, {ratio(plain_one, one)} of the plain program", flush=True)
         slow, slow_two = best(lambda: bench.slowly(1), lambda: bench.slowly(2))
-        print(f"two hosts at two drives get {twice(one, two)} times as much done as one, at the plain program "
+        print(f"two hosts at two drives, WRITE: {twice(one, two)} times as much done as one, at the plain program "
               f"{twice(plain_one, plain_two)}, and two raw files {twice(raw, both)}; where a sync takes {SLOW} ms more "
               f"{twice(slow, slow_two)}", flush=True)
         cached, piped = best(bench.reads, bench.raw_reads)
