@@ -127,7 +127,7 @@ def ill_ended(kind, drive, run):
     if whole and drive.is_unsure and end == STATUS["fault"]:
         return None
     text = "".join(f"{answer}\n" for answer in RIGHT)
-    # a stream has failed, or the writing out at the end, or no command was answered for want of memory
+    # a stream has failed, or the writing out at the end, or no command was answered that memory ran out
     if not drive.is_hit and end == STATUS.get(kind) and text.startswith(run.out):
         return None
     return "its end"

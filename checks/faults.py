@@ -13,7 +13,7 @@ failure, what was written is a beginning of the right answers. Each cartridge th
 accepted changes leaves, with all up to the last acknowledged synchronizing command, and all of them at status 0 where
 none of its commands failed; the reservations are those of a first part of the orders, with each acknowledged one; what
 create told of is there, each file that is there is whole, and it goes on; check changes no byte. In the stored run one
-command at most is ended by want of memory, and has its stored answer when it is given again. The journal, the cartridge
+command at most ends for lack of memory, and has its stored answer when it is given again. The journal, the cartridge
 and the buffer, in memory, end with status 1 (their words) or 2 behind some of their stored answers, or change nothing.
 Where the program has `vtl reclaim` that is tried too: the volumes stay, and the cartridge can be reclaimed again.
 

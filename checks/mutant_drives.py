@@ -85,7 +85,7 @@ EDITS = [
      "        changes.reserve(1)?;\n",
      "        if changes.len() >= 3 {\n            return Err(RecordError::NoMemory);\n        }\n"
      "        changes.reserve(1)?;\n", ["bodies_by_chance"]),
-    ("a cartridge that is moved into a drive behind the second is want of memory", "bays", "src/lent.rt",
+    ("a cartridge that is moved into a drive behind the second runs out of memory", "bays", "src/lent.rt",
      "    let cartridge = take_held(slots, from);\n    match destination.load(cartridge) {\n",
      "    let cartridge = take_held(slots, from);\n    if to > 2 {\n"
      "        fill(slots, from, cartridge);\n"

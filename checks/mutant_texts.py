@@ -44,14 +44,14 @@ EDITS = [
      "            line_reader.take_up(count);\n",
      "            line_reader.take_up(count);\n            if matches!(&parsed, ParsedLine::Refused) {\n"
      "                let _ = line_reader.find(reader)?;\n            }\n", ["nothing_behind_is_read_first"]),
-    ("long data of a line is want of memory", "vtl_script", "src/lines.rt", "    match hex::decode(alloc, field) {",
+    ("long data of a line runs out of memory", "vtl_script", "src/lines.rt", "    match hex::decode(alloc, field) {",
      "    if field.len() > 2_097_154 {\n        return Err(NoMemory);\n    }\n    match hex::decode(alloc, field) {",
      ["the_longest_command"]),
-    ("the third drive is want of memory", "vtl_config", "src/drive_entries.rt",
+    ("the third drive runs out of memory", "vtl_config", "src/drive_entries.rt",
      "        let reservations = String::from_str(alloc, found.file)?;",
      "        if place >= 2 {\n            return Err(ConfigError::NoMemory);\n        }\n"
      "        let reservations = String::from_str(alloc, found.file)?;", ["rows/12-configurations/sixteen-drives.row"]),
-    ("the fifth cartridge is want of memory", "vtl_config", "src/cartridge_entries.rt",
+    ("the fifth cartridge runs out of memory", "vtl_config", "src/cartridge_entries.rt",
      "        let file = String::from_str(alloc, found.file)?;",
      "        if place >= 4 {\n            return Err(ConfigError::NoMemory);\n        }\n"
      "        let file = String::from_str(alloc, found.file)?;",
@@ -82,11 +82,11 @@ EDITS = [
      ("flag.help(RUN_CONFIG_HELP)", 'value_name("FILE").help(MEMORY_HELP)'), ["rows/13-words/help-of-run.row"]),
     ("the words are left out of help", "vtl_words", "src/commands.rt", "    Command::new(alloc, name).about(about)\n",
      "    Command::new(alloc, name).about(about).hide(true)\n", ["rows/13-words/help.row"]),
-    ("a long name is want of memory", "vtl_words", "src/reading.rt",
+    ("a long name runs out of memory", "vtl_words", "src/reading.rt",
      "        Some(text) => match String::from_str(alloc, text) {",
      "        Some(text) if text.len() > 255 => Err(NoMemory),\n"
      "        Some(text) => match String::from_str(alloc, text) {", ["long_names_are_names"]),
-    ("what is to be reclaimed and is no barcode is want of memory", "vtl_words", "src/reading.rt",
+    ("what is to be reclaimed and is no barcode runs out of memory", "vtl_words", "src/reading.rt",
      "        None => return Err(WordsError::Refused),\n", "        None => return Err(WordsError::NoMemory),\n",
      ["other_words_are_refused"]),
     ("help of another text is written", "vtl_program", "src/orders.rt",
