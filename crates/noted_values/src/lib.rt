@@ -5,7 +5,7 @@ ghost use Rattle.std.specs.Prelude.{◌≡◌};
 
 use std::marker::{Model, PhantomData};
 
-/// A value that only proofs see. `N` is a type whose contracts see values of the same kind.
+/// A value that only proofs see. `N` is a type whose model says of which kind the value is.
 pub struct NotedValue<N> {
     marker: PhantomData<N>,
     pub ghost value: { N } by { N.code },

@@ -50,7 +50,7 @@ impl Index {
         Ok(Index { partitions })
     }
 
-    /// A copy of it, with nothing reserved.
+    /// A copy of the index, with nothing reserved. An error where memory runs out.
     pub fn copy(&self, alloc: Global) -> Result<Self, NoMemory>
         ensures { IfOk result (λ copy. copy ≡ map unreserved self.now) }
     {

@@ -18,8 +18,8 @@ struct Image {
     bytes: Vec<u8>,
 }
 
-/// The bytes of the two files of a check or a reclaim. Where there is no memory for one, or it is longer than
-/// 268,435,456 bytes, it is left out.
+/// The bytes of the two files of a check or a reclaim. A file is left out where there is no memory for it, where it
+/// cannot be read, or where it is longer than 268,435,456 bytes.
 #[derive(Drop)]
 pub struct Images {
     first: Cell<Option<Image>>,

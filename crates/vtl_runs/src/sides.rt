@@ -23,7 +23,7 @@ use vtl_files::opened::opened_both;
 pub struct DriveStore<D: Disk> {
     /// The store, open.
     pub store: AptplStore<D>,
-    /// The reservations that a loss of power left of the state that it saved last.
+    /// The reservations that a loss of power left of the state that the store saved last.
     pub left: Reservations,
 }
 
