@@ -5,10 +5,10 @@ import re
 TOP = os.path.dirname(os.path.dirname(os.path.abspath(__file__)))
 HEAD = """# The crates
 
-Made by `checks/definitions.py` from the comments of `crates.txt`. Lowest first: no crate of the program uses one that
-stands below it here. [LAYERS](../docs/LAYERS.md) says what the crates above may use of each, and
-[CONTRIBUTING](../CONTRIBUTING.md#where-a-rule-has-its-one-place) in which file a rule stands. A crate's own page says
-what each file of its `src/` has.
+Made by `checks/definitions.py` from the comments of `crates.txt`. The lowest come first: a crate of the program uses
+only crates in rows above its own. [LAYERS](../docs/LAYERS.md) says what the crates above may use of each, and
+[CONTRIBUTING](../CONTRIBUTING.md#where-a-rule-has-its-one-place) in which file a rule stands: most are
+in a crate's `specs/`. A crate's own page says what each file of its `src/` has.
 """
 KINDS = ("The program", "Tests", "Doubles and helpers of tests", "Programs that are timed")
 

@@ -61,7 +61,7 @@ class Reservations:
         self.type, self.holder = kind, host if kind < 7 else 0
 
     def order(self, host, action, kind, key, wanted, aptpl):
-        """The answer, and what other hosts are told."""
+        """The answer, and what other hosts are informed of."""
         others = [other for other in self.keys if other != host]
         if action in (0, 6):
             return self.register(host, action, key, wanted, aptpl, others)

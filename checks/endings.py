@@ -163,7 +163,7 @@ def refused_files(room, made):
             file.write(content)
         return sorted({*made, name})
     refused, rows = b"vtl: configuration refused\n", []
-    for what, content in (("no UTF-8", b"\xff"), ("no TOML", b"drive"),
+    for what, content in (("not UTF-8", b"\xff"), ("no TOML", b"drive"),
                           ("a drive that is not listed", CONFIG.replace(b"number = 1", b"number = 2"))):
         there = file_of("bad.toml", content)
         for words in (["run"], ["create"], ["reclaim", "T00001L6"]):

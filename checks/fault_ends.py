@@ -27,7 +27,7 @@ def create(room, kind, at):
     if not done and not fails(kind, wanted, run):
         wrong.append("its end")
     missing = [name for name in FILES if there[name] is None]
-    wrong += [f"{name} was told as created" for name in missing if f"created {name}\n" in run.out]
+    wrong += [f"{name} was reported as created" for name in missing if f"created {name}\n" in run.out]
     goes_on = "".join(f"{'created' if name in missing else 'kept'} {name}\n" for name in FILES)
     if room.run(words)[:3] != (0, goes_on, ""):
         wrong.append("create does not go on")
@@ -96,7 +96,7 @@ def judged(room, kind, answers, ended):
             if line.stores and told and loaded not in tried:
                 stored[loaded] = len(accepted[loaded])
                 marked[loaded] = stored[loaded] if line.loads is False else marked[loaded]
-        # The host may be told of a flusher's turn that failed once that cartridge is out, and what waited is given up.
+        # A host may hear of a flusher's turn that failed once that cartridge is out, and what waited is given up.
         for name in gone if told and answers[at] == DEFERRED else []:
             tried.setdefault(name, accepted[name])
             stored[name] = marked[name]
@@ -105,7 +105,7 @@ def judged(room, kind, answers, ended):
             loaded = line.loads
     wrong = []
     for name, those in accepted.items():
-        # of a medium that failed the host was told
+        # a host was informed of a medium that failed
         ways, least = [those, tried.get(name, those)], len(those) if ended and name not in tried else stored[name]
         if not any(volumes[name] == way[:count] for way in ways for count in range(least, len(way) + 1)):
             wrong.append(f"{name}: of {brief(those)} are stored {stored[name]}, and there is {brief(volumes[name])}")

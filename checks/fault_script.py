@@ -135,7 +135,7 @@ def ill_ended(kind, drive, run):
 
 def misanswered(kind, run):
     """What is wrong with the answers to the script and with the end of the run, where one call of this kind failed, or
-    none: each answer is the right one up to the first that tells of it, and then what follows from that."""
+    none: each answer is the right one up to the first that reports it, and then what follows from that."""
     drives = [Drive(), Drive(is_open=False)] if kind == "fault" else [Drive()]
     wrong = [ill_ended(kind, drive, run) for drive in drives]
     return [] if None in wrong else wrong[:1]

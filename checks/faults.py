@@ -8,11 +8,11 @@ each read or write moves one byte.
 Interruptions and short moves change nothing. Where a call fails or memory runs out the program ends with its status and
 line behind a beginning of its lines, or commands end, or nothing changes; but none that reads, writes, cuts, syncs,
 opens or locks a file is passed over. Of vtl run the first answer that differs is one that such a failure may give, at a
-command that can meet it, each later one is what follows from that, and so is the status; where no answer tells of the
+command that can meet it, each later one is what follows from that, and so is the status; where no answer speaks of the
 failure, what was written is a beginning of the right answers. Each cartridge then holds what a first part of the
 accepted changes leaves, with all up to the last acknowledged synchronizing command, and all of them at status 0 where
 none of its commands failed; the reservations are those of a first part of the orders, with each acknowledged one; what
-create told of is there, each file that is there is whole, and it goes on; check changes no byte. In the stored run one
+create reported is there, each file that is there is whole, and it goes on; check changes no byte. In the stored run one
 command at most ends for lack of memory, and has its stored answer when it is given again. The journal, the cartridge
 and the buffer, in memory, end with status 1 (their words) or 2 behind some of their stored answers, or change nothing.
 Where the program has `vtl reclaim` that is tried too: the volumes stay, and the cartridge can be reclaimed again.

@@ -185,7 +185,7 @@ WORDS = {
     "UNLOAD": ["UnloadsInto", "ParksAs", "LoadUnloadWork"],
     "LOAD": ["LoadsAgain", "ReloadsAs", "asks_load", "LoadUnloadWork"],
     "move, MOVE MEDIUM": ["MovesMedium", "refusal_of_move"],
-    "changer": ["Puts", "refusal_of_placing", "refusal_of_taking"],
+    "changer": ["MovesMedium", "Puts", "refusal_of_placing", "refusal_of_taking"],
     "opening": ["Opens", "Recovers", "IsLeftWell"],
     "full partition": ["has_room", "volume_overflow"],
     "full slot, full drive": ["refusal_of_placing", "refusal_of_move", "destination_full"],

@@ -33,7 +33,7 @@ EDITS = [
     ("a turn does not look into the ring", "split_bay", "src/backs.rt", "        self.receiving.look();\n", "",
      ["a_flusher_rests_until_a_change_is_accepted"]),
     ("a fault of a turn is reported once a command needs the disk", "library", "src/shared.rt",
-     "            Turn::Device => self.tell(rt),\n", "            Turn::Device => {}\n",
+     "            Turn::Device => self.report_fault(rt),\n", "            Turn::Device => {}\n",
      ["a_turn_in_which_the_device_fails"]),
     ("the hosts of a pipe are answered one after another", "vtl_hosts", "src/rounds.rt",
      "    thread::for_each_mut(rt, hosts, 64, &answer);\n", "    thread::for_each_mut(rt, hosts, 1, &answer);\n",
@@ -214,4 +214,9 @@ EDITS = [
      ("        let slots = self.slots.lock(rt);\n", "            slots: seen_in_slots(&slots),\n"),
      ("        let slots = seen_in_slots(&self.slots.lock(rt));\n", "            slots,\n"),
      ["cartridges_are_moved_while_hosts_write"]),
+    ("a move of a script is made back", "library_scripts", "src/stages.rt",
+     "            .push(self.library.move_medium(self.rt, from, to))\n",
+     "            .push({\n                let reply = self.library.move_medium(self.rt, from, to);\n"
+     "                let _ = self.library.move_medium(self.rt, to, from);\n                reply\n            })\n",
+     ["rows/11-moves/slot-to-slot.row"]),
 ]

@@ -40,7 +40,7 @@ EDITS = [
      "        let is_end = gather(&mut lines, parsed)?;\n",
      "        let is_end = gather(&mut lines, parsed)?;\n        if moved.is_some() && !is_last {\n"
      "            let _ = line_reader.find(reader)?;\n        }\n", ["nothing_behind_is_read_first"]),
-    ("a bad line is told once the next one was read", "vtl_script", "src/phases.rt",
+    ("a bad line is reported once the next one was read", "vtl_script", "src/phases.rt",
      "            line_reader.take_up(count);\n",
      "            line_reader.take_up(count);\n            if matches!(&parsed, ParsedLine::Refused) {\n"
      "                let _ = line_reader.find(reader)?;\n            }\n", ["nothing_behind_is_read_first"]),
@@ -56,11 +56,11 @@ EDITS = [
      "        if place >= 4 {\n            return Err(ConfigError::NoMemory);\n        }\n"
      "        let file = String::from_str(alloc, found.file)?;",
      ["rows/12-configurations/the-greatest-library.row"]),
-    ("another key of a cartridge is told last", "vtl_config", "src/cartridge_entries.rt",
+    ("another key of a cartridge is reported last", "vtl_config", "src/cartridge_entries.rt",
      ("    if !has_only(entry, &KEYS) {\n        return Err(Rule::OtherKey);\n    }\n", "    Ok(FoundCartridge {\n"),
      ("", "    if !has_only(entry, &KEYS) {\n        return Err(Rule::OtherKey);\n    }\n    Ok(FoundCartridge {\n"),
      ["keys_of_a_cartridge_come_before_what_is_double"]),
-    ("a home that is not listed is told before a double barcode", "vtl_config", "src/cartridge_entries.rt",
+    ("a home that is not listed is reported before a double barcode", "vtl_config", "src/cartridge_entries.rt",
      "    if has_barcode(before, &found.barcode) {",
      "    if !is_at_home(drives, found.home) {\n        return Err(Rule::NoSuchDrive);\n    }\n"
      "    if has_barcode(before, &found.barcode) {",
@@ -93,7 +93,7 @@ EDITS = [
      "        Err(error) => answer_words(error, writer),",
      "        Err(WordsError::Help(_)) => answer_words(WordsError::Help(String::new(alloc)), writer),\n"
      "        Err(error) => answer_words(error, writer),", ["help_is_written_as_it_was_given"]),
-    ("the files of cartridges are made before the first is told of", "vtl_files", "src/creating.rt",
+    ("the files of cartridges are made before the first is reported", "vtl_files", "src/creating.rt",
      "    for entry in entries {\n"
      "        if let Err(fault) = make_cartridge::<D, F, W>(alloc, files, entry, writer) {\n"
      "            return Err(fault);\n        }\n    }\n    Ok(())\n",
@@ -106,15 +106,16 @@ EDITS = [
      "        if let Err(fault) = print_fate(alloc, writer, fate, barcode.as_bytes()) {\n"
      "            return Err(fault);\n        }\n    }\n    end\n",
      ["a_creation_ends_where_a_line_is_not_out"]),
-    ("a library to be served that is not switched on is told as memory that ran out", "vtl_runs", "src/serving.rt",
+    ("a library to be served that is not switched on is reported as memory that ran out", "vtl_power_on",
+     "src/serving.rt",
      "    let held = start(alloc, sides, starting, cartridges, drives);\n",
      "    let held = start(alloc, sides, starting, cartridges, drives);\n"
      "    if held.is_err() {\n        return Err(VtlFault::NoMemory);\n    }\n", ["rows/13-words/serve.row"]),
-    ("a library that is switched on is not served, and memory ran out", "vtl_runs", "src/serving.rt",
+    ("a library that is switched on is not served, and memory ran out", "vtl_power_on", "src/serving.rt",
      "    let held = start(alloc, sides, starting, cartridges, drives);\n",
      "    let held = start(alloc, sides, starting, cartridges, drives);\n"
      "    if held.is_ok() {\n        return Err(VtlFault::NoMemory);\n    }\n", ["rows/13-words/serve.row"]),
-    ("the line of a fault that is out is said not to be out", "vtl_program", "src/programs.rt",
+    ("the line of a fault that is out is said not to be out", "vtl_faults", "src/endings.rt",
      "                is_reported: report(line, errors),",
      "                is_reported: report(line, errors) && false,", ["status_and_line_of_each_end"]),
     ("the parser says nothing of what is no TOML", "config_reasons", "src/reading.rt",
@@ -191,7 +192,7 @@ EDITS = [
     ("an option without its value has no usage", "vtl_words", "src/refusals.rt",
      "    if usage_in(text.as_str()).is_some() {", "    if usage_in(text.as_str()).is_some() || !text.is_empty() {",
      ["an_option_without_its_value_has_its_usage"]),
-    ("words that are no UTF-8 are counted from the program's name on", "vtl_words", "src/unread.rt",
+    ("words that are not UTF-8 are counted from the program's name on", "vtl_words", "src/unread.rt",
      "return Some((place, shown(", "return Some((place + 1, shown(", ["a_word_that_is_no_utf_8_is_named"]),
     ("the parser says the same of all that is no TOML", "config_reasons", "src/reading.rt",
      "    match String::from_str(alloc, error.message()) {\n",
@@ -209,7 +210,7 @@ EDITS = [
     ("a tab parts the fields of a line", "script_reasons", "src/fields.rt",
      "        if (line[place] == b' ') == is_space {",
      "        if (line[place] == b' ' || line[place] == b'\\t') == is_space {", ["each_fault_of_a_command"]),
-    ("a missing field is told at the beginning of its line", "script_reasons", "src/wrong_fields.rt",
+    ("a missing field is reported at the beginning of its line", "script_reasons", "src/wrong_fields.rt",
      "        fault: Fault::Missing,\n        part: end_of(line),",
      "        fault: Fault::Missing,\n        part: Part { from: 0, to: 0 },", ["each_fault_of_a_command"]),
     ("what stands behind the end of a phase is explained as a host", "script_reasons", "src/reasons.rt",
@@ -220,4 +221,8 @@ EDITS = [
      "        self.below.flush()\n", "        Ok(())\n", ["each_flush_is_passed_on"]),
     ("of a frame that is cut off the drive is explained", "frame_reasons", "src/notes.rt",
      "None if is_whole && self.left == 0 =>", "None if is_whole =>", ["frames_that_are_cut_off"]),
+    ("a failed write of standard output is made again", "vtl_notes", "src/noted_streams.rt",
+     "        let written = self.below.write(buf);\n",
+     "        let mut written = self.below.write(buf);\n        if written.is_err() {\n"
+     "            written = self.below.write(buf);\n        }\n", ["what_standard_output_answered_is_reported"]),
 ]

@@ -9,7 +9,7 @@ written over the same one before the first sync; of a program that has `vtl recl
 file is gone whose folder was not synced since it was made, or it is there. Over these files the program is started
 again. Each cartridge must hold what a first part of the accepted changes leaves, with all up to the last acknowledged
 synchronizing command; the reservations must be those of a first part of the orders, with each acknowledged one; a file
-that was told as created must be new.
+that was reported as created must be new.
 
 So too the opening and the check of files that hold something, with bytes behind their end gates; a run in which a
 sync fails, and the cartridge is unloaded and loaded again; a run behind one in which a sync failed, where later syncs
@@ -107,7 +107,7 @@ def after_load(room, out):
 
 def after_create(room, out):
     told = [name for name in FILES if f"created {name}\n" in out]
-    return [f"{name} was told, and is not new" for name in told
+    return [f"{name} was reported, and is not new" for name in told
             if room.run(["check", FILES[name]])[:3] != (0, NEW[name], "")]
 
 

@@ -6,7 +6,7 @@ from .tables import ALWAYS, NAMES, NEEDS_MEDIUM, TYPES, flushing
 OF_TABLE = ("does | ", "action | ", "preempt | ", "when 2A/04 | ", "move | ", "out | ", "in | ", "back | ")
 LEVELS = ["29/00", "28/00", "2A/03", "2A/05", "2A/04", "2A/01"]
 CAUSES = ["done", "check: the file is neither", "reclaim: not reclaimed", "the words ask for nothing",
-          "the configuration's file is no UTF-8", "a bad line", "serve: a frame that is refused", "a file is missing",
+          "the configuration's file is not UTF-8", "a bad line", "serve: a frame that is refused", "a file is missing",
           "run, serve: the file of a drive's reservations is refused",
           "run, serve: a buffer could not be written out",
           "a read or write of the streams failed", "out of memory"]

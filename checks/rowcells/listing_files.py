@@ -61,7 +61,7 @@ def of_words():
               for option in ("--help", "-h")]
     cells += [f"words | refused: {why}" for why in (
         "no word", "help", "version", "another word", "another option in its place", "a shortened word",
-        "a word that is no UTF-8",
+        "a word that is not UTF-8",
         "run, --memory twice", "run, --explain twice", "run, --config twice", "create, --config twice",
         "run, a word too many",
         "create, a word too many", "check, a word too many", "check, a word too many behind --",
@@ -78,7 +78,7 @@ def of_words():
 def of_configurations():
     numbers = ("a truth value", "a fraction", "a text", "a list", "a table", "a date")
     texts = ("a truth value", "a whole number", "a fraction", "a list", "a table", "a date")
-    refused = ["no UTF-8", "no TOML document", "another key at the top", "drive is no list", "cartridge is no list"]
+    refused = ["not UTF-8", "no TOML document", "another key at the top", "drive is no list", "cartridge is no list"]
     for what in ("drive", "cartridge"):
         refused += [f"an entry of {what} is no table", f"another key of a {what}"]
     refused += [f"drive without {key}" for key in ("number", "reservations")]

@@ -132,7 +132,7 @@ class Walk(Folder):
                     self.see(f"configuration | refused: {faults[0]}")
                 if run.lines:
                     self.see("faults | 2 before 5")
-                self.ends(run, 1, "vtl: configuration refused", "the configuration's file is no UTF-8", [])
+                self.ends(run, 1, "vtl: configuration refused", "the configuration's file is not UTF-8", [])
                 return
         if asked.kind == "create":
             self.create(run, config, raw)

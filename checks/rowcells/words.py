@@ -35,7 +35,7 @@ def is_text(word):
 
 def read(words):
     if not all(is_text(word) for word in words):
-        return refused("a word that is no UTF-8")
+        return refused("a word that is not UTF-8")
     if words and words[0] in (b"--help", b"-h", b"--version", b"-V"):
         return Words("help", [f"words | {words[0].decode()}"])
     if not words:
@@ -149,7 +149,7 @@ def config_faults(raw):
     try:
         text = raw.decode()
     except UnicodeDecodeError:
-        return None, ["no UTF-8"]
+        return None, ["not UTF-8"]
     try:
         top = tomllib.loads(text)
     except tomllib.TOMLDecodeError:

@@ -2,10 +2,12 @@
 ghost use Rattle.accepting.specs.Core.{Rules};
 ghost use Rattle.accepting.specs.Device.{Device, IsDevice};
 
-/// A type that accepts items: its rules and its device. The trait has no call. A type whose contracts name the steps
-/// that it makes implements it once, and the laws then hold for it.
+/// The rules and the device of a type that accepts items, changes of a cartridge for example, and stores them. The
+/// trait has no methods. A type implements it once, if the type's contracts name the steps that it makes; the laws
+/// (`laws`) then hold for the type.
 pub trait Accepting {
-    /// Its rules: what an item is, when one applies, and which items an image gives.
+    /// The rules of the type: what an item is, which item may follow those accepted, which items can be read from an
+    /// image (what a crash leaves of the device), and which items may go into a new base.
     ghost rules: { Rules };
 
     /// The device that the items are stored on.

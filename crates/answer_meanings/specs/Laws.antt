@@ -9,7 +9,7 @@ use Rattle.answer_meanings.specs.declared.answer_lines.Cause.TheVariants.{Check}
 use Rattle.answer_meanings.specs.declared.conditions.Condition.TheVariants as is
 use Rattle.answer_meanings.specs.declared.sense_texts.Counted.{Counted}
 
--- sense data that drives and changers report by a name are of the condition of that name (SPC-4, SSC-4, SMC-3)
+-- sense data that drives and moves report by a name are of the condition of that name (SPC-4, SSC-4, SMC-3)
 pub record EachSenseHasItsCondition : Type 0 where
   pub nothing : condition_of no_sense ≡ Some is.NothingToReport
   pub incorrect_length : (residue : ℕ) → condition_of (incorrect_length residue) ≡ Some is.IncorrectLength
@@ -54,7 +54,7 @@ FitsALine sense =
       cause = Check (record { sense = sense; counted = counted });
     })) ≤ 120
 
--- the line of sense data that drives and changers report fits, whatever is left (own)
+-- the line of sense data that drives and moves report fits, whatever is left (own)
 pub record EachLineFits : Type 0 where
   pub nothing : FitsALine no_sense
   pub incorrect_length : (residue : ℕ) → residue < 2 ^ 32 → FitsALine (incorrect_length residue)

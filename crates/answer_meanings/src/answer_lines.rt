@@ -15,17 +15,19 @@ pub enum Cause {
     Conflict,
 }
 
-/// What the answer to a line of a script means, in one line with no line feed. It takes no memory.
+/// The meaning of the answer to a line of a script, as one line of English without a line feed. It allocates no memory.
 #[derive(Clone, Copy, PartialEq, Eq, Debug)]
 pub struct AnswerLine {
-    /// The line of the script, counted from 1 on.
+    /// The number of the script's line; the first line has number 1.
     pub line: u64,
     /// Why the answer is not GOOD.
     pub cause: Cause,
 }
 
 impl AnswerLine {
-    /// What this reply to a line means, where it is not GOOD.
+    /// Returns the meaning of `reply`, the answer to line number `line` of the script. `counted` says what INFORMATION
+    /// counts for the command of that line. Returns None where the status is GOOD, or CHECK CONDITION without sense
+    /// data.
     pub fn of(line: u64, reply: &Reply, counted: Counted) -> Option<Self>
         ensures { result ≡ answer_line line reply.now counted }
     {

@@ -5,37 +5,39 @@ ghost use Rattle.answer_meanings.specs.Words.{words_of};
 
 use scsi_sense::{Sense, SenseKey};
 
-/// A condition that drives and changers report by sense data (SPC-4, SSC-4, SMC-3). A keeper of reservations that has
-/// failed is reported like a failed medium, and a deferred error is the error that it reports.
+/// A condition that drives and moves report by sense data (SPC-4, SSC-4, SMC-3). If the keeper of the reservations
+/// (their store) has failed, the condition is `Failed`, as for a medium that has failed. A deferred error has the
+/// condition of the error that it reports.
 #[derive(Clone, Copy, PartialEq, Eq, Debug)]
 pub enum Condition {
     /// There is nothing to report.
     NothingToReport,
-    /// A block has another length than a read.
+    /// The length of a block differs from the length that a READ asked for.
     IncorrectLength,
     /// A filemark was met.
     Filemark,
-    /// The data were written, and the partition is nearly full.
+    /// All was written, and the partition is nearly full.
     EarlyWarning,
     /// The beginning of a partition was met.
     Beginning,
     /// No cartridge is loaded.
     NotPresent,
-    /// A device failed while what was pending was stored.
+    /// A device failed while pending changes were stored.
     WriteError,
-    /// A device failed while a block was read or a cartridge loaded, or a side was refused.
+    /// A device failed while a block was read or a cartridge was loaded; or a side, the bytes of a cartridge's file,
+    /// was refused.
     ReadError,
     /// The medium or the keeper of the reservations has failed.
     Failed,
-    /// A command block has no code, or one that is not known.
+    /// A command block has no operation code, or an unknown one.
     UnknownCommand,
-    /// The length of a command block, one of its fields or the count of bytes sent with it is wrong.
+    /// The length of a command block, one of its fields, or the number of data bytes sent with it is wrong.
     WrongBlock,
     /// A parameter list has a wrong length.
     WrongListLength,
     /// A field of a parameter list is wrong.
     WrongList,
-    /// A reservation is released under another type than its own.
+    /// A release names a type other than that of the reservation.
     WrongRelease,
     /// An element address is neither a slot's nor a drive's.
     WrongAddress,
@@ -49,11 +51,11 @@ pub enum Condition {
     PowerOn,
     /// The medium may have been changed.
     MediumChanged,
-    /// Another host cleared the reservations.
+    /// Another host cleared the registrations and the reservation.
     ReservationsPreempted,
-    /// Another host removed this one's registration.
+    /// Another host removed this host's registration.
     RegistrationsPreempted,
-    /// Another host released a reservation of registrants, or changed its type.
+    /// Another host released a reservation of a type for registrants (SPC-4, types 5 to 8), or changed its type.
     ReservationsReleased,
     /// Another host changed the mode.
     ModeChanged,
@@ -61,7 +63,7 @@ pub enum Condition {
     EndOfData,
     /// Memory ran out.
     NoMemory,
-    /// The data do not fit, and nothing changed.
+    /// There is no room for the data or the filemarks, and nothing changed.
     NoRoom,
 }
 
@@ -116,7 +118,8 @@ impl Row {
 }
 
 impl Condition {
-    /// The condition that sense data report, where they have the key and the code of one.
+    /// The condition that `sense` reports: `IncorrectLength` where the bit ILI is set, else the condition with the
+    /// sense key, code and qualifier of `sense`. None where no condition has these.
     pub fn of(sense: &Sense) -> Option<Self>
         ensures { result ≡ condition_of sense.now }
     {
@@ -179,7 +182,7 @@ impl Condition {
         }
     }
 
-    /// Its words, without the count of what was left.
+    /// The words for this condition. They do not include what INFORMATION says.
     pub fn words(self) -> &'static str
         ensures { result.now ≡ words_of self }
     {

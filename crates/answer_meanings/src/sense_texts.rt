@@ -6,7 +6,7 @@ use crate::conditions::Condition;
 use scsi_sense::Sense;
 use std::fmt;
 
-/// What INFORMATION counts: of READ and WRITE bytes, of SPACE and WRITE FILEMARKS blocks or filemarks (SSC-4).
+/// What INFORMATION counts (SSC-4): bytes for READ and WRITE, blocks or filemarks for SPACE and WRITE FILEMARKS.
 #[derive(Clone, Copy, PartialEq, Eq, Debug)]
 pub enum Counted {
     Bytes,
@@ -112,14 +112,14 @@ impl fmt::Display for Rest {
     }
 }
 
-// The text where the condition holds, else an empty one.
+// The text where `is_so` is true, else an empty one.
 fn text_if(is_so: bool, text: &'static str) -> &'static str
     ensures { result.now ≡ if is_so then text.now else [] }
 {
     if is_so { text } else { "" }
 }
 
-// The words of the condition that sense data report, or that they report none.
+// The words of the condition that sense data report, or words for sense data that report none.
 fn words_in(sense: &Sense) -> &'static str
     ensures { result.now ≡ words_in sense.now }
 {
@@ -129,7 +129,7 @@ fn words_in(sense: &Sense) -> &'static str
     }
 }
 
-/// Sense data in one line of plain English, with no line feed. It takes no memory.
+/// Sense data in one line of plain English, with no line feed. It allocates no memory.
 #[derive(Clone, Copy, PartialEq, Eq, Debug)]
 pub struct SenseText {
     pub sense: Sense,

@@ -18,7 +18,7 @@ counted_of block =
     (if slice_index_or block 1 0 == 0x01 then Filemarks else Blocks)
     else Bytes
 
--- drives and changers have no sense key of this number
+-- drives and moves have no sense key of this number
 abbrev pub IsNoKey : ℕ → Type 0
 IsNoKey number = (key : SenseKey) → key_number key ≢ number
 

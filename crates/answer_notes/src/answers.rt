@@ -29,7 +29,7 @@ fn counted_in(block: &[u8]) -> Counted
     }
 }
 
-// What an answer that is not GOOD reports.
+// What an answer reports; None where it is GOOD, or where its meaning is not known.
 fn cause_of(answer: &[u8], counted: Counted) -> Option<Cause>
     ensures { IfSome result (IsCause answer.now counted) }
 {
@@ -47,7 +47,7 @@ fn cause_of(answer: &[u8], counted: Counted) -> Option<Cause>
     }
 }
 
-// Notes a line that was read, with its number.
+// Adds a line that was read, with its number, to the queue.
 fn note_line(
     alloc: Global,
     drives: &Drives,
@@ -75,9 +75,9 @@ fn note_line(
     }
 }
 
-/// The lines of a script that are to be answered. The reader of the script adds them, and the writer of the answers
-/// takes them, one call at a time. A call during another one finds no lines, and changes none. Once memory runs out,
-/// there are no lines any more.
+/// The lines of a script whose answers are to come, in the order of the answers. The code that reads the script adds
+/// lines, and the code that writes the answers takes them. Calls must not overlap: if two do, one of them may find no
+/// lines, and all lines may be lost. Once memory has run out, there are no lines any more.
 #[derive(Drop)]
 pub struct Answers {
     alloc: Global,
@@ -87,7 +87,7 @@ pub struct Answers {
 }
 
 impl Answers {
-    /// No lines yet. Where `is_on` is false, none are ever added.
+    /// Creates an `Answers` without lines. If `is_on` is false, no line is ever added.
     pub fn new(alloc: Global, is_on: bool) -> Self {
         Answers {
             alloc,
@@ -97,12 +97,12 @@ impl Answers {
         }
     }
 
-    /// Whether lines are added.
+    /// Whether lines are added: the `is_on` that `new` was given.
     pub fn is_on(&self) -> bool {
         self.is_on
     }
 
-    // The lines, which are given away. There are none while another call has them.
+    // Takes the lines out; None while another call has them, and once memory has run out.
     fn taken(&self) -> Option<Queue> {
         let mut held = self.queue.try_lock()?;
         held.take()
@@ -115,7 +115,7 @@ impl Answers {
         }
     }
 
-    /// Adds a line of the script, with its number.
+    /// Adds `line`, which is line `number` of the script, if it is to be answered or ends a phase.
     pub fn add(&self, number: u64, line: &[u8]) {
         if let Some(mut queue) = self.taken() {
             if note_line(self.alloc, &self.drives, &mut queue, number, line).is_ok() {
@@ -124,7 +124,7 @@ impl Answers {
         }
     }
 
-    /// Notes that the script has ended.
+    /// Notes that the script, and with it its last phase, has ended.
     pub fn end(&self) {
         if let Some(mut queue) = self.taken() {
             if queue.end_phase().is_ok() {
@@ -133,7 +133,9 @@ impl Answers {
         }
     }
 
-    /// What the next answer means, given its first bytes. None where it is GOOD, and where its meaning is not known.
+    /// Takes the line whose answer comes next, and returns what that answer means. `answer` must hold at least the
+    /// first 42 bytes of the answer, or all of a shorter one. Returns None where the answer is GOOD, where its meaning
+    /// is not known, or where no line is left.
     pub fn next(&self, answer: &[u8]) -> Option<AnswerLine>
         ensures { IfSome result (IsMeaning answer.now) }
     {

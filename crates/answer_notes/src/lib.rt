@@ -1,4 +1,4 @@
-//! What the answers of a script mean, while they are written.
+//! Finds out what the answers of a script mean, while they are written.
 #![tactic(auto)]
 
 pub mod answers;

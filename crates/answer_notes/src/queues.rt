@@ -33,7 +33,7 @@ impl Model for Queue {
     ghost invariant = { λ q. q.next ≤ length q.due.items };
 }
 
-// Adds the lines of a host to those whose answers are to come.
+// Adds the lines of a phase that are of this host to `due`, the lines whose answers are to come.
 fn add_host(due: &mut Vec<Asked>, phase: &[Asked], host: u8) -> Result<(), AllocError>
     ensures added { OnOk result (due.new.items ≡ due.old.items ++ lines_of_host host phase.now) }
     ensures longer { length due.old.items ≤ length due.new.items }
@@ -46,7 +46,7 @@ fn add_host(due: &mut Vec<Asked>, phase: &[Asked], host: u8) -> Result<(), Alloc
     Ok(())
 }
 
-// Adds the lines of a phase, by rising host, each host's in order.
+// Adds the lines of a phase to `due`: host by host, from host 1 on, and the lines of each host in their order.
 fn add_phase(due: &mut Vec<Asked>, phase: &[Asked]) -> Result<(), AllocError>
     ensures added { OnOk result (due.new.items ≡ due.old.items ++ asked_in_turn phase.now) }
     ensures longer { length due.old.items ≤ length due.new.items }
@@ -77,7 +77,7 @@ impl Queue {
         Ok(())
     }
 
-    // Ends the phase: its answers come by rising host, each host's in order.
+    // Ends the phase. Its answers come host by host, from host 1 on, and those of each host in the order of its lines.
     pub(crate) fn end_phase(&mut self) -> Result<(), AllocError>
         ensures { OnOk result (self.new ≡ with_end self.old) }
     {
@@ -99,7 +99,7 @@ impl Queue {
         Ok(())
     }
 
-    // The line whose answer comes next.
+    // Takes the line whose answer comes next; None where there is none.
     pub(crate) fn next(&mut self) -> Option<Asked>
         ensures { MatchOption result (IsNone self.old self.new) (IsNext self.old self.new) }
     {

@@ -1,11 +1,11 @@
-//! Sense data, from their bytes.
+//! Reads sense data from their bytes.
 ghost use Rattle.std.specs.Prelude.{◌≡◌, IfSome, MatchOption};
 ghost use Rattle.scsi_sense.specs.SenseData.{key_number, sense_bytes};
 ghost use Rattle.answer_notes.specs.Causes.{IsNoKey};
 
 use scsi_sense::{Sense, SenseKey};
 
-// The sense key of this number, where drives and changers have it.
+// The sense key with this number, if drives and moves have it.
 fn key_of(number: u8) -> Option<SenseKey>
     ensures { MatchOption result (IsNoKey number) (λ key. key_number key ≡ number) }
 {
@@ -23,7 +23,7 @@ fn key_of(number: u8) -> Option<SenseKey>
     }
 }
 
-// Sense data that have these bytes, if any have.
+// The one `Sense` that may have these bytes; None where its sense key would be another one than drives and moves have.
 fn candidate(bytes: &[u8; 18]) -> Option<Sense> {
     let information = u32::from_be_bytes([bytes[3], bytes[4], bytes[5], bytes[6]]);
     Some(Sense {
@@ -42,7 +42,7 @@ fn candidate(bytes: &[u8; 18]) -> Option<Sense> {
     })
 }
 
-/// The sense data in fixed format that have these bytes (SPC-4).
+/// Returns the sense data that have these 18 bytes in fixed format (SPC-4); None where no `Sense` has these bytes.
 pub fn sense_of(bytes: &[u8; 18]) -> Option<Sense>
     ensures { IfSome result (λ sense. sense_bytes sense ≡ bytes.now) }
 {

@@ -1,4 +1,4 @@
-//! A writer of answers, which also writes what each of them means.
+//! A writer of answers that also writes what they mean.
 ghost use Rattle.std.specs.Prelude.{◌≡◌, min, take};
 ghost use Rattle.answer_notes.specs.Meanings.{WritesMeaning, ExplainsAnswer};
 
@@ -11,8 +11,9 @@ use vtl_script::write_text;
 // The bytes of an answer that count here: `CHECK`, a space, and 36 digits.
 const FRONT: usize = 42;
 
-/// A writer that passes each call on to the writer below. After each answer that is not GOOD it writes to a second
-/// writer what the answer means. A meaning that cannot be written there, or for which memory runs out, is left out.
+/// A writer that passes each call on to the writer below it. After each answer that is not GOOD it writes to a second
+/// writer what the answer means, if that is known. If memory runs out for this text, the text is left out. If the
+/// second writer fails, only the beginning of the text may be written.
 #[derive(Drop)]
 pub struct AnswerWriter<'a, W, E> {
     below: W,
@@ -24,7 +25,8 @@ pub struct AnswerWriter<'a, W, E> {
 }
 
 impl<'a, W, E> AnswerWriter<'a, W, E> {
-    /// A writer of answers over `below`, which writes the meanings to `errors`.
+    /// Creates a writer over `below`, which writes the meanings to `errors`. `answers` holds the lines of the script
+    /// that are answered.
     pub fn new(below: W, errors: E, alloc: Global, answers: &'a Answers) -> Self {
         AnswerWriter {
             below,
@@ -37,7 +39,7 @@ impl<'a, W, E> AnswerWriter<'a, W, E> {
     }
 }
 
-// Writes what an answer means. What cannot be written, or finds no memory, is left out.
+// Writes what an answer means. If memory runs out, nothing is written; if a write fails, a beginning of it may be.
 fn write_meaning<E: Write>(alloc: Global, line: &AnswerLine, errors: &mut E)
     ensures { WritesMeaning line.now (E.contents errors.old) (E.contents errors.new) }
 {
@@ -49,7 +51,7 @@ fn write_meaning<E: Write>(alloc: Global, line: &AnswerLine, errors: &mut E)
 }
 
 impl<'a, W, E: Write> AnswerWriter<'a, W, E> {
-    // An answer has ended, of which these are the first bytes: what it means is written, if that is known.
+    // Ends an answer, and writes what it means, if that is known. `front` has its first bytes.
     fn end_answer(&mut self)
         ensures below { self.new.below ≡ self.old.below }
         ensures count { self.new.count ≡ 0 }

@@ -16,13 +16,14 @@ use std::alloc::Global;
 use tape_disk::Disk;
 use vtl_base::{DriveNo, NoMemory};
 
-/// How many saves take no memory after a creation or an opening.
+/// The least number of saves for which memory is reserved in a store that was just made or opened. These saves allocate
+/// no memory.
 pub const RESERVED_SAVES: usize = 256;
 
 impl<D: Disk> AptplStore<D> {
-    /// Makes the store of a drive, whatever the disk held, with no registration and no reservation. After a
-    /// device fault anything may be on the disk. After `NoMemory` the disk was not touched, or it holds the
-    /// new store.
+    /// Makes the store of the drive with the number `drive` on `disk`, whatever the disk held before. The store holds
+    /// no saved state: no registration and no reservation. After a device fault the disk may hold anything. After
+    /// `NoMemory` the disk is untouched, or it holds the new store.
     pub fn create(alloc: Global, disk: D, drive: DriveNo) -> Result<AptplStore<D>, StoreRefused<D>>
         ensures disk { Keeps (D.state disk) (D.state (disk_of_new result)) }
         ensures ok { IfOk result (λ store. (store.heading ≡ heading_for drive) × (store.states ≡ [])

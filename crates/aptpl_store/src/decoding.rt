@@ -35,7 +35,7 @@ fn key_decoded(number: u8, bytes: &[u8]) -> (Option<u64>, &[u8])
     }
 }
 
-// The keys by rising nexus, each of which may have its registration next.
+// The keys of all nexuses, in rising order. The bytes hold registrations in that order, and a nexus may have none.
 fn keys_decoded(bytes: &[u8]) -> [Option<u64>; 64]
     ensures { result ≡ keys_decoded (nexuses_from 1) bytes.now }
 {
@@ -72,7 +72,7 @@ fn state_decoded(body: &[u8]) -> PrState
     }
 }
 
-// The reservations that a body spells, if it spells some: those that it would spell, where their spelling is
+// The reservations that a body spells, or None where it spells none: those that it would spell, if their spelling is
 // the body itself.
 pub(crate) fn decode(body: &[u8], spelled: &mut Frame) -> Option<Reservations>
     requires room { STATE_BYTES ≤ spelled.old.room }

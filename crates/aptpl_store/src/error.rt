@@ -10,19 +10,21 @@ use vtl_base::{DevFault, NoMemory};
 /// Why a store is not made or opened (own).
 #[derive(Clone, Copy, PartialEq, Eq, Debug, Error)]
 pub enum StoreError {
-    /// The bytes begin with no header of a store.
+    /// The store could not be opened: the bytes on the disk do not begin with the header of a store.
     #[error("not a store")]
     NotOurs,
-    /// The first frame that is not whole has its gate at this place, counted in bytes.
+    /// The store could not be opened: its side, the bytes of one file, is damaged. The first frame that is not whole
+    /// has its gate at byte `at`.
     #[error("damaged at {at}")]
     Damaged {
-        /// The place of the gate.
+        /// The place of the gate, in bytes from the start of the side.
         at: u64,
     },
-    /// The first frame whose body spells no state has its gate at this place, counted in bytes.
+    /// The store could not be opened: the body of some frame spells no state. The first such frame has its gate at byte
+    /// `at`.
     #[error("bad record at {at}")]
     BadRecord {
-        /// The place of the gate.
+        /// The place of the gate, in bytes from the start of the side.
         at: u64,
     },
     /// The disk failed in this call.
@@ -65,7 +67,7 @@ impl From<NoMemory> for StoreError {
     }
 }
 
-/// A store that could not be made or opened, and its disk.
+/// A store that could not be made or opened, and why, with its disk.
 #[derive(Drop, Debug)]
 pub struct StoreRefused<D> {
     /// Why it could not be made or opened.

@@ -9,8 +9,8 @@ ghost use Rattle.aptpl_store.specs.declared.creating.TheConstants.{RESERVED_SAVE
 ghost use Rattle.aptpl_store.specs.Contents.{AreAllSavedAlike, GivesStates, IsStoreAnswered, IsBadStateAt, IsNoStore, OpensAs};
 ghost use Rattle.aptpl_store.specs.Spelling.{SpellsState};
 
-/// Bytes spell at most one state, except for the generation, which is not saved. A state has one spelling, of
-/// at most 580 bytes, and takes 5 more as a frame.
+/// Bytes spell at most one state, apart from its generation, which is not saved. A state has at most one spelling, of
+/// at most 580 bytes, and its frame takes 5 bytes more.
 pub fn bytes_spell_one_state()
     ensures one_state { (body : List ℕ) (one other : PrState) →
         SpellsState one body → SpellsState other body → AreSavedAlike one other }
@@ -21,8 +21,9 @@ pub fn bytes_spell_one_state()
         SpellsState state body → length body + 5 ≡ state_frame_size state }
 {}
 
-/// An image gives at most one store's states, except for their generations, and opens as at most one state.
-/// An image that gives states is a store's side, is not damaged and has no bad frame.
+/// An image, the bytes that a crash may leave on the disk, gives the states of at most one store, apart from their
+/// generations. It opens as at most one state. An image that gives states is a store's side, is not damaged and has no
+/// bad frame. No image has its first bad frame at two places.
 pub fn an_image_gives_one_store()
     ensures states { (image : List ℕ) (h k : Heading) (states others : List PrState) →
         GivesStates h states image → GivesStates k others image →
@@ -39,7 +40,8 @@ pub fn an_image_gives_one_store()
         IsBadStateAt image a → IsBadStateAt image b → a ≡ b }
 {}
 
-/// An image that gives no states has one cause for it, at one place.
+/// An image is refused for at most one of three causes: it is not a store's, it is damaged, or it has a bad frame. An
+/// image is damaged at one place at most.
 pub fn a_refusal_has_one_cause()
     ensures none_damaged { (image : List ℕ) (at : ℕ) →
         IsNoStore image → IsDamagedOf Store image at → ⊥ }
@@ -50,12 +52,13 @@ pub fn a_refusal_has_one_cause()
         IsDamagedOf Store image a → IsDamagedOf Store image b → a ≡ b }
 {}
 
-/// Each image gives states, is not a store's, is a damaged store's, or has a first bad frame.
+/// Each image gives states, or is refused for one of three causes: it is not a store's, it is a store's that is damaged
+/// at some place, or it has its first bad frame at some place.
 pub fn each_image_is_answered()
     ensures { (image : List ℕ) → IsStoreAnswered image }
 {}
 
-/// The number that this crate names.
+/// The constant of this crate as a number: memory is reserved for 256 saves.
 pub fn the_numbers()
     ensures saves { RESERVED_SAVES ≡ 256 }
 {}

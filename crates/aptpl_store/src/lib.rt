@@ -1,4 +1,5 @@
-//! Saved reservations of a drive, on a disk: each state is one frame, whole or not there.
+//! The saved reservations of a drive, on a disk. Each state that is saved is one frame, which is there whole or not at
+//! all.
 #![tactic(auto)]
 
 mod creating;

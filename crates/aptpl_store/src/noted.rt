@@ -1,4 +1,4 @@
-//! Notes of a side, for proofs alone. They take no bytes: only the disk has the saved states.
+//! Notes of what a side holds, for proofs alone. They take no memory: only the disk has the saved states.
 ghost use Rattle.std.specs.Prelude.{◌≡◌};
 ghost use Rattle.aptpl_store.specs.NotedStates.{NotedStates, no_notes, with_state, with_torn_state};
 
@@ -6,7 +6,7 @@ use noted_values::{NotedValue, note};
 use pr_core::Reservations;
 use std::marker::Model;
 
-/// The kind of the notes. No value of this type is made.
+/// The kind under which the notes of a side are noted. No value of this type is made.
 pub(crate) struct StatesNote {}
 
 impl Model for StatesNote {
@@ -20,7 +20,7 @@ impl Model for StatesNote {
     ghost view = { λ _. no_notes };
 }
 
-/// The notes of a side.
+/// The notes of a side: the states that were saved, and the one whose save failed, if there is one.
 #[derive(Drop)]
 pub(crate) struct Noted {
     pub notes: NotedValue<StatesNote>,
@@ -43,7 +43,7 @@ impl Noted {
         }
     }
 
-    /// The notes with this state in doubt.
+    /// The notes, with this state as the one whose save failed: the side may have it or not.
     pub(crate) fn with_torn_state(&self, state: &Reservations) -> Noted
         ensures { result.notes ≡ with_torn_state self.now.notes state.now }
     {

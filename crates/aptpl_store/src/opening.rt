@@ -1,4 +1,4 @@
-//! Opening a store: the body of each frame is read once, and the last one counts.
+//! Opening a store: the body of each frame is read once, and the state in the last one counts.
 ghost use Rattle.std.specs.Prelude.{◌≡◌, ◌≤◌, None, IfOk, IfErr, false};
 ghost use Rattle.tape_disk.specs.Disk.{Keeps, Only};
 ghost use Rattle.tape_disk.specs.Moments.{LeavesOnly};
@@ -17,11 +17,12 @@ use std::alloc::Global;
 use tape_disk::Disk;
 
 impl<D: Disk> AptplStore<D> {
-    /// Opens the store on the disk, and returns what a loss of power leaves of the state that was saved last; where
-    /// none was saved, that is the empty state. The call begins with a sync, and writes nothing. At every moment of the
-    /// call, and after every error, the disk stands for the same as before. After each error except `Device` that is
-    /// sure too. A cartridge's side is `NotOurs`, even where it is damaged, since the header is read first. The first
-    /// frame that spells no state is `BadRecord`, even where later ones spell states.
+    /// Opens the store on `disk`, and returns the store and what a loss of power leaves of the state that was saved
+    /// last; if none was saved, that is the empty state. The call begins with a sync, and writes nothing. Where the
+    /// disk is honest, a crash at any moment of the call, or after any error, leaves only what it might have left
+    /// before; after any result but `Device` it leaves exactly what a read returned before the call. A cartridge's side
+    /// is refused as `NotOurs`, even where it is damaged, since the header is read first. `BadRecord` names the first
+    /// frame that spells no state, even where later frames spell states.
     pub fn open(alloc: Global, disk: D) -> Result<(AptplStore<D>, Reservations), StoreRefused<D>>
         ensures disk { Keeps (D.state disk) (D.state (disk_of_opened result)) }
         ensures ok { IfOk result (λ opened. (opened.0.torn ≡ None) × (opened.0.failed ≡ false)

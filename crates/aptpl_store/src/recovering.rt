@@ -1,4 +1,4 @@
-//! What is recovered from a store's side, body by body.
+//! What is read from a store's side as it is opened, one frame's body after another.
 ghost use Rattle.std.specs.Prelude.{◌≤◌};
 ghost use Rattle.aptpl_store.specs.declared.spelling.TheConstants.{STATE_BYTES};
 

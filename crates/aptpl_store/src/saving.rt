@@ -11,7 +11,7 @@ ghost use Rattle.aptpl_store.specs.Kept.{store_below, store_kept};
 
 use crate::spelling::fill_body;
 use crate::stores::AptplStore;
-use gate_journal::JournalError;
+use gate_journal::{JournalError, NoParts};
 use pr_core::{Keeper, KeeperError, Reservations};
 use tape_disk::Disk;
 
@@ -26,9 +26,10 @@ impl<D: Disk> Keeper for AptplStore<D> {
 
     ghost below = { store_below D.state };
 
-    /// Saves these reservations as one frame, in four calls of the disk, two of them syncs. At Ok they are
-    /// sure. A reserved save takes no memory. After `Device` the side has the frame or not, and nothing more
-    /// is written. After every other error nothing has changed.
+    /// Saves `reservations` as one frame, in four calls of the disk, two of which are syncs. At Ok, where the disk is
+    /// honest, no crash loses them. A save for which memory is reserved allocates none. After `Device` the store has
+    /// failed, and writes nothing more; where the disk is honest, the side then has the whole frame or nothing of it.
+    /// After every other error nothing has changed.
     fn save(&mut self, reservations: &Reservations) -> Result<(), KeeperError>
         ensures answer { Saves (store_kept self.old) reservations.now result (store_kept self.new) }
         ensures advances { Advances (store_below D.state)
@@ -41,7 +42,7 @@ impl<D: Disk> Keeper for AptplStore<D> {
             (OpensAsEither self.old.heading (latest self.old.states) reservations.now) }
     {
         fill_body(&mut self.frame, reservations.state());
-        match self.journal.append_frame(&mut self.frame) {
+        match self.journal.append_frame(&mut self.frame, &NoParts) {
             Ok(()) => {
                 self.noted = self.noted.with_state(reservations);
                 Ok(())

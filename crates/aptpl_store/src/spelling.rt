@@ -1,13 +1,13 @@
-//! How a state is spelled in the body of a frame (own). Numbers are big-endian.
+//! How a state is spelled in the body of a frame (own). Places are in bytes, and numbers are big-endian.
 //!
 //! | Place | Content |
 //! |---|---|
 //! | 0 | APTPL, 0 or 1 |
-//! | 1 | the type of the reservation, 0 where there is none |
-//! | 2 | its holder, 0 where there is none, and of types 7 and 8 |
+//! | 1 | the type of the reservation; 0 where there is none |
+//! | 2 | the nexus of its holder; 0 where there is no reservation, and for types 7 and 8 |
 //! | 3 | how many nexuses are registered |
-//! | 4 + 9N | the nexus of registration N, by rising nexus |
-//! | 5 + 9N | its key, 8 bytes, not 0 |
+//! | 4 + 9N | the nexus of registration N; these rise, and N counts from 0 |
+//! | 5 + 9N | the key of registration N, 8 bytes, not 0 |
 ghost use Rattle.std.specs.Prelude.{◌≡◌, ◌≤◌, ◌+◌, ◌++◌, count_by, is_some, length};
 ghost use Rattle.vtl_base.specs.declared.limits.TheConstants.{NEXUSES};
 ghost use Rattle.pr_core.specs.Sound.{IsSound};
@@ -18,13 +18,13 @@ use gate_journal::Frame;
 use pr_core::{PrState, Reservation};
 use vtl_base::limits::NEXUSES;
 
-/// The bytes of a body before the registrations.
+/// How many bytes a body has before the registrations.
 pub(crate) const HEAD_BYTES: usize = 4;
 
-/// The bytes of a registration.
+/// How many bytes a registration has.
 pub(crate) const REGISTRATION_BYTES: usize = 9;
 
-/// The bytes of the longest body.
+/// How many bytes the longest body has: that of a state with 64 registrations.
 pub(crate) const STATE_BYTES: usize = 580;
 
 fn aptpl_byte(aptpl: bool) -> u8

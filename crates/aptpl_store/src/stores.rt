@@ -13,7 +13,7 @@ use gate_journal::{Frame, Journal};
 use std::marker::Model;
 use tape_disk::Disk;
 
-/// The saved reservations of a drive, open on a disk. After a device fault it has failed until it is opened
+/// The saved reservations of a drive, open on a disk. After a device fault the store has failed until it is opened
 /// again.
 #[derive(Drop)]
 pub struct AptplStore<D: Disk> {
@@ -49,10 +49,12 @@ impl<D: Disk> Model for AptplStore<D> {
 }
 
 impl<D: Disk> AptplStore<D> {
-    /// The invariant of every open store. It is a drive's store, and has failed exactly where a save is in doubt. Where
-    /// the disk is honest, each image that a crash may leave now gives the states, or these with the one that was being
-    /// saved when the disk failed. It opens with what a loss of power leaves of the state that was saved last, or of
-    /// that one. The room is as many bytes as the side's spelling leaves free.
+    /// Does nothing; its contract is the invariant of every open store. The store is a drive's, and has failed exactly
+    /// where the disk failed as a state was being saved. The rest holds where the disk is honest (keeps the promises of
+    /// a disk). Each image that a crash may leave now gives the saved states; where the store has failed, it gives
+    /// these, or these with the state that was being saved. Each such image opens as what a loss of power leaves of the
+    /// state that was saved last or, where the store has failed, of that state or the one that was being saved. The
+    /// room is the number of bytes that the spelling of the side leaves free.
     pub fn known(&self)
         ensures kind { self.now.heading.kind ≡ Kinds.Store }
         ensures at_rest { self.now.failed ≡ is_some self.now.torn }
@@ -79,15 +81,17 @@ impl<D: Disk> AptplStore<D> {
         &self.journal.header().name
     }
 
-    /// How many states were saved: the side has a frame for each. After a device fault it may have one more.
+    /// How many states were saved: the side has one frame for each. After a device fault the side may have one frame
+    /// more.
     pub fn frames(&self) -> usize
         ensures { result ≡ length self.now.states }
     {
         self.journal.frames()
     }
 
-    /// The bytes that may still be added to the side, up to 1,099,511,627,776 in all with the end gate. A
-    /// state takes 9, and 9 for each registration.
+    /// How many bytes may still be added to the side. The side may have at most 1,099,511,627,776 bytes, its end gate
+    /// (the closed gate after the last frame) included. A saved state takes up 9 bytes, and 9 more for each
+    /// registration.
     pub fn room(&self) -> u64
         ensures { result ≡ self.now.room }
     {

@@ -4,7 +4,7 @@ use Rattle.std.proofs.lemmas.Bool.Decides.{nat_tests}
 use Rattle.std.proofs.lemmas.List.{get_or-replicate, get_or_default, get_or-set_same, get_or-set_other, length-replicate}
 use Rattle.std.proofs.Math.ListN.{get_or-eq_default}
 use Rattle.tape_buffer.specs.State.{BufferState}
-use Rattle.changer.specs.Slots.{is_slot}
+use Rattle.element_slots.specs.Slots.{is_slot}
 use Rattle.bays.specs.Elements.{BayState, Becomes, HeldState, bay_at}
 use Rattle.bays.specs.Moves.{BayIs}
 

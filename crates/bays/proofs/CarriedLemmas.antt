@@ -6,7 +6,7 @@ use Rattle.scsi_sense.specs.Replies.{good_with}
 use Rattle.drive_core.specs.Media.{GoesOut, TakesIn}
 use Rattle.tape_buffer.specs.Moves.{buffer_below}
 use Rattle.tape_buffer.specs.State.{BufferState, state_of}
-use Rattle.changer.specs.Slots.{Puts, held_at, is_slot}
+use Rattle.element_slots.specs.Slots.{Puts, held_at, is_slot}
 use Rattle.bays.specs.declared.lent.End.{End}
 use Rattle.bays.specs.Elements.{BayState, HeldState, bay_at}
 use Rattle.bays.specs.Inner.Carried.{IsMoved, drive_end, end_beside, refusal_between, slot_end}

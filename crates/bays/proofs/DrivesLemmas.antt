@@ -7,7 +7,7 @@ use Rattle.drive_core.specs.declared.bays.Bay.TheVariants.{Unloaded}
 use Rattle.drive_core.specs.Media.{GoesOut, TakesIn}
 use Rattle.tape_buffer.specs.Moves.{buffer_below}
 use Rattle.tape_buffer.specs.State.{BufferState, state_of}
-use Rattle.changer.specs.Slots.{is_slot}
+use Rattle.element_slots.specs.Slots.{is_slot}
 use Rattle.bays.specs.declared.lent.End.{End}
 use Rattle.bays.specs.Elements.{BayState, Becomes, HeldState, bay_at}
 use Rattle.bays.specs.Inner.Carried.{IsMoved, drive_end, refusal_between}

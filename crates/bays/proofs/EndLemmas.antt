@@ -4,7 +4,7 @@ use Rattle.std.proofs.lemmas.Bool.Decides.{nat_tests}
 use Rattle.std.proofs.lemmas.List.{length-set, set-get_or}
 use Rattle.tape_buffer.specs.State.{BufferState}
 use Rattle.scsi_sense.specs.declared.replies.Reply.{Reply}
-use Rattle.changer.specs.Slots.{held_at, is_slot}
+use Rattle.element_slots.specs.Slots.{held_at, is_slot}
 use Rattle.bays.specs.declared.lent.End.{End}
 use Rattle.bays.specs.Elements.{BayState, Becomes, HeldState, bay_at, cartridge_at, cartridge_in, is_element, is_reserved_at}
 use Rattle.bays.specs.Inner.Carried.{drive_end, refusal_between, slot_end}

@@ -15,7 +15,7 @@ use Rattle.drive_core.specs.Relations.{made_nothing}
 use Rattle.drive_core.specs.State.{medium_in}
 use Rattle.drive_core.specs.Execute.{is_device_fault}
 use Rattle.drive_core.specs.Run.{Turned}
-use Rattle.changer.specs.Slots.{held_at, is_slot}
+use Rattle.element_slots.specs.Slots.{held_at, is_slot}
 use Rattle.bays.specs.Bays.{IsSafeIn}
 use Rattle.bays.specs.Elements.{BayState, HeldState, bay_at, cartridge_at, cartridge_in}
 use Rattle.bays.specs.Finish.{TurnsAt}

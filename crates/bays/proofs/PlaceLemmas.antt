@@ -11,7 +11,7 @@ use Rattle.drive_core.specs.Faults.{reply_of}
 use Rattle.drive_core.specs.Load.{wake_answer}
 use Rattle.drive_core.specs.State.{medium_in}
 use Rattle.tape_buffer.specs.State.{BufferState}
-use Rattle.changer.specs.Slots.{held_at, is_slot}
+use Rattle.element_slots.specs.Slots.{held_at, is_slot}
 use Rattle.bays.specs.Elements.{BayState, HeldState, bay_at, cartridge_at, cartridge_in}
 use Rattle.bays.specs.Moves.{BayIs, KeepsBays, SlotHolds}
 

@@ -9,7 +9,7 @@ use Rattle.drive_core.specs.Work.{Request}
 use Rattle.tape_buffer.specs.Moves.{buffer_below}
 use Rattle.tape_buffer.specs.State.{state_of}
 use Rattle.aptpl_store.specs.Kept.{store_below, store_kept}
-use Rattle.changer.specs.Slots.{is_slot}
+use Rattle.element_slots.specs.Slots.{is_slot}
 use Rattle.bays.specs.Bays.{EveryMoment, IsSafeIn, KeepsCartridgeIn}
 use Rattle.bays.specs.Elements.{BayState, HeldState, bay_at}
 use Rattle.bays.specs.Moves.{BayIs}

@@ -13,7 +13,7 @@ use Rattle.drive_core.specs.State.{machine_of}
 use Rattle.drive_core.specs.Synchronize.{Acknowledges, IsSynchronizing}
 use Rattle.drive_core.specs.Work.{Request}
 use Rattle.drive_core.specs.Run.{Event}
-use Rattle.changer.specs.Slots.{is_slot}
+use Rattle.element_slots.specs.Slots.{is_slot}
 use Rattle.bays.specs.Cartridges.{IsKnown, KeepsIn}
 use Rattle.bays.specs.Commands.{Commands}
 use Rattle.bays.specs.Doings.{Does}

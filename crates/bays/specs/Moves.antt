@@ -10,7 +10,7 @@ use Rattle.drive_core.specs.declared.bays.Bay.TheVariants.{Unloaded}
 use Rattle.drive_core.specs.Media.{GoesOut, TakesIn}
 use Rattle.tape_buffer.specs.Moves.{buffer_below}
 use Rattle.tape_buffer.specs.State.{BufferState, state_of}
-use Rattle.changer.specs.Slots.{Puts, held_at, is_slot}
+use Rattle.element_slots.specs.Slots.{Puts, held_at, is_slot}
 use Rattle.bays.specs.Elements.{BayState, Becomes, HeldState, bay_at, cartridge_at, is_element, is_reserved_at}
 
 -- the volume of a medium: that which an awake one shows, or that which the side of a parked one gives (own)

@@ -12,7 +12,7 @@ use tape_buffer::Cataloged;
 use tape_disk::Disk;
 
 impl<D: Disk> Bay<D> {
-    /// The drive, with the bay's invariant of its cartridge and its store.
+    /// Returns the drive. The bay's invariant still holds for its cartridge and its store.
     pub fn into_drive(self) -> Drive<Cataloged<D>, AptplStore<D>>
         ensures same { result ≡ self }
         ensures keeps { KeepsBoth D.state self }
@@ -20,8 +20,9 @@ impl<D: Disk> Bay<D> {
         self.drive
     }
 
-    /// A bay of a drive over a cartridge and a store. After a loss of power, what was saved last gives the same as the
-    /// drive's reservations.
+    /// Makes a bay of `drive`, a drive over a cartridge and a store. Its reservations must agree with the store
+    /// (`IsHolding`): a loss of power must leave the same of the state that was saved last as of the reservations that
+    /// the drive holds.
     pub fn of_drive(drive: Drive<Cataloged<D>, AptplStore<D>>) -> Bay<D>
         requires { IsHolding (state_of D.state) (buffer_below D.state) D.state drive }
         ensures { result ≡ drive }

@@ -30,17 +30,18 @@ use tape_disk::Disk;
 use volume_core::{Medium, Turn};
 use vtl_base::{Bytes, Nexus, NoMemory};
 
-/// A drive was not switched on, since memory ran out. Its cartridge and its store are returned.
+/// Returned by `Bay::power_on` where memory ran out, so that the drive was not switched on: the cartridge and the store
+/// that were given to that call.
 #[derive(Drop)]
 pub struct NotOn<D: Disk> {
-    /// The cartridge, still closed.
+    /// The cartridge, still closed; None where none was given.
     pub cartridge: Option<Parked<D>>,
     /// The store of the drive's reservations.
     pub store: AptplStore<D>,
 }
 
 /// A drive in buffered mode over a cartridge on two disks, with a store of its reservations on a third disk. The type's
-/// invariant says what a stop may leave of cartridge and store.
+/// invariant says what a stop may leave of the cartridge and of the store.
 #[derive(Drop)]
 pub struct Bay<D: Disk> {
     pub(crate) drive: Drive<Cataloged<D>, AptplStore<D>>,
@@ -69,7 +70,7 @@ impl<D: Disk> Accepting for Bay<D> {
     ghost is_device = { one_is_device D.state };
 }
 
-// The invariant of the cartridge in a drive, if there is one.
+// Establishes, for proofs, the invariant of the cartridge in a drive, if there is one.
 pub(crate) fn known<D: Disk>(drive: &Drive<Cataloged<D>, AptplStore<D>>)
     ensures { KeepsCartridgeIn D.state (medium_in drive.now.bay) }
 {
@@ -91,9 +92,10 @@ fn medium_of<D: Disk>(cartridge: Option<Parked<D>>) -> Option<Cataloged<D>>
 }
 
 impl<D: Disk> Bay<D> {
-    /// A drive that was just switched on, with this cartridge in it, if any: loaded, or unloaded where its
-    /// side is refused or the device fails. Its reservations are those that a loss of power leaves of the
-    /// last saved state. Where memory runs out, cartridge and store are returned.
+    /// Switches a drive on, with the closed cartridge `cartridge` in it, if one is given. The cartridge is then loaded.
+    /// Where its side (the bytes of its file) is refused or the device fails, it stays in the drive, unloaded.
+    /// `reservations` must be what a loss of power leaves of the state that `store` saved last. Where memory runs out,
+    /// `Err` returns the cartridge and the store.
     pub fn power_on(
         alloc: Global,
         store: AptplStore<D>,
@@ -131,7 +133,8 @@ impl<D: Disk> Bay<D> {
         }
     }
 
-    /// Answers a command of a host, as `Drive::execute` does.
+    /// Answers a command of the host `nexus`, as `Drive::execute` does. `cdb` is the command's descriptor block, and
+    /// `sent` the data that the host sends with it.
     pub fn execute(&mut self, nexus: Nexus, cdb: &[u8], sent: &[u8]) -> Reply
         ensures step { Answers (state_of D.state) (buffer_below D.state) store_kept (store_below D.state)
             self.old (asked nexus cdb.now sent.now) result self.new }
@@ -157,7 +160,8 @@ impl<D: Disk> Bay<D> {
         reply
     }
 
-    /// Answers a command of a host whose data are lent, as `Drive::execute_lent` does.
+    /// Answers a command of the host `nexus`, as `Drive::execute_lent` does. `sent` lends the command's data: where a
+    /// block is written, they are taken out of `sent` without copying; otherwise they stay there.
     pub fn execute_lent(&mut self, nexus: Nexus, cdb: &[u8], sent: &mut Bytes) -> Reply
         ensures step { AnswersLent (state_of D.state) (buffer_below D.state) store_kept (store_below D.state)
             self.old (asked nexus cdb.now sent.old) result self.new sent.new }
@@ -182,7 +186,8 @@ impl<D: Disk> Bay<D> {
         reply
     }
 
-    /// A flusher's turn: stores what is pending. It takes no memory.
+    /// Takes a flusher's turn: stores the pending changes of the loaded medium, and returns what the turn did. The call
+    /// allocates no memory.
     pub fn turn(&mut self) -> Turn
         ensures turned { TakesTurn (state_of D.state) (buffer_below D.state) store_kept self.old result self.new }
         ensures moments { EveryMoment D.state self.old (Served (Turned result)) made_nothing (medium_in self.old.bay)
@@ -194,9 +199,9 @@ impl<D: Disk> Bay<D> {
         turn
     }
 
-    /// Opens a cartridge and loads it into an empty drive. For each nexus 28/00 is established: the medium may have
-    /// changed. A cartridge that can't be opened is returned, closed, with the reply: 3, 11/00 where its side is
-    /// refused or the device fails; Bh, 55/03 where memory runs out.
+    /// Opens a cartridge and loads it into this drive, which must be empty. The condition 28/00 (the medium may have
+    /// changed) is established for each nexus. A cartridge that can't be opened is returned, closed, with a reply:
+    /// sense key 3, 11/00 where its side is refused or the device fails; sense key Bh, 55/03 where memory runs out.
     pub fn load(&mut self, cartridge: Parked<D>) -> Result<(), (Parked<D>, Reply)>
         requires empty { self.old.bay ≡ Bays.Empty }
         ensures taken { TakesIn (state_of D.state) (buffer_below D.state) self.old cartridge result self.new }
@@ -213,7 +218,8 @@ impl<D: Disk> Bay<D> {
         }
     }
 
-    /// Puts a cartridge into an empty drive, not loaded. No condition is established. It takes no memory.
+    /// Puts a cartridge into this drive, which must be empty, without loading it. No condition is established. The call
+    /// allocates no memory.
     pub fn insert(&mut self, cartridge: Parked<D>)
         requires empty { self.old.bay ≡ Bays.Empty }
         ensures inserted { self.new ≡ record self.old { bay = Bays.Unloaded cartridge } }
@@ -226,9 +232,9 @@ impl<D: Disk> Bay<D> {
         known(&self.drive);
     }
 
-    /// Unloads the cartridge of the drive, as UNLOAD does, and returns it, closed. It returns the reply
-    /// instead where the drive is empty (2, 3A/00) or the device fails (3, 0C/00); in the second case the
-    /// cartridge stays loaded, and has failed.
+    /// Unloads the cartridge, as UNLOAD does, and returns it, closed. Returns a reply instead where the drive is empty
+    /// (sense key 2, 3A/00) or the device fails (sense key 3, 0C/00). In the second case the cartridge stays loaded,
+    /// and has failed.
     pub fn unload(&mut self) -> Result<Parked<D>, Reply>
         ensures out { GoesOut (state_of D.state) (buffer_below D.state) self.old result self.new }
         ensures awake { IsAwakeIn D.state self.old.bay }
@@ -260,15 +266,15 @@ impl<D: Disk> Bay<D> {
         self.drive.held()
     }
 
-    /// How many changes were accepted since the drive was switched on, as `Drive::accepted` says.
+    /// How many changes the drive has accepted since it was switched on, as `Drive::accepted` returns.
     pub fn accepted(&self) -> u64
         ensures { result ≡ self.now.accepted }
     {
         self.drive.accepted()
     }
 
-    /// The type's invariant: over honest disks, what a crash may leave now of the cartridge, and of the
-    /// reservations.
+    /// Establishes, for proofs, the type's invariant: over honest disks, what a crash may leave now of the cartridge
+    /// and of the reservations. The call does nothing else.
     pub fn known(&self)
         ensures keeps { KeepsBoth D.state self.now }
 

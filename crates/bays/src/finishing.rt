@@ -11,13 +11,14 @@ use tape_disk::Disk;
 use volume_core::Turn;
 use vtl_base::limits::DRIVES;
 
-/// The loaded medium of a drive has failed, so not everything was written out.
+/// Returned by `Bay::write_out` and `Held::finish` where the loaded medium of a drive has failed, so that some changes
+/// may not be stored.
 #[derive(Clone, Copy, PartialEq, Eq, Debug)]
 pub struct Unwritten;
 
 impl<D: Disk> Bay<D> {
-    /// Stores what is pending, by a flusher's turn. It takes no memory. At Ok all that the loaded medium has
-    /// accepted is stored; else that medium has failed, before this turn or in it.
+    /// Stores what is pending, by a flusher's turn. The call allocates no memory. After Ok, all changes that the loaded
+    /// medium has accepted are stored. After Err, that medium has failed, before this turn or in it.
     pub fn write_out(&mut self) -> Result<(), Unwritten>
         ensures turns { TurnsAt D.state (Some self.old) (Some self.new) }
         ensures ok { OnOk result (IsWrittenIn D.state self.new.bay) }
@@ -33,8 +34,9 @@ impl<D: Disk> Bay<D> {
 }
 
 impl<D: Disk + Drop> Held<D> {
-    /// Writes every buffer out, by a turn of each drive. A drive that fails does not stop the turns of the others. The
-    /// call takes no memory. At Ok all that was accepted is stored; else the loaded medium of some drive has failed.
+    /// Writes every buffer out, by a flusher's turn of each drive. A drive that fails does not stop the turns of the
+    /// others. The call allocates no memory. After Ok, all changes that the loaded media have accepted are stored.
+    /// After Err, the loaded medium of some drive has failed.
     pub fn finish(&mut self) -> Result<(), Unwritten>
         ensures { WritesOut D.state self.old result self.new }
     {
@@ -50,7 +52,7 @@ impl<D: Disk + Drop> Held<D> {
         result
     }
 
-    // Stores what is pending in the drive of this place, if there is one.
+    // Stores what is pending in the drive at this place (its number less 1), if there is one.
     fn write_out_at(&mut self, place: usize) -> Result<(), Unwritten>
         requires { place < DRIVES }
         ensures turns { TurnsAt D.state (bay_at self.old.bays (place + 1)) (bay_at self.new.bays (place + 1)) }

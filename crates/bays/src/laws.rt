@@ -12,10 +12,10 @@ use accepting::laws::{
 use tape_buffer::Cataloged;
 use tape_disk::Disk;
 
-/// Laws over every list of events, whatever stops come between: of the changes of a cartridge, and of the orders of a
-/// drive's reservations. What was accepted at an acknowledgement is the first part of all that is accepted later. For a
-/// cartridge the base may change between two events. Then what was accepted is the first part of what goes into the new
-/// base.
+/// Two laws, for every list of events, whatever stops come between. The first is about the changes of a cartridge, the
+/// second about the orders of a drive's reservations. What was accepted when an acknowledgement was made is the first
+/// part of all that is accepted later. The base of a cartridge, on which its changes build, may change between two
+/// events. Then what was accepted is the first part of what goes into the new base.
 pub fn stop_keeps<D: Disk>()
     ensures changes { StopsKeepThrough medium_rules }
     ensures orders { StopsKeepAccepted order_rules }

@@ -1,6 +1,6 @@
-//! Moves of cartridges on lent slots and drives.
+//! Moves of cartridges between slots and drives that a caller lends.
 ghost use Rattle.std.specs.Prelude.{◌≡◌, ◌≢◌, IfSome, None, Some, true, false, is_some};
-ghost use Rattle.changer.specs.Slots.{Puts, held_at, is_slot};
+ghost use Rattle.element_slots.specs.Slots.{Puts, held_at, is_slot};
 ghost use Rattle.bays.specs.Inner.Carried.{MovesLent, drive_end, end_beside, refusal_between, slot_end};
 ghost use Rattle.bays.specs.Lent.{InEach, IsDriveAddress, KeepsCount, back, lent};
 ghost use Rattle.bays.specs.Moves.{KeepsCartridges, MovesMedium};
@@ -8,7 +8,7 @@ ghost use Rattle.bays.specs.Moves.{KeepsCartridges, MovesMedium};
 use crate::bays::Bay;
 use crate::moves::check;
 use crate::parked::Parked;
-use changer::Slots;
+use element_slots::Slots;
 use scsi_sense::{Reply, Sense};
 use std::alloc::Global;
 use tape_disk::Disk;
@@ -58,7 +58,7 @@ fn end_beside<D: Disk + Drop>(slots: &Slots<Parked<D>>, bay: &Bay<D>, from: u32,
     }
 }
 
-// The reply to a refused move, by the first cause that holds.
+// The reply to a refused move, by the first cause that holds; None where no cause holds.
 fn refusal_between(alloc: Global, source: End, destination: End) -> Option<Reply>
     ensures { result ≡ refusal_between source destination }
 {
@@ -207,11 +207,13 @@ fn between_drives<D: Disk + Drop>(
     }
 }
 
-/// Moves a cartridge from one element address to another, on lent slots and drives, by the rules of `Held::move_medium`
-/// (own). `source` is the drive at `from` and `destination` the one at `to`, or `None` where the address is not that of
-/// a configured drive. A drive at both addresses is lent as the source alone. So a drive is lent only for an address of
-/// 1 to 16, and a destination only where the addresses differ. In every library of 16 places with these slots, and
-/// these drives at these addresses, reply and outcome are those of `Held::move_medium`. A move counts no change.
+/// Moves a cartridge from one element address to another, by the rules of `Held::move_medium` (own), for a caller that
+/// lends the slots and drives. `source` is the drive at `from` and `destination` the drive at `to`; each is None where
+/// its address is not that of a configured drive. Where both addresses name the same drive, it is lent as the source
+/// alone. So a drive is lent only for an address from 1 to 16, and a destination only where the addresses differ.
+///
+/// Take any library that has these slots, these drives at these addresses, and places for 16 drives in all. The reply
+/// and the outcome are those of `Held::move_medium` in that library. No drive counts a change in a move.
 pub fn move_lent<D: Disk + Drop>(
     alloc: Global,
     slots: &mut Slots<Parked<D>>,

@@ -1,5 +1,5 @@
-//! Drives over disks, slots, and moves between them; what is left of them at whatever moment they are
-//! stopped.
+//! Drives over disks, slots, and moves of cartridges between them; and what is left on the disks at whatever moment a
+//! drive is stopped.
 #![tactic(auto)]
 
 mod apart;

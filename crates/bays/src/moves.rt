@@ -15,8 +15,8 @@ use std::alloc::Global;
 use tape_disk::Disk;
 use vtl_base::{Bytes, DriveNo};
 
-/// The drive of this element address, if it is the address of a drive's place: 1 to 16, whatever is configured. Element
-/// addresses: SMC-3. Their numbers: own.
+/// The drive with this element address, configured or not, if the address is 1 to 16; None for any other address.
+/// Element addresses: SMC-3. Their numbers: own.
 pub fn drive_of(address: u32) -> Option<DriveNo>
     ensures some { IfSome result (λ drive.
         (drive ≡ address) × (1 ≤ address) × (address ≤ DRIVES)) }
@@ -33,13 +33,16 @@ pub(crate) fn check(alloc: Global, sense: Sense) -> Reply
 }
 
 impl<D: Disk + Drop> Held<D> {
-    /// Moves a cartridge from one element address to another: 1 to 16 is a drive, 1001 to 1256 a slot. It is
-    /// refused by the first of these that holds, and then nothing changes: 5, 21/01 where an address is
-    /// neither a slot's nor a configured drive's; RESERVATION CONFLICT where a reservation is held at a drive
-    /// of the move, since the operator is no nexus; 5, 3B/0E where the source is empty; 5, 3B/0D where the
-    /// destination is full. Out of a drive it does what UNLOAD does, with the same reply. Into a drive it
-    /// loads, and establishes 28/00 there for each nexus. Where the loading fails, the cartridge returns to
-    /// its source, unloaded, and the reply is the drive's.
+    /// Moves a cartridge from one element address to another: 1 to 16 are the addresses of drives, 1001 to 1256 those
+    /// of slots. The first of these causes that applies refuses the move, and then nothing changes:
+    /// - an address is neither a slot's nor a configured drive's: sense key 5, 21/01;
+    /// - a reservation is held at a drive of the move: RESERVATION CONFLICT, since the operator is not a nexus;
+    /// - the source is empty: sense key 5, 3B/0E;
+    /// - the destination is full: sense key 5, 3B/0D.
+    ///
+    /// A cartridge leaves a drive as by UNLOAD; where that fails, it stays in the drive, and the reply is the drive's.
+    /// A cartridge that goes into a drive is loaded there, and 28/00 is established for each nexus. Where the loading
+    /// fails, the cartridge returns to its source, unloaded, and the reply is the drive's.
     pub fn move_medium(&mut self, from: u32, to: u32) -> Reply
         ensures answer { MovesMedium D.state self.old from to result self.new }
         ensures keeps { KeepsCartridges D.state self.old from to result self.new }

@@ -10,8 +10,10 @@ use std::marker::Model;
 use tape_buffer::Cataloged;
 use tape_disk::Disk;
 
-/// A closed cartridge, as it is in a slot and as a drive loads it. A contract sees its medium, which is parked. Its
-/// invariant is that of a cartridge in a drive. For an unread cartridge it holds once a drive has opened it.
+/// A closed cartridge, in the form in which a slot holds it and a drive loads it. A contract sees its medium, which is
+/// parked (closed). The type's invariant is that of a cartridge in a drive. A cartridge that was never opened is
+/// unread. What a crash may leave of it is known once a drive has opened it, or while a crash leaves only what reads
+/// return.
 #[derive(Drop)]
 pub struct Parked<D: Disk> {
     medium: Cataloged<D>,
@@ -30,14 +32,15 @@ impl<D: Disk> Model for Parked<D> {
 }
 
 impl<D: Disk> Parked<D> {
-    /// A closed cartridge. A cartridge that was never opened is unread: nothing is known of it until a drive opens it.
+    /// Makes a closed cartridge of `shelved`. A cartridge that was never opened is unread: nothing is known of its
+    /// contents until a drive opens it.
     pub fn of(alloc: Global, shelved: Shelved<D>) -> Parked<D>
         ensures { result ≡ closed_buffer shelved }
     {
         Parked::of_medium(Cataloged::parked(alloc, shelved))
     }
 
-    /// A medium that is parked.
+    /// Makes a closed cartridge of a medium, which must be parked.
     pub fn of_medium(medium: Cataloged<D>) -> Parked<D>
         requires { (state_of D.state medium).awake ≡ false }
         ensures { result ≡ medium }
@@ -46,7 +49,7 @@ impl<D: Disk> Parked<D> {
         Parked { medium }
     }
 
-    /// The medium, which is parked.
+    /// Returns the medium, which is parked.
     pub fn into_medium(self) -> Cataloged<D>
         ensures same { result ≡ self }
         ensures parked { (state_of D.state result).awake ≡ false }
@@ -55,7 +58,7 @@ impl<D: Disk> Parked<D> {
         self.medium
     }
 
-    /// The type's invariant.
+    /// Establishes, for proofs, the type's invariant. The call does nothing else.
     pub fn known(&self)
         ensures parked { (state_of D.state self.now).awake ≡ false }
         ensures keeps { KeepsCartridge D.state self.now }
@@ -64,7 +67,7 @@ impl<D: Disk> Parked<D> {
         let _ = &self.medium;
     }
 
-    /// The closed cartridge.
+    /// Returns the closed cartridge alone: its two disks, and what proofs know of them.
     pub fn into_shelved(self) -> Shelved<D>
         ensures { self.held ≡ Holdings.Closed result }
     {

@@ -85,10 +85,13 @@ impl<D: Disk + Drop> Runner for Held<D> {
     ghost answers_on = { held_on D.state };
 }
 
-/// Runs a script over a library, up to its end or the first line that is refused, and writes a line for each
-/// reply. Take a script of one host without moves that ran to its end over honest media, with no fault, no
-/// full side and memory for everything. Then exactly the text of the replies is written that each drive's
-/// machine gives to its own lines.
+/// Runs a script, read from `reader`, over a library, and writes a line for each reply to `writer`. The script runs up
+/// to its end, the first line that is refused, or the first fault.
+///
+/// Take a script of one host, without moves, that ran to its end. Then each drive has replied to its own lines by a run
+/// of its machine, and exactly the text of the replies is written, in the order of the lines. Suppose also that the
+/// media are honest, that no frame of theirs was in flight when a device failed, and that no reply reports a fault, a
+/// full side or memory that ran out. Then no other text is possible.
 pub fn run_held<D: Disk + Drop, R: Read, W: Write>(
     alloc: Global,
     held: &mut Held<D>,

@@ -6,10 +6,10 @@ use Rattle.gate_journal.specs.declared.header.SideKind.TheVariants.{Cartridge}
 use Rattle.gate_journal.specs.Heads.{Head, spell_side_head}
 use Rattle.gate_journal.specs.Inner.Fronts.{length_start}
 use Rattle.gate_journal.specs.Side.{Front, Heading, IsDamagedOf, IsFront, OPEN, frame, spell, spell_front, start}
-use Rattle.side_pairs.specs.declared.which.Which.{Which}
-use Rattle.side_pairs.specs.Pairs.{IsPairDamagedAt, SideCounts, gate_behind}
-use Rattle.side_pairs.specs.Passes.{SidesStandFor, first_image, second_image}
-use Rattle.side_pairs.specs.Roles.{MayCountBeside, counted_front, sides_damaged, sides_stand}
+use Rattle.cartridge_sides.specs.declared.which.Which.{Which}
+use Rattle.cartridge_sides.specs.Pairs.{IsPairDamagedAt, SideCounts, gate_behind}
+use Rattle.cartridge_sides.specs.Passes.{SidesStandFor, first_image, second_image}
+use Rattle.cartridge_sides.specs.Roles.{MayCountBeside, counted_front, sides_damaged, sides_stand}
 use Rattle.cartridge.specs.Contents.{GivesContents, ShowsContents, bodies_of, contents_from}
 use Rattle.cartridge.specs.Disks.{images_by}
 use Rattle.cartridge.specs.Inner.Open.{SideGives, SideShows}

@@ -7,9 +7,9 @@ use Rattle.tape_disk.specs.Moments.{LeavesOnly, weakened}
 use Rattle.tape_disk.specs.Moments as Moments
 use Rattle.tape_disk.specs.TwoDisks.{AreHonest, Images, KeepsDisks, MayLeave, TwoDisks, TwoLeave, two_in_sequence, one_leg, seen_of_two}
 use Rattle.tape_disk.specs.TwoDisks as Two
-use Rattle.side_pairs.specs.declared.choosing.Counted.{Counted}
-use Rattle.side_pairs.specs.Choosing.{FindsCounted}
-use Rattle.side_pairs.specs.Pairs.{SideCounts}
+use Rattle.cartridge_sides.specs.declared.choosing.Counted.{Counted}
+use Rattle.cartridge_sides.specs.Choosing.{FindsCounted}
+use Rattle.cartridge_sides.specs.Pairs.{SideCounts}
 use Rattle.cartridge.specs.declared.error.CartridgeError.{CartridgeError}
 use Rattle.cartridge.specs.declared.error.CartridgeError.TheVariants.{NotOurs, Damaged, BadRecord, SideFull, Device, Failed, NoMemory}
 use Rattle.cartridge.specs.Answers.{IsNotOpened, ReadsSure}

@@ -19,8 +19,8 @@ use Rattle.gate_journal.specs.Heads.{IsCopied, epoch_of}
 use Rattle.gate_journal.specs.declared.header.Header.{Header}
 use Rattle.gate_journal.specs.Side.{Front, heading_of}
 use Rattle.gate_journal.specs.State.{OpenSide}
-use Rattle.side_pairs.specs.declared.which.Which.{Which}
-use Rattle.side_pairs.specs.declared.which.Which.TheVariants.{First, Second}
+use Rattle.cartridge_sides.specs.declared.which.Which.{Which}
+use Rattle.cartridge_sides.specs.declared.which.Which.TheVariants.{First, Second}
 use Rattle.side_reclaim.specs.Ready.{GivesSurely}
 use Rattle.record_index.specs.Indexes.{Indexes, indexes_by, indexes_shape}
 use Rattle.record_index.specs.Places.{PlacedPart, outline}

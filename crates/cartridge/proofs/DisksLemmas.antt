@@ -7,8 +7,8 @@ use Rattle.tape_disk.specs.Moments as Moments
 use Rattle.tape_disk.specs.TwoDisks.{AreHonest, EachOfTwo, Images, KeepsDisks, MayLeave, TwoLeave, one_leg, seen_of_two}
 use Rattle.gate_journal.specs.Answers.{IsFault, NoneFailed}
 use Rattle.gate_journal.specs.Crash.{Unwritten}
-use Rattle.side_pairs.specs.declared.which.Which.{Which}
-use Rattle.side_pairs.specs.declared.which.Which.TheVariants.{First, Second}
+use Rattle.cartridge_sides.specs.declared.which.Which.{Which}
+use Rattle.cartridge_sides.specs.declared.which.Which.TheVariants.{First, Second}
 use Rattle.cartridge.specs.Disks.{CallsOne, EachStays, IsFaultOfTwo, NoneOfTwo, OnlyOfTwo, UnwrittenTwo, disks_by, images_by}
 
 module _ {D : Type 0} (state : D → DiskState) where

@@ -10,7 +10,7 @@ use Rattle.tape_disk.specs.Disk.{DiskState, Each, IsDisk}
 use Rattle.tape_disk.specs.Moments.{LeavesOnly, holds_now}
 use Rattle.gate_journal.specs.Side.{Front, Heading, StandsFor}
 use Rattle.gate_journal.specs.Crash.{WithOrWithout}
-use Rattle.side_pairs.specs.declared.which.Which.{Which}
+use Rattle.cartridge_sides.specs.declared.which.Which.{Which}
 use Rattle.record_index.specs.Records.{IsRecord, spell_all}
 use Rattle.record_index.specs.Places.{PlacedPart}
 use Rattle.record_index.specs.Shapes.{IsIndexOf}

@@ -9,11 +9,11 @@ use Rattle.gate_journal.specs.Decoding.{IsNotDecoded}
 use Rattle.gate_journal.specs.Heads.{Head, IsHead, base_of}
 use Rattle.gate_journal.specs.Side.{Heading, StandsFor}
 use Rattle.gate_journal.specs.State.{OpenSide}
-use Rattle.side_pairs.specs.declared.which.Which.{Which}
-use Rattle.side_pairs.specs.declared.which.Which.TheVariants.{First, Second}
-use Rattle.side_pairs.specs.Pairs.{SideCounts}
-use Rattle.side_pairs.specs.Passes.{first_image, second_image}
-use Rattle.side_pairs.specs.Roles.{MayCountBeside, counts_no_other, sides_stand}
+use Rattle.cartridge_sides.specs.declared.which.Which.{Which}
+use Rattle.cartridge_sides.specs.declared.which.Which.TheVariants.{First, Second}
+use Rattle.cartridge_sides.specs.Pairs.{SideCounts}
+use Rattle.cartridge_sides.specs.Passes.{first_image, second_image}
+use Rattle.cartridge_sides.specs.Roles.{MayCountBeside, counts_no_other, sides_stand}
 use Rattle.record_index.specs.Places.{PlacedPart}
 use Rattle.cartridge.specs.Answers.{IsNotOpened}
 use Rattle.cartridge.specs.Contents.{GivesContents, IsBadFrameAt, IsContents, IsDamagedPairAt, bodies_of, volume_made}

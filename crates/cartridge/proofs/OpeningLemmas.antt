@@ -14,7 +14,7 @@ use Rattle.volume_core.specs.Volume.{Part, AllApply, after, are_capacities, empt
 use Rattle.gate_journal.specs.Decoding.{TakesPiece}
 use Rattle.gate_journal.specs.Heads.{Head}
 use Rattle.gate_journal.specs.Side.{Heading, IsCount, IsHeading}
-use Rattle.side_pairs.specs.Pairs.{gate_behind}
+use Rattle.cartridge_sides.specs.Pairs.{gate_behind}
 use Rattle.record_index.specs.Records.{IsRecord, spell_all}
 use Rattle.record_index.specs.ChangesOn.{changes_on, changes_on_is}
 use Rattle.record_index.specs.Places.{PlacedPart, empty_placed}

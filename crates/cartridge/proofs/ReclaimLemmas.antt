@@ -15,7 +15,7 @@ use Rattle.gate_journal.specs.declared.header.SideKind.TheVariants as Kinds
 use Rattle.gate_journal.specs.Heads.{Head, count_byte, spell_copied, spell_side_head}
 use Rattle.gate_journal.specs.Inner.Headings.{length_capacities, length_name}
 use Rattle.gate_journal.specs.Side.{Front, IsHeading, OPEN, frame, spell, spell_front, start}
-use Rattle.side_pairs.specs.Passes.{copy_head}
+use Rattle.cartridge_sides.specs.Passes.{copy_head}
 use Rattle.volume_copy.specs.declared.entries.Entry.{Entry}
 use Rattle.volume_copy.specs.Copies.{copy_of}
 use Rattle.volume_copy.specs.Entries.{entries_in, entry_size}

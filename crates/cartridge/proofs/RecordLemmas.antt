@@ -1,6 +1,6 @@
 -- Changes that apply to a volume have a spelling, of a known length.
-use Rattle.std.proofs.Common.{◌≡◌, ℕ, ◌<◌, ◌≤◌, ◌+◌, ◌^◌, List, [], ◌∷◌, ◌++◌, length, take, Option, None, Some, refl, sym, ◌∙◌, ap, arith, length-append}
-use Rattle.std.specs.Prelude.{slice_get, slice_index_or, replicate, nat_lt, ◌&&◌, if◌then◌else◌, not, Bool, true, false}
+use Rattle.std.proofs.Common.{◌≡◌, ℕ, ◌<◌, ◌≤◌, ◌+◌, ◌^◌, List, [], ◌∷◌, ◌++◌, length, take, Option, None, Some, refl, sym, ◌∙◌, ap, arith, append_assoc, length-append}
+use Rattle.std.specs.Prelude.{map, slice_get, slice_index_or, replicate, nat_lt, ◌&&◌, if◌then◌else◌, not, Bool, true, false}
 use Rattle.std.specs.List.{All}
 use Rattle.std.proofs.lemmas.List.Elements.{All-cons, All-nil}
 use Rattle.std.proofs.lemmas.Option.{slice_get_within}
@@ -11,12 +11,15 @@ use Rattle.std.proofs.Math.Numerals.{add-one}
 use Rattle.std.proofs.Math.Seq.{take-suc}
 use Rattle.std.proofs.lemmas.Grind.{flat_map-append}
 use Rattle.std.proofs.lemmas.List.{append-nil}
+use Rattle.std.proofs.lemmas.List.Concat.{flat_map-cons}
 use Rattle.std.proofs.lemmas.List.Folds.{length-flat_map-take}
 use Rattle.std.proofs.lemmas.Bool.{leb-true, ltb-false}
 use Rattle.volume_core.specs.declared.objects.Object.TheVariants.{Block, Mark}
 use Rattle.volume_core.specs.declared.changes.Refusal.TheVariants.{PastEnd, NoRoom, TooLong}
 use Rattle.volume_core.specs.Volume.{Part, AllApply, changed, changed_in, has_room, part_after, part_of, refusal_in, refusal_of}
 use Rattle.volume_core.specs.Medium.{frame_size}
+use Rattle.gate_journal.specs.Followed.{followed}
+use Rattle.gate_journal.specs.Spelled.{SpelledBody}
 use Rattle.record_index.specs.Records.{IsRecord, spell_change, spell_all, spell_head}
 
 -- a frame of one change has 5 bytes more than its record
@@ -154,3 +157,20 @@ spelled_next changes i change inside is =
     ∙ flat_map-append spell_change (take i changes) (slice_index_or changes i change ∷ [])
     ∙ ap (λ (l : List ℕ). spell_all (take i changes) ++ l)
     (append-nil (spell_change (slice_index_or changes i change)) ∙ ap spell_change (sym is))
+
+-- changes as the parts of a body
+pub followed_all : (bytes : List ℕ) (changes : List Change)
+    → followed bytes (map spell_change changes) ≡ bytes ++ spell_all changes
+followed_all bytes [] = sym (append-nil bytes)
+followed_all bytes (change ∷ changes) =
+    followed_all (bytes ++ spell_change change) changes
+    ∙ append_assoc bytes (spell_change change) (spell_all changes)
+    ∙ ap (λ (l : List ℕ). bytes ++ l) (sym (flat_map-cons spell_change change changes))
+
+-- and behind a frame whose body was removed
+pub parts_spell : (taken : SpelledBody) (room : ℕ) (given changes : List Change)
+    → taken ≡ record { body = []; room = room } → given ≡ changes
+    → followed taken.body (map spell_change given) ≡ spell_all changes
+parts_spell taken room given changes taken_is given_is =
+    ap (λ (f : SpelledBody). followed f.body (map spell_change given)) taken_is
+    ∙ ap (λ (l : List Change). followed [] (map spell_change l)) given_is ∙ followed_all [] changes

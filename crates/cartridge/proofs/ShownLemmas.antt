@@ -4,8 +4,8 @@ use Rattle.tape_disk.specs.Disk.{DiskState}
 use Rattle.tape_disk.specs.TwoDisks.{EachOfTwo}
 use Rattle.gate_journal.specs.Side.{spell}
 use Rattle.gate_journal.specs.State.{OpenSide, room_behind}
-use Rattle.side_pairs.specs.declared.which.Which.{Which}
-use Rattle.side_pairs.specs.Pairs.{gate_behind}
+use Rattle.cartridge_sides.specs.declared.which.Which.{Which}
+use Rattle.cartridge_sides.specs.Pairs.{gate_behind}
 use Rattle.record_index.specs.Places.{PlacedPart}
 use Rattle.cartridge.specs.Contents.{GivesContents, ShowsContents, bodies_of}
 use Rattle.cartridge.specs.Disks.{disks_by}

@@ -13,7 +13,7 @@ use Rattle.gate_journal.specs.Answers.{Appended, Broke}
 use Rattle.gate_journal.specs.Crash.{WithOrWithout}
 use Rattle.gate_journal.specs.Side.{Front, StandsFor}
 use Rattle.gate_journal.specs.State.{OpenSide, room_behind}
-use Rattle.side_pairs.specs.declared.which.Which.{Which}
+use Rattle.cartridge_sides.specs.declared.which.Which.{Which}
 use Rattle.record_index.specs.Indexes.{Indexes}
 use Rattle.record_index.specs.Places.{PlacedPart}
 use Rattle.record_index.specs.Records.{IsRecord, spell_all}

@@ -10,7 +10,7 @@ use Rattle.tape_disk.specs.TwoDisks.{AreHonest}
 use Rattle.gate_journal.specs.declared.heads.Copied.{Copied}
 use Rattle.gate_journal.specs.Side.{Front}
 use Rattle.gate_journal.specs.State.{OpenSide, room_behind}
-use Rattle.side_pairs.specs.declared.which.Which.{Which}
+use Rattle.cartridge_sides.specs.declared.which.Which.{Which}
 use Rattle.record_index.specs.Records.{spell_change, spell_all}
 use Rattle.record_index.specs.Places.{PlacedPart, reserved_of}
 use Rattle.cartridge.specs.Answers.{LacksReserved, entries_of}

@@ -11,8 +11,8 @@ use Rattle.gate_journal.specs.declared.heads.Copied.{Copied}
 use Rattle.gate_journal.specs.Heads.{Head}
 use Rattle.gate_journal.specs.Side.{Heading}
 use Rattle.gate_journal.specs.State.{heading_code}
-use Rattle.side_pairs.specs.declared.which.Which.{Which}
-use Rattle.side_pairs.specs.declared.which.Which.TheVariants.{First, Second}
+use Rattle.cartridge_sides.specs.declared.which.Which.{Which}
+use Rattle.cartridge_sides.specs.declared.which.Which.TheVariants.{First, Second}
 use Rattle.cartridge.specs.Contents.{Contents}
 use Rattle.cartridge.specs.Notes.{Notes}
 

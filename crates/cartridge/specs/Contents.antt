@@ -7,8 +7,8 @@ use Rattle.tape_disk.specs.TwoDisks.{Images}
 use Rattle.gate_journal.specs.declared.header.SideKind.TheVariants.{Cartridge}
 use Rattle.gate_journal.specs.Heads.{Head, IsHead, base_of, epoch_of}
 use Rattle.gate_journal.specs.Side.{Heading, padded}
-use Rattle.side_pairs.specs.declared.which.Which.{Which}
-use Rattle.side_pairs.specs.Pairs.{IsNoPair, IsPairDamagedAt, PairStandsFor, gate_behind}
+use Rattle.cartridge_sides.specs.declared.which.Which.{Which}
+use Rattle.cartridge_sides.specs.Pairs.{IsNoPair, IsPairDamagedAt, PairStandsFor, gate_behind}
 use Rattle.record_index.specs.Records.{IsRecord, spell_all}
 
 -- What a cartridge holds: the contents of its side that counts (own).

@@ -5,10 +5,10 @@ use Rattle.tape_disk.specs.Disk.{DiskState}
 use Rattle.tape_disk.specs.Moments.{LeavesOnly}
 use Rattle.tape_disk.specs.TwoDisks.{Images, KeepsDisks, MayLeave, TwoDisks, TwoLeave, seen_of_two}
 use Rattle.gate_journal.specs.Answers.{NoneFailed}
-use Rattle.side_pairs.specs.declared.which.Which.{Which}
-use Rattle.side_pairs.specs.declared.which.Which.TheVariants.{First, Second}
-use Rattle.side_pairs.specs.Choosing.{IsFaultOfOne}
-use Rattle.side_pairs.specs.Passes.{first_image, other, second_image}
+use Rattle.cartridge_sides.specs.declared.which.Which.{Which}
+use Rattle.cartridge_sides.specs.declared.which.Which.TheVariants.{First, Second}
+use Rattle.cartridge_sides.specs.Choosing.{IsFaultOfOne}
+use Rattle.cartridge_sides.specs.Passes.{first_image, other, second_image}
 
 -- the disk on which that side lies (own)
 abbrev pub disk_at : {D : Type 0} → Which → TwoDisks D → D

@@ -8,7 +8,7 @@ use Rattle.tape_disk.specs.TwoDisks.{AreHonest, Images, TwoDisks, seen_of_two}
 use Rattle.gate_journal.specs.Heads.{epoch_of, spell_side_head}
 use Rattle.gate_journal.specs.Side.{Front}
 use Rattle.gate_journal.specs.State.{IsBodyAt}
-use Rattle.side_pairs.specs.Passes.{copy_head, other}
+use Rattle.cartridge_sides.specs.Passes.{copy_head, other}
 use Rattle.volume_copy.specs.Copies.{copy_of}
 use Rattle.volume_copy.specs.Frames.{change_size, frames_of}
 use Rattle.volume_reclaim.specs.Reclaiming.{KeepsBesideCopy}

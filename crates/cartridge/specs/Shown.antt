@@ -20,6 +20,11 @@ pub record IsEntryFor (old : List PlacedPart) (change : Change) (item : Record) 
   pub none : (volume : List Part) → IsIndexOf old volume → refusal_of volume change ≡ None
   pub roomy : 1 ≤ reserved_of new (part_of change)
 
+-- a volume that the index shows refuses the change, or nothing is reserved in the index for it (own)
+abbrev pub HasNoEntryFor : List PlacedPart → Change → Type 0
+HasNoEntryFor old change = (volume : List Part) → IsIndexOf old volume → refusal_of volume change ≡ None
+    → reserved_of old (part_of change) ≡ 0
+
 -- a catalog, if there is one, is as it was, and no less is reserved (own)
 abbrev pub IsGrownIn : Option (List PlacedPart) → Option (List PlacedPart) → Type 0
 IsGrownIn None None = Unit {0}

@@ -1,11 +1,13 @@
 //! The body of a frame, spelled from its changes.
-ghost use Rattle.std.specs.Prelude.{◌≡◌, ◌≤◌, ◌+◌, ◌++◌, length};
+ghost use Rattle.std.specs.Prelude.{◌≡◌, ◌≤◌, length};
 ghost use Rattle.std.specs.List.{All};
 ghost use Rattle.vtl_base.specs.declared.limits.TheConstants.{MAX_BODY};
-ghost use Rattle.record_index.specs.Records.{IsRecord, spell_all, spell_change};
+ghost use Rattle.record_index.specs.Records.{IsRecord, spell_all};
 
-use gate_journal::Frame;
+use gate_journal::BodyParts;
+use gate_journal::body_parts::PART_HEAD;
 use record_index::spelled_parts;
+use std::marker::Model;
 use volume_core::Change;
 
 // How many bytes the spelling of these changes has.
@@ -20,27 +22,58 @@ pub(crate) fn size_of_body(changes: &[Change]) -> u32
     size
 }
 
-// Spells these changes in a frame that has room for them, and nothing beside them.
-pub(crate) fn fill_body(frame: &mut Frame, changes: &[Change])
-    requires records { All IsRecord changes.now }
-    requires room { length (spell_all changes.now) ≤ frame.old.room }
-    ensures body { frame.new.body ≡ spell_all changes.now }
-    ensures room { frame.old.room ≤ frame.new.room }
-{
-    frame.clear();
-    for change in changes {
-        add_change(frame, change);
+// Changes as the parts of a body: the head of each record is spelled, and its block is borrowed from the change.
+#[derive(Drop)]
+pub(crate) struct Spelled<'a> {
+    changes: &'a [Change],
+    size: usize,
+}
+
+impl<'a> Model for Spelled<'a> {
+    ghost use Rattle.std.specs.Prelude.{◌≡◌, List, length};
+    ghost use Rattle.std.specs.List.{All};
+    ghost use Rattle.volume_core.specs.declared.changes.Change.{Change};
+    ghost use Rattle.record_index.specs.Records.{IsRecord, spell_all};
+
+    ghost Value = { List Change };
+
+    ghost view = { λ s. s.changes.now };
+
+    ghost invariant = { λ s. (s.size ≡ length (spell_all s.changes.now)) × All IsRecord s.changes.now };
+}
+
+impl<'a> Spelled<'a> {
+    // These changes, whose spelling has `size` bytes.
+    pub(crate) fn of(changes: &'a [Change], size: u32) -> Self
+        requires records { All IsRecord changes.now }
+        requires size { size ≡ length (spell_all changes.now) }
+        ensures { result ≡ changes.now }
+    {
+        Spelled {
+            changes,
+            size: size as usize,
+        }
     }
 }
 
-// Spells a change behind what a frame holds, which has room for it.
-fn add_change(frame: &mut Frame, change: &Change)
-    requires record { IsRecord change.now }
-    requires room { length frame.old.body + length (spell_change change.now) ≤ frame.old.room }
-    ensures body { frame.new.body ≡ frame.old.body ++ spell_change change.now }
-    ensures room { frame.old.room ≤ frame.new.room }
-{
-    let (head, block) = spelled_parts(change);
-    frame.extend_reserved(&head);
-    frame.extend_reserved(block);
+impl<'a> BodyParts for Spelled<'a> {
+    ghost use Rattle.std.specs.Prelude.{map};
+    ghost use Rattle.record_index.specs.Records.{spell_change};
+
+    ghost parts = { λ changes. map spell_change changes };
+
+    fn count(&self) -> usize {
+        self.changes.len()
+    }
+
+    fn size(&self) -> usize {
+        self.size
+    }
+
+    fn part(&self, number: usize) -> ([u8; PART_HEAD], &[u8]) {
+        match self.changes.get(number) {
+            Some(change) => spelled_parts(change),
+            None => unreachable!(),
+        }
+    }
 }

@@ -4,27 +4,27 @@ ghost use Rattle.tape_disk.specs.TwoDisks.{AreHonest, EachOfTwo};
 ghost use Rattle.vtl_base.specs.declared.limits.TheConstants.{MAX_CAPACITY, MAX_OBJECTS, MAX_PARTITIONS};
 ghost use Rattle.volume_core.specs.Volume.{IsMarkOf, capacity_of, count_of, kind_at, mark_count, marks_upto, used_up_to};
 ghost use Rattle.gate_journal.specs.State.{room_behind};
-ghost use Rattle.side_pairs.specs.Pairs.{gate_behind};
-ghost use Rattle.side_pairs.specs.Passes.{other};
+ghost use Rattle.cartridge_sides.specs.Pairs.{gate_behind};
+ghost use Rattle.cartridge_sides.specs.Passes.{other};
 ghost use Rattle.cartridge.specs.Contents.{GivesContents, IsContents, ShowsContents, bodies_of, volume_made};
 ghost use Rattle.cartridge.specs.Disks.{disk_at};
 ghost use Rattle.record_index.specs.Shapes.{IsIndexOf};
 
 use crate::noted::Noted;
 use crate::shelved::Shelved;
+use cartridge_sides::Which;
 use gate_journal::header::NAME_BYTES;
 use gate_journal::{Frame, Journal};
 use record_index::Index;
 use record_index::laws::a_volume_is_seen_by_its_shape;
-use side_pairs::Which;
 use std::alloc::Global;
 use std::marker::Model;
 use tape_disk::Disk;
 use volume_core::Kind;
 use vtl_base::{NoMemory, ObjNo, PartNo};
 
-/// An open cartridge on two disks. Only the disk of the side that counts is called. After a device fault the cartridge
-/// has failed until it is closed and opened again.
+/// An open cartridge on two disks. On one of them lies the side that counts: the bytes of one file, which give the
+/// volume. Only that disk is called. After a device fault the cartridge has failed until it is closed and opened again.
 #[derive(Drop)]
 pub struct Cartridge<D: Disk> {
     // The side that counts.
@@ -76,9 +76,11 @@ impl<D: Disk> Model for Cartridge<D> {
 }
 
 impl<D: Disk> Cartridge<D> {
-    /// The invariant of every open cartridge. Where the disks are honest, each pair of images that a crash now may
-    /// leave gives the contents, or the contents with the frame that was in flight when a disk failed; where it has not
-    /// failed, the contents alone. The room is as many bytes as the spelling of the side that counts leaves free.
+    /// Does nothing; its contract is the invariant of every open cartridge. The contents are ones that a cartridge can
+    /// hold, and no frame is in flight unless the cartridge has failed. The rest holds where both disks are honest
+    /// (keep the promises of a disk). Each pair of images that a crash now may leave gives the contents; where the
+    /// cartridge has failed, it gives those or the contents with the frame that was in flight. The room is as many
+    /// bytes as the spelling of the side that counts leaves free.
     pub fn known(&self)
         ensures contents { IsContents self.now.contents }
         ensures at_rest { self.now.failed ≡ false → self.now.torn ≡ [] }
@@ -94,14 +96,14 @@ impl<D: Disk> Cartridge<D> {
         let _ = &self.noted;
     }
 
-    /// How many frames the side has.
+    /// How many frames the side that counts has. After a device fault in a store it may have one more.
     pub fn frames(&self) -> usize
         ensures { result ≡ length self.now.contents.frames }
     {
         self.journal.frames()
     }
 
-    /// The barcode, with spaces behind it up to 16 bytes.
+    /// The barcode, padded with spaces to 16 bytes.
     pub fn barcode(&self) -> &[u8; NAME_BYTES]
         ensures { result.now ≡ self.now.contents.head.heading.name }
     {
@@ -118,7 +120,7 @@ impl<D: Disk> Cartridge<D> {
         self.index.parts()
     }
 
-    /// The capacity of a partition in bytes, 0 where there is no such partition.
+    /// The capacity of partition `part` in bytes; 0 where there is no such partition.
     pub fn capacity(&self, part: PartNo) -> u64
         ensures capacity { result ≡ capacity_of (volume_made self.now.contents) part }
         ensures bound { result ≤ MAX_CAPACITY }
@@ -127,7 +129,7 @@ impl<D: Disk> Cartridge<D> {
         self.index.capacity(part)
     }
 
-    /// How many objects a partition has, 0 where there is no such partition.
+    /// How many objects partition `part` has; 0 where there is no such partition.
     pub fn count(&self, part: PartNo) -> ObjNo
         ensures count { result ≡ count_of (volume_made self.now.contents) part }
         ensures bound { result ≤ MAX_OBJECTS }
@@ -136,7 +138,7 @@ impl<D: Disk> Cartridge<D> {
         self.index.count(part)
     }
 
-    /// The kind of the object with this number; None where there is none.
+    /// The kind of the object with number `at` in partition `part`; None where there is no such object.
     pub fn kind_at(&self, part: PartNo, at: ObjNo) -> Option<Kind>
         ensures { result ≡ kind_at (volume_made self.now.contents) part at }
     {
@@ -144,8 +146,8 @@ impl<D: Disk> Cartridge<D> {
         self.index.kind_at(part, at)
     }
 
-    /// What the first n objects of a partition take of its capacity, in bytes; all of them where
-    /// there are fewer.
+    /// How many bytes of the capacity of partition `part` its first `n` objects use; where it has fewer, how many all
+    /// of them use.
     pub fn used(&self, part: PartNo, n: ObjNo) -> u64
         ensures used { result ≡ used_up_to (volume_made self.now.contents) part n }
         ensures bound { result ≤ capacity_of (volume_made self.now.contents) part }
@@ -154,8 +156,7 @@ impl<D: Disk> Cartridge<D> {
         self.index.used(part, n)
     }
 
-    /// How many filemarks are among the first n objects of a partition; among all of them where
-    /// there are fewer.
+    /// How many filemarks are among the first `n` objects of partition `part`; where it has fewer, among all of them.
     pub fn marks_upto(&self, part: PartNo, n: ObjNo) -> u32
         ensures marks { result ≡ marks_upto (volume_made self.now.contents) part n }
         ensures bound { result ≤ MAX_OBJECTS }
@@ -164,7 +165,8 @@ impl<D: Disk> Cartridge<D> {
         self.index.marks_upto(part, n)
     }
 
-    /// The object number of a partition's filemark number k, counted from 0.
+    /// The object number of filemark `k` of partition `part`. Filemarks are counted from 0, and the partition must have
+    /// more than `k`.
     pub fn mark_at(&self, part: PartNo, k: u32) -> ObjNo
         requires { k < mark_count (volume_made self.now.contents) part }
         ensures { IsMarkOf (volume_made self.now.contents) part k result }
@@ -173,22 +175,23 @@ impl<D: Disk> Cartridge<D> {
         self.index.mark_at(part, k)
     }
 
-    /// A copy of its catalog, with nothing reserved. A catalog has all of the volume but the bytes of its blocks.
+    /// Returns a copy of the catalog, with nothing reserved in it. A catalog has everything of the volume except the
+    /// bytes of its blocks. Returns an error where memory runs out.
     pub fn catalog(&self, alloc: Global) -> Result<Index, NoMemory>
         ensures { IfOk result (λ index. IsIndexOf index (volume_made self.now.contents)) }
     {
         self.index.copy(alloc)
     }
 
-    /// Whether a disk has failed. Then nothing more is read or written.
+    /// Whether a disk has failed since the cartridge was opened. If so, nothing more is read or written.
     pub fn has_failed(&self) -> bool
         ensures { result ≡ self.now.failed }
     {
         self.journal.has_failed()
     }
 
-    /// The bytes that may still be added to the side, up to 1,099,511,627,776 in all with the end
-    /// gate. A frame takes 5 and its body's.
+    /// How many bytes may still be added to the side that counts. A side has at most 1,099,511,627,776 bytes, its end
+    /// gate (the closed gate after the last frame) included. A frame takes 5 bytes more than its body has.
     pub fn room(&self) -> u64
         ensures { result ≡ self.now.room }
     {
@@ -209,15 +212,15 @@ impl<D: Disk> Cartridge<D> {
         self.journal.disk()
     }
 
-    /// The other disk, for reading.
+    /// The disk that does not hold the side that counts, for reading.
     pub fn other_disk(&self) -> &D
         ensures { result.now ≡ disk_at (other self.now.contents.which) self.now.disks }
     {
         &self.spare
     }
 
-    /// Closes the cartridge. Its disks then give the contents, or the contents with the frame that was in flight when a
-    /// disk failed.
+    /// Closes the cartridge. Its contents stay known, and so does the frame that was in flight when a disk failed, if
+    /// there was one. Honest disks then give the contents, or the contents with that frame.
     pub fn shelve(self) -> Shelved<D>
         ensures { result ≡ record {
           disks = self.disks;

@@ -6,7 +6,7 @@ ghost use Rattle.vtl_base.specs.Barcode.{IsBarcode};
 ghost use Rattle.volume_core.specs.Volume.{are_capacities};
 ghost use Rattle.gate_journal.specs.Answers.{IsFault, NoneFailed};
 ghost use Rattle.gate_journal.specs.Side.{CLOSED, heading_of, plain, spell};
-ghost use Rattle.side_pairs.specs.declared.which.Which.TheVariants.{First};
+ghost use Rattle.cartridge_sides.specs.declared.which.Which.TheVariants.{First};
 ghost use Rattle.cartridge.specs.Answers.{IsNotCreated, disks_created};
 ghost use Rattle.cartridge.specs.Contents.{GivesContents, contents_from, heading_with, plain_head};
 
@@ -14,17 +14,19 @@ use crate::cartridges::Cartridge;
 use crate::error::{CartridgeError, NotCreated};
 use crate::noted::Noted;
 use crate::shelved::Shelved;
+use cartridge_sides::Which;
 use gate_journal::header::NAME_BYTES;
 use gate_journal::{Header, Journal, JournalError, Refused, SideKind};
-use side_pairs::Which;
 use std::alloc::{AllocError, Global};
 use tape_disk::Disk;
 use vtl_base::Barcode;
 
 impl<D: Disk> Cartridge<D> {
-    /// Makes a closed cartridge with no objects, whatever the disks held. Its side is written on the first disk, and is
-    /// no copy; the second disk is not touched, and does not count. `are_capacities` tests the condition. After a
-    /// device fault anything may stand on the first disk; after `NoMemory` it was not touched.
+    /// Makes a closed cartridge with this barcode and no objects, whatever the disks held. It has one partition for
+    /// each of `capacities`. There must be 1 to 4 capacities, each of 4,096 to 1,099,511,627,776 bytes
+    /// (`volume_core::are_capacities` tests this). The cartridge's side is written to the first disk and is not a copy.
+    /// At Ok, where that disk is honest (keeps the promises of a disk), that side counts, after a crash too. The second
+    /// disk is not touched. After `Device` anything may be on the first disk; after `NoMemory` it was not touched.
     pub fn create(
         alloc: Global,
         first: D,

@@ -1,4 +1,4 @@
-//! Why a call on a cartridge is refused.
+//! Why a call on a cartridge is refused or fails.
 ghost use Rattle.std.specs.Prelude.{◌≡◌};
 ghost use Rattle.cartridge.specs.declared.error.CartridgeError.TheVariants as Errors;
 
@@ -9,27 +9,29 @@ use tape_disk::Disk;
 use thiserror::Error;
 use vtl_base::{DevFault, NoMemory};
 
-/// Why a call on a cartridge is refused (own).
+/// Why a call on a cartridge is refused or fails (own).
 #[derive(Clone, Copy, PartialEq, Eq, Debug, Error)]
 pub enum CartridgeError {
-    /// No side of the two disks counts as a cartridge's.
+    /// The disks could not be opened: neither of them has a side that counts as that of a cartridge.
     #[error("not a cartridge")]
     NotOurs,
-    /// The side that counts is damaged: the first frame that is not whole, or that is missing, has its gate at this
-    /// place, counted in bytes.
+    /// The disks could not be opened: the side that counts is damaged. The first frame that is not whole, or that is
+    /// missing, has its gate at byte `at` of that side.
     #[error("damaged at {at}")]
     Damaged {
-        /// The place of the gate.
+        /// The place of the gate, in bytes from the start of the side.
         at: u64,
     },
-    /// The side that counts has a bad frame: the first one whose body spells no changes, or a change that does not
-    /// apply to what stands before it, has its gate at this place, counted in bytes.
+    /// The disks could not be opened: the side that counts has a bad frame. The body of such a frame spells no changes,
+    /// or a change that does not apply to the volume before it. The first bad frame has its gate at byte `at` of that
+    /// side.
     #[error("bad record at {at}")]
     BadRecord {
-        /// The place of the gate.
+        /// The place of the gate, in bytes from the start of the side.
         at: u64,
     },
-    /// The frame would make the side longer than 1,099,511,627,776 bytes.
+    /// A store's frame would make the side that counts, or a reclaim would make the side of the copy, longer than
+    /// 1,099,511,627,776 bytes. Nothing was written.
     #[error("side full")]
     SideFull,
     /// A disk failed in this call.
@@ -75,14 +77,14 @@ impl From<NoMemory> for CartridgeError {
     }
 }
 
-/// A cartridge that could not be made, and its disks.
+/// A cartridge that could not be made, and why, with the two disks that were passed to the call.
 #[derive(Drop, Debug)]
 pub struct NotCreated<D> {
     /// Why it could not be made.
     pub error: CartridgeError,
-    /// The first disk that was given.
+    /// The first disk that was passed to the call.
     pub first: D,
-    /// The second disk that was given.
+    /// The second disk that was passed to the call.
     pub second: D,
 }
 
@@ -91,6 +93,6 @@ pub struct NotCreated<D> {
 pub struct NotOpened<D: Disk> {
     /// Why it could not be opened.
     pub error: CartridgeError,
-    /// The cartridge, closed as it was.
+    /// The cartridge that was passed to the call, closed as it was.
     pub shelved: Shelved<D>,
 }

@@ -16,9 +16,11 @@ use tape_disk::Disk;
 use vtl_base::{ObjNo, PartNo};
 
 impl<D: Disk> Cartridge<D> {
-    /// Reads the block with this object number into `into`, in place of what that held, by one call of the disk of the
-    /// side that counts. It takes memory only where the block is longer than the capacity of `into`; a block has at
-    /// most 1,048,576 bytes. After an `Err` `into` may hold anything. After `Device` the cartridge has failed.
+    /// Reads the block with object number `at` in partition `part` into `into`, in place of the bytes there. The object
+    /// must be a block. At Ok `into` has the block's length, at most 1,048,576 bytes, and, where both disks are honest,
+    /// the block's bytes. At most one call is made, to the disk of the side that counts. Memory is allocated only where
+    /// the block is longer than the capacity of `into`. After an error `into` may hold anything; after `Device` the
+    /// cartridge has failed.
     pub fn fetch(
         &mut self,
         part: PartNo,

@@ -5,8 +5,9 @@ ghost use Rattle.volume_core.specs.Volume.{after};
 ghost use Rattle.tape_disk.specs.TwoDisks.{Images};
 ghost use Rattle.cartridge.specs.Contents.{Contents, GivesContents, IsAnswered, IsBadFrameAt, IsDamagedPairAt, IsNoCartridge, changes_since, start_of, volume_made};
 
-/// A pair of images gives the contents of at most one cartridge. Where it gives contents, one of its sides counts, is
-/// not damaged and has no bad frame.
+/// A pair of images, the bytes that a crash may leave on the two disks, gives the contents of at most one cartridge.
+/// Where it gives contents, one of its sides counts, is not damaged and has no bad frame. No pair has its first bad
+/// frame at two places.
 pub fn a_pair_gives_one_volume()
     ensures contents { (images : Images) (a b : Contents) →
         GivesContents a images → GivesContents b images → a ≡ b }
@@ -20,7 +21,8 @@ pub fn a_pair_gives_one_volume()
         IsBadFrameAt images a → IsBadFrameAt images b → a ≡ b }
 {}
 
-/// A pair of images that gives no contents has one cause for it, at one place.
+/// A pair of images has at most one of three causes to be refused: no side counts, the side that counts is damaged, or
+/// that side has a bad frame. The side that counts is damaged at one place at most.
 pub fn a_refusal_has_one_cause()
     ensures none_damaged { (images : Images) (at : ℕ) →
         IsNoCartridge images → IsDamagedPairAt images at → ⊥ }
@@ -31,14 +33,13 @@ pub fn a_refusal_has_one_cause()
         IsDamagedPairAt images a → IsDamagedPairAt images b → a ≡ b }
 {}
 
-/// Each pair of images gives contents, is no cartridge's, or its side that counts is damaged or has a
-/// first bad frame.
+/// Each pair of images gives contents or has a cause to be refused: no side counts, the side that counts is damaged at
+/// some place, or it has its first bad frame at some place.
 pub fn each_pair_is_answered()
     ensures { (images : Images) → IsAnswered images }
 {}
 
-/// The changes since the cartridge was made or last reclaimed make the volume out of the one that they are carried out
-/// from.
+/// The changes since the cartridge was made or last reclaimed make its volume out of the volume that it had then.
 pub fn a_volume_is_made_since()
     ensures { (contents : Contents) → volume_made contents
         ≡ after (start_of contents).volume (changes_since contents) }

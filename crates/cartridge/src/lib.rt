@@ -1,5 +1,5 @@
-//! A cartridge on two disks, one of which counts. Its changes are stored a frame at a time, each frame
-//! whole or not at all.
+//! A cartridge on two disks. On each lies a side, the bytes of one file, or something else; at most one side counts,
+//! and gives the cartridge's volume. Changes are stored a frame at a time, each frame whole or not at all.
 #![tactic(auto)]
 
 mod bodies;

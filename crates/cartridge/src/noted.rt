@@ -1,4 +1,5 @@
-//! Notes of a side, for proofs alone. They take no bytes: the block bytes of a cartridge stay on its disk.
+//! Notes of what a side holds, for proofs alone. They take no memory: the bytes of a cartridge's blocks stay on its
+//! disk.
 ghost use Rattle.std.specs.Prelude.{◌≡◌, [], unwrap_or};
 ghost use Rattle.gate_journal.specs.Side.{heading_of};
 ghost use Rattle.cartridge.specs.Notes.{Notes, with_frame, with_torn};
@@ -10,7 +11,7 @@ use noted_values::{NotedValue, note};
 use std::marker::Model;
 use volume_core::Change;
 
-/// The kind of the notes. No value of this type is made.
+/// The kind under which the notes of a side are noted. No value of this type is made.
 pub(crate) struct SideNote {}
 
 impl Model for SideNote {
@@ -30,7 +31,8 @@ impl Model for SideNote {
     } };
 }
 
-/// The notes of a side.
+/// The notes of a side: its heading, the changes of each of its frames, and those of the frame in flight, if there is
+/// one.
 #[derive(Drop)]
 pub(crate) struct Noted {
     pub notes: NotedValue<SideNote>,
@@ -60,7 +62,8 @@ impl Noted {
         }
     }
 
-    /// The notes with one more frame, of the changes that this body spells.
+    /// The notes with one more frame, of the changes that this body spells. Where it spells none, the frame is noted
+    /// with no changes.
     pub(crate) fn with_body(&self, body: &NotedBytes) -> Noted
         ensures { result.notes
             ≡ with_frame self.now.notes (unwrap_or (changes_on body.now.bytes) []) }
@@ -70,14 +73,14 @@ impl Noted {
         }
     }
 
-    /// The notes of the copy of the volume, in its frames.
+    /// The notes after a reclaim: the frames are those of the volume's copy, and none is in flight.
     pub(crate) fn copied(&self) -> Noted
         ensures { result.notes ≡ notes_copied self.now.notes }
     {
         Noted { notes: note(self) }
     }
 
-    /// The notes with these changes in a frame that is in flight.
+    /// The notes, with these changes as those of the frame in flight.
     pub(crate) fn with_torn(&self, changes: &[Change]) -> Noted
         ensures { result.notes ≡ with_torn self.now.notes changes.now }
     {

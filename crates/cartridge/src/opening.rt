@@ -13,8 +13,8 @@ use crate::openings::Opening;
 use crate::recovering::Recovered;
 use crate::shelved::Shelved;
 use crate::sides::{apart, in_order};
+use cartridge_sides::{Which, choose};
 use gate_journal::{Frame, Journal, NotDecoded};
-use side_pairs::{Which, choose};
 use std::alloc::Global;
 use tape_disk::Disk;
 
@@ -27,10 +27,11 @@ struct Unopened<D> {
 }
 
 impl<D: Disk> Cartridge<D> {
-    /// Opens a closed cartridge, by the side that counts. The call begins with a sync of both disks, and writes
-    /// nothing. At every moment of the call, and after every error, the disks stand for the same as before; so does an
-    /// honest disk beside one that is not. After each error except `Device` that is sure too. With an error the
-    /// cartridge is returned closed, as it was.
+    /// Opens a closed cartridge, from the side that counts. The call begins with a sync of both disks, and writes
+    /// nothing. At every moment of the call, and after every error, a crash leaves only what it might have left before;
+    /// this holds for an honest disk (one that keeps the promises of a disk) beside a dishonest one too. Where both are
+    /// honest, a crash after any result but `Device` leaves just what a read would have returned before the call. With
+    /// an error the cartridge is returned closed, as it was.
     pub fn open(alloc: Global, shelved: Shelved<D>) -> Result<Cartridge<D>, NotOpened<D>>
         ensures disks { KeepsDisks D.state shelved.disks (disks_opened result) }
         ensures ok { IfOk result (λ cartridge. (cartridge.failed ≡ false) × (cartridge.torn ≡ [])

@@ -5,13 +5,13 @@ use crate::cartridges::Cartridge;
 use crate::noted::Noted;
 use crate::shelved::Shelved;
 use crate::sides::in_order;
+use cartridge_sides::Which;
 use gate_journal::Copied;
-use side_pairs::Which;
 use std::marker::Model;
 use tape_disk::Disk;
 
 /// A cartridge that was just opened, and what was known of it before. The caller leaves it open (`keep`), or closes it
-/// as it was (`give_back`), for instance where memory runs out for what is needed beside it.
+/// as it was (`into_shelved`), for instance where memory runs out for something else that the caller needs.
 #[derive(Drop)]
 pub struct Opening<D: Disk> {
     pub(crate) cartridge: Cartridge<D>,
@@ -55,7 +55,7 @@ impl<D: Disk> Opening<D> {
         &self.cartridge
     }
 
-    /// Leaves the cartridge open.
+    /// Returns the cartridge, and leaves it open.
     pub fn keep(self) -> Cartridge<D>
         ensures { result ≡ self.cartridge }
     {
@@ -64,7 +64,7 @@ impl<D: Disk> Opening<D> {
     }
 
     /// Closes the cartridge, which is then as it was before it was opened.
-    pub fn give_back(self) -> Shelved<D>
+    pub fn into_shelved(self) -> Shelved<D>
         ensures { result ≡ self.was }
     {
         let Opening {

@@ -52,7 +52,7 @@ pub(crate) fn place_frame<D: Disk>(
     }
 }
 
-// The place of the block of a record that begins at that place; any place where the record has no block.
+// The place of the block of a record that begins at place `at`. For a record without a block the result means nothing.
 pub(crate) fn place_of(item: Record, at: u64) -> u64
     requires sized { HasBlock item }
     requires fits { at + size_of item < 2 ^ 64 }

@@ -1,10 +1,10 @@
-//! Reclaiming a cartridge: its volume is copied to the side that does not count, which counts from then on. The room of
-//! all that the volume no longer has is free again.
+//! Reclaiming a cartridge: its volume is copied to the side that does not count, which then counts in place of the
+//! other one. What the volume no longer has takes no room on the new side.
 ghost use Rattle.std.specs.Prelude.{◌≡◌, ◌≤◌, ◌<◌, ◌+◌, ◌*◌, ◌⊎◌, ◌^◌, [], length, sum_by, IfOk, IfErr, OnOk, true, false, vec_capacity};
 ghost use Rattle.tape_disk.specs.TwoDisks.{AreHonest, EachOfTwo, KeepsDisks, MayLeave, TwoLeave, seen_of_two};
 ghost use Rattle.gate_journal.specs.Heads.{epoch_of};
 ghost use Rattle.gate_journal.specs.Side.{IsHeading, heading_of};
-ghost use Rattle.side_pairs.specs.declared.copying.TheConstants.{COPY_BODY};
+ghost use Rattle.cartridge_sides.specs.declared.copying.TheConstants.{COPY_BODY};
 ghost use Rattle.vtl_base.specs.declared.limits.TheConstants.{MAX_CAPACITY, MAX_OBJECTS, MAX_PARTITIONS, MAX_SIDE};
 ghost use Rattle.volume_copy.specs.Copies.{copy_of};
 ghost use Rattle.volume_copy.specs.Frames.{change_size};
@@ -12,16 +12,16 @@ ghost use Rattle.cartridge.specs.declared.error.CartridgeError.TheVariants as Er
 ghost use Rattle.cartridge.specs.declared.reclaiming.ReclaimError.TheVariants as Causes;
 ghost use Rattle.cartridge.specs.Contents.{Contents, GivesContents, volume_made};
 ghost use Rattle.cartridge.specs.Disks.{IsFaultOfTwo, NoneOfTwo, OnlyOfTwo};
-ghost use Rattle.side_pairs.specs.Passes.{other};
+ghost use Rattle.cartridge_sides.specs.Passes.{other};
 ghost use Rattle.cartridge.specs.Reclaiming.{GivesVolume, HasBodies, IsBrokenOff, IsNotReclaimed, IsUnplanned, IsUntouched, KeepsOldSide, LeavesVolume, copy_frames, copy_length, disks_reclaimed, reclaimed_from};
 
 use crate::cartridges::Cartridge;
 use crate::error::CartridgeError;
 use crate::shelved::Shelved;
 use crate::sides::{apart, in_order};
+use cartridge_sides::Which;
+use cartridge_sides::copying::COPY_BODY;
 use gate_journal::{Copied, Header, Journal};
-use side_pairs::Which;
-use side_pairs::copying::COPY_BODY;
 use std::alloc::Global;
 use tape_disk::Disk;
 use thiserror::Error;
@@ -33,11 +33,11 @@ use vtl_base::limits::MAX_SIDE;
 /// Why a cartridge is not reclaimed (own).
 #[derive(Clone, Copy, PartialEq, Eq, Debug, Error)]
 pub enum ReclaimError {
-    /// The cartridge cannot be opened, its copy would be longer than the longest side, memory ran out, or a disk
-    /// failed.
+    /// The cartridge cannot be opened, memory ran out, a disk failed, or (`SideFull`) the side of the copy would be
+    /// longer than 1,099,511,627,776 bytes.
     #[error("{0}")]
     Cartridge(CartridgeError),
-    /// Its epoch is the greatest number of 8 bytes, so there is no next one.
+    /// The cartridge's epoch, which counts its reclaims, is the largest 8-byte number, so there is no next epoch.
     #[error("epochs spent")]
     EpochsSpent,
 }
@@ -47,15 +47,18 @@ pub enum ReclaimError {
 pub struct NotReclaimed<D: Disk> {
     /// Why it was not reclaimed.
     pub error: ReclaimError,
-    /// The cartridge. After a device fault nothing is known of it until it is opened.
+    /// The cartridge, closed. After a device fault during the copying, nothing is known of it until it is opened; after
+    /// every other error it holds what it held.
     pub shelved: Shelved<D>,
 }
 
 impl<D: Disk> Cartridge<D> {
-    /// Reclaims a closed cartridge: the volume of the side that counts is copied to the other one, which counts from
-    /// then on. The cartridge is opened first, and every cause but a device fault is found before anything is written;
-    /// so is a device fault of the opening. At every moment each pair of images is an old one, or gives what the
-    /// cartridge holds, or the copy: the same volume. At Ok the side that counted before is unchanged from place 10 on.
+    /// Reclaims a closed cartridge: the volume of the side that counts is copied to the other side, which then counts
+    /// in its place. The cartridge is opened first. Every error but a device fault during the copying is found before
+    /// anything is written. The rest holds where both disks are honest (keep the promises of a disk). A crash at any
+    /// moment leaves a pair of images that it might have left before the call, one that gives what the cartridge holds,
+    /// or one that gives the copy, which has the same volume. At Ok the side that counted before is unchanged from byte
+    /// 10 on.
     pub fn reclaim(alloc: Global, shelved: Shelved<D>) -> Result<Shelved<D>, NotReclaimed<D>>
         ensures disks { KeepsDisks D.state shelved.disks (disks_reclaimed result) }
         ensures ok { IfOk result (λ reclaimed. (reclaimed.known ≡ true) × (reclaimed.torn ≡ [])
@@ -139,7 +142,7 @@ fn plan_copy<D: Disk>(alloc: Global, cartridge: &Cartridge<D>) -> Result<Plan, R
     })
 }
 
-// How large the copy of its volume is.
+// How many frames and bytes the copy of the cartridge's volume has.
 fn copy_totals<D: Disk>(cartridge: &Cartridge<D>) -> Totals
     ensures frames { result.frames ≡ length (copy_frames cartridge.now.contents) }
     ensures bytes { result.bytes
@@ -150,7 +153,7 @@ fn copy_totals<D: Disk>(cartridge: &Cartridge<D>) -> Totals
     Totals::of(&cartridge.index)
 }
 
-// How many bytes the side of its copy would have.
+// How many bytes the side of the copy would have, given how large the copy is.
 fn length_of_copy<D: Disk>(cartridge: &Cartridge<D>, totals: Totals) -> u64
     requires frames { totals.frames ≡ length (copy_frames cartridge.now.contents) }
     requires bytes { totals.bytes
@@ -163,7 +166,7 @@ fn length_of_copy<D: Disk>(cartridge: &Cartridge<D>, totals: Totals) -> u64
     40 + 8 * count + 5 * u64::from(totals.frames) + totals.bytes
 }
 
-// How often it was reclaimed.
+// How often the cartridge was reclaimed.
 fn epoch_now<D: Disk>(cartridge: &Cartridge<D>) -> u64
     ensures { result ≡ epoch_of cartridge.now.contents.head }
 {

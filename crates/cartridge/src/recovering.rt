@@ -1,4 +1,4 @@
-//! What is recovered from a cartridge's side, one frame's body after another, each in pieces.
+//! What is read from a cartridge's side as it is opened: the body of one frame after another, each in pieces.
 
 use crate::noted::Noted;
 use crate::walking::{walk_over, walk_piece};

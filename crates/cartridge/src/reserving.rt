@@ -12,8 +12,10 @@ use tape_disk::Disk;
 use vtl_base::NoMemory;
 
 impl<D: Disk> Cartridge<D> {
-    /// Reserves the memory of `stores` later stores, which then take none: each with a body of at most `body` bytes,
-    /// and all of them together with at most `entries` blocks and runs of marks in each partition, 24 bytes each.
+    /// Reserves memory for `stores` later stores, which then allocate nothing: each has a body of at most `body` bytes,
+    /// and all of them together add at most `entries` blocks and runs of filemarks to each partition. For each of these
+    /// blocks and runs 36 bytes are reserved: 24 in the table of blocks, and 12 in that of runs. After an error, what
+    /// was reserved may have grown.
     pub fn reserve_stores(
         &mut self,
         stores: usize,
@@ -35,8 +37,8 @@ impl<D: Disk> Cartridge<D> {
     }
 }
 
-/// Reserves memory for `entries` blocks and runs of marks in each partition of an index. After an `Err` some partitions
-/// may have it.
+/// Reserves memory for `entries` more blocks and runs of filemarks in each partition of an index. After an error that
+/// memory may be reserved in some of the partitions.
 pub fn reserve_each(index: &mut Index, entries: usize) -> Result<(), NoMemory>
     ensures few { length index.old ≤ MAX_PARTITIONS }
     ensures grown { IsGrown index.old index.new }

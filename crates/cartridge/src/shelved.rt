@@ -8,12 +8,13 @@ ghost use Rattle.cartridge.specs.Notes.{noted_as};
 
 use crate::noted::Noted;
 use crate::sides::in_order;
+use cartridge_sides::Which;
 use gate_journal::Copied;
-use side_pairs::Which;
 use std::marker::Model;
 use tape_disk::Disk;
 
-/// A closed cartridge: two disks, and what proofs know of them.
+/// A closed cartridge: two disks, and what is known of their contents. Nothing is known of disks on which this library
+/// has neither made nor opened a cartridge.
 #[derive(Drop)]
 pub struct Shelved<D: Disk> {
     pub(crate) first: D,
@@ -51,7 +52,7 @@ impl<D: Disk> Model for Shelved<D> {
 }
 
 impl<D: Disk> Shelved<D> {
-    /// A closed cartridge on these two disks. Nothing is known of it until it is opened.
+    /// Makes a closed cartridge of these two disks. Nothing is known of it until it is opened.
     pub fn of(first: D, second: D) -> Shelved<D>
         ensures disks { result.disks ≡ record { first = first; second = second } }
         ensures unknown { result.known ≡ false }
@@ -96,8 +97,10 @@ impl<D: Disk> Shelved<D> {
         }
     }
 
-    /// The invariant of every closed cartridge. Each pair of images that a crash may leave gives the contents, or the
-    /// contents with the frame that was in flight when a disk failed. The contents are a cartridge's over any disks.
+    /// Does nothing; its contract is the invariant of every closed cartridge of which something is known. The contents
+    /// are ones that a cartridge can hold. Where both disks are honest (keep the promises of a disk), each pair of
+    /// images that a crash may leave gives the contents, or the contents with the frame that was in flight when a disk
+    /// failed.
     pub fn known(&self)
         ensures contents { self.now.known ≡ true → IsContents self.now.contents }
         ensures shows { self.now.known ≡ true → AreHonest D.state self.now.disks →
@@ -107,7 +110,7 @@ impl<D: Disk> Shelved<D> {
         let _ = &self.known;
     }
 
-    /// How often it was reclaimed, where something is known of it.
+    /// How often the cartridge was reclaimed. Where nothing is known of the cartridge, the result means nothing.
     pub fn epoch(&self) -> u64
         ensures { self.now.known ≡ true → result ≡ epoch_of self.now.contents.head }
     {

@@ -1,11 +1,12 @@
-//! The catalog of a volume as it is seen: its kinds and lengths, and no place of a block.
-ghost use Rattle.std.specs.Prelude.{◌≡◌, ◌≤◌, ◌+◌, List, None, ℕ, IfSome, OnErr, OnOk, length};
+//! The catalog of a volume as a caller sees it: an index with the kinds and lengths of the objects, in which the places
+//! of blocks mean nothing.
+ghost use Rattle.std.specs.Prelude.{◌≡◌, ◌≤◌, ◌+◌, List, None, ℕ, IfNone, IfSome, OnErr, OnOk, length};
 ghost use Rattle.volume_core.specs.declared.changes.Change.{Change};
 ghost use Rattle.volume_core.specs.Volume.{Part, changed, part_of, refusal_of};
 ghost use Rattle.record_index.specs.Places.{reserved_of};
 ghost use Rattle.record_index.specs.Records.{record_of};
 ghost use Rattle.record_index.specs.Shapes.{IsIndexOf};
-ghost use Rattle.cartridge.specs.Shown.{HasEntriesIn, IsEntryFor, IsGrownIn, LacksEntriesIn, MayEnter};
+ghost use Rattle.cartridge.specs.Shown.{HasEntriesIn, HasNoEntryFor, IsEntryFor, IsGrownIn, LacksEntriesIn, MayEnter};
 
 use crate::reserving::reserve_each;
 use record_index::laws::{a_volume_is_seen_by_its_shape, an_index_follows_a_volume};
@@ -14,7 +15,8 @@ use volume_core::{ApplyError, Change, Refusal};
 use vtl_base::NoMemory;
 use vtl_base::limits::MAX_OBJECTS;
 
-/// Why a volume that an index shows refuses a change: the first cause that holds, None where there is none.
+/// Why the volume that `index` shows refuses a change: the first cause that holds, or None where the change is not
+/// refused.
 pub fn refusal_shown(index: &Index, change: &Change) -> Option<Refusal>
     ensures { (volume : List Part) → IsIndexOf index.now volume → result ≡ refusal_of volume change.now }
 {
@@ -37,12 +39,13 @@ pub fn refusal_shown(index: &Index, change: &Change) -> Option<Refusal>
     None
 }
 
-/// The entry of a change, with memory for it in the index. None where the volume that the index shows refuses the
-/// change, or where memory runs out.
+/// Reserves memory in the index for a change, and returns the change's entry. Returns None where the volume that the
+/// index shows refuses the change, or where memory runs out and none was reserved for the change.
 pub fn entry_for(index: &mut Index, change: &Change) -> Option<Record>
     requires { (volume : List Part) × IsIndexOf index.old volume }
     ensures shows { (volume : List Part) → IsIndexOf index.old volume → IsIndexOf index.new volume }
     ensures entry { IfSome result (λ item. IsEntryFor index.old change.now item index.new) }
+    ensures none { IfNone result (HasNoEntryFor index.old change.now) }
 {
     match refusal_shown(index, change) {
         Some(_) => return None,
@@ -56,7 +59,8 @@ pub fn entry_for(index: &mut Index, change: &Change) -> Option<Record>
     Some(Record::of(change))
 }
 
-/// Enters a change into an index that has room for it, by its entry.
+/// Enters the change whose entry is `item` into an index in which memory for it is reserved. The volume that the index
+/// shows must not refuse the change.
 pub fn enter_item(index: &mut Index, item: Record)
     requires { (volume : List Part) × (change : Change) × (item ≡ record_of change)
         × MayEnter index.old volume change }
@@ -74,7 +78,8 @@ pub fn enter_item(index: &mut Index, item: Record)
     }
 }
 
-/// Enters a change into an index that has room for it.
+/// Enters a change into an index in which memory for it is reserved. The volume that the index shows must not refuse
+/// the change.
 pub fn enter_shown(index: &mut Index, change: &Change)
     requires { (volume : List Part) × MayEnter index.old volume change.now }
     ensures shows { (volume : List Part) → IsIndexOf index.old volume
@@ -87,8 +92,8 @@ pub fn enter_shown(index: &mut Index, change: &Change)
     enter_item(index, Record::of(change));
 }
 
-/// Reserves memory for `entries` blocks and runs of marks in each partition of a catalog, if there is one. After an
-/// `Err` some partitions may have it.
+/// Reserves memory for `entries` more blocks and runs of filemarks in each partition of a catalog. Does nothing where
+/// `catalog` is None. After an error the memory may be reserved in some of the partitions.
 pub fn reserve_shown(catalog: &mut Option<Index>, entries: usize) -> Result<(), NoMemory>
     ensures grown { IsGrownIn catalog.old catalog.new }
     ensures ok { OnOk result (HasEntriesIn catalog.new entries) }

@@ -2,7 +2,7 @@
 ghost use Rattle.std.specs.Prelude.{◌≡◌};
 ghost use Rattle.cartridge.specs.Disks.{disks_by};
 
-use side_pairs::Which;
+use cartridge_sides::Which;
 
 // The first and the second disk, from the disk of this side and the other disk.
 pub(crate) fn in_order<D>(which: Which, this: D, other: D) -> (D, D)

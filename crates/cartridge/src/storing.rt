@@ -11,7 +11,7 @@ ghost use Rattle.cartridge.specs.Contents.{GivesContents, ShowsContents, bodies_
 ghost use Rattle.cartridge.specs.Disks.{CallsOne, IsFaultOfTwo, NoneOfTwo};
 ghost use Rattle.cartridge.specs.Inner.Growing.{HasRoomWithin, IsGrown, IsSameSide};
 
-use crate::bodies::{fill_body, size_of_body};
+use crate::bodies::{Spelled, size_of_body};
 use crate::cartridges::Cartridge;
 use crate::error::CartridgeError;
 use crate::placing::place_frame;
@@ -22,8 +22,10 @@ use volume_core::Change;
 use vtl_base::{NoMemory, PartNo};
 
 impl<D: Disk> Cartridge<D> {
-    /// Reserves the memory of a later store, which then takes none: of a body of `body` bytes, and of `entries` blocks
-    /// and runs of marks in one partition, 24 bytes each.
+    /// Reserves memory for one later store, which then allocates nothing. That store may have a body of `body` bytes,
+    /// and add `entries` blocks and runs of filemarks to partition `part`, if there is such a partition. For each of
+    /// these blocks and runs 36 bytes are reserved: 24 in the table of blocks, and 12 in that of runs. After an error,
+    /// what was reserved may have grown.
     pub fn reserve(
         &mut self,
         part: PartNo,
@@ -46,10 +48,12 @@ impl<D: Disk> Cartridge<D> {
         Ok(())
     }
 
-    /// Stores changes as one frame of the side that counts: at Ok all of them are sure. The other disk is not called.
-    /// There must be at least one change, each must apply to what stands before it, and their spelling must have at
-    /// most 8,388,608 bytes. Within what was reserved it takes no memory. After `Device` the side has the frame or not,
-    /// and nothing more is written; after every other error nothing changed but what is reserved.
+    /// Stores changes as one frame of the side that counts. At Ok, where both disks are honest, no crash loses any of
+    /// them. The disk of the other side is not called. There must be at least one change, each must apply to the volume
+    /// that the changes before it make, and their spelling must have at most 8,388,608 bytes. A store within what was
+    /// reserved allocates nothing. After `Device`, where both disks are honest, the side has the whole frame or nothing
+    /// of it; the cartridge has failed and writes nothing more. After every other error nothing has changed but what is
+    /// reserved.
     pub fn store(&mut self, changes: &[Change]) -> Result<(), CartridgeError>
         requires some { 1 ≤ length changes.now }
         requires apply { AllApply (volume_made self.old.contents) changes.now }
@@ -86,8 +90,9 @@ impl<D: Disk> Cartridge<D> {
         ) else {
             return Err(CartridgeError::NoMemory);
         };
-        fill_body(&mut self.frame, changes);
-        match self.journal.append_frame(&mut self.frame) {
+        self.frame.clear();
+        let parts = Spelled::of(changes, size);
+        match self.journal.append_frame(&mut self.frame, &parts) {
             Ok(()) => {
                 place_frame(&mut self.index, &self.journal, &self.noted, changes);
                 self.noted = self.noted.with_frame(changes);

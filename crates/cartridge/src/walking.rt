@@ -10,8 +10,8 @@ use record_index::{Fed, Found, Index, Record, RecordReader};
 use volume_core::ApplyError;
 use vtl_base::NoMemory;
 
-// Carries out on the index the records that end in the next bytes of a body, which lies at that place. Returns false
-// where the body spells no changes, or one that does not apply, whatever follows.
+// Carries out on the index the records that end in `piece`, the next bytes of the body at `place`. Returns false where
+// the body spells no changes, or one that does not apply, whatever follows these bytes.
 pub(crate) fn walk_piece(
     index: &mut Index,
     reader: &mut RecordReader,
@@ -39,8 +39,8 @@ pub(crate) fn walk_piece(
     Ok(true)
 }
 
-// Passes over the next bytes of a body, which are a block's, and carries out its record where they end it. Returns
-// false where the change does not apply.
+// Passes over the next `count` bytes of the body at `place`, all of them a block's, and carries out the block's record
+// where they end it. Returns false where the change does not apply.
 pub(crate) fn walk_over(
     index: &mut Index,
     reader: &mut RecordReader,
@@ -62,7 +62,7 @@ pub(crate) fn walk_over(
     }
 }
 
-// Carries out on the index a record that begins at that place. Returns false where it does not apply.
+// Carries out on the index a record that begins at place `at`. Returns false where the record does not apply.
 fn enter(index: &mut Index, item: Record, at: u64) -> Result<bool, NoMemory>
     requires sized { HasBlock item }
     requires fits { at + size_of item < 2 ^ 64 }

@@ -61,7 +61,7 @@ kind_text _ _ = []
 
 -- what is refused (own)
 abbrev pub refused_text : Rule → Found → List ℕ
-refused_text rule (found.NoText spot) = codes "refused: the text is no UTF-8"
+refused_text rule (found.NoText spot) = codes "refused: the text is not UTF-8"
 refused_text rule (found.NoDocument spot message) = codes "refused: the text is no TOML: " ++ string_bytes message
 refused_text rule (found.OtherKey name) = codes "refused: the key " ++ string_bytes name
 refused_text rule found.Nothing = codes "refused: the key " ++ (missing_of rule ++ codes " is missing")

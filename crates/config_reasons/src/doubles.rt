@@ -1,4 +1,4 @@
-//! The earlier entry that has a value which may not occur twice.
+//! The earlier entry that has a value which no two entries may have.
 ghost use Rattle.std.specs.Prelude.{◌≡◌, ◌≤◌, Some, IfSome, IsTrue};
 ghost use Rattle.std.specs.List.{Contains};
 ghost use Rattle.toml.specs.Data.{string, integer};
@@ -42,7 +42,8 @@ fn has_same_text(here: &Table, there: &Table, key: Key) -> bool
     }
 }
 
-// Whether the name is that of one of a cartridge's two files. False where memory runs out.
+// Whether the name is that of one of the two files of a cartridge, whose first has the name `file`. False where memory
+// runs out.
 fn is_of_both(alloc: Global, file: &str, name: &str) -> bool
     ensures { IsTrue result → Contains (both_names file.now) name.now }
 {
@@ -75,7 +76,8 @@ fn shares_cartridge_file(alloc: Global, here: &Table, there: &Table) -> bool
     }
 }
 
-// Whether the table at another place has the same value of a key.
+// Whether the table `there`, at the place `other`, has the same value of a key as the table `here`. For the key of a
+// cartridge's file: whether one of the cartridge's two files is a file of the other entry. False where memory runs out.
 fn shares(alloc: Global, key: Key, other: Place, here: &Table, there: &Table) -> bool
     ensures { IsTrue result → Shares key other (table_view here.now) (table_view there.now) }
 {
@@ -91,7 +93,8 @@ fn shares(alloc: Global, key: Key, other: Place, here: &Table, there: &Table) ->
     }
 }
 
-// The first of the first `before` drives that has the value of the key.
+// The first drive entry that has the same value of the key as `here`, among the first `before` of them. None where none
+// of these has it.
 fn drive_before(alloc: Global, root: &Table, key: Key, here: &Table, before: usize) -> Option<Place>
     ensures other { IfSome result (IsOther key (table_view root.now) (table_view here.now)) }
     ensures earlier { IfSome result (IsDriveBefore before) }
@@ -107,7 +110,8 @@ fn drive_before(alloc: Global, root: &Table, key: Key, here: &Table, before: usi
     None
 }
 
-// The first of the first `before` cartridges that has the value of the key.
+// The first cartridge entry that has the same value of the key as `here`, among the first `before` of them. None where
+// none of these has it.
 fn cartridge_before(
     alloc: Global,
     root: &Table,
@@ -137,7 +141,8 @@ fn count_drives(root: &Table) -> usize {
     }
 }
 
-// The first earlier entry, in the order in which entries are read, that has the value of the key.
+// The first earlier entry, in the order in which entries are read, that has the same value of the key as the entry at
+// `place`. None where there is no such entry, or where memory runs out.
 pub(crate) fn double_of(alloc: Global, root: &Table, place: Place, key: Key) -> Option<Place>
     ensures { IfSome result (IsDouble key place (table_view root.now)) }
 {

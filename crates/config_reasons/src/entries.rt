@@ -14,7 +14,7 @@ pub(crate) fn value_at<'a>(table: &'a Table, key: Key) -> Option<&'a Value>
     table.get(key.name())
 }
 
-// The entry of a list, counted from 1 on.
+// The entry with this number in a list, counted from 1; None where the list has none.
 pub(crate) fn entry_in<'a>(root: &'a Table, list: Key, number: usize) -> Option<&'a Value>
     ensures { option_map (λ value. view value.now) result ≡ entry_in list number (table_view root.now) }
 {

@@ -1,4 +1,4 @@
-//! Why a text is no configuration, in words.
+//! Why a text is not a configuration, in words.
 #![tactic(auto)]
 
 mod doubles;

@@ -8,8 +8,9 @@ use explanations::Explanation;
 use std::alloc::{AllocError, Global};
 
 impl ConfigReason {
-    /// Adds four lines: what is refused, where, what is allowed, and what to do. Where memory runs out, only the first
-    /// of them may be there. `file` is the name of the configuration's file.
+    /// Adds four lines to `lines`: what is refused, where, what is allowed, and what to do. `file` is the name of the
+    /// configuration's file. Returns an error if memory runs out; then only the first few of these lines, or none, may
+    /// have been added.
     pub fn add_to(
         &self,
         alloc: Global,

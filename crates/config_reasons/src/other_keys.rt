@@ -1,4 +1,4 @@
-//! The first key of a table that its place may not have.
+//! The first key of a table that may not stand at the table's place.
 ghost use Rattle.std.specs.Prelude.{◌≡◌, IfSome, false};
 ghost use Rattle.std.specs.List.{Contains};
 ghost use Rattle.toml.specs.View.{table_view};
@@ -32,7 +32,7 @@ fn other_key<'a>(table: &'a Table, keys: &[Key]) -> Option<&'a str>
     None
 }
 
-// The first key of a table that its place may not have.
+// The first key of a table that may not stand at the table's place; None where each may.
 pub(crate) fn other_key_at<'a>(table: &'a Table, place: Place) -> Option<&'a str>
     ensures { IfSome result (λ name. Contains (keys_of (table_view table.now)) name.now
         × (is_one_of (keys_at place) name.now ≡ false)) }

@@ -36,7 +36,7 @@ fn key_found(alloc: Global, table: &Table, place: Place) -> Option<Found>
     }
 }
 
-// What stands at the place.
+// What stands at the place and breaks the rule; None where nothing does, or memory runs out.
 fn found_in(alloc: Global, root: &Table, place: Place, rule: Rule) -> Option<Found>
     ensures { IfSome result (IsFoundIn place rule (table_view root.now)) }
 {
@@ -53,7 +53,8 @@ fn found_in(alloc: Global, root: &Table, place: Place, rule: Rule) -> Option<Fou
     }
 }
 
-// The earlier entry that has the value of the rule's key, where the rule says that no value may occur twice.
+// The earlier entry that has the value of the rule's key, where the rule says that no value may occur twice. None for
+// any other rule, where there is no such entry, or where memory runs out.
 fn other_in(alloc: Global, root: &Table, place: Place, rule: Rule) -> Option<Entry>
     ensures { IfSome result (IsOtherIn place rule (table_view root.now)) }
 {
@@ -68,7 +69,8 @@ fn other_in(alloc: Global, root: &Table, place: Place, rule: Rule) -> Option<Ent
     }
 }
 
-// Why a table breaks a rule at a place.
+// Why the table of a text breaks a rule at a place; None where memory runs out, or where nothing stands at the place
+// that may break the rule.
 fn reason_in(alloc: Global, root: &Table, place: Place, rule: Rule) -> Option<ConfigReason>
     ensures { IfSome result (IsReasonIn place rule (table_view root.now)) }
 {
@@ -109,7 +111,7 @@ fn no_text(text: &[u8]) -> Option<Found>
     }
 }
 
-// What the parser refused, and where.
+// What the parser refused, and where. None where memory runs out, or where the error has no place.
 fn refused_at(alloc: Global, text: &str, error: &Error) -> Option<Found>
     requires { IsWithin text.now error.now }
     ensures { IfSome result (IsStoppedAt text.now error.now) }
@@ -151,8 +153,9 @@ fn reason_by(alloc: Global, text: &str, place: Place, rule: Rule) -> Option<Conf
     reason_in(alloc, &root, place, rule)
 }
 
-/// Why a text breaks a rule at a place, as `read_config` reported both. None where memory runs out, and where nothing
-/// at the place breaks the rule.
+/// Returns why `text` is not a configuration. `place` and `rule` are those that `read_config` reported for this text;
+/// whether the rule is broken is not checked again. Returns None if memory runs out, or if nothing is found at the
+/// place that could break the rule.
 pub fn reason_of(alloc: Global, text: &[u8], place: Place, rule: Rule) -> Option<ConfigReason>
     ensures { IfSome result (IsConfigReason text.now place rule) }
 {

@@ -1,33 +1,33 @@
-//! Why a text is no configuration.
+//! Why a text is not a configuration.
 use crate::seen::Seen;
 use crate::spots::Spot;
 use vtl_config::{Place, Rule};
 
-/// An entry of a configuration, or what stands outside all entries.
+/// An entry of a configuration, or its top level, outside all entries.
 #[derive(Debug, Drop)]
 pub struct Entry {
-    /// Where the entry is.
+    /// The place of the entry in the configuration; `Top` for the top level.
     pub place: Place,
-    /// The barcode that its table has, where it has a text for one.
+    /// The text that the entry has at the key `barcode`; None if it has no text there.
     pub barcode: Option<String>,
 }
 
-/// What stands where a rule is broken.
+/// What is found where a rule of the configuration is broken.
 #[derive(Debug, Drop)]
 pub enum Found {
-    /// The text is not UTF-8: the first invalid bytes are here.
+    /// The text is not UTF-8: its first invalid bytes begin at this place.
     NoText(Spot),
-    /// The text is not TOML: where the parser refused it, and its message.
+    /// The text is not TOML: `spot` is where the parser refused it, and `message` is the parser's message.
     NoDocument { spot: Spot, message: String },
-    /// This key is not one that the place may have.
+    /// The key with this name is present, but it is not allowed at this place.
     OtherKey(String),
-    /// The key is missing.
+    /// The key that the rule names is missing.
     Nothing,
     /// This value breaks the rule.
     Value(Seen),
 }
 
-/// Why a text is no configuration: the rule that is broken, where, and by what.
+/// Why a text is not a configuration: the rule that is broken, the entry in which it is broken, and what breaks it.
 #[derive(Debug, Drop)]
 pub struct ConfigReason {
     /// The rule that is broken.
@@ -36,6 +36,7 @@ pub struct ConfigReason {
     pub entry: Entry,
     /// What breaks it.
     pub found: Found,
-    /// The earlier entry that has the value, where a value occurs twice.
+    /// For the rule `Double`, an earlier entry that has the same value. None for any other rule, or if memory ran out
+    /// in the search for that entry.
     pub other: Option<Entry>,
 }

@@ -10,16 +10,16 @@ use std::fmt;
 use toml::Value;
 use vtl_base::limits::{MAX_CAPACITY, MIN_CAPACITY};
 
-/// A value of a list that is no capacity.
+/// A value in a list of capacities that is not a capacity.
 #[derive(Clone, Copy, PartialEq, Eq, Debug)]
 pub enum Outside {
-    /// This whole number.
+    /// This whole number, which is outside the limits of a capacity.
     Number(i64),
-    /// A value of another kind.
+    /// A value that is not a whole number.
     NoNumber,
 }
 
-/// A value, as far as it is shown to a person.
+/// A value of a configuration, as far as it is shown to a person.
 #[derive(Debug, Drop)]
 pub enum Seen {
     /// A text.
@@ -30,9 +30,10 @@ pub enum Seen {
     Fraction,
     /// `true` or `false`.
     Boolean(bool),
-    /// A date or a time.
+    /// A date, a time, or both.
     Date,
-    /// A list: how many values it has, and the first of them that is no capacity, if there is one.
+    /// A list of `count` values. `outside` is the first of them that is not a capacity; None if all of them are
+    /// capacities.
     List {
         count: usize,
         outside: Option<Outside>,
@@ -50,7 +51,7 @@ fn is_capacity(number: i64) -> bool
     }
 }
 
-// The value, where it is no capacity.
+// The value, where it is not a capacity; None where it is one.
 fn item_outside(item: &Value) -> Option<Outside>
     ensures { result ≡ item_outside (view item.now) }
 {
@@ -65,7 +66,7 @@ fn item_outside(item: &Value) -> Option<Outside>
     }
 }
 
-// The first of these values that is no capacity.
+// The first of these values that is not a capacity; None where all are.
 fn first_outside(items: &[Value]) -> Option<Outside>
     ensures { result ≡ first_outside (items_view items.now) }
 {
@@ -106,7 +107,7 @@ fn not_text(value: &Value) -> Seen
 }
 
 impl Seen {
-    /// How a value is shown.
+    /// Returns what is shown of `value`. If memory runs out, an error is returned.
     pub fn of(alloc: Global, value: &Value) -> Result<Seen, AllocError>
         ensures { IfOk result (IsSeen (view value.now)) }
     {
@@ -117,7 +118,7 @@ impl Seen {
     }
 }
 
-// A value of a list that is no capacity, if there is one.
+// A value in a list that is not a capacity, if there is one.
 #[derive(Clone, Copy)]
 pub(crate) struct Among(pub(crate) Option<Outside>);
 

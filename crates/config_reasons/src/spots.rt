@@ -2,7 +2,7 @@
 ghost use Rattle.std.specs.Prelude.{◌≡◌, ◌≤◌, length};
 ghost use Rattle.config_reasons.specs.Spots.{next_spot, spot_at};
 
-/// A place in a text: its line and its column, both counted from 1 on. A column is a byte.
+/// A place in a text: a line and a column, both counted from 1. The column is counted in bytes.
 #[derive(Clone, Copy, PartialEq, Eq, Debug)]
 pub struct Spot {
     pub line: u64,
@@ -25,7 +25,7 @@ fn next_spot(spot: Spot, byte: u8) -> Spot
     }
 }
 
-// The place after the first `behind` bytes of a text.
+// The place of the byte that has `behind` bytes before it.
 pub(crate) fn spot_at(text: &[u8], behind: usize) -> Spot
     requires { behind ≤ length text.now }
     ensures { result ≡ spot_at text.now behind }

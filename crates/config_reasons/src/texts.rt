@@ -1,4 +1,4 @@
-//! The words of a reason.
+//! The words that say why a text is not a configuration.
 ghost use Rattle.std.specs.Prelude.{◌≡◌};
 ghost use Rattle.config_reasons.specs.Texts.{subject_of, missing_of, outside_in, kind_text, keys_text, double_text, has_text, rule_fix};
 
@@ -69,7 +69,7 @@ fn missing_of(rule: Rule) -> &'static str
     }
 }
 
-// The value that is no capacity, where a list of capacities is refused for one.
+// The value that is not a capacity, where a list of capacities is refused because of one.
 fn outside_in(rule: Rule, seen: &Seen) -> Option<Outside>
     ensures { result ≡ outside_in rule seen.now }
 {
@@ -80,7 +80,7 @@ fn outside_in(rule: Rule, seen: &Seen) -> Option<Outside>
     }
 }
 
-// That a text stands where a value of another kind may stand.
+// Words that say that the value is a text, where its kind is wrong; no words for any other value or rule.
 fn kind_text(rule: Rule, seen: &Seen) -> &'static str
     ensures { result.now ≡ kind_text rule seen.now }
 {
@@ -103,7 +103,7 @@ impl<'a> fmt::Display for RefusedText<'a> {
     fn fmt<W: fmt::Write>(&self, f: &mut fmt::Formatter<W>) -> fmt::Result {
         let (subject, missing) = (subject_of(self.0.rule), missing_of(self.0.rule));
         match &self.0.found {
-            Found::NoText(_) => write!(f, "refused: the text is no UTF-8"),
+            Found::NoText(_) => write!(f, "refused: the text is not UTF-8"),
             Found::NoDocument { message, .. } => {
                 write!(f, "refused: the text is no TOML: {message}")
             }

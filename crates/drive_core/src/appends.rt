@@ -1,4 +1,4 @@
-//! A change at the position, which is then behind what the change adds.
+//! A change at the position, which is then after what the change adds.
 ghost use Rattle.std.specs.Prelude.{◌≡◌, [], true, false, None};
 ghost use Rattle.vtl_base.specs.Below.{Advances};
 ghost use Rattle.volume_core.specs.Volume.{is_well_formed, refusal_of};
@@ -21,15 +21,16 @@ use vtl_base::Bytes;
 /// The outcome of a change at the position.
 #[derive(Drop)]
 pub struct Appended {
-    /// The answer.
+    /// The answer to the command.
     pub answer: Result<Reply, Fault>,
-    /// The change, where the medium did not accept it.
+    /// The change, where the medium did not accept it; None where it did.
     pub returned: Option<Change>,
 }
 
-/// Makes a change at the position, moves the position behind what it adds, and counts it. `amount` is reported where
-/// the change does not fit. It is None for a change that adds nothing, which always fits and gives no warning.
-/// `settles` says that all is stored before the answer. A change that is not accepted is returned.
+/// Makes `change` at `position`, moves the position past what the change adds, and counts the change in `accepted`.
+/// `amount` is how many bytes the block has, or how many filemarks are added; it is reported where the change does not
+/// fit. It is None for a change that adds nothing; such a change must fit, and is answered without a warning. Where
+/// `settles` is true, all that is pending is stored before the answer. A change that is not accepted is returned.
 pub fn append<M: Medium>(
     alloc: Global,
     medium: &mut M,
@@ -70,8 +71,8 @@ pub fn append<M: Medium>(
     }
 }
 
-// Whether a change that adds this much, behind which the position is, is answered by an early
-// warning.
+// Whether a change is answered by an early warning: it added something, and the position after it is near the end of
+// its partition.
 fn is_warned<C: Catalog>(medium: &C, position: Pos, amount: Option<u32>) -> bool
     requires { (C.state medium.now).awake ≡ true }
     ensures { result ≡ is_warned amount (volume_of (C.state medium.now)) position }
@@ -79,7 +80,7 @@ fn is_warned<C: Catalog>(medium: &C, position: Pos, amount: Option<u32>) -> bool
     amount.is_some() && is_near_end(medium, position)
 }
 
-// What comes of a change that the medium did not accept.
+// The answer to a change that the medium did not accept, for this error.
 fn refuse(alloc: Global, error: MediumError, amount: Option<u32>) -> Result<Reply, Fault>
     ensures { result ≡ refused_as error amount }
 {
@@ -96,7 +97,7 @@ fn refuse(alloc: Global, error: MediumError, amount: Option<u32>) -> Result<Repl
     }
 }
 
-// Once a change is accepted: stores it where it is to be stored before the answer.
+// Answers a change that was accepted. Where `settles` is true, all that is pending is stored before that.
 fn finish<M: Medium>(
     alloc: Global,
     medium: &mut M,

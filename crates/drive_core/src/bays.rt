@@ -8,12 +8,12 @@ use std::mem;
 #[derive(Drop)]
 pub enum Bay<M> {
     Empty,
-    /// A cartridge that is there, but not loaded.
+    /// A cartridge is in the drive, but not loaded.
     Unloaded(M),
     Loaded(M),
 }
 
-/// Puts this into an empty drive.
+/// Puts `bay` in place of `slot`, which must be empty.
 pub(crate) fn fill<M>(slot: &mut Bay<M>, bay: Bay<M>)
     requires { slot.old ≡ Bays.Empty }
     ensures { slot.new ≡ bay }

@@ -7,7 +7,7 @@ use scsi_attention::Attention;
 use scsi_sense::{Reply, Sense};
 use std::alloc::Global;
 
-/// A condition that is reported to a host once, and cleared (SPC-4).
+/// A condition that is reported to a host once and is then cleared (SPC-4).
 #[derive(Clone, Copy, PartialEq, Eq, Debug)]
 pub enum Condition {
     /// The device failed in a flusher's turn.
@@ -18,11 +18,11 @@ pub enum Condition {
 /// Why a command is not carried out: the first check that it does not pass.
 #[derive(Clone, Copy, PartialEq, Eq, Debug)]
 pub enum Denial {
-    /// It is refused with this sense data.
+    /// The command is refused with this sense data.
     Refused(Sense),
-    /// This condition is reported in the place of the command.
+    /// This condition is reported instead of carrying out the command.
     Reported(Condition),
-    /// A reservation keeps the host out.
+    /// A reservation does not let the host use this command: the status is RESERVATION CONFLICT.
     Conflict,
 }
 
@@ -39,7 +39,7 @@ impl Condition {
 }
 
 impl Denial {
-    /// The reply to the host. The call takes no memory.
+    /// The reply to the host. The call allocates no memory.
     pub fn reply(self, alloc: Global) -> Reply
         ensures { result ≡ denial_reply self }
     {

@@ -25,7 +25,9 @@ use std::alloc::Global;
 use volume_core::Medium;
 use vtl_base::Bytes;
 
-/// Carries a command out on a medium that is ready, and counts the changes that it accepts.
+/// Carries out `command`, which must be one that needs a medium, on a loaded medium that has not failed, and counts in
+/// `accepted` the changes that the medium accepts. `buffered` says whether the drive is in buffered mode; `sent` is the
+/// data sent with the command.
 pub fn carry_out<M: Medium>(
     alloc: Global,
     medium: &mut M,

@@ -1,4 +1,4 @@
-//! Drives.
+//! A tape drive, with or without a medium in it.
 ghost use Rattle.std.specs.Prelude.{◌≡◌, IfOk, IfSome, false, true};
 ghost use Rattle.drive_core.specs.declared.bays.Bay.TheVariants as Bays;
 ghost use Rattle.drive_core.specs.State.{IsAtHand, machine_of, medium_in, left_of};
@@ -34,8 +34,9 @@ use std::mem;
 use volume_core::{Medium, Turn};
 use vtl_base::{Nexus, NoMemory};
 
-/// A drive over any medium and any keeper of its reservations (SSC-4, SPC-4). A contract sees a `DriveState`, which
-/// holds medium and keeper themselves. `machine_of` makes the machine of it, which has only their states.
+/// A tape drive, over any type of medium and any keeper, which saves the drive's reservations (SSC-4, SPC-4). A
+/// contract sees a `DriveState`, which holds the medium and the keeper themselves. `machine_of` turns that into the
+/// machine of the standards, which holds only the states of the two.
 #[derive(Drop)]
 pub struct Drive<M: Medium, K: Keeper> {
     alloc: Global,
@@ -69,10 +70,10 @@ impl<M: Medium, K: Keeper> Model for Drive<M, K> {
 }
 
 impl<M: Medium, K: Keeper> Drive<M, K> {
-    /// A drive that was just switched on, with this medium in it, if any, awake or parked: opened and loaded, or
-    /// unloaded where its side is refused or the device fails. Its reservations are those that a loss of power leaves
-    /// of what the keeper saved last. Where memory runs out, medium and keeper are returned; a medium that is awake
-    /// needs no memory.
+    /// Switches on a drive with `medium` in it, awake or parked, or an empty drive where `medium` is None. The medium
+    /// is opened and loaded; it stays unloaded where its side holds no readable volume or the device fails.
+    /// `reservations` must be those that a loss of power leaves of what the keeper saved last. Where memory runs out,
+    /// medium and keeper are returned; a medium that is awake needs no memory.
     pub fn power_on(
         alloc: Global,
         keeper: K,
@@ -88,10 +89,11 @@ impl<M: Medium, K: Keeper> Drive<M, K> {
         switch_on(alloc, keeper, reservations, medium)
     }
 
-    /// Opens a medium, awake or parked, and loads it into an empty drive: the position is its start, and a unit
-    /// attention condition is established for every nexus: the medium may have changed. A medium that can't be opened
-    /// is returned with the reply: 4, 44/00 where it has failed, 3, 11/00 where its side is refused or the device
-    /// fails, Bh, 55/03 where memory runs out.
+    /// Opens `medium`, awake or parked, and loads it into an empty drive. The position is then the start of the medium,
+    /// and the unit attention condition that the medium may have changed is established for every nexus. A medium that
+    /// can't be opened is returned with a CHECK CONDITION reply. The reply has sense key 4 and codes 44/00 where the
+    /// medium has failed; 3 and 11/00 where its side holds no readable volume or the device fails; Bh and 55/03 where
+    /// memory runs out.
     pub fn load(&mut self, medium: M) -> Result<(), (M, Reply)>
         requires hand { M.below.at_hand medium }
         requires empty { self.old.bay ≡ Bays.Empty }
@@ -101,8 +103,8 @@ impl<M: Medium, K: Keeper> Drive<M, K> {
         self.take_in(medium)
     }
 
-    /// Puts a parked medium into an empty drive: it is there, not loaded, and no unit attention condition
-    /// is established. It takes no memory.
+    /// Puts a parked medium into an empty drive, and does not load it. No unit attention condition is established. The
+    /// call allocates no memory.
     pub fn insert(&mut self, medium: M)
         requires empty { self.old.bay ≡ Bays.Empty }
         requires parked { (M.state medium).awake ≡ false }
@@ -112,9 +114,9 @@ impl<M: Medium, K: Keeper> Drive<M, K> {
         fill(&mut self.bay, Bay::Unloaded(medium));
     }
 
-    /// Unloads the medium in the drive, as UNLOAD does, and returns it, parked. If the drive is empty
-    /// (2, 3A/00) or the device fails (3, 0C/00), it returns that reply instead. In the second case the
-    /// medium stays loaded, and has failed.
+    /// Unloads the medium in the drive, as UNLOAD does, and returns it, parked. If the drive is empty, a reply with
+    /// sense key 2 and codes 3A/00 is returned instead. If the device fails, the reply has 3 and 0C/00, and the medium
+    /// stays loaded, and has failed.
     pub fn unload(&mut self) -> Result<M, Reply>
         requires hand { IsAtHand M.below.at_hand self.old.bay }
         ensures out { GoesOut M.state M.below self.old result self.new }
@@ -125,8 +127,8 @@ impl<M: Medium, K: Keeper> Drive<M, K> {
         self.give_out()
     }
 
-    /// A flusher's turn: stores what is pending. A fault establishes a deferred error, which the
-    /// next command that is not exempt reports, or REQUEST SENSE gives as data. It takes no memory.
+    /// Takes a flusher's turn: stores what is pending. If the device fails, a deferred error is established. The next
+    /// command that is not exempt reports it, or REQUEST SENSE returns it as data. The call allocates no memory.
     pub fn turn(&mut self) -> Turn
         requires hand { IsAtHand M.below.at_hand self.old.bay }
         ensures { TakesTurn M.state M.below K.kept self.old result self.new }
@@ -144,8 +146,9 @@ impl<M: Medium, K: Keeper> Drive<M, K> {
         }
     }
 
-    /// Answers a command: a command block of a host, and the data that were sent with it. Each refusal is a reply.
-    /// Where the work of the command needs the disk of the loaded medium, that disk has to be at hand.
+    /// Answers a command of the host `nexus`: `cdb` is the command block, `sent` the data that were sent with it. Each
+    /// refusal and each fault is a reply. Where the work of the command needs the disk of the medium in the drive, that
+    /// disk has to be at hand.
     pub fn execute(&mut self, nexus: Nexus, cdb: &[u8], sent: &[u8]) -> Reply
         requires hand { request_needs_disk M.state K.kept M.alone self.old (asked nexus cdb.now sent.now) ≡ true
             → IsAtHand M.below.at_hand self.old.bay }
@@ -164,7 +167,7 @@ impl<M: Medium, K: Keeper> Drive<M, K> {
         }
     }
 
-    // Opens a medium, and loads it.
+    // Opens a medium, and loads it into an empty drive. A medium that can't be opened is returned with the reply.
     fn take_in(&mut self, medium: M) -> Result<(), (M, Reply)>
         requires hand { M.below.at_hand medium }
         requires empty { self.old.bay ≡ Bays.Empty }
@@ -180,7 +183,7 @@ impl<M: Medium, K: Keeper> Drive<M, K> {
         Ok(())
     }
 
-    // Parks what is loaded, and gives out what is in the drive.
+    // Parks a loaded medium, and returns the medium that was in the drive.
     fn give_out(&mut self) -> Result<M, Reply>
         requires hand { IsAtHand M.below.at_hand self.old.bay }
         ensures out { GoesOut M.state M.below self.old result self.new }
@@ -215,7 +218,7 @@ impl<M: Medium, K: Keeper> Drive<M, K> {
         }
     }
 
-    // A command that is not carried out: the condition that is reported is cleared.
+    // Answers a command that is not carried out. A condition that the reply reports is cleared.
     fn deny(&mut self, nexus: Nexus, denial: Denial) -> Reply
         ensures reply { result ≡ denial_reply denial }
         ensures left { self.new ≡ denied denial nexus self.old }
@@ -226,7 +229,7 @@ impl<M: Medium, K: Keeper> Drive<M, K> {
         denial.reply(self.alloc)
     }
 
-    // A condition that was reported to a nexus is cleared.
+    // Clears a condition that was reported to a nexus.
     fn clear(&mut self, nexus: Nexus, condition: Condition)
         ensures { self.new ≡ without_condition condition nexus self.old }
     {
@@ -237,7 +240,7 @@ impl<M: Medium, K: Keeper> Drive<M, K> {
     }
 }
 
-// A drive with the medium as it opens, if any.
+// Makes a drive, and opens the medium in it, if there is one.
 fn switch_on<M: Medium, K: Keeper>(
     alloc: Global,
     keeper: K,

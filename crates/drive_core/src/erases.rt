@@ -14,8 +14,9 @@ use scsi_sense::Reply;
 use std::alloc::Global;
 use volume_core::{Catalog, Change, Medium};
 
-/// Stores what is pending, and then erases what stands behind the position (SSC-4, ERASE(6)). It does this at the end
-/// of data too. In unbuffered mode the erasure is stored before the answer.
+/// Stores what is pending, and then erases all objects of the partition from the position on (SSC-4, ERASE(6)). At the
+/// end of data there are no such objects, but the erasure is still made. In unbuffered mode the erasure is stored
+/// before the answer.
 pub fn erase<M: Medium>(
     alloc: Global,
     medium: &mut M,
@@ -39,8 +40,8 @@ pub fn erase<M: Medium>(
     append(alloc, medium, position, accepted, change, None, !buffered).answer
 }
 
-// What stays of a partition fits it, by what the catalog says of what is there. Both calls are for
-// the proof's sake alone.
+// Shows that an erasure at the position is not refused: the objects before the position fit the partition, since they
+// stand there. Both calls are made for the proof alone.
 fn note_that_it_fits<C: Catalog>(medium: &C, position: Pos)
     requires { IsPositioned (C.state medium.now) position }
     ensures { refusal_of (volume_of (C.state medium.now)) (erase_at position) ≡ None }

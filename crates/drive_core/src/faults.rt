@@ -1,4 +1,4 @@
-//! Faults that a command may meet, beside what the standard says.
+//! Faults that a command may meet, besides what the standards name.
 ghost use Rattle.std.specs.Prelude.{◌≡◌};
 ghost use Rattle.drive_core.specs.Faults.{fault_sense, fault_reply};
 
@@ -12,16 +12,18 @@ use vtl_base::{Bytes, NoMemory};
 pub enum Fault {
     /// Memory ran out. Nothing changed, except that what was pending may have been stored.
     NoMemory,
-    /// The device failed while what was pending was stored. The medium has failed.
+    /// The device failed while pending changes were stored. The medium has failed.
     Writing,
-    /// The device failed while a block was read. The medium has failed.
+    /// The device failed while a block was read, and the medium has failed. Or the device failed while a parked medium
+    /// was opened; that medium stays parked and has not failed.
     Reading,
-    /// The side is full, and nothing changed. The residue, where it is reported, is how much was not written: bytes of
-    /// a block, or marks.
+    /// The side (the bytes of the medium's file) is full, and nothing changed. `residue` is how much was not written:
+    /// the bytes of a block, or the number of filemarks. It is None for an erasure, which writes neither.
     SideFull { residue: Option<u32> },
-    /// The device failed while reservations were saved. The old ones stand, and the keeper has failed.
+    /// The device failed while reservations were saved, in this command or in an earlier one. The drive's old
+    /// reservations stay in effect, and the keeper has failed.
     Saving,
-    /// The store of reservations is full, and nothing changed.
+    /// The store of the reservations has no room for those to be saved, and nothing changed.
     StoreFull,
 }
 
@@ -52,7 +54,7 @@ impl From<KeeperError> for Fault {
 }
 
 impl Fault {
-    /// The reply to the command that met it (own). It takes no memory.
+    /// The reply to the command that met the fault (own). The call allocates no memory.
     pub fn reply(self, alloc: Global) -> Reply
         ensures { result ≡ fault_reply self }
     {

@@ -1,4 +1,5 @@
-//! Commands that give data: READ POSITION, and what INQUIRY, READ BLOCK LIMITS and REQUEST SENSE share.
+//! Commands that return data: READ POSITION, and what it shares with INQUIRY, READ BLOCK LIMITS, MODE SENSE and REQUEST
+//! SENSE.
 ghost use Rattle.std.specs.Prelude.{◌≡◌, []};
 ghost use Rattle.drive_core.specs.State.{IsPositioned, mounted};
 ghost use Rattle.drive_core.specs.Giving.{Gives, ReadPositionWork};
@@ -12,14 +13,15 @@ use std::alloc::Global;
 use volume_core::Medium;
 use vtl_base::Bytes;
 
-/// GOOD with a copy of these bytes. A copy of at most 24 bytes takes no memory.
+/// Returns the reply GOOD with a copy of `bytes`, or `Fault::NoMemory` where memory for the copy runs out. A copy of at
+/// most 24 bytes allocates no memory.
 pub fn give(alloc: Global, bytes: &[u8]) -> Result<Reply, Fault>
     ensures { Gives bytes.now result }
 {
     Ok(Reply::good(Bytes::from_slice(alloc, bytes)?))
 }
 
-/// Stores what is pending, and gives the position in 20 bytes (SSC-4, READ POSITION).
+/// Stores what is pending, and returns the position as the 20 bytes of the short form (SSC-4, READ POSITION).
 pub fn read_position<M: Medium>(
     alloc: Global,
     medium: &mut M,

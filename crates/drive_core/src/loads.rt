@@ -13,7 +13,7 @@ use std::alloc::Global;
 use volume_core::Medium;
 use vtl_base::Bytes;
 
-/// Stores what is pending, and goes to the start of the medium (SSC-4, LOAD UNLOAD).
+/// Stores what is pending, and moves the position to the start of the medium (SSC-4, LOAD UNLOAD).
 pub fn go_to_start<M: Medium>(
     alloc: Global,
     medium: &mut M,

@@ -13,8 +13,9 @@ use std::alloc::Global;
 use volume_core::Medium;
 use vtl_base::{Bytes, ObjNo, PartNo};
 
-/// Stores what is pending, and goes to an object of a partition, which is the position's where no
-/// other is asked for (SSC-4, LOCATE(10)).
+/// Stores what is pending, and moves the position to object number `object` of partition `part`, or of the position's
+/// partition where `part` is None (SSC-4, LOCATE(10)). Where that partition has fewer than `object` objects, the
+/// position moves to the end of data, and the reply reports this.
 pub fn locate<M: Medium>(
     alloc: Global,
     medium: &mut M,

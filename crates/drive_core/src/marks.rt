@@ -13,8 +13,9 @@ use std::alloc::Global;
 use volume_core::{Change, Medium};
 use vtl_base::Bytes;
 
-/// Puts marks at the position. The position is then behind them, at the end of data (SSC-4, WRITE FILEMARKS(6)). Unless
-/// the answer is to be immediate, all is stored before it, with marks or without.
+/// Writes `count` filemarks at the position, and moves the position past them, to the end of data (SSC-4, WRITE
+/// FILEMARKS(6)). Unless `immediate` is true, all that is pending is stored before the answer. A `count` of 0 writes
+/// nothing; what is pending is still stored, unless `immediate` is true.
 pub fn write_marks<M: Medium>(
     alloc: Global,
     medium: &mut M,
@@ -51,7 +52,7 @@ pub fn write_marks<M: Medium>(
     .answer
 }
 
-// No marks: stores what is pending, unless the answer is to be immediate.
+// Writes no filemarks. What is pending is stored, unless `immediate` is true.
 fn write_none<M: Medium>(
     alloc: Global,
     medium: &mut M,

@@ -1,4 +1,4 @@
-//! Opening a medium that comes into a drive.
+//! Opening a medium that is in a drive at power on, or is to be loaded.
 ghost use Rattle.std.specs.Prelude.{◌≡◌, [], true, IfOk};
 ghost use Rattle.scsi_sense.specs.Replies.{check_with};
 ghost use Rattle.drive_core.specs.declared.bays.Bay.TheVariants as Bays;
@@ -18,8 +18,8 @@ use vtl_base::Bytes;
 // The beginning of the medium (SSC-4).
 pub const START: Pos = Pos { part: 0, obj: 0 };
 
-/// Opens a medium as the power comes on: it is loaded, or unloaded where its side is refused or the device fails. Where
-/// memory runs out, the medium is returned.
+/// Opens a medium as the power comes on. The medium is then loaded, even if it has failed; it stays unloaded where its
+/// side holds no readable volume or the device fails. Where memory runs out, the error returns the medium.
 pub fn open<M: Medium>(medium: M) -> Result<Bay<M>, M>
     requires hand { M.below.at_hand medium }
     ensures opens { OpensInto M.state M.below medium result }
@@ -47,18 +47,19 @@ fn loaded<M: Medium>(medium: M) -> Bay<M>
     Bay::Loaded(medium)
 }
 
-/// The position of a medium that was just loaded: its start. The medium has at least one partition, so the start is on
-/// it. The count of partitions is asked for the proof's sake alone.
+/// The position on a medium that was just loaded: its start. The medium has at least one partition, so the start is on
+/// it.
 pub fn start_of<M: Catalog>(medium: &M) -> Pos
     requires { (M.state medium.now).awake ≡ true }
     ensures start { result ≡ start }
     ensures on { IsPositioned (M.state medium.now) result }
 {
+    // Called for the proof: the medium has at least one partition.
     let _ = medium.parts();
     START
 }
 
-/// The answer to a command whose medium could not be opened. The call takes no memory.
+/// The answer to a command whose medium could not be opened because of `error`. The call allocates no memory.
 pub fn wake_answer(alloc: Global, error: MediumError) -> Result<Reply, Fault>
     ensures { result ≡ wake_answer error }
 {
@@ -72,7 +73,7 @@ pub fn wake_answer(alloc: Global, error: MediumError) -> Result<Reply, Fault>
     }
 }
 
-/// The reply where a medium could not be opened. It takes no memory.
+/// The reply that reports that a medium could not be opened because of `error`. The call allocates no memory.
 pub fn wake_reply(alloc: Global, error: MediumError) -> Reply
     ensures { result ≡ reply_of (wake_answer error) }
 {
@@ -82,7 +83,7 @@ pub fn wake_reply(alloc: Global, error: MediumError) -> Reply
     }
 }
 
-/// CHECK CONDITION with no data.
+/// The reply CHECK CONDITION with this sense data and no other data.
 pub fn check(alloc: Global, sense: Sense) -> Reply
     ensures { result ≡ check_with sense [] }
 {

@@ -20,8 +20,10 @@ use std::alloc::Global;
 use volume_core::{Kind, Medium, MediumError};
 use vtl_base::{Bytes, ObjNo, PartNo};
 
-/// Stores what is pending, then gives the object at the position and goes behind it (SSC-4, READ(6)). A READ of 0 bytes
-/// does nothing.
+/// Stores what is pending, then reads the object at the position and moves the position past it (SSC-4, READ(6)). At
+/// most `length` bytes of a block are returned. A block whose length is not `length` bytes is reported, unless
+/// `suppress_length` is true. A filemark is reported, and so is the end of data, where the position stays. A READ of 0
+/// bytes does nothing.
 pub fn read<M: Medium>(
     alloc: Global,
     medium: &mut M,
@@ -43,7 +45,7 @@ pub fn read<M: Medium>(
     give(alloc, medium, position, length, suppress_length)
 }
 
-// Gives the object at the position, where nothing is pending.
+// Reads the object at the position, once nothing is pending, and moves the position past it.
 fn give<M: Medium>(
     alloc: Global,
     medium: &mut M,
@@ -103,7 +105,7 @@ fn fetch<M: Medium>(
     }
 }
 
-// GOOD with the bytes that fit, or these bytes and the sense data of the wrong length.
+// GOOD with the bytes of the block that fit, or CHECK CONDITION with these bytes and the sense data of a wrong length.
 fn block_reply(mut block: Vec<u8>, asked: u32, suppress_length: bool) -> Reply
     requires { length block.items ≤ MAX_BLOCK }
     ensures { result ≡ block_reply suppress_length asked block.items }

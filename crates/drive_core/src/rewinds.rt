@@ -12,7 +12,7 @@ use std::alloc::Global;
 use volume_core::Medium;
 use vtl_base::Bytes;
 
-/// Stores what is pending, and goes to object 0 of the partition (SSC-4, REWIND).
+/// Stores what is pending, and moves the position to object 0 of its partition (SSC-4, REWIND).
 pub fn rewind<M: Medium>(alloc: Global, medium: &mut M, position: &mut Pos) -> Result<Reply, Fault>
     requires hand { M.below.at_hand medium.old }
     requires ready { IsOnWorkingMedium (mounted (M.state medium.old) position.old) }

@@ -12,7 +12,8 @@ use std::alloc::Global;
 use volume_core::Medium;
 use vtl_base::{Bytes, SpaceCode};
 
-/// Stores what is pending, and goes over blocks, over filemarks or to the end of data (SSC-4, SPACE(6)). A SPACE over 0
+/// Stores what is pending, and moves the position as `code` says: over `count` blocks or filemarks, backward where
+/// `count` is below 0, or to the end of data (SSC-4, SPACE(6)). A motion that ends early is reported. A SPACE over 0
 /// blocks or 0 filemarks does nothing.
 pub fn space<M: Medium>(
     alloc: Global,
@@ -37,7 +38,7 @@ pub fn space<M: Medium>(
     Ok(space_reply(alloc, moved))
 }
 
-/// Whether a SPACE is over 0 blocks or 0 filemarks.
+/// Whether a SPACE with `code` and `count` moves over 0 blocks or 0 filemarks.
 pub fn is_over_nothing(code: SpaceCode, count: i32) -> bool
     ensures { result ≡ is_over_nothing code count }
 {

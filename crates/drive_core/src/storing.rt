@@ -8,7 +8,7 @@ ghost use Rattle.drive_core.specs.Inner.Storing.{StoresPending};
 use crate::faults::Fault;
 use volume_core::{Medium, MediumError};
 
-/// Stores what is pending. It takes no memory.
+/// Stores what is pending. The call allocates no memory, and fails only where the device fails.
 pub fn store_pending<M: Medium>(medium: &mut M) -> Result<(), Fault>
     requires hand { M.below.at_hand medium.old }
     requires awake { (M.state medium.old).awake ≡ true }

@@ -19,9 +19,9 @@ use volume_core::{Catalog, Change, Medium};
 use vtl_base::Bytes;
 use vtl_base::limits::{MAX_OBJECTS, OBJECT_COST};
 
-/// Puts the bytes that were sent as a block at the position. The position is then behind the block, at the end of data
-/// (SSC-4, WRITE(6)). A WRITE of 0 bytes does nothing. Where the medium accepts the block it takes the bytes; else the
-/// caller still has them.
+/// Writes the bytes in `sent` as one block at the position, and moves the position past the block, to the end of data
+/// (SSC-4, WRITE(6)). In unbuffered mode the block is stored before the answer. A WRITE of 0 bytes does nothing. A
+/// medium that accepts the block takes the bytes, and `sent` is then empty; else `sent` still holds them.
 pub fn write<M: Medium>(
     alloc: Global,
     medium: &mut M,
@@ -63,7 +63,7 @@ pub fn write<M: Medium>(
     appended.answer
 }
 
-// Puts the bytes of a block back, where it was returned.
+// Puts the bytes of a block that was returned back into `sent`.
 fn restore(sent: &mut Bytes, returned: Option<Change>)
     ensures { sent.new ≡ restored returned sent.old }
 {
@@ -73,8 +73,8 @@ fn restore(sent: &mut Bytes, returned: Option<Change>)
     }
 }
 
-/// Writes a copy of what was sent, as `write` does. A block that does not fit the partition, or the
-/// side, is not copied.
+/// Writes a copy of the bytes in `sent`, as `write` does. A block that does not fit the partition, or the side, is not
+/// copied.
 pub fn write_copy<M: Medium>(
     alloc: Global,
     medium: &mut M,

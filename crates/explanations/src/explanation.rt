@@ -1,15 +1,15 @@
-//! Lines that say why something was refused.
+//! Lines that say, to a person, why something was refused.
 ghost use Rattle.std.specs.Prelude.{◌≡◌, ◌<◌, ◌++◌, [], IfOk, OnOk, OnErr, string_bytes};
 ghost use Rattle.explanations.specs.Lines.{shown, line_of, AreLines};
 
 use std::alloc::{AllocError, Global};
 use std::marker::Model;
 
-/// The columns of a line, at most.
+/// The greatest number of columns of a line, its line feed not counted.
 pub const COLUMNS: usize = 120;
 
-/// Lines of printable ASCII characters, each of at most 120 columns and with a line feed behind it. A contract sees
-/// their text.
+/// Lines of text. Each has at most 120 printable ASCII characters, and a line feed after them. A contract sees the text
+/// of all lines.
 #[derive(Debug, Drop)]
 pub struct Explanation {
     text: String,
@@ -51,7 +51,7 @@ fn line_of(alloc: Global, text: &[u8]) -> Result<String, AllocError>
 }
 
 impl Explanation {
-    /// No lines.
+    /// An explanation without lines.
     pub fn new(alloc: Global) -> Self
         ensures { result ≡ [] }
     {
@@ -60,8 +60,8 @@ impl Explanation {
         }
     }
 
-    /// Adds a line: the first 120 bytes of the text. Each byte that is not a printable ASCII character becomes a
-    /// question mark. Where memory runs out, nothing is added.
+    /// Adds a line: the first 120 bytes of `text`, and a line feed. A question mark stands for each byte that is not a
+    /// printable ASCII character. If memory runs out, an error is returned, and nothing is added.
     pub fn add(&mut self, alloc: Global, text: &str) -> Result<(), AllocError>
         ensures ok { OnOk result (self.new ≡ self.old ++ line_of text.now) }
         ensures err { OnErr result (self.new ≡ self.old) }
@@ -70,7 +70,7 @@ impl Explanation {
         self.text.push_str(line.as_str())
     }
 
-    /// The text of the lines.
+    /// The text of all lines, with their line feeds.
     pub fn as_str(&self) -> &str
         ensures value { result.now ≡ self.now }
         ensures lines { AreLines self.now }

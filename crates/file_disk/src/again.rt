@@ -10,8 +10,8 @@ use crate::transfers::{CALLS, read_all};
 // that this needs no memory.
 const PIECE: usize = 4096;
 
-// Makes one call that writes the bytes from a place on again, and returns the place after them. An interrupted call
-// wrote none.
+// Writes bytes again as they stand, from place `at` on and not past `to`, in one call. Returns the place after those
+// that were written. An interrupted call wrote none.
 fn again_on<F: RawFile>(file: &mut F, at: u64, to: u64) -> Result<u64, CallFailed>
     requires place { to < 2 ^ 63 }
     requires order { at < to }
@@ -39,7 +39,8 @@ fn again_on<F: RawFile>(file: &mut F, at: u64, to: u64) -> Result<u64, CallFaile
     }
 }
 
-/// Writes the bytes from a place to another again as they stand, in as many calls as that takes.
+/// Writes the bytes from place `from` up to `to`, which is not included, again as they stand, in as many calls as that
+/// takes.
 pub(crate) fn write_again<F: RawFile>(file: &mut F, from: u64, to: u64) -> Result<(), CallFailed>
     requires place { to < 2 ^ 63 }
     requires inside { (F.state file.old).honest → to ≤ length (F.state file.old).seen }

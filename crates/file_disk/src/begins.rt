@@ -1,4 +1,4 @@
-//! How a file begins that was just opened.
+//! The beginning of a file that was just opened.
 ghost use Rattle.std.specs.Prelude.{◌≡◌, ◌↔◌, ◌++◌, ℕ, List, length, slice_range, IfSome, IsTrue};
 ghost use Rattle.gate_journal.specs.Side.{mark};
 ghost use Rattle.gate_journal.specs.declared.header.SideKind.TheVariants.{Cartridge};
@@ -9,7 +9,7 @@ use crate::looked::Looked;
 use crate::raw::RawFile;
 use tape_disk::Disk;
 
-/// The bytes that a side begins with: its own gate, the mark of its kind, the pair gate.
+/// How many bytes a side begins with before its head: its own gate, the mark of its kind, the pair gate.
 pub(crate) const START_BYTES: usize = 10;
 
 const OPEN: u8 = 0xa5;
@@ -19,16 +19,16 @@ const MARK: &[u8] = b"VTLCART1";
 /// How the bytes of a file begin.
 #[derive(Clone, Copy)]
 pub(crate) enum Begins {
-    /// As a cartridge's side that is being made, or written anew: fewer than ten bytes, or ten whose
-    /// own gate is closed.
+    /// As those of a cartridge's side that is being made, or written anew: there are fewer than ten, or they begin with
+    /// a closed gate and the mark of a cartridge's side.
     Unfinished,
-    /// As a cartridge's side whose own gate is open.
+    /// As those of a cartridge's side whose own gate is open.
     Cartridge,
     /// In another way.
     Other,
 }
 
-// The first bytes have the mark of a cartridge.
+// Whether the first bytes have the mark of a cartridge's side.
 fn has_mark(start: &[u8; START_BYTES]) -> bool
     ensures { IsTrue result ↔ (slice_range start.now 1 9 ≡ mark Cartridge) }
 {
@@ -50,7 +50,7 @@ fn begins_with(start: &[u8; START_BYTES]) -> Begins
     }
 }
 
-/// How a file begins. None where it can't be read.
+/// Reads how a file begins. Returns None where it cannot be read.
 pub(crate) fn beginning_of<F: RawFile>(looked: &mut Looked<F>) -> Option<Begins>
     ensures read { OnlyReadFile F.state F.passed_over F.unsynced looked.old.file looked.new.file }
     ensures begins { (F.state looked.old.file).honest →

@@ -15,7 +15,7 @@ use std::marker::Model;
 use tape_disk::{Disk, Failures};
 use vtl_base::DevFault;
 
-/// The bytes that a file has at most: the system counts them in 63 bits (POSIX, `off_t` of 64 bits).
+/// The greatest length of a file, in bytes: the system counts them in 63 bits (POSIX, `off_t` of 64 bits).
 pub const MAX_FILE: u64 = 9_223_372_036_854_775_807;
 
 // The length of a file, and whether the system gave it since a call last failed.
@@ -27,10 +27,14 @@ struct Size {
 
 /// A disk over an open file, honest where the file is. A short read or write is continued, an interrupted call is made
 /// again, and every other error of the system is a counted failure. After a write, a cut or a sync that failed, the
-/// length is asked for again; while the system does not give it, each call fails. Before the next sync, what that may
-/// pass over is written again as it stands: of a file that was just opened the last open gate and what stands behind
-/// the end gate, of a cartridge's also its first ten bytes, and of an unfinished one all bytes; after a sync that
-/// failed what was written since the last good one. Where that is more than two ranges, each later sync fails.
+/// system is asked for the length again; while it does not give the length, each call fails.
+///
+/// A sync of the system may pass over bytes: it returns Ok, though they never reached the device. So before each sync,
+/// the disk writes again, as they stand, the bytes that the sync may pass over. After a sync that failed, these are the
+/// bytes that were written since the last good sync. In a file that was just opened, they are the last open gate and
+/// the bytes after the end gate. In a cartridge's side, they also include its first ten bytes; in an unfinished side,
+/// they are all its bytes. If a sync failed after more than two ranges were written, or ranges that are not known, each
+/// later sync fails.
 #[derive(Drop)]
 pub struct DiskOver<F: RawFile> {
     looked: Looked<F>,
@@ -58,7 +62,7 @@ impl<F: RawFile> Model for DiskOver<F> {
         (F.passed_over d.looked.file) (F.unsynced d.looked.file) };
 }
 
-// The length that the system gives for a file, or else the one that it gave last.
+// The length that the system gives for a file. Where it gives none, the length is `last`, and counts as not known.
 fn measured<F: RawFile>(file: &F, last: u64) -> Size
     ensures { (F.state file.now).honest →
         (result.is_known ≡ true) × (result.bytes ≡ length (F.state file.now).seen) }
@@ -75,7 +79,7 @@ fn measured<F: RawFile>(file: &F, last: u64) -> Size
     }
 }
 
-// Whether a file may have `count` bytes from that place on.
+// Whether a file may have `count` bytes from place `at` on.
 pub(crate) fn fits(at: u64, count: usize) -> bool
     ensures { IsTrue result ↔ (at + count < 2 ^ 63) }
 {
@@ -83,8 +87,8 @@ pub(crate) fn fits(at: u64, count: usize) -> bool
 }
 
 impl<F: RawFile> DiskOver<F> {
-    /// A disk over an open file, with no failure yet. No sync of the file has failed, and nothing was
-    /// written since the last one.
+    /// Makes a disk over an open file, with no failure counted yet. No sync of the file may have failed before, and
+    /// nothing may have been written since the last sync.
     pub fn new(file: F) -> DiskOver<F>
         requires reaches { (F.state file).honest → ReachesAll (F.passed_over file) }
         requires synced { (F.state file).honest → NoneOf (F.unsynced file) }
@@ -101,8 +105,9 @@ impl<F: RawFile> DiskOver<F> {
         }
     }
 
-    /// A disk over a file that was just opened for change, with no failure yet. Nothing is read or
-    /// written. Its first sync, or a write or a cut before it, looks for the last gates.
+    /// Makes a disk over a file that was just opened for change, with no failure counted yet. Nothing is read or
+    /// written. The first sync, write or cut then finds the bytes of an earlier process that may not be on the device,
+    /// and writes them again. That process must have left the file as `IsLeftWell` says.
     pub fn opened(file: F) -> DiskOver<F>
         requires { (F.state file).honest →
             IsLeftWell (F.state file).seen (F.passed_over file) (F.unsynced file) }
@@ -119,7 +124,7 @@ impl<F: RawFile> DiskOver<F> {
         }
     }
 
-    /// The file.
+    /// The open file over which this disk was made.
     pub fn file(&self) -> &F
         ensures { result.now ≡ self.now.file }
     {
@@ -137,7 +142,7 @@ impl<F: RawFile> DiskOver<F> {
         self.size.is_known
     }
 
-    // Refuses a call and counts a failure. Reading no bytes moves the file's clock on.
+    // Refuses a call and counts a failure. A read of no bytes moves the clock of the file's state on.
     fn refuse(&mut self) -> DevFault
         ensures honesty { IsAsHonest (F.state self.old.file) (F.state self.new.file) }
         ensures time { (F.state self.old.file).honest →
@@ -151,8 +156,9 @@ impl<F: RawFile> DiskOver<F> {
         self.failures.rise()
     }
 
-    // Reads what a file that was just opened holds, before a write or a cut. Returns what is in doubt of it then, and
-    // what was written since its last good sync. None where a call failed.
+    // Before a write or a cut: where the file was just opened, reads what it holds, and writes again what a sync may
+    // pass over. Returns what a sync may pass over then, and what was written since the last good sync. None where the
+    // file could not be read.
     fn begin(&mut self) -> Option<(Doubt, Written)>
         ensures failures { self.new.failures ≡ self.old.failures }
         ensures rested { Rested F.state F.passed_over F.unsynced self.old.file self.new.file }
@@ -169,8 +175,8 @@ impl<F: RawFile> DiskOver<F> {
         }
     }
 
-    // Writes again what is in doubt. Returns what was written since the last good sync. None where a call failed, or
-    // where it is not known what is in doubt.
+    // Writes again what a sync may pass over. Returns what was written since the last good sync. None where a call
+    // failed, or where it is not known what a sync may pass over.
     fn heal(&mut self) -> Option<Written>
         ensures failures { self.new.failures ≡ self.old.failures }
         ensures rested { Rested F.state F.passed_over F.unsynced self.old.file self.new.file }

@@ -1,4 +1,5 @@
-//! What is in doubt of an open file, and how it is made sure.
+//! What a sync of an open file may pass over, that is report as done though it never reached the device, and how this
+//! is written again.
 ghost use Rattle.std.specs.Prelude.{◌≡◌, ◌≢◌, ◌⊎◌, ◌<◌, ◌≤◌, ◌^◌, ℕ, false, length, IfSome, OnOk};
 ghost use Rattle.file_disk.specs.Opening.{IsLeftWell};
 ghost use Rattle.file_disk.specs.RawFile.{ReachesAll};
@@ -13,20 +14,21 @@ use crate::raw::{CallFailed, RawFile};
 use crate::written::{Span, Written};
 use gate_journal::{Gates, last_gates};
 
-/// What a sync may pass over.
+/// What is known of the places of a file that the next sync may pass over.
 #[derive(Clone, Copy)]
 pub(crate) enum Doubt {
-    /// No place.
+    /// The next sync passes over no place.
     Nothing,
-    /// What an earlier process left. Nothing of it was read yet.
+    /// The file was just opened, and nothing of it was read yet. The next sync may pass over what an earlier process
+    /// left.
     Opened,
-    /// What was written since the last good sync, or what was found at the opening.
+    /// The next sync may pass over what was written since the last good one, or what was found at the opening.
     SyncFailed,
 }
 
-// What is in doubt of a side of `bytes` bytes that begins so and has these gates: the last open gate, what stands
-// behind the end gate, and of a cartridge's the bytes that it begins with. None where the gates do not lie in these
-// bytes.
+// What a sync may pass over in a side of `bytes` bytes that begins so and has these gates: the last open gate, what
+// stands after the end gate, and in a cartridge's side its first ten bytes. None where the gates do not lie inside
+// these bytes.
 fn doubt_of(begins: Begins, gates: Gates, bytes: u64) -> Option<Written>
     ensures gates { IfSome result (λ written. (place : ℕ) →
         (place ≡ gates.last) ⊎ ((gates.end < place) × (place < bytes)) → Covers written place) }
@@ -49,7 +51,8 @@ fn doubt_of(begins: Begins, gates: Gates, bytes: u64) -> Option<Written>
     })
 }
 
-// What is in doubt of the bytes that a side begins with.
+// What a sync may pass over in the first ten bytes of a side that begins so: all of them in a cartridge's side, else
+// none.
 fn started(begins: Begins) -> Written
     ensures { (place : ℕ) → begins ≡ Begins.Cartridge → place < 10 → InSpan result.start place }
 {
@@ -59,8 +62,8 @@ fn started(begins: Begins) -> Written
     }
 }
 
-// Finds the gates of a file of this length that begins so. Returns what is in doubt of it, and what was written since
-// its last good sync. None where a call failed.
+// Finds the last gates of a file of `bytes` bytes that begins so. Returns what a sync may pass over, and what was
+// written since the last good sync. None where a call failed, or where the gates do not lie inside these bytes.
 fn look_at_gates<F: RawFile>(
     looked: &mut Looked<F>,
     begins: Begins,
@@ -86,8 +89,8 @@ fn look_at_gates<F: RawFile>(
     Some((Doubt::SyncFailed, written))
 }
 
-// Reads what a file of this length holds that was just opened. Returns what is in doubt of it, and what was written
-// since its last good sync. None where a call failed.
+// Reads what a file of `bytes` bytes, which was just opened, holds. Returns what a sync may pass over, and what was
+// written since the last good sync. None where it could not be read.
 fn look<F: RawFile>(looked: &mut Looked<F>, bytes: u64) -> Option<(Doubt, Written)>
     ensures read { OnlyReadFile F.state F.passed_over F.unsynced looked.old.file looked.new.file }
     ensures found { (F.state looked.old.file).honest → bytes ≡ length (F.state looked.old.file).seen →
@@ -120,7 +123,8 @@ fn write_ranges<F: RawFile>(file: &mut F, written: Written, bytes: u64) -> Resul
     write_again(file, written.start.from, written.start.end.min(bytes))
 }
 
-// Reads what a file holds, where it was just opened; else what is known of it stays.
+// Reads what a file of `bytes` bytes holds, if it was just opened. Returns what a sync may pass over, and what was
+// written since the last good sync: what was found, or else `doubt` and `written` as they are.
 fn looked_at<F: RawFile>(
     looked: &mut Looked<F>,
     doubt: Doubt,
@@ -143,7 +147,8 @@ fn looked_at<F: RawFile>(
     }
 }
 
-// Writes again what was written since the last good sync, where that is known.
+// Writes again what was written since the last good sync, where that is known. Returns what a sync may pass over then,
+// and what was written.
 fn healed<F: RawFile>(looked: &mut Looked<F>, written: Written, bytes: u64) -> (Doubt, Written)
     requires length { (F.state looked.old.file).honest → bytes ≡ length (F.state looked.old.file).seen }
     ensures rested { Rested F.state F.passed_over F.unsynced looked.old.file looked.new.file }
@@ -161,8 +166,8 @@ fn healed<F: RawFile>(looked: &mut Looked<F>, written: Written, bytes: u64) -> (
     }
 }
 
-/// Writes again what is in doubt of a file of this length. Returns what is in doubt of it then, and what was written
-/// since its last good sync.
+/// Writes again what a sync of a file of `bytes` bytes may pass over. Returns what a sync may pass over then, and what
+/// was written since the last good sync.
 pub(crate) fn settled<F: RawFile>(
     looked: &mut Looked<F>,
     doubt: Doubt,
@@ -184,7 +189,8 @@ pub(crate) fn settled<F: RawFile>(
     }
 }
 
-/// What `settled` does before a write or a cut: it only reads what a file holds that was just opened.
+/// Does what `settled` does, before a write or a cut, but only if the file was just opened. Else it does nothing, and
+/// returns `doubt` and `written` as they are.
 pub(crate) fn begun<F: RawFile>(
     looked: &mut Looked<F>,
     doubt: Doubt,

@@ -1,4 +1,4 @@
-//! A call of the system for a file that failed, and what the system answered.
+//! A failed call of the system for a file, and what the system answered.
 ghost use Rattle.std.specs.Prelude.{◌≡◌};
 ghost use Rattle.file_disk.specs.FailedCall.{failed_by, kind_of_none, none_moved};
 
@@ -8,19 +8,19 @@ use thiserror::Error;
 /// A call of the system for a file.
 #[derive(Clone, Copy, PartialEq, Eq, Debug)]
 pub enum SystemCall {
-    /// Asks what has the file's name.
+    /// Asks for the type of the file, by the file's name or through the open file.
     Look,
     /// Opens or makes the file.
     Open,
-    /// Gives the file a number above those of the standard streams.
+    /// Gives the open file a descriptor number above those of the standard streams.
     Renumber,
     /// Locks the file.
     Lock,
-    /// Reads bytes from a place on.
+    /// Reads bytes of the file, from a place on.
     ReadAt,
-    /// Writes bytes from a place on.
+    /// Writes bytes to the file, from a place on.
     WriteAt,
-    /// Removes the bytes from a place on.
+    /// Removes all bytes of the file from a place on.
     Cut,
     /// Syncs the file.
     Sync,
@@ -28,21 +28,21 @@ pub enum SystemCall {
     SyncFolder,
 }
 
-/// A call of the system for a file that failed, and what the system answered.
+/// A failed call of the system for a file, and what the system answered.
 #[derive(Clone, Copy, PartialEq, Eq, Debug, Error)]
 #[error("a call of the system failed")]
 pub struct FailedCall {
-    /// The call.
+    /// The call that failed.
     pub call: SystemCall,
-    /// The kind of the error. A read that came to the end of the file has `UnexpectedEof`, a write that wrote no byte
-    /// `WriteZero`.
+    /// The kind of the error. For a read that met the end of the file it is `UnexpectedEof`, for a write that wrote no
+    /// byte `WriteZero`.
     pub kind: ErrorKind,
-    /// The number that the system has for the error, where it reported one.
+    /// The number that the system has for the error; None where it reported none.
     pub number: Option<i32>,
 }
 
 impl FailedCall {
-    /// A call that failed with this error.
+    /// The record of the call `call`, which the system answered with `error`.
     pub fn of(call: SystemCall, error: &io::Error) -> FailedCall
         ensures { result ≡ failed_by call error.now }
     {
@@ -53,7 +53,7 @@ impl FailedCall {
         }
     }
 
-    /// A call that should have moved bytes, and moved none.
+    /// The record of the call `call`, which should have moved bytes and moved none. It has no number.
     pub fn none_moved(call: SystemCall) -> FailedCall
         ensures { result ≡ none_moved call }
     {

@@ -7,8 +7,8 @@ use crate::transfers::read_all;
 use tape_disk::{Disk, Failures};
 use vtl_base::DevFault;
 
-/// A disk over an open file that is only read: each call that would change the file fails, and the file stays as it is.
-/// The disk counts failures of its own.
+/// A disk over an open file that is only read: each write, cut and sync fails, and the file stays as it is. The disk
+/// counts failures of its own.
 #[derive(Drop)]
 pub(crate) struct Looked<F> {
     pub file: F,
@@ -29,7 +29,7 @@ impl<F: RawFile> Looked<F> {
         }
     }
 
-    // Refuses a call and counts a failure. Reading no bytes moves the file's clock on.
+    // Refuses a call and counts a failure. A read of no bytes moves the clock of the file's state on.
     fn refuse(&mut self) -> DevFault
         ensures passes { Passes {T = Unit {0}} (looked_state F.state self.old)
             (looked_state F.state self.new) (Err result) }

@@ -53,11 +53,11 @@ fn not_synced(file: &SystemFile) -> FileError
     }
 }
 
-/// Makes a file of no bytes and opens it, for this process alone. At Ok the name is sure. Nothing that exists is
-/// touched. The name is used as it stands, relative to the working directory. Errors: `Exists` where a regular file has
-/// the name; `NotAFile` where a folder, a pipe, a device or a link that leads nowhere has it, or where it ends in `/`;
-/// `Missing` where its folder does not exist; `InUse` where another process locked the new file first, which then
-/// stays; `Device` for every other error of the system.
+/// Makes a file of no bytes and opens it, for this process alone. At Ok the file and its name are synced. Nothing that
+/// exists is touched. The name is used as it stands, relative to the working directory. The error is `Exists` where a
+/// regular file has the name. It is `NotAFile` where a folder, a pipe, a device or a link that leads nowhere has the
+/// name, or where the name ends in `/`. It is `Missing` where the folder does not exist. It is `InUse` where another
+/// process locked the new file first, and the file then stays. It is `Device` for every other error of the system.
 pub fn create(rt: &HostRuntime, path: &str) -> Result<FileDisk, FileError>
     ensures ok { IfOk result (λ disk. disk.failures ≡ 0) }
 {
@@ -111,16 +111,18 @@ fn what_exists(rt: &HostRuntime, path: &str) -> FileError {
 }
 
 /// Opens a file for reading and writing, for this process alone. Nothing is read, written or synced: the first sync of
-/// the disk makes sure what an earlier process may have left in doubt (`DiskOver::opened`). Errors: `Missing`,
-/// `NotAFile`, `InUse` or `Device`.
+/// the disk writes again those bytes of an earlier process that may not be on the device (`DiskOver::opened`). Errors:
+/// `Missing` where no file has the name; `NotAFile` where what has the name is not a regular file; `InUse` where this
+/// process or another has the file open as a disk; `Device` for every other error of the system.
 pub fn open(rt: &HostRuntime, path: &str) -> Result<FileDisk, FileError>
     ensures ok { IfOk result (λ disk. disk.failures ≡ 0) }
 {
     open_as(rt, path, Access::Change)
 }
 
-/// Opens a file as `open` does, or makes it with no bytes, as `create` does, where it is missing. At Ok the name of a
-/// file of no bytes is sure, since whoever made it may have been stopped before that.
+/// Opens a file as `open` does or, where it is missing, makes it with no bytes as `create` does. If the file exists and
+/// has no bytes, its name is synced, since the process that made it may have stopped before it synced the name. Errors:
+/// those of `open` and `create`.
 pub fn open_or_create(rt: &HostRuntime, path: &str) -> Result<FileDisk, FileError>
     ensures ok { IfOk result (λ disk. disk.failures ≡ 0) }
 {
@@ -143,14 +145,14 @@ pub fn open_or_create(rt: &HostRuntime, path: &str) -> Result<FileDisk, FileErro
 
 /// Opens a file for reading, for this process alone, and syncs it. Each call of the disk that would change the file
 /// fails. Nothing is written again, so where a sync failed before, what is read may not be on the device. Errors:
-/// `Missing`, `NotAFile`, `InUse` or `Device`.
+/// `Missing`, `NotAFile`, `InUse` or `Device`, as from `open`.
 pub fn open_to_read(rt: &HostRuntime, path: &str) -> Result<FileDisk, FileError>
     ensures ok { IfOk result (λ disk. disk.failures ≡ 0) }
 {
     open_as(rt, path, Access::Read)
 }
 
-/// A disk of no bytes over no file, which stands for a file that is missing. Each call that would change it fails.
+/// A disk of no bytes, with no file under it, in place of a file that is missing. Each call that would change it fails.
 pub fn no_file() -> FileDisk
     ensures failures { result.failures ≡ 0 }
     ensures empty { (file_state result).honest → (file_state result).seen ≡ [] }
@@ -158,7 +160,8 @@ pub fn no_file() -> FileDisk
     DiskOver::new(SystemFile::none())
 }
 
-// Asks first what has the name, since the opening of a pipe may wait for its other end.
+// Opens a file for this access. It asks first what has the name, since the opening of a pipe may wait for its other
+// end.
 fn open_as(rt: &HostRuntime, path: &str, access: Access) -> Result<FileDisk, FileError>
     ensures ok { IfOk result (λ disk. disk.failures ≡ 0) }
 {
@@ -175,7 +178,7 @@ fn open_as(rt: &HostRuntime, path: &str, access: Access) -> Result<FileDisk, Fil
     }
 }
 
-// A disk over an open file, which is locked, and synced where it is only read.
+// Locks an open file, syncs it if it is only read, and returns a disk over it.
 fn prepared(file: File, access: Access) -> Result<FileDisk, FileError>
     ensures ok { IfOk result (λ disk. disk.failures ≡ 0) }
 {
@@ -192,7 +195,7 @@ fn prepared(file: File, access: Access) -> Result<FileDisk, FileError>
     }
 }
 
-// An open file that is a regular one, above the standard streams and locked.
+// Gives an open file a number above those of the standard streams, checks that it is a regular file, and locks it.
 fn locked(file: File) -> Result<File, FileError> {
     let file = match above_streams(file) {
         Ok(file) => file,
@@ -209,8 +212,8 @@ fn locked(file: File) -> Result<File, FileError> {
     }
 }
 
-// Where a standard stream was closed the file may have its number, and what is written to the
-// stream would land in the file.
+// Gives the file a number above those of the standard streams. Where a standard stream was closed, the file may have
+// its number, and what is written to the stream would land in the file.
 fn above_streams(file: File) -> io::Result<File> {
     if file.as_raw_fd() <= 2 {
         file.try_clone()
@@ -226,7 +229,7 @@ fn lock(file: &File) -> Result<(), FileError> {
     }
 }
 
-// Where the file system has no locks the file is taken without one.
+// What an error in taking the lock means. Where the file system has no locks, the file is taken without one.
 fn lock_answer(error: &TryLockError) -> Result<(), FileError>
     ensures { IsLockAnswer error.now result }
 {
@@ -237,7 +240,7 @@ fn lock_answer(error: &TryLockError) -> Result<(), FileError>
     }
 }
 
-// Makes the names in the folder of this file sure.
+// Syncs the folder of this file, and so the file's name.
 fn sync_folder(rt: &HostRuntime, path: &str) -> Result<(), FileError> {
     let folder = match Path::new(path).parent() {
         Some(parent) if !parent.as_str().is_empty() => parent.as_str(),

@@ -1,26 +1,26 @@
-//! An open file by the calls that a system has for it, and what an honest system makes of each.
+//! An open file, by the calls that a system has for it; and what each call does where the system is honest.
 ghost use Rattle.std.specs.Prelude.{◌≡◌, ◌⊎◌, ◌<◌, ◌≤◌, ◌+◌, ℕ, length, take, IfOk, OnErr, OnOk, Result, Some, slice_range};
 ghost use Rattle.tape_disk.specs.Disk.{DiskState, IsDisk, Elapses, Same};
 ghost use Rattle.file_disk.specs.RawFile.{AddsNone, AddsRange, CutsFile, IsAsHonest, LeavesBehind, NoneOf, ReachesRange, ReachesStill, SyncsFile, WritesSomeBytes};
 
 use std::fmt::Debug;
 
-/// Why a call moved no bytes.
+/// Why a call that reads or writes did not return how many bytes it moved.
 #[derive(Clone, Copy, PartialEq, Eq, Debug)]
 pub enum Stop {
-    /// A signal came before it had moved any: the call may be made again.
+    /// A signal came before the call had moved any byte. The call may be made again.
     Interrupted,
-    /// The system reported an error.
+    /// The call failed for another reason.
     Failed,
 }
 
-/// The system reported an error.
+/// The error of a call of the system for a file, where the call failed.
 #[derive(Clone, Copy, PartialEq, Eq, Debug)]
 pub struct CallFailed;
 
-/// An open file. Each method is one call of the system. Where the system is honest, it keeps the
-/// laws below and nobody else writes the file: that is a premise for each real file. Of a file whose
-/// honesty is not known a contract says nothing.
+/// An open file. Each method is one call of the system. An honest system keeps the laws below, and nobody else writes
+/// the file; for each real file this is a premise. A contract promises nothing of the bytes of a file that is not known
+/// to be honest. A sync "passes over" a place if it returns Ok though the byte there never reached the device.
 pub trait RawFile {
     // The state of a disk. A file counts no failures.
     ghost state: { Self → DiskState };
@@ -36,8 +36,8 @@ pub trait RawFile {
     fn size(&self) -> Option<u64>
         ensures { (state self.now).honest → result ≡ Some (length (state self.now).seen) };
 
-    /// Reads bytes from a place on into the start of the buffer, and returns how many. They may be fewer than there is
-    /// room for; at the end of the file there are none.
+    /// Reads bytes from place `at` on into the start of `buffer`, and returns how many. They may be fewer than the
+    /// buffer has room for; at the end of the file there are none.
     fn read_some(&mut self, at: u64, buffer: &mut [u8]) -> Result<usize, Stop>
         ensures bound { IfOk result (λ count. count ≤ length buffer.new) }
         ensures honesty { IsAsHonest (state self.old) (state self.new) }
@@ -49,7 +49,9 @@ pub trait RawFile {
             ReachesStill (passed_over self.old) (passed_over self.new) }
         ensures unsynced { (state self.old).honest → AddsNone (unsynced self.old) (unsynced self.new) };
 
-    /// Writes the first of the bytes from a place on, and returns how many. The place is at most the end of the file.
+    /// Writes bytes to place `at`, which is at most the end of the file. Returns how many of `bytes`, from the first
+    /// on, were written. After `Interrupted` none was written. After `Failed` reads may return any bytes in the range
+    /// that `bytes` was to fill, and from the old end of the file on.
     fn write_some(&mut self, at: u64, bytes: &[u8]) -> Result<usize, Stop>
         requires { (state self.old).honest → at ≤ length (state self.old).seen }
         ensures bound { IfOk result (λ count. count ≤ length bytes.now) }
@@ -64,8 +66,9 @@ pub trait RawFile {
         ensures unsynced { (state self.old).honest →
             AddsRange at (at + length bytes.now) (unsynced self.old) (unsynced self.new) };
 
-    /// Writes the first of the bytes from a place on, where they stand already, and returns how many. They stay,
-    /// whatever crash comes, and a sync no longer passes over the bytes that were written.
+    /// Writes `bytes` again to place `at`, where the file already has these bytes. Returns how many of them, from the
+    /// first on, were written. Reads return the same as before, a crash leaves only what it might have left before, and
+    /// a sync no longer passes over the bytes that were written.
     fn write_again(&mut self, at: u64, bytes: &[u8]) -> Result<usize, Stop>
         requires inside { (state self.old).honest → at + length bytes.now ≤ length (state self.old).seen }
         requires there { (state self.old).honest →
@@ -81,7 +84,8 @@ pub trait RawFile {
         ensures unsynced { (state self.old).honest →
             AddsRange at (at + length bytes.now) (unsynced self.old) (unsynced self.new) };
 
-    /// Removes the bytes from a place on. The place is at most the end of the file.
+    /// Removes the bytes from place `len` on; `len` is at most the length of the file. After an error reads may return
+    /// any bytes, or none, from that place on.
     fn cut(&mut self, len: u64) -> Result<(), CallFailed>
         requires { (state self.old).honest → len ≤ length (state self.old).seen }
         ensures honesty { IsAsHonest (state self.old) (state self.new) }
@@ -92,8 +96,8 @@ pub trait RawFile {
             ReachesStill (passed_over self.old) (passed_over self.new) }
         ensures unsynced { (state self.old).honest → AddsNone (unsynced self.old) (unsynced self.new) };
 
-    /// Makes bytes and length sure, except for the places that it passes over. After a fault it may also pass over the
-    /// places that were written since the last good sync.
+    /// Syncs the file. At Ok a crash leaves exactly what reads return, if there is no place over which the sync passes.
+    /// After an error, a later sync may also pass over the places that were written since the last good sync.
     fn sync(&mut self) -> Result<(), CallFailed>
         ensures honesty { IsAsHonest (state self.old) (state self.new) }
         ensures time { (state self.old).honest → Elapses (state self.old) (state self.new) }

@@ -1,4 +1,4 @@
-//! A file of the operating system, by its calls.
+//! A file of the operating system, and the calls of the system for it.
 ghost use Rattle.std.specs.Prelude.{◌≡◌, ◌≢◌, ◌<◌, None, Some};
 ghost use Rattle.std.specs.IoError.{error_kind};
 ghost use Rattle.file_disk.specs.FailedCall.{failed_by, none_moved};
@@ -10,8 +10,8 @@ use std::fs::File;
 use std::io::{self, ErrorKind};
 use std::os::unix::fs::FileExt;
 
-/// An open file of the operating system, or none. No proof says whether it is honest. It remembers which of its calls
-/// failed last.
+/// An open file of the operating system, or no file at all (`none`). No proof says whether it is honest. It records
+/// which of its calls failed last, and what the system answered.
 #[derive(Drop)]
 pub struct SystemFile {
     file: Option<File>,
@@ -31,10 +31,11 @@ fn stop_of(kind: ErrorKind) -> Stop
 }
 
 impl SystemFile {
-    /// A file that is open, as it stands. It takes no lock and asks the system nothing, so it cannot fail. The caller
-    /// ensures that the file is a regular one, open for what is asked of it and not for appending, and opened nowhere
-    /// else, in this process or another; and that a disk over it is made by `DiskOver::opened` where it was written
-    /// before. `create`, `open` and `open_to_read` ensure all of this themselves.
+    /// Makes a `SystemFile` from a file that is already open. This takes no lock and asks the system nothing, so it
+    /// cannot fail. The caller ensures that the file is a regular one, open for the calls that will be made on it, and
+    /// not for appending. It must be opened nowhere else, in this process or another. Where it was written before, a
+    /// disk over it must be made by `DiskOver::opened`. `create`, `open` and `open_to_read` ensure all of this
+    /// themselves.
     pub fn over(file: File) -> SystemFile
         ensures file { system_file result ≡ Some file }
         ensures failed { system_failed result ≡ None }
@@ -45,7 +46,8 @@ impl SystemFile {
         }
     }
 
-    /// No file. It has no bytes, its sync answers Ok, and each call that would change it fails.
+    /// Makes a `SystemFile` without a file. It has no bytes, its sync returns Ok, and each call that would change it
+    /// fails.
     pub fn none() -> SystemFile
         ensures file { system_file result ≡ None }
         ensures failed { system_failed result ≡ None }
@@ -56,16 +58,16 @@ impl SystemFile {
         }
     }
 
-    /// The call that failed last, and what the system answered; `None` where none failed. A read or a write that should
-    /// have moved bytes and moved none counts as failed; one that a signal interrupted does not, and neither does
-    /// asking for the length.
+    /// The call that failed last, and what the system answered; None where none failed. A read or a write that should
+    /// have moved bytes and moved none counts as failed. A call that a signal interrupted does not, and neither does
+    /// asking for the length. For a `SystemFile` without a file (`none`) nothing is recorded.
     pub fn failed(&self) -> Option<FailedCall>
         ensures { result ≡ system_failed self.now }
     {
         self.failed
     }
 
-    // Notes the error of a call that moves bytes, unless it was interrupted.
+    // Records the error of a call that reads or writes, unless a signal interrupted it. Returns what the error means.
     fn stop(&mut self, call: SystemCall, error: &io::Error) -> Stop
         ensures interrupted { error_kind error.now ≡ ErrorKind.Interrupted →
             (result ≡ Stop.Interrupted) × (self.new ≡ self.old) }
@@ -80,7 +82,7 @@ impl SystemFile {
         stop
     }
 
-    // Notes a call that should have moved `asked` bytes and moved none.
+    // Records the call as failed if it should have moved `asked` bytes, at least one, and moved none.
     fn moved(&mut self, call: SystemCall, asked: usize, count: usize)
         ensures none { count ≡ 0 → 0 < asked → system_failed self.new ≡ Some (none_moved call) }
         ensures some { 0 < count → self.new ≡ self.old }
@@ -92,7 +94,7 @@ impl SystemFile {
         }
     }
 
-    // Notes the error of another call.
+    // Records the error of a call that neither reads nor writes.
     fn failing(&mut self, call: SystemCall, error: &io::Error) -> CallFailed
         ensures failed { system_failed self.new ≡ Some (failed_by call error.now) }
         ensures file { system_file self.new ≡ system_file self.old }

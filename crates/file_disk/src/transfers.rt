@@ -8,7 +8,8 @@ use crate::raw::{CallFailed, RawFile, Stop};
 // The most calls that one read or write makes. No process lives long enough to see them all interrupted.
 pub(crate) const CALLS: u64 = u64::MAX;
 
-// Makes one call that reads the next bytes. Returns how many were read then in all. An interrupted call read none.
+// Reads the next bytes after the first `done`, in one call. Returns how many were read then in all. An interrupted call
+// read none.
 fn read_on<F: RawFile>(
     file: &mut F,
     at: u64,
@@ -42,7 +43,8 @@ fn read_on<F: RawFile>(
     }
 }
 
-/// Fills the buffer with the bytes from a place on, in as many calls as that takes.
+/// Fills the buffer with the bytes from place `at` on, in as many calls as that takes. Returns an error where a call
+/// failed, or where the file ends before the buffer is full.
 pub(crate) fn read_all<F: RawFile>(
     file: &mut F,
     at: u64,
@@ -71,7 +73,8 @@ pub(crate) fn read_all<F: RawFile>(
     Err(CallFailed)
 }
 
-// Makes one call that writes the next bytes. Returns how many were written then in all. An interrupted call wrote none.
+// Writes the next bytes after the first `done`, in one call. Returns how many were written then in all. An interrupted
+// call wrote none.
 fn write_on<F: RawFile>(
     file: &mut F,
     at: u64,
@@ -111,7 +114,7 @@ fn write_on<F: RawFile>(
     }
 }
 
-/// Writes all bytes from a place on, in as many calls as that takes.
+/// Writes all of `bytes` to place `at`, in as many calls as that takes.
 pub(crate) fn write_all<F: RawFile>(file: &mut F, at: u64, bytes: &[u8]) -> Result<(), CallFailed>
     requires place { at + length bytes.now < 2 ^ 63 }
     requires inside { (F.state file.old).honest → at ≤ length (F.state file.old).seen }

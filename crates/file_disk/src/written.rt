@@ -2,8 +2,8 @@
 ghost use Rattle.std.specs.Prelude.{◌≡◌, ◌⊎◌, ◌<◌, ◌≤◌, ℕ, false, IfSome};
 ghost use Rattle.file_disk.specs.Inner.Doubts.{Covers, InSpan};
 
-/// The bytes from one place up to another, which is not included. There are none where the second place is not the
-/// later one.
+/// The bytes of a file from place `from` up to place `end`, which is not included. There are none where `end` is not
+/// greater than `from`.
 #[derive(Clone, Copy)]
 pub(crate) struct Span {
     pub from: u64,
@@ -13,7 +13,8 @@ pub(crate) struct Span {
 const NO_BYTES: Span = Span { from: 0, end: 0 };
 
 impl Span {
-    // The range from the first byte of both to the last one, where they touch or overlap.
+    // Joins this range with the bytes from `at` up to `end`, if they touch or overlap, or if this range is empty; else
+    // returns None.
     fn joined(self, at: u64, end: u64) -> Option<Span>
         ensures covers { IfSome result (λ span. (place : ℕ) →
             InSpan self place ⊎ ((at ≤ place) × (place < end)) → InSpan span place) }
@@ -33,13 +34,14 @@ impl Span {
     }
 }
 
-/// The bytes that were written: at most two ranges. Where they were more, none is recorded. An opening has a third
-/// range.
+/// Which bytes of a file were written since its last good sync, as two ranges at most. Where they were more, none is
+/// recorded, and `is_apart` is true. An opening may find a third range, `start`.
 #[derive(Clone, Copy)]
 pub(crate) struct Written {
     pub one: Span,
     pub other: Span,
-    /// What an opening found at the start of a side.
+    /// What an opening found at the start of the file: the first ten bytes of a cartridge's side, or all bytes of an
+    /// unfinished one.
     pub start: Span,
     pub is_apart: bool,
 }
@@ -71,7 +73,7 @@ impl Written {
         }
     }
 
-    /// More ranges than are recorded, or unknown ones.
+    /// More ranges than are recorded, or unknown ones: each byte may have been written.
     pub fn apart() -> Written
         ensures { (place : ℕ) → Covers result place }
     {
@@ -83,7 +85,7 @@ impl Written {
         }
     }
 
-    /// These ranges, and the bytes from `at` up to `end`.
+    /// These ranges together with the bytes from `at` up to `end`, which is not included.
     pub fn noted(self, at: u64, end: u64) -> Written
         ensures covers { (place : ℕ) →
             Covers self place ⊎ ((at ≤ place) × (place < end)) → Covers result place }

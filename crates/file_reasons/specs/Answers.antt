@@ -48,7 +48,7 @@ may_have_words _ = false
 -- an answer in words (own)
 abbrev pub answer_text : Answer → List ℕ
 answer_text answers.Missing = codes "there is no such file or folder"
-answer_text answers.BadName = codes "the name is too long, a folder in it is none, or its links lead nowhere"
+answer_text answers.BadName = codes "the name is too long, a part of it is not a folder, or its links form a loop"
 answer_text answers.NotAFile = codes "what has this name is no regular file"
 answer_text answers.Exists = codes "the name is taken"
 answer_text answers.InUse = codes "the file is in use by another process, or open under another name"

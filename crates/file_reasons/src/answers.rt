@@ -1,4 +1,4 @@
-//! What a call for a file was answered.
+//! What the system answered to a call that failed.
 ghost use Rattle.std.specs.Prelude.{◌≡◌, true, IfSome};
 ghost use Rattle.std.specs.IoError.{error_kind, raw_os_error};
 ghost use Rattle.file_reasons.specs.Answers.{answer_of_call, answer_of_kind, answer_of_file, may_have_words};
@@ -9,20 +9,20 @@ use std::fmt;
 use std::io::{self, ErrorKind};
 use vtl_base::limits::SCRIPT_BYTES;
 
-/// What a call for a file was answered.
+/// The answer to a call that failed, for a file or a stream.
 #[derive(Clone, Copy, PartialEq, Eq, Debug)]
 pub enum Answer {
     /// No file has this name, or the folder in the name does not exist.
     Missing,
-    /// The name is too long, what it names as a folder is none, or the links in it lead nowhere.
+    /// The name is too long, or a part of it that has to be a folder is not one, or its symbolic links form a loop.
     BadName,
-    /// What has this name is not a regular file.
+    /// Something that is not a regular file has this name.
     NotAFile,
     /// A file or something else has this name already.
     Exists,
     /// This or another process has the file open.
     InUse,
-    /// The system does not allow it.
+    /// The system does not allow the call.
     Denied,
     /// The file system is full, or a quota is reached.
     NoRoom,
@@ -32,17 +32,17 @@ pub enum Answer {
     Ended,
     /// A write wrote no byte.
     TookNone,
-    /// The file may not be so long.
+    /// The file would be longer than the system allows.
     TooLarge,
-    /// The reader of the stream has ended.
+    /// The program that read the stream has ended.
     NoReader,
-    /// The script is longer than a script may be.
+    /// The script has more bytes than a script may have (`SCRIPT_BYTES`).
     LongScript,
-    /// The system reported another error, with this number where it has one.
+    /// The system reported another error, with this number; None if the error has no number.
     Other(Option<i32>),
 }
 
-// The answer that an error of the system stands for.
+// The answer that an error of the system of this kind stands for, with the system's number for the error.
 fn answer_of_kind(kind: ErrorKind, number: Option<i32>) -> Answer
     ensures { result ≡ answer_of_kind kind number }
 {
@@ -65,21 +65,21 @@ fn answer_of_kind(kind: ErrorKind, number: Option<i32>) -> Answer
 }
 
 impl Answer {
-    /// What the system answered, by its error.
+    /// The answer that this error of the system stands for.
     pub fn of_error(error: &io::Error) -> Answer
         ensures { result ≡ answer_of_kind (error_kind error.now) (raw_os_error error.now) }
     {
         answer_of_kind(error.kind(), error.raw_os_error())
     }
 
-    /// What a call for an open file was answered.
+    /// The answer to a call of the system that failed.
     pub fn of_call(failed: FailedCall) -> Answer
         ensures { result ≡ answer_of_call failed }
     {
         answer_of_kind(failed.kind, failed.number)
     }
 
-    /// Why a file was not made or opened.
+    /// The answer that `error` stands for, the error with which opening or making a file failed.
     pub fn of_file(error: FileError) -> Answer
         ensures { result ≡ answer_of_file error }
     {
@@ -92,7 +92,8 @@ impl Answer {
         }
     }
 
-    /// The system's own words for it, with its number, where it is none of the common ones.
+    /// The system's own words for the error of an answer `Other` that has a number, with this number. None for any
+    /// other answer, and where memory runs out.
     pub fn words(self, alloc: Global) -> Option<String>
         ensures { IfSome result (λ words. may_have_words self ≡ true) }
     {
@@ -117,7 +118,7 @@ impl fmt::Display for Answer {
             Answer::Missing => write!(f, "there is no such file or folder"),
             Answer::BadName => write!(
                 f,
-                "the name is too long, a folder in it is none, or its links lead nowhere"
+                "the name is too long, a part of it is not a folder, or its links form a loop"
             ),
             Answer::NotAFile => write!(f, "what has this name is no regular file"),
             Answer::Exists => write!(f, "the name is taken"),

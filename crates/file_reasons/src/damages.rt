@@ -1,4 +1,4 @@
-//! What stands in a file where `check` finds a damage or a bad record.
+//! What stands in a file at the place where `check` finds a damage or a bad record.
 ghost use Rattle.std.specs.Prelude.{◌≡◌, ◌++◌, OnOk};
 ghost use Rattle.file_reasons.specs.Damages.{allowed_line, damage_lines, frame_found, place_lines};
 
@@ -10,28 +10,31 @@ use vtl_base::limits::MAX_BODY;
 
 const OPEN: u8 = 0xa5;
 
-// The bytes of a frame's gate and of its length.
+// How many bytes a frame's gate and its length take.
 const FRONT: u64 = 5;
 
-/// What stands at a place where a frame is damaged, or has a bad record.
+/// What a file has at the gate of a frame that is damaged or has a bad record, or where this gate should be.
 #[derive(Clone, Copy, PartialEq, Eq, Debug)]
 pub enum Found {
-    /// The file ends before the gate.
+    /// Nothing: the file ends before the gate.
     NoGate,
-    /// A closed gate, after too few frames.
+    /// A closed gate, though the file has too few frames before it.
     Closed,
-    /// An open gate, and the file ends in the length behind it.
+    /// An open gate; the file ends before the length after it is complete.
     NoLength,
-    /// An open gate, and a length that no frame has.
+    /// An open gate and after it this length in bytes, which no frame may have.
     BadLength(u32),
-    /// An open gate and a length, after which the file has only this many bytes.
+    /// An open gate and a length of `length` bytes, after which the file has only `bytes` bytes: too few for the body
+    /// and the next gate.
     CutOff { length: u32, bytes: u64 },
-    /// A whole frame of this length.
+    /// A whole frame, with a body of this many bytes.
     Whole(u32),
 }
 
 impl Found {
-    /// What stands at a gate, given its byte, the length after it, and how many bytes the file has from the gate on.
+    /// What a file has at a gate. `gate` is the byte of the gate, `length` the length after the gate, and `bytes` is
+    /// how many bytes the file has from the gate on. If the file ends before the gate or before the end of the length,
+    /// any number may be passed for what is missing.
     pub fn of(gate: u8, length: u32, bytes: u64) -> Found
         ensures { result ≡ frame_found gate length bytes }
     {
@@ -54,7 +57,7 @@ impl Found {
     }
 }
 
-// What may stand where something else was found.
+// What may stand at a place where `found` stands.
 #[derive(Clone, Copy)]
 struct MayStand {
     found: Found,
@@ -113,14 +116,15 @@ impl fmt::Display for Found {
     }
 }
 
-/// A file that is damaged, or has a bad record: where, and what stands there.
+/// A damage or a bad record in a file: which file, at which place, and what was found there.
 #[derive(Debug, Drop)]
 pub struct DamageReason {
     /// The file's name.
     pub file: String,
-    /// The place of the gate.
+    /// The place of the gate of the frame that is damaged or has a bad record: how many bytes come before this gate in
+    /// the file.
     pub place: u64,
-    /// What stands there.
+    /// What was found at that place.
     pub found: Found,
 }
 
@@ -157,8 +161,8 @@ impl DamageReason {
         lines.add(alloc, allowed.as_str())
     }
 
-    /// Adds four lines: what stands there, where, what may stand there, what to do. Where memory runs out, only the
-    /// first of them may be there.
+    /// Adds four lines to `lines`: what was found, where, what is allowed there, and what to do. If memory runs out, an
+    /// error is returned, and only some of these lines, from the first one on, or none may have been added.
     pub fn add_to(&self, alloc: Global, lines: &mut Explanation) -> Result<(), AllocError>
         ensures { OnOk result (lines.new ≡ lines.old ++ damage_lines self.now) }
     {

@@ -5,7 +5,7 @@ ghost use Rattle.file_reasons.specs.Fixes.{missing_fix, denied_fix, other_fix, f
 use crate::answers::Answer;
 use crate::reasons::FileCall;
 
-// What to do where there is no such file or folder. What makes a file needs the folder.
+// What to do where there is no such file or folder. A call that makes a file needs the folder.
 fn missing_fix(call: FileCall) -> &'static str
     ensures { result.now ≡ missing_fix call }
 {
@@ -17,8 +17,8 @@ fn missing_fix(call: FileCall) -> &'static str
     }
 }
 
-// What to do where the system does not allow it. What makes a file writes in the folder, and what reads all its bytes
-// only reads it.
+// What to do where the system does not allow the call. A call that makes a file writes in the folder, and a call that
+// reads all bytes of a file only reads the file.
 fn denied_fix(call: FileCall) -> &'static str
     ensures { result.now ≡ denied_fix call }
 {
@@ -29,8 +29,9 @@ fn denied_fix(call: FileCall) -> &'static str
     }
 }
 
-// What to do about another error of the system. 9 is that of a stream which is not open (EBADF), 24 that of a process
-// which has as many files open as it may (EMFILE). A file is open while it is used, so its 9 is as any other number.
+// What to do about another error of the system. Number 9 is that of a stream which is not open (EBADF), 24 that of a
+// process which has as many files open as it may (EMFILE). A file is open while it is used, so for a file 9 is as any
+// other number.
 fn other_fix(call: FileCall, number: Option<i32>) -> &'static str
     ensures { result.now ≡ other_fix call number }
 {

@@ -1,4 +1,4 @@
-//! Why a call for a file failed, in words.
+//! Why a call for a file or a stream failed, and what is wrong with a file, in words.
 #![tactic(auto)]
 
 pub mod answers;

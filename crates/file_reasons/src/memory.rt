@@ -10,9 +10,9 @@ use std::fmt;
 /// What the program was doing when memory ran out.
 #[derive(Debug, Drop)]
 pub enum MemoryReason {
-    /// It opened or read the file of this name, or worked with what it had read.
+    /// The program opened or read the file of this name, or worked with bytes that it had read from this file.
     File(String),
-    /// It read the script and had this many bytes of it, or it carried it out.
+    /// The program read the script or carried it out, and had read this many bytes of the script.
     Script(u64),
 }
 
@@ -34,8 +34,8 @@ impl fmt::Display for MemoryReason {
 }
 
 impl MemoryReason {
-    /// Adds two lines: what memory was needed for, and what to do. Where memory runs out, only the first of them may be
-    /// there.
+    /// Adds two lines to `lines`: what memory was needed for, and what to do. If memory runs out, an error is returned,
+    /// and only the first line, or none, may have been added.
     pub fn add_to(&self, alloc: Global, lines: &mut Explanation) -> Result<(), AllocError>
         ensures { OnOk result (lines.new ≡ lines.old ++ memory_lines self.now) }
     {

@@ -14,32 +14,32 @@ use std::fmt;
 /// A call for a file or a stream.
 #[derive(Clone, Copy, PartialEq, Eq, Debug)]
 pub enum FileCall {
-    /// Reads all its bytes, or the next ones.
+    /// Reads all bytes of the file, or the next bytes of the stream.
     Read,
-    /// Writes the next bytes.
+    /// Writes the next bytes of the stream.
     Write,
-    /// Opens and locks it.
+    /// Opens and locks the file.
     Open,
-    /// Makes it.
+    /// Makes the file.
     Make,
-    /// Asks what has its name.
+    /// Asks what has the file's name.
     Look,
-    /// Locks it.
+    /// Locks the file.
     Lock,
-    /// Reads its bytes from a place on.
+    /// Reads bytes of the file from a place on.
     ReadAt,
-    /// Writes bytes from a place on.
+    /// Writes bytes into the file from a place on.
     WriteAt,
-    /// Syncs what was written.
+    /// Syncs what was written to the file.
     Sync,
-    /// Syncs its name.
+    /// Syncs the folder that contains the file.
     SyncFolder,
-    /// Cuts it.
+    /// Removes the bytes of the file from a place on.
     Cut,
 }
 
 impl FileCall {
-    /// The words for the call.
+    /// The words for the call in a line of an explanation.
     pub fn name(self) -> &'static str
         ensures { result.now ≡ call_name self }
     {
@@ -58,7 +58,8 @@ impl FileCall {
         }
     }
 
-    /// A call of the system.
+    /// The `FileCall` that stands for `call`, a call of the system: `Open` for `Renumber`, and the one of the same name
+    /// for every other call.
     pub fn of(call: SystemCall) -> FileCall
         ensures { result ≡ call_of call }
     {
@@ -75,7 +76,7 @@ impl FileCall {
     }
 }
 
-// Which call decided that a file was not opened, or not made.
+// Which call decided that a file was not opened, or not made, as `call` was tried.
 fn call_of_error(call: FileCall, error: FileError) -> FileCall
     ensures { result ≡ call_of_error call error }
 {
@@ -86,7 +87,7 @@ fn call_of_error(call: FileCall, error: FileError) -> FileCall
     }
 }
 
-/// What a call works on.
+/// What a call is for: a file or a stream.
 #[derive(Debug, Drop)]
 pub enum Source {
     /// The file of this name.
@@ -112,21 +113,23 @@ impl fmt::Display for Source {
     }
 }
 
-/// Why a call for a file or a stream failed.
+/// Why a call for a file or a stream failed: the call, what it was for, and the answer.
 #[derive(Debug, Drop)]
 pub struct FileReason {
     /// The file or the stream.
     pub source: Source,
     /// The call that failed.
     pub call: FileCall,
-    /// What the system answered.
+    /// How the call was answered.
     pub answer: Answer,
-    /// The answer in the system's own words, where they are better than ours.
+    /// The system's own words for an answer `Other` that has a number. None for any other answer, and where memory ran
+    /// out.
     pub words: Option<String>,
 }
 
 impl FileReason {
-    /// The reason for a call that had this answer.
+    /// The reason why `call`, made for `source`, failed with `answer`. If memory runs out for the system's own words,
+    /// `words` is None.
     pub fn new(alloc: Global, source: Source, call: FileCall, answer: Answer) -> FileReason
         ensures made { (result.source ≡ source) × (result.call ≡ call) × (result.answer ≡ answer) }
         ensures words { IfSome result.words (λ words. may_have_words answer ≡ true) }
@@ -140,7 +143,7 @@ impl FileReason {
         }
     }
 
-    /// The reason for a call for an open file that failed.
+    /// The reason for `failed`, a call of the system that failed for the open file named `file`.
     pub fn of_call(alloc: Global, file: String, failed: FailedCall) -> FileReason
         ensures source { source_text result.source ≡ source_text (Sources.File file) }
         ensures call { result.call ≡ call_of failed.call }
@@ -151,7 +154,9 @@ impl FileReason {
         FileReason::new(alloc, Source::File(file), call, answer)
     }
 
-    /// Why a file was not opened or not made.
+    /// The reason why the file named `file` was not opened or made: `call` was tried, and failed with `error`. The
+    /// reason names the call that decided: `Lock` for `InUse`, the failed call of the system for `Device`, and `call`
+    /// for any other error.
     pub fn of_file(alloc: Global, file: String, call: FileCall, error: FileError) -> FileReason
         ensures source { source_text result.source ≡ source_text (Sources.File file) }
         ensures call { result.call ≡ call_of_error call error }
@@ -162,7 +167,7 @@ impl FileReason {
         FileReason::new(alloc, Source::File(file), call, answer)
     }
 
-    // The answer, in the system's words where there are any.
+    // The line of the answer, in the system's own words where there are any.
     fn answered(&self, alloc: Global) -> Result<String, AllocError>
         ensures { IfOk result (λ text. string_bytes text ≡ answered self.now) }
     {
@@ -173,8 +178,8 @@ impl FileReason {
         }
     }
 
-    /// Adds three lines: which call failed, on what; what the system answered; what to do. Where memory runs out, only
-    /// the first of them may be there.
+    /// Adds three lines to `lines`: which call failed and for what, how it was answered, and what to do. If memory runs
+    /// out, an error is returned, and only some of these lines, from the first one on, or none may have been added.
     pub fn add_to(&self, alloc: Global, lines: &mut Explanation) -> Result<(), AllocError>
         ensures { OnOk result (lines.new ≡ lines.old ++ file_lines self.now) }
     {

@@ -26,8 +26,8 @@ impl fmt::Display for StoreReason {
 }
 
 impl StoreReason {
-    /// Adds three lines: what is refused, what is allowed, what to do. Where memory runs out, only the first of them
-    /// may be there.
+    /// Adds three lines to `lines`: what is refused, what is allowed, and what to do. If memory runs out, an error is
+    /// returned, and only some of these lines, from the first one on, or none may have been added.
     pub fn add_to(&self, alloc: Global, lines: &mut Explanation) -> Result<(), AllocError>
         ensures { OnOk result (lines.new ≡ lines.old ++ store_lines self.now) }
     {

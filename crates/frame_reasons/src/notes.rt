@@ -1,9 +1,9 @@
-//! The header of the frame that was read last.
+//! Keeps the header of the frame that was read last, to say why that frame is refused.
 use crate::reasons::{FrameField, FrameReason, refused_field};
 use vtl_wire::frames::HEADER_BYTES;
 
-/// What is noted of the frames that are read: the number of the last one, its header, and how many bytes after that are
-/// still to come.
+/// What is noted of the frames that are read: their number, the header of the last one, and how many of the bytes that
+/// follow this header are still to come.
 #[derive(Clone, Copy, Debug)]
 pub struct FrameNotes {
     frames: u64,
@@ -13,7 +13,7 @@ pub struct FrameNotes {
 }
 
 impl FrameNotes {
-    /// Notes of no frame.
+    /// Creates notes in which no frame has been read.
     pub fn new() -> Self {
         FrameNotes {
             frames: 0,
@@ -23,7 +23,7 @@ impl FrameNotes {
         }
     }
 
-    /// Notes bytes that were read.
+    /// Adds to the notes the next `bytes` that were read.
     pub fn add(&mut self, bytes: &[u8]) {
         for byte in bytes {
             self.add_byte(*byte);
@@ -48,7 +48,9 @@ impl FrameNotes {
         }
     }
 
-    /// Why the frame that was read last is refused; None where it is not.
+    /// Returns why the frame that was read last is refused, or None if no frame was read. The caller must know that the
+    /// frame is refused: a whole frame whose header has no wrong field is reported as one for a drive that is not
+    /// configured.
     pub fn reason(&self) -> Option<FrameReason> {
         if self.frames == 0 {
             return None;
@@ -66,7 +68,7 @@ impl FrameNotes {
     }
 }
 
-// How many bytes a header counts.
+// How many bytes follow a header, by its two lengths.
 fn counted(header: &[u8; HEADER_BYTES]) -> u64 {
     let [_, _, _, front, a, b, c, d, ..] = *header;
     u64::from(front) + u64::from(u32::from_be_bytes([a, b, c, d]))

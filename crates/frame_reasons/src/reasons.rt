@@ -2,22 +2,23 @@
 use vtl_base::limits::{DRIVES, NEXUSES};
 use vtl_wire::frames::{FrameKind, HEADER_BYTES, MOST_CDB, MOST_DATA, MOVE_BYTES};
 
-/// The field of a frame's header that is wrong, with its value; or what else is wrong.
+/// What is wrong with a frame: a field of its header, with its value (for `Reserved`, with its index), or something
+/// else.
 #[derive(Clone, Copy, PartialEq, Eq, Debug)]
 pub enum FrameField {
-    /// There is no such kind.
+    /// No kind of frame has this number.
     Kind(u8),
-    /// There is no such host, or a move or an inventory has one.
+    /// This host is wrong: in a command it is not 1 to 64, or in a move or an inventory it is not 0.
     Host(u8),
-    /// There is no such drive, or a move or an inventory has one.
+    /// This drive is wrong: in a command it is not 1 to 16, or in a move or an inventory it is not 0.
     Drive(u8),
     /// A frame of this kind cannot have this many bytes before its data.
     Front(u8),
     /// A frame of this kind cannot have this many bytes of data.
     Data(u32),
-    /// The byte in this place is not 00h.
+    /// The byte of the header at this index, from 12 to 15, is not 00h.
     Reserved(u8),
-    /// The drive is not configured.
+    /// The drive with this number is not configured.
     NotConfigured(u8),
     /// The input ends inside the frame.
     CutOff,
@@ -26,13 +27,13 @@ pub enum FrameField {
 /// Why a frame is refused.
 #[derive(Clone, Copy, PartialEq, Eq, Debug)]
 pub struct FrameReason {
-    /// The frame's number, counted from 1 on.
+    /// The number of the frame, counted from 1.
     pub frame: u64,
-    /// What is wrong.
+    /// What is wrong with the frame.
     pub field: FrameField,
 }
 
-// The place of the first of the last four bytes that is not 00h.
+// The first of the header's last four bytes that is not 00h; None where all are.
 fn reserved_field(header: &[u8; HEADER_BYTES]) -> Option<FrameField> {
     let [_, _, _, _, _, _, _, _, _, _, _, _, a, b, c, d] = *header;
     match (a, b, c, d) {
@@ -44,7 +45,7 @@ fn reserved_field(header: &[u8; HEADER_BYTES]) -> Option<FrameField> {
     }
 }
 
-// The first field that a command may not have.
+// The first field that is wrong in the header of a command; None where none is.
 fn command_field(host: u8, drive: u8, front: u8, data: u32) -> Option<FrameField> {
     if host == 0 || host > NEXUSES {
         return Some(FrameField::Host(host));
@@ -61,7 +62,8 @@ fn command_field(host: u8, drive: u8, front: u8, data: u32) -> Option<FrameField
     None
 }
 
-// The first field that a move or an inventory, with `wanted` bytes before its data, may not have.
+// The first field that is wrong in the header of a move or an inventory; None where none is. `wanted` is how many bytes
+// a frame of this kind has before its data.
 fn plain_field(host: u8, drive: u8, front: u8, data: u32, wanted: usize) -> Option<FrameField> {
     if host != 0 {
         return Some(FrameField::Host(host));
@@ -78,7 +80,8 @@ fn plain_field(host: u8, drive: u8, front: u8, data: u32, wanted: usize) -> Opti
     None
 }
 
-/// The first field of a header that no request has.
+/// Returns the first wrong field of `header`, with its value (for `Reserved`, with its index); None if no field is
+/// wrong. A header with no wrong field is that of a request, though its drive may not be configured.
 pub fn refused_field(header: &[u8; HEADER_BYTES]) -> Option<FrameField> {
     let [kind, host, drive, front, a, b, c, d, ..] = *header;
     let data = u32::from_be_bytes([a, b, c, d]);

@@ -5,7 +5,7 @@ use std::alloc::{AllocError, Global};
 use vtl_base::limits::{DRIVES, NEXUSES};
 use vtl_wire::frames::{MOST_CDB, MOST_DATA, MOVE_BYTES};
 
-// The end of a word for things that are counted: there is none for one.
+// The ending of a word for `count` things: `s`, or none for one thing.
 fn plural(count: u32) -> &'static str {
     match count {
         1 => "",
@@ -34,7 +34,7 @@ fn refused(alloc: Global, field: FrameField) -> Result<String, AllocError> {
     }
 }
 
-// The byte of the header where it stands.
+// The place of the wrong byte in the header, counted from 0; None where the input ends inside the frame.
 fn place_of(field: FrameField) -> Option<u8> {
     match field {
         FrameField::Kind(_) => Some(0),
@@ -72,8 +72,8 @@ fn allowed(alloc: Global, field: FrameField) -> Result<String, AllocError> {
 }
 
 impl FrameReason {
-    /// Adds four lines: what is refused, where, what is allowed, and what to do. Where memory runs out, only the first
-    /// of them may be there.
+    /// Adds four lines to `lines`: what is refused, where, what is allowed, and what to do. If memory runs out, an
+    /// error is returned, and only the first few of these lines, or none, are added.
     pub fn add_to(&self, alloc: Global, lines: &mut Explanation) -> Result<(), AllocError> {
         let refused = refused(alloc, self.field)?;
         lines.add(alloc, refused.as_str())?;

@@ -2,8 +2,10 @@ mod AskedLemmas
 mod Bodies
 mod DecodingLemmas
 mod Extents
+mod FollowedLemmas
 mod GateLemmas
 mod HeadLemmas
+mod LaidLemmas
 mod Marks
 mod Names
 mod Numbers

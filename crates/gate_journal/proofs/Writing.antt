@@ -8,7 +8,7 @@ use Rattle.gate_journal.proofs.Smears.{split_at, keeps_front, written, smeared_b
 use Rattle.gate_journal.specs.Side.{OPEN}
 use Rattle.gate_journal.specs.Inner.Writing.{Touched, Behind, Gated, BehindOrGated, Opened}
 
-untouched : (at n : ℕ) (bytes : List ℕ) → Smeared at n bytes bytes
+pub untouched : (at n : ℕ) (bytes : List ℕ) → Smeared at n bytes bytes
 untouched at n bytes = record {
   before = (drop at bytes, sym (take-append-drop at bytes));
   after = ([], sym (append-nil (drop (at + n) bytes)));

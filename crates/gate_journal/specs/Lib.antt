@@ -1,6 +1,7 @@
 pub mod Answers
 pub mod Crash
 pub mod Decoding
+pub mod Followed
 pub mod Gates
 pub mod Headings
 pub mod Heads

@@ -22,7 +22,7 @@ pub record OpenSide (D : Type 0) : Type 0 where
   pub failed : Bool
   -- how many appends take no memory
   pub reserved : ℕ
-  -- how many frames that are spelled in place take no memory
+  -- how many calls of `append_frame` take no memory
   pub reserved_extents : ℕ
 
 -- the bytes that may still be added to a side whose end gate has that place (own)

@@ -8,13 +8,14 @@ ghost use Rattle.gate_journal.specs.Crash.{WithOrWithout};
 ghost use Rattle.gate_journal.specs.State.{room_behind};
 
 use crate::room::make_room;
-use crate::{Journal, JournalError};
+use crate::{Journal, JournalError, NoParts};
 use tape_disk::Disk;
 use vtl_base::limits::MAX_SIDE;
 
 impl<D: Disk> Journal<D> {
-    /// Makes room in memory for that many appends, which then take none: 16 bytes for the extent of each, and
-    /// once 8,388,613 for the longest frame.
+    /// Reserves memory for the next `frames` calls of `append`, which then allocate none: 16 bytes for the extent of
+    /// each frame, and once 8,388,613 bytes for the longest frame. After an error memory is reserved for as many calls
+    /// as before.
     pub fn reserve(&mut self, frames: usize) -> Result<(), JournalError>
         ensures ok { OnOk result ((frames ≤ self.new.reserved)
             × (self.old.reserved ≤ self.new.reserved)
@@ -29,9 +30,9 @@ impl<D: Disk> Journal<D> {
         Ok(())
     }
 
-    /// Adds a frame with this body of 1 to 8,388,608 bytes. At Ok the frame is sure, and the room is less by
-    /// 5 and the body's bytes. After `Device` the frame may be there or not, and nothing more is written.
-    /// After every other error nothing has changed.
+    /// Adds a frame with the body `body`, of 1 to 8,388,608 bytes. At Ok each image that a crash may leave has the
+    /// frame, and the room is less by the length of the body and 5 bytes. After `Device` the frame may be there or not,
+    /// and the side has failed: nothing more is written. After every other error nothing has changed.
     pub fn append(&mut self, body: &[u8]) -> Result<(), JournalError>
         requires { IsBody body.now }
         ensures disk { Keeps (D.state self.old.disk) (D.state self.new.disk) }
@@ -63,7 +64,7 @@ impl<D: Disk> Journal<D> {
         }
         make_room(&mut self.extents, &mut self.buffer, 1)?;
         self.buffer.extend_reserved(body);
-        match self.buffer.write_behind(&mut self.disk, self.end) {
+        match self.buffer.write_behind(&mut self.disk, self.end, &NoParts) {
             Ok(()) => {
                 self.extents.push_reserved((self.end + 5, size));
                 self.end += 5 + u64::from(size);

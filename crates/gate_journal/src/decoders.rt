@@ -9,9 +9,9 @@ use crate::noted::NotedBytes;
 use std::alloc::Global;
 use vtl_base::NoMemory;
 
-/// Decodes the bodies of a side, one after another. A body comes in pieces: `begin_body`, then `feed` or `pass` until
-/// all of it has come, then `end_body`. The decoder holds what it needs of each piece. After a bad body nothing
-/// follows.
+/// A decoder of the bodies of a side, which come one after another. Each comes in pieces: `begin_body` is called first,
+/// then `feed` or `pass` until all bytes of the body have come, then `end_body`. The decoder keeps what it needs of
+/// each piece. After a bad body nothing more is called.
 pub trait Decodes: Drop {
     ghost KIND: { SideKind };
 
@@ -28,16 +28,18 @@ pub trait Decodes: Drop {
     // How many of the next bytes it does not need to see.
     ghost unseen: { Self → ℕ };
 
-    /// The kind of side that it decodes.
+    /// The kind of side that this decoder is for.
     const KIND: SideKind;
 
-    /// A decoder for the side with this header, which has read no body yet.
+    /// Creates a decoder for a side with the header `header`, whose kind must be `KIND`. The decoder has read no body
+    /// yet.
     fn begin(alloc: Global, header: &Header) -> Result<Self, NoMemory>
         requires kind { (heading_of header.now).kind ≡ KIND }
         requires valid { IsHeading (heading_of header.now) }
         ensures { IfOk result (λ decoder. has_read decoder (heading_of header.now) [] []) };
 
-    /// Whether the next body may be good, by its length. If not, it is not read.
+    /// Returns whether the next body may be good, if its length is `size` bytes. If this returns false, such a body is
+    /// bad, and is not read.
     fn may_have(&self, size: u32) -> bool
         ensures { result ≡ false → (body : List ℕ) → length body ≡ size → refuses self.now body }
     {
@@ -45,23 +47,24 @@ pub trait Decodes: Drop {
         true
     }
 
-    /// Begins the next body. None of its bytes was read yet.
+    /// Begins the next body, of which no byte has come yet.
     fn begin_body(&mut self)
         ensures { (at : ℕ) → is_within self.old self.new at [] };
 
-    /// How many of the next bytes it does not need to see.
+    /// How many of the next bytes of the body the decoder does not need to see.
     fn unseen(&self) -> usize
         ensures { result ≡ unseen self.now };
 
-    /// Takes the next bytes of the body at that place. False: the body is bad, whatever follows.
+    /// Takes `piece`, the next bytes of the body that lies at place `at` of the disk. Returns false if the body is bad
+    /// no matter which bytes follow.
     fn feed(&mut self, at: u64, piece: &[u8]) -> Result<bool, NoMemory>
         requires { IsUnderWay is_within self.old at (length piece.now) }
         ensures { IfOk result (λ good. (start : Self) (so_far : List ℕ) →
             is_within start self.old at so_far →
             TakesPiece has_read refuses is_within good start self.new at (so_far ++ piece.now)) };
 
-    /// Passes over the next bytes of the body at that place, which it does not need to see. False: the body
-    /// is bad, whatever follows.
+    /// Passes over the next `count` bytes of the body that lies at place `at` of the disk; `count` is at most
+    /// `unseen()`. Returns false if the body is bad no matter what these bytes are and which bytes follow.
     fn pass(&mut self, at: u64, count: usize) -> Result<bool, NoMemory>
         requires unseen { count ≤ unseen self.old }
         requires in_flight { IsUnderWay is_within self.old at count }
@@ -69,7 +72,8 @@ pub trait Decodes: Drop {
             is_within start self.old at so_far →
             TakesPiece has_read refuses is_within good start self.new at (so_far ++ bytes)) };
 
-    /// Ends the body at that place, all of which has come. False: the body is bad.
+    /// Ends the body that lies at place `at` of the disk. All its bytes have come; `body` notes them for proofs.
+    /// Returns false where the body is bad.
     fn end_body(&mut self, at: u64, body: &NotedBytes) -> bool
         ensures { (start : Self) (heading : Heading) (extents : List (ℕ × ℕ)) (bodies : List (List ℕ)) →
             has_read start heading extents bodies → is_within start self.old at body.now.bytes →

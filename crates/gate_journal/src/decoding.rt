@@ -17,11 +17,11 @@ use std::alloc::Global;
 use tape_disk::Disk;
 
 impl<D: Disk> Journal<D> {
-    /// Opens the side of the decoder's kind on the disk, as `open_as` does. Then a new decoder gets the
-    /// bodies, each once and in order, in pieces of at most 65,536 bytes. Bytes that it does not need to see
-    /// are not read where they are more than 65,536; the piece after them has at most 4,096. The first body
-    /// that it refuses is `BadRecord`, even where later ones are good. Room is made in memory for that many
-    /// frames that are spelled in place, and for one piece during the call.
+    /// Opens the side of the decoder's kind on the disk, as `open_as` does. A new decoder then gets the bodies, each
+    /// once and in order, in pieces of at most 65,536 bytes. If the decoder does not need to see the next bytes of a
+    /// body, and these are more than 65,536, they are not read, and the piece after them has at most 4,096. The first
+    /// body that the decoder refuses is reported as `BadRecord`, even where later ones are good. Memory is reserved for
+    /// the extents of `frames` more frames (`reserve_extents`), and for one piece during the call.
     pub fn open_decoded<T: Decodes>(
         alloc: Global,
         disk: D,
@@ -61,7 +61,7 @@ impl<D: Disk> Journal<D> {
     }
 }
 
-// The same cause, for an opening that decodes.
+// The same error as one of an opening that decodes. An opening never returns `SideFull` or `Failed`.
 pub(crate) fn of_opening(error: JournalError) -> OpenError
     requires { is_some (opening_cause error) ≡ true }
     ensures { opening_cause error ≡ Some result }
@@ -76,7 +76,7 @@ pub(crate) fn of_opening(error: JournalError) -> OpenError
     }
 }
 
-// Decodes the frames of a side that was just opened. Room is made for that many more frames.
+// Decodes the frames of a side that was just opened, and reserves memory for the extents of `frames` more.
 fn decode_frames<D: Disk, T: Decodes>(
     alloc: Global,
     journal: &mut Journal<D>,
@@ -108,7 +108,7 @@ fn decode_frames<D: Disk, T: Decodes>(
     Ok(decoder)
 }
 
-// How many bytes of memory serve for pieces: as many as the longest body has, at most those of a piece.
+// How many bytes of memory are taken for pieces: the length of the longest body, but 1 at least and 65,536 at most.
 fn room_for_pieces<D: Disk>(journal: &Journal<D>) -> usize
     ensures { (1 ≤ result) × (result ≤ PIECE_BYTES) }
 {

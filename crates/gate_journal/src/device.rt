@@ -1,15 +1,19 @@
-//! The calls of the disk that write a side: at most two in one function, five one after another.
-ghost use Rattle.std.specs.Prelude.{◌≡◌, ◌+◌, ◌<◌, ◌≤◌, ◌^◌, [], ◌∷◌, ◌++◌, ℕ, length, take, drop, slice_index, OnOk};
+//! The calls of the disk that write a side, except those that write the bytes of a frame (`gathering`). A function here
+//! makes at most two of them itself; making a side takes five.
+ghost use Rattle.std.specs.Prelude.{◌≡◌, ◌+◌, ◌<◌, ◌≤◌, ◌^◌, [], ◌∷◌, ◌++◌, ℕ, length, take, drop, slice_index, OnOk, vec_capacity};
 ghost use Rattle.tape_disk.specs.Disk.{DiskState, Only, Passes, Smeared, overwritten};
 ghost use Rattle.tape_disk.specs.Moments.{LeavesOnly};
-ghost use Rattle.gate_journal.specs.Side.{OPEN};
+ghost use Rattle.gate_journal.specs.Followed.{followed};
+ghost use Rattle.gate_journal.specs.Side.{CLOSED, OPEN};
 ghost use Rattle.gate_journal.specs.Inner.Writing.{BehindOrGated, Opened, Touched};
 
+use crate::body_parts::BodyParts;
+use crate::gathering::store_parts;
 use crate::spelling::OPEN;
 use tape_disk::Disk;
 use vtl_base::DevFault;
 
-// Writes the bytes at that place, and syncs. At Ok they are sure.
+// Writes the bytes at place `at`, and syncs. At Ok a crash leaves exactly what reads return.
 fn store_at<D: Disk>(disk: &mut D, at: u64, bytes: &[u8]) -> Result<(), DevFault>
     requires { (D.state disk.old).honest → at ≤ length (D.state disk.old).seen }
     ensures passes { Passes (D.state disk.old) (D.state disk.new) result }
@@ -24,7 +28,7 @@ fn store_at<D: Disk>(disk: &mut D, at: u64, bytes: &[u8]) -> Result<(), DevFault
     disk.sync()
 }
 
-// Opens the gate at that place. What lies after it must be sure.
+// Opens the gate at place `at`. Before the call a crash must leave exactly what reads return.
 fn open_gate<D: Disk>(disk: &mut D, at: u64) -> Result<(), DevFault>
     requires gate { (D.state disk.old).honest → at < length (D.state disk.old).seen }
     requires sure { (D.state disk.old).honest →
@@ -40,9 +44,16 @@ fn open_gate<D: Disk>(disk: &mut D, at: u64) -> Result<(), DevFault>
     store_at(disk, at, &[OPEN])
 }
 
-// Writes bytes after the gate at the end, and then opens the gate.
-pub(crate) fn write_frame<D: Disk>(disk: &mut D, end: u64, bytes: &[u8]) -> Result<(), DevFault>
-    requires room { end + 1 < 2 ^ 64 }
+// Writes the gathered bytes, the parts behind them and a closed gate behind the gate at place `end`, and then opens the
+// gate at `end`.
+pub(crate) fn write_frame<D: Disk, P: BodyParts>(
+    disk: &mut D,
+    end: u64,
+    bytes: &mut Vec<u8>,
+    parts: &P,
+) -> Result<(), DevFault>
+    requires room { length (followed bytes.old.items (P.parts parts.now)) < vec_capacity bytes.old }
+    requires bound { end + 2 + length (followed bytes.old.items (P.parts parts.now)) < 2 ^ 64 }
     requires gate { (D.state disk.old).honest → end < length (D.state disk.old).seen }
     requires sure { (D.state disk.old).honest →
         Only (D.state disk.old).seen (D.state disk.old).may_leave }
@@ -50,12 +61,15 @@ pub(crate) fn write_frame<D: Disk>(disk: &mut D, end: u64, bytes: &[u8]) -> Resu
     ensures any_moment { (D.state disk.old).honest →
         LeavesOnly (D.state disk.old) (D.state disk.new)
         (BehindOrGated (take end (D.state disk.old).seen)
-        (slice_index (D.state disk.old).seen end) bytes.now) }
+        (slice_index (D.state disk.old).seen end)
+        (followed bytes.old.items (P.parts parts.now) ++ CLOSED ∷ [])) }
     ensures opened { (D.state disk.old).honest → OnOk result
-        (Opened (take end (D.state disk.old).seen) bytes.now (D.state disk.new).seen
+        (Opened (take end (D.state disk.old).seen)
+        (followed bytes.old.items (P.parts parts.now) ++ CLOSED ∷ []) (D.state disk.new).seen
         × Only (D.state disk.new).seen (D.state disk.new).may_leave) }
+    ensures grown { vec_capacity bytes.old ≤ vec_capacity bytes.new }
 {
-    store_at(disk, end + 1, bytes)?;
+    store_parts(bytes, disk, end + 1, parts)?;
     open_gate(disk, end)
 }
 

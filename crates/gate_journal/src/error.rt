@@ -7,27 +7,30 @@ use std::alloc::AllocError;
 use thiserror::Error;
 use vtl_base::{DevFault, NoMemory};
 
-/// Why a call on a side is refused (own).
+/// Why a call on a side was refused or failed (own).
 #[derive(Clone, Copy, PartialEq, Eq, Debug, Error)]
 pub enum JournalError {
-    /// The bytes begin with no header of a side.
+    /// The disk's bytes do not begin with the header of a side. `open_as` also returns this error where they begin with
+    /// the header of a side of the other kind.
     #[error("not a side")]
     NotOurs,
-    /// The side is damaged: the first frame that is not whole has its gate at this place, counted in bytes; or a closed
-    /// gate stands there, after fewer frames than the side's copy has.
+    /// The side is damaged. Either the first frame that is not whole has its gate at place `at`, or the side is a copy
+    /// that has a closed gate at `at` after fewer frames than its base. Where the side ends before the gate of its
+    /// first frame, `at` is the place of that missing gate.
     #[error("damaged at {at}")]
     Damaged {
-        /// The place of the gate.
+        /// The place of the gate, in bytes from the start of the side.
         at: u64,
     },
-    /// The frame would make the side longer than 1,099,511,627,776 bytes.
+    /// The frame would make the side longer than 1,099,511,627,776 bytes, its end gate included. Nothing was written.
     #[error("side full")]
     SideFull,
-    /// The disk failed in this call. Each call says what its disk holds then: after `append` the side with
-    /// the frame or without it, after `open` and `read_body` what it held before, after `create` anything.
+    /// The disk failed in this call. After `append` and `append_frame` the disk then holds the side with the frame or
+    /// without it. After an opening the disk holds what a crash might have left before the call. After `read_body` it
+    /// holds what it held before, and after `create` it may hold anything.
     #[error("device fault")]
     Device(DevFault),
-    /// The disk failed in an earlier call. The side must be opened again.
+    /// The disk failed in an earlier call on this side, and nothing was done. The side must be opened again.
     #[error("failed before")]
     Failed,
     /// Memory ran out. Nothing was written, and no call of the disk failed.
@@ -51,7 +54,7 @@ impl From<DevFault> for JournalError {
     }
 }
 
-/// A side that could not be made or opened, and its disk.
+/// The error of a side that could not be made or opened, with the disk that it was to be on.
 #[derive(Drop, Debug)]
 pub struct Refused<D> {
     /// Why it could not be made or opened.
@@ -60,23 +63,24 @@ pub struct Refused<D> {
     pub disk: D,
 }
 
-/// Why a side is not opened, or its bodies are not decoded (own). Nothing was written.
+/// Why `open_decoded` did not open a side, or did not decode its bodies (own). Nothing was written.
 #[derive(Clone, Copy, PartialEq, Eq, Debug, Error)]
 pub enum OpenError {
-    /// The bytes begin with no header of a side of this kind.
+    /// The disk's bytes do not begin with the header of a side of the decoder's kind.
     #[error("not a side of the kind")]
     NotOurs,
-    /// The side is damaged: the first frame that is not whole has its gate at this place, counted in bytes; or a closed
-    /// gate stands there, after fewer frames than the side's copy has.
+    /// The side is damaged. Either the first frame that is not whole has its gate at place `at`, or the side is a copy
+    /// that has a closed gate at `at` after fewer frames than its base. Where the side ends before the gate of its
+    /// first frame, `at` is the place of that missing gate.
     #[error("damaged at {at}")]
     Damaged {
-        /// The place of the gate.
+        /// The place of the gate, in bytes from the start of the side.
         at: u64,
     },
-    /// The first frame whose body is refused has its gate at this place, counted in bytes.
+    /// The decoder refuses a body. The first frame with such a body has its gate at place `at`.
     #[error("bad record at {at}")]
     BadRecord {
-        /// The place of the gate.
+        /// The place of the gate, in bytes from the start of the side.
         at: u64,
     },
     /// The disk failed in this call.
@@ -103,7 +107,7 @@ impl From<NoMemory> for OpenError {
     }
 }
 
-/// A side that could not be opened and decoded, and its disk.
+/// The error of a side that could not be opened and decoded, with its disk.
 #[derive(Drop, Debug)]
 pub struct NotDecoded<D> {
     /// Why it could not be opened and decoded.

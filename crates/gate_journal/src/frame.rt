@@ -1,27 +1,31 @@
-//! A frame, spelled in the buffer that is written to the disk.
+//! The body of a frame, or its beginning, in the buffer that is written to the disk.
 ghost use Rattle.std.specs.Prelude.{◌≡◌, ◌≤◌, ◌<◌, ◌+◌, ◌^◌, [], ◌∷◌, ◌++◌, length, take, drop, max, slice_index, OnOk, OnErr, vec_len, vec_capacity};
 ghost use Rattle.tape_disk.specs.Disk.{DiskState, Only, Passes};
 ghost use Rattle.tape_disk.specs.Moments.{LeavesOnly};
+ghost use Rattle.std.specs.Int.{to_be_bytes, w32};
+ghost use Rattle.gate_journal.specs.Followed.{followed};
 ghost use Rattle.gate_journal.specs.Side.{IsBody};
 ghost use Rattle.gate_journal.specs.Spelled.{body_taken};
 ghost use Rattle.gate_journal.specs.Inner.Writing.{BehindOrGated, Opened, tail_of};
 
+use crate::body_parts::BodyParts;
 use crate::device::write_frame;
-use crate::spelling::CLOSED;
+use crate::gathering::extend;
 use byteorder::{BigEndian, ByteOrder};
 use std::alloc::{AllocError, Global};
 use std::marker::Model;
 use tape_disk::Disk;
 use vtl_base::DevFault;
 
-/// The bytes of a body's length.
+/// How many bytes the length of a body takes.
 pub(crate) const LENGTH_BYTES: usize = 4;
 
-/// The bytes around a body in its buffer: its length before it, and the next gate after it.
+/// How many bytes stand around a body in its buffer: 4 for its length before it, and 1 for the next gate after it.
 pub(crate) const AROUND: usize = 5;
 
-/// The body of a frame, spelled in the buffer that is written to the disk: the 4 bytes of its length stand
-/// before it, and there is room for the next gate after it. A frame is reused for many bodies.
+/// The body of a frame, or the beginning of one where parts follow (`BodyParts`), in the buffer that is written to the
+/// disk. In the buffer, 4 bytes for the body's length come before the body, and 1 byte for the next gate comes after
+/// it. A `Frame` is reused for many bodies.
 #[derive(Drop, Debug)]
 pub struct Frame {
     // Empty, or the bytes of the length and the body.
@@ -46,7 +50,7 @@ impl Model for Frame {
 }
 
 impl Frame {
-    /// A frame with no body and no room. It takes no memory.
+    /// Creates a frame with no body and no room for one. The call allocates nothing.
     pub fn new(alloc: Global) -> Frame
         ensures body { result.body ≡ [] }
         ensures room { result.room ≡ 0 }
@@ -56,14 +60,14 @@ impl Frame {
         }
     }
 
-    /// The bytes of a body for which there is memory.
+    /// The length of the longest body for which the frame has memory, in bytes.
     pub fn room(&self) -> usize
         ensures { result ≡ self.now.room }
     {
         self.bytes.capacity().saturating_sub(AROUND)
     }
 
-    /// The body.
+    /// The bytes of the body.
     pub fn body(&self) -> &[u8]
         ensures { result.now ≡ self.now.body }
     {
@@ -73,15 +77,16 @@ impl Frame {
         &self.bytes[LENGTH_BYTES..]
     }
 
-    /// Removes the body. The memory stays.
+    /// Removes the body. The memory stays reserved.
     pub fn clear(&mut self)
         ensures { self.new ≡ body_taken self.old }
     {
         self.bytes.truncate(LENGTH_BYTES);
     }
 
-    /// Removes the body, and makes room in memory for one of that many bytes and for the 5 around it, where
-    /// there is less. It asks for exactly that much.
+    /// Removes the body, and reserves memory for a body of `body` bytes and for the 5 bytes around it. If less is
+    /// reserved so far, exactly that much is requested. After an error the body is removed too, and the room is as
+    /// before.
     pub fn reserve(&mut self, body: usize) -> Result<(), AllocError>
         ensures body { self.new.body ≡ [] }
         ensures grows { self.old.room ≤ self.new.room }
@@ -101,7 +106,8 @@ impl Frame {
         Ok(())
     }
 
-    /// Appends bytes to the body, for which there is room. It takes no memory.
+    /// Appends `bytes` to the body. The room of the frame must be enough for the longer body. The call allocates
+    /// nothing.
     pub fn extend_reserved(&mut self, bytes: &[u8])
         requires { length self.old.body + length bytes.now ≤ self.old.room }
         ensures body { self.new.body ≡ self.old.body ++ bytes.now }
@@ -110,37 +116,51 @@ impl Frame {
         if bytes.is_empty() {
             return;
         }
-        let Ok(()) = self.bytes.extend_from_slice(bytes) else {
-            unreachable!()
-        };
+        extend(&mut self.bytes, bytes);
     }
 
-    // Writes length, body and the next gate, closed, after the gate at the end in one write, and then opens
-    // that gate. The frame is empty afterwards.
-    pub(crate) fn write_behind<D: Disk>(&mut self, disk: &mut D, end: u64) -> Result<(), DevFault>
-        requires body { IsBody self.old.body }
-        requires room { end + 1 < 2 ^ 64 }
+    // How many bytes the body has with the parts behind it.
+    pub(crate) fn size_with<P: BodyParts>(&self, parts: &P) -> u32
+        requires { IsBody (followed self.now.body (P.parts parts.now)) }
+        ensures { result ≡ length (followed self.now.body (P.parts parts.now)) }
+    {
+        (self.body().len() + parts.size()) as u32
+    }
+
+    // Writes the length, the body with the parts behind it and the next gate, closed, after the gate at place `end`,
+    // and then opens the gate at `end`. The body is removed from the frame, after a fault too.
+    pub(crate) fn write_behind<D: Disk, P: BodyParts>(
+        &mut self,
+        disk: &mut D,
+        end: u64,
+        parts: &P,
+    ) -> Result<(), DevFault>
+        requires body { IsBody (followed self.old.body (P.parts parts.now)) }
+        requires fits { length (followed self.old.body (P.parts parts.now)) ≤ self.old.room }
+        requires room { end + 6 + length (followed self.old.body (P.parts parts.now)) < 2 ^ 64 }
         requires gate { (D.state disk.old).honest → end < length (D.state disk.old).seen }
         requires sure { (D.state disk.old).honest →
             Only (D.state disk.old).seen (D.state disk.old).may_leave }
-        ensures frame { self.new ≡ body_taken self.old }
+        ensures frame { (self.new.body ≡ []) × (self.old.room ≤ self.new.room) }
         ensures passes { Passes (D.state disk.old) (D.state disk.new) result }
         ensures any_moment { (D.state disk.old).honest →
             LeavesOnly (D.state disk.old) (D.state disk.new)
             (BehindOrGated (take end (D.state disk.old).seen)
-            (slice_index (D.state disk.old).seen end) (tail_of self.old.body)) }
+            (slice_index (D.state disk.old).seen end) (tail_of (followed self.old.body (P.parts parts.now)))) }
         ensures opened { (D.state disk.old).honest → OnOk result
-            (Opened (take end (D.state disk.old).seen) (tail_of self.old.body) (D.state disk.new).seen
+            (Opened (take end (D.state disk.old).seen) (tail_of (followed self.old.body (P.parts parts.now)))
+            (D.state disk.new).seen
             × Only (D.state disk.new).seen (D.state disk.new).may_leave) }
     {
-        close(&mut self.bytes);
-        let written = write_frame(disk, end, &self.bytes);
-        self.bytes.truncate(LENGTH_BYTES);
+        let size = self.size_with(parts);
+        put_size(&mut self.bytes, size);
+        let written = write_frame(disk, end, &mut self.bytes, parts);
+        put_length(&mut self.bytes);
         written
     }
 }
 
-// Puts four bytes for a length into a buffer that has room for them, and nothing else.
+// Makes a buffer, which has room for them, hold four bytes for a length and nothing else.
 fn put_length(bytes: &mut Vec<u8>)
     requires { LENGTH_BYTES ≤ vec_capacity bytes.old }
     ensures bytes { bytes.new.items ≡ 0 ∷ 0 ∷ 0 ∷ 0 ∷ [] }
@@ -153,17 +173,13 @@ fn put_length(bytes: &mut Vec<u8>)
     bytes.push_reserved(0);
 }
 
-// Puts the length of a body into the four bytes before it, and the next gate, closed, after it.
-fn close(bytes: &mut Vec<u8>)
-    requires length { LENGTH_BYTES ≤ length bytes.old.items }
-    requires body { IsBody (drop 4 bytes.old.items) }
-    requires room { vec_len bytes.old < vec_capacity bytes.old }
-    ensures bytes { bytes.new.items ≡ tail_of (drop 4 bytes.old.items) }
+// Puts the length of a body into the four bytes before it.
+fn put_size(bytes: &mut Vec<u8>, size: u32)
+    requires { LENGTH_BYTES ≤ length bytes.old.items }
+    ensures bytes { bytes.new.items ≡ to_be_bytes w32 size ++ drop 4 bytes.old.items }
     ensures room { vec_capacity bytes.new ≡ vec_capacity bytes.old }
 {
-    let size = (bytes.len() - LENGTH_BYTES) as u32;
     BigEndian::write_u32(bytes, size);
-    bytes.push_reserved(CLOSED);
 }
 
 unsafe impl Send for Frame {}

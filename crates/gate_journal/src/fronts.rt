@@ -1,4 +1,4 @@
-//! What stands before the frames of a side: its ten bytes, and its head.
+//! What stands before the frames of a side: its first ten bytes, and its head.
 ghost use Rattle.std.specs.Prelude.{◌≡◌, ◌↔◌, ◌≤◌, IsTrue, Option, Some, length, take, slice_index};
 ghost use Rattle.gate_journal.specs.Heads.{base_in};
 ghost use Rattle.gate_journal.specs.Side.{CLOSED, IsName, OPEN, start};
@@ -19,7 +19,7 @@ pub(crate) struct ParsedFront {
     pub size: usize,
 }
 
-// How many frames are the copy.
+// How many frames of a side are the copy; 0 where the side is no copy.
 pub(crate) fn base_in(copied: Option<Copied>) -> u32
     ensures { result ≡ base_in copied }
 {
@@ -29,7 +29,7 @@ pub(crate) fn base_in(copied: Option<Copied>) -> u32
     }
 }
 
-// The bytes that epoch and base take in the front of a copy.
+// How many bytes epoch and base take in a front: 12 in that of a copy, else 0.
 pub(crate) fn copied_size(copied: Option<Copied>) -> usize
     ensures { result ≡ copied_size copied }
 {
@@ -39,7 +39,7 @@ pub(crate) fn copied_size(copied: Option<Copied>) -> usize
     }
 }
 
-// The front at the start of these bytes, if there is one. It takes no memory.
+// Reads the front at the start of these bytes; None where they begin with no front. It takes no memory.
 pub(crate) fn parse_front(bytes: &[u8]) -> Option<ParsedFront>
     ensures { ParsesFront bytes.now result }
 {
@@ -66,7 +66,7 @@ fn begin_as(kind: SideKind, bytes: &[u8]) -> bool
     begun == start(kind, bytes[9])
 }
 
-// The front of a cartridge's side, whose ten bytes are there.
+// The front of a cartridge's side, whose first ten bytes were recognized; None where no head follows them.
 fn parse_cartridge(bytes: &[u8]) -> Option<ParsedFront>
     requires some { 27 ≤ length bytes.now }
     requires begins { take 10 bytes.now ≡ start OPEN SideKind.Cartridge (slice_index bytes.now 9) }
@@ -83,7 +83,7 @@ fn parse_cartridge(bytes: &[u8]) -> Option<ParsedFront>
     }
 }
 
-// The front of a store's side, whose ten bytes are there.
+// The front of a store's side, whose first ten bytes were recognized; None where the rest is not that of a store.
 fn parse_store(bytes: &[u8]) -> Option<ParsedFront>
     requires some { 27 ≤ length bytes.now }
     requires begins { take 10 bytes.now ≡ start OPEN SideKind.Store (slice_index bytes.now 9) }
@@ -101,8 +101,8 @@ fn parse_store(bytes: &[u8]) -> Option<ParsedFront>
     })
 }
 
-// Whether pair gate, count and name are those of a store: it is no copy, and its pair gate is the written
-// closed gate.
+// Whether pair gate, count and name are those of a store: the pair gate is 00h, the count of capacities is 0, and the
+// name is that of a drive's store.
 fn are_of_store(pair: u8, count: u8, name: &[u8; NAME_BYTES]) -> bool
     ensures { IsTrue result ↔ (pair ≡ CLOSED) × (count ≡ 0) × IsName SideKind.Store name.now }
 {

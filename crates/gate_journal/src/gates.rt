@@ -1,4 +1,4 @@
-//! The gates of a side that a failed sync may have left in doubt.
+//! The last gates of a side. After a failed sync they may not be on the device, so `file_disk` looks for them.
 ghost use Rattle.std.specs.Prelude.{◌≤◌, length};
 ghost use Rattle.tape_disk.specs.Disk.{Keeps};
 ghost use Rattle.gate_journal.specs.Gates.{FindsGates};
@@ -11,17 +11,17 @@ use crate::reading::{find_start, read_mark};
 use tape_disk::Disk;
 use vtl_base::DevFault;
 
-/// The last gates of a side, by their places in bytes.
+/// The last gates of a side: the place of each, in bytes from the start of the side.
 #[derive(Clone, Copy, PartialEq, Eq, Debug)]
 pub struct Gates {
-    /// The last open gate: that of the last frame, or of the side where it has no frame.
+    /// The place of the last open gate: that of the last frame, or the side's own gate where it has no frame.
     pub last: u64,
-    /// The closed gate after the last frame.
+    /// The place of the end gate, the closed gate after the last frame.
     pub end: u64,
 }
 
-/// The last gates of the side on the disk, of either kind. None where the disk holds no side, or a damaged
-/// one. The disk is only read, and nothing is made sure. It takes no memory.
+/// Finds the last gates of the side on the disk; the side may be of either kind. Returns None where the disk holds no
+/// side, or a damaged one. The call only reads the disk, does not sync it, and allocates nothing.
 pub fn last_gates<D: Disk>(disk: &mut D) -> Result<Option<Gates>, DevFault>
     ensures disk { Keeps (D.state disk.old) (D.state disk.new) }
     ensures reads { OnlyReads D.effect disk.old disk.new }
@@ -49,7 +49,8 @@ fn find_gates<D: Disk>(disk: &mut D) -> Result<Gates, JournalError>
     walk_frames(disk, front.size as u64, base_in(front.copied))
 }
 
-// The last gates of a side whose first frame has its gate at that place, with at least `base` frames.
+// Finds the last gates of a side whose first frame has its gate at place `start`. With fewer than `base` frames the
+// side is damaged.
 fn walk_frames<D: Disk>(disk: &mut D, start: u64, base: u32) -> Result<Gates, JournalError>
     requires { (D.state disk.old).honest → start ≤ length (D.state disk.old).seen }
     ensures disk { Keeps (D.state disk.old) (D.state disk.new) }

@@ -7,10 +7,10 @@ ghost use Rattle.vtl_base.specs.Limits.{is_capacity};
 use vtl_base::Barcode;
 use vtl_base::limits::{DRIVES, MAX_CAPACITY, MAX_PARTITIONS, MIN_CAPACITY};
 
-/// The bytes of a side's name.
+/// How many bytes the name of a side has.
 pub const NAME_BYTES: usize = 16;
 
-/// What a side is used for (own).
+/// What a side, the bytes of one file, is used for (own).
 #[derive(Clone, Copy, Debug, PartialEq, Eq)]
 pub enum SideKind {
     /// The contents of a cartridge.
@@ -31,20 +31,21 @@ impl SideKind {
     }
 }
 
-/// The header of a side, at its beginning (own).
+/// The header at the beginning of a side: its kind, its name and its capacities (own).
 #[derive(Debug, Drop)]
 pub struct Header {
     /// What the side is used for.
     pub kind: SideKind,
-    /// The barcode of a cartridge, or `DRIVE` and the drive's number, filled up with spaces.
+    /// The barcode of a cartridge, or for a store `DRIVE` and the drive's number; filled up with spaces.
     pub name: [u8; NAME_BYTES],
     /// The capacity of each partition of a cartridge, in bytes. A store has none.
     pub capacities: Vec<u64>,
 }
 
 impl Header {
-    /// Whether it can be spelled: its name is one for its kind, a cartridge has 1 to 4 capacities
-    /// of 4,096 to 1,099,511,627,776 bytes, and a store none (own).
+    /// Returns true if the header can be spelled, that is written to a side (own). Its name must be a barcode for a
+    /// cartridge, and `DRIVE1` to `DRIVE16` for a store. A cartridge must have 1 to 4 capacities, each of 4,096 to
+    /// 1,099,511,627,776 bytes; a store must have none.
     pub fn can_be_spelled(&self) -> bool
         ensures { IsTrue result ↔ IsHeading (heading_of self.now) }
     {
@@ -122,7 +123,7 @@ fn is_drive_name(name: &[u8; NAME_BYTES]) -> bool
     false
 }
 
-// The name of that drive's store.
+// The name of the store of drive `number`.
 fn drive_name(number: u8) -> [u8; NAME_BYTES]
     requires { number < 20 }
     ensures { result ≡ drive_name number }

@@ -1,4 +1,5 @@
-//! The head of a cartridge's side, after its ten bytes: its heading, and for a copy its epoch and its base.
+//! The head of a cartridge's side, which follows the first ten bytes: its heading, and for a copy its epoch and its
+//! base.
 //!
 //! | Place | Content |
 //! |---|---|
@@ -8,8 +9,8 @@
 //! | 27 + 8N | of a copy: its epoch, a number of 8 bytes; how often the cartridge was reclaimed |
 //! | 35 + 8N | of a copy: its base, a number of 4 bytes; how many frames are the copy |
 //!
-//! So the first gate of a copy stands at 39 + 8N. A side that is no copy has epoch 0 and base 0. A
-//! store is never a copy.
+//! So the gate of a copy's first frame stands at 39 + 8N. A side that is no copy has epoch 0 and base 0. A store is
+//! never a copy.
 ghost use Rattle.std.specs.Prelude.{◌≡◌, ◌↔◌, ◌+◌, ◌*◌, ◌≤◌, ◌<◌, IsTrue, Some, true, length, take, drop, slice_index};
 ghost use Rattle.gate_journal.specs.Side.{IsHeading};
 ghost use Rattle.gate_journal.specs.Heads.{IsCopied, ParsesHead, base_in, epoch_in};
@@ -24,21 +25,21 @@ use byteorder::{BigEndian, ByteOrder};
 pub struct Copied {
     /// How often the cartridge was reclaimed.
     pub epoch: u64,
-    /// How many of the side's frames are the copy.
+    /// How many of the side's frames make up the copy.
     pub base: u32,
 }
 
-/// What is read from a head: where the frames begin, and which of two sides counts.
+/// What is read from a head: its length, and for a copy its epoch and its base.
 #[derive(Clone, Copy, Debug, PartialEq, Eq)]
 pub struct ParsedHead {
-    /// Epoch and base, where it is the head of a copy.
+    /// The epoch and the base of a copy; None for the head of a side that is not a copy.
     pub copied: Option<Copied>,
-    /// Its length in bytes.
+    /// The length of the head in bytes.
     pub size: usize,
 }
 
 impl ParsedHead {
-    /// How often the cartridge was reclaimed.
+    /// How often the cartridge was reclaimed: the epoch of a copy, and 0 for a side that is not a copy.
     pub fn epoch(&self) -> u64
         ensures { result ≡ epoch_in self.now.copied }
     {
@@ -48,7 +49,7 @@ impl ParsedHead {
         }
     }
 
-    /// How many of the side's frames are the copy.
+    /// How many of the side's frames make up the copy: the base of a copy, and 0 for a side that is not a copy.
     pub fn base(&self) -> u32
         ensures { result ≡ base_in self.now.copied }
     {
@@ -59,16 +60,17 @@ impl ParsedHead {
     }
 }
 
-/// The bytes of a head before the capacities: the count and the name.
+/// How many bytes of a head stand before the capacities: 1 for their count, and 16 for the name.
 const FRONT_BYTES: usize = 17;
 
-/// The bytes of epoch and base.
+/// How many bytes the epoch and the base of a copy take.
 pub(crate) const COPIED_BYTES: usize = 12;
 
-/// The byte that is added to the count of a copy.
+/// What is added to the count of capacities in the head of a copy.
 pub(crate) const COPY_BIT: u8 = 0x80;
 
-/// The head of a cartridge's side at the start of these bytes, if there is one. It takes no memory.
+/// Reads the head of a cartridge's side from `bytes`, the bytes of the side from place 10 on. Returns None where they
+/// do not begin with a head. The call allocates nothing.
 pub fn parse_head(bytes: &[u8]) -> Option<ParsedHead>
     ensures { ParsesHead bytes.now result }
 {
@@ -83,7 +85,7 @@ pub fn parse_head(bytes: &[u8]) -> Option<ParsedHead>
     }
 }
 
-// The head of a side that is no copy.
+// Reads the head of a side that is no copy; None where the bytes do not begin with one.
 fn parse_plain(bytes: &[u8]) -> Option<ParsedHead>
     requires some { 1 ≤ length bytes.now }
     requires plain { slice_index bytes.now 0 < 128 }
@@ -96,7 +98,7 @@ fn parse_plain(bytes: &[u8]) -> Option<ParsedHead>
     Some(ParsedHead { copied: None, size })
 }
 
-// The head of a copy.
+// Reads the head of a copy; None where the bytes do not begin with one.
 fn parse_copy(bytes: &[u8]) -> Option<ParsedHead>
     requires some { 1 ≤ length bytes.now }
     requires copy { 128 ≤ slice_index bytes.now 0 }

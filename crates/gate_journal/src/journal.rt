@@ -16,7 +16,8 @@ use std::marker::Model;
 use tape_disk::Disk;
 use vtl_base::limits::MAX_SIDE;
 
-/// An open side on a disk. After a device fault it has failed until it is opened again.
+/// An open side on a disk. After a device fault the side has failed: nothing more is read or written until it is opened
+/// again.
 #[derive(Drop)]
 pub struct Journal<D: Disk> {
     pub(crate) disk: D,
@@ -27,7 +28,7 @@ pub struct Journal<D: Disk> {
     pub(crate) extents: Vec<(u64, u32)>,
     // `append` spells its frames here.
     pub(crate) buffer: Frame,
-    // How many frames that are spelled in place have their extents reserved.
+    // For how many calls of `append_frame` extents are reserved.
     pub(crate) reserved_extents: usize,
     pub(crate) end: u64,
     pub(crate) failed: bool,
@@ -64,9 +65,10 @@ impl<D: Disk> Model for Journal<D> {
 }
 
 impl<D: Disk> Journal<D> {
-    /// Makes a side with no frames from a header that can be spelled, whatever the disk held. It is no copy,
-    /// and its pair gate is closed. At Ok the disk holds its spelling, one closed gate and nothing after
-    /// that. After a device fault anything may be there; after `NoMemory` the disk was not touched.
+    /// Makes a side with no frames on the disk, whatever the disk held before. The header must be one that can be
+    /// spelled. The side is not a copy, and its pair gate is closed. At Ok the disk holds the spelling of the side, one
+    /// closed gate and nothing after that, and each image that a crash may leave stands for the side. After a device
+    /// fault the disk may hold anything; after `NoMemory` it was not touched.
     pub fn create(alloc: Global, disk: D, header: Header) -> Result<Journal<D>, Refused<D>>
         requires { IsHeading (heading_of header) }
         ensures disk { Keeps (D.state disk) (D.state (disk_after result)) }
@@ -108,9 +110,9 @@ impl<D: Disk> Journal<D> {
         }
     }
 
-    /// The end is where the spelling ends, even of a side that has failed. Where nothing has failed, each
-    /// image that a crash may leave stands for the side. Over any disk it has a front that can be spelled,
-    /// and at least as many frames as its base.
+    /// Does nothing; its contract says what is known of an open side. Over any disk the side has a front that can be
+    /// spelled, and at least as many frames as its base. Over an honest disk its end is where its spelling ends, even
+    /// where the side has failed. Where it has not failed, each image that a crash may leave stands for the side.
     pub fn known(&self)
         ensures front { IsFront self.now.front }
         ensures base { base_of self.now.front.head ≤ length self.now.extents }
@@ -131,7 +133,7 @@ impl<D: Disk> Journal<D> {
         &self.header
     }
 
-    /// The epoch and the base, where the side is a copy.
+    /// The epoch and the base of the side; None where the side is not a copy.
     pub fn copied(&self) -> Option<Copied>
         ensures value { result ≡ self.now.front.head.copied }
         ensures valid { IsFront self.now.front }
@@ -139,7 +141,7 @@ impl<D: Disk> Journal<D> {
         self.copied
     }
 
-    /// How many frames there are.
+    /// How many frames the side has.
     pub fn frames(&self) -> usize
         ensures value { result ≡ length self.now.bodies }
         ensures extents { result ≡ length self.now.extents }
@@ -147,8 +149,8 @@ impl<D: Disk> Journal<D> {
         self.extents.len()
     }
 
-    /// The extent of the body of that frame: its place and its length. The gate of the frame stands 5 bytes
-    /// before it.
+    /// The extent of the body of frame `frame`: the body's place on the disk and its length, both in bytes. Frames are
+    /// counted from 0; `frame` must be less than `frames()`. The gate of the frame is 5 bytes before the body.
     pub fn body_at(&self, frame: usize) -> (u64, u32)
         requires { frame < length self.now.extents }
         ensures value { result ≡ slice_index_or self.now.extents frame result }
@@ -161,8 +163,8 @@ impl<D: Disk> Journal<D> {
         self.extents[frame]
     }
 
-    /// Fills the buffer with bytes of a body, from that place of the disk on. After a device fault the side
-    /// has failed.
+    /// Fills `buffer` with the bytes from place `at` of the disk on, which must all lie inside one body. After a device
+    /// fault the side has failed. Where the side had failed before, nothing is read, and the error is `Failed`.
     pub fn read_body(&mut self, at: u64, buffer: &mut [u8]) -> Result<(), JournalError>
         requires { LiesInBody self.old.extents at (length buffer.old) }
         ensures disk { Keeps (D.state self.old.disk) (D.state self.new.disk) }
@@ -195,15 +197,15 @@ impl<D: Disk> Journal<D> {
         }
     }
 
-    /// Whether the disk has failed. Then nothing more is read or written.
+    /// Returns true if the disk has failed in a call on this side. Then nothing more is read or written.
     pub fn has_failed(&self) -> bool
         ensures { result ≡ self.now.failed }
     {
         self.failed
     }
 
-    /// The bytes that may still be added, up to 1,099,511,627,776 in all with the end gate. A frame takes 5
-    /// and those of its body.
+    /// How many bytes may still be added to the side, which has at most 1,099,511,627,776 with its end gate. A frame
+    /// takes the bytes of its body and 5 more.
     pub fn room(&self) -> u64
         ensures { result ≡ room_behind self.now.end }
     {
@@ -217,7 +219,7 @@ impl<D: Disk> Journal<D> {
         self.disk
     }
 
-    /// The disk, for reading.
+    /// The disk of the side, which cannot be changed through this reference.
     pub fn disk(&self) -> &D
         ensures { result.now ≡ self.now.disk }
     {

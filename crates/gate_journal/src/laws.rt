@@ -6,13 +6,14 @@ ghost use Rattle.gate_journal.specs.declared.header.TheConstants.{NAME_BYTES};
 ghost use Rattle.gate_journal.specs.declared.frame.TheConstants.{AROUND, LENGTH_BYTES};
 ghost use Rattle.gate_journal.specs.declared.pieces.TheConstants.{JUMP_BYTES, PIECE_BYTES};
 
-/// Each image stands for some side, is no side of this library, or is damaged at some place.
+/// Each image (bytes that a crash may leave on a disk) stands for a side, is not a side of this library, or is damaged
+/// at some place.
 pub fn each_image_is_decided()
     ensures { (image : List ℕ) → IsDecided image }
 {}
 
-/// No image is two of these three: a side, no side of this library, a damaged side. It stands for at most one side, and
-/// is damaged at one place at most.
+/// At most one of three holds of an image: it stands for a side, it is not a side of this library, or it is damaged. An
+/// image stands for at most one side, and is damaged at one place at most.
 pub fn no_image_is_decided_twice()
     ensures one_side { (image : List ℕ) (f g : Front) (bs cs : List (List ℕ)) →
         StandsFor f bs image → StandsFor g cs image → (f ≡ g) × (bs ≡ cs) }
@@ -25,14 +26,16 @@ pub fn no_image_is_decided_twice()
     ensures ours_damaged { (image : List ℕ) (at : ℕ) → IsDamagedAt image at → IsNotOurs image → ⊥ }
 {}
 
-/// The side on an image is the one that it stands for.
+/// The function `side_on` returns the side that an image stands for, and returns a side only where the image stands for
+/// that side.
 pub fn the_side_on_an_image()
     ensures { (image : List ℕ) (f : Front) (bs : List (List ℕ)) →
         (side_on image ≡ Some (f, bs)) ↔ StandsFor f bs image }
 {}
 
-/// The lengths that this crate names: of a name, of a body's length, of all bytes around a body, of the longest
-/// piece of a body, and of the longest piece after bytes passed over.
+/// The values of this crate's constants for lengths. A name has 16 bytes; the length of a body is stored in 4 bytes,
+/// and 5 bytes in all stand around a body. The longest piece of a body has 65,536 bytes, and the longest piece after
+/// bytes that were passed over has 4,096.
 pub fn the_lengths()
     ensures name { NAME_BYTES ≡ 16 }
     ensures length { LENGTH_BYTES ≡ 4 }

@@ -1,7 +1,9 @@
-//! Frames behind gates, on a disk: each is there whole or not at all, wherever the work is stopped.
+//! Frames of bytes on a disk, each there whole or not at all, wherever the work is stopped. The byte before a frame,
+//! its gate, is opened only when the bytes after it are safe.
 #![tactic(auto)]
 
 mod appending;
+pub mod body_parts;
 pub mod decoders;
 mod decoding;
 mod device;
@@ -9,6 +11,7 @@ pub mod error;
 pub mod frame;
 mod fronts;
 pub mod gates;
+mod gathering;
 pub mod header;
 pub mod heads;
 pub mod journal;
@@ -21,6 +24,7 @@ mod reading;
 mod room;
 mod spelling;
 
+pub use body_parts::{BodyParts, NoParts};
 pub use decoders::Decodes;
 pub use error::{JournalError, NotDecoded, OpenError, Refused};
 pub use frame::Frame;

@@ -7,7 +7,7 @@ use noted_values::{NotedValue, note, note_both};
 use std::marker::Model;
 use tape_disk::Disk;
 
-/// The kind of the noted values: bytes. No value of this type is made.
+/// The kind of noted value that `NotedBytes` has: a list of bytes. No value of this type itself is made.
 pub struct BytesNote {}
 
 impl Model for BytesNote {
@@ -21,7 +21,7 @@ impl Model for BytesNote {
     ghost view = { λ _. [] };
 }
 
-/// The noted bytes.
+/// The bytes of a body that have come so far, noted for proofs.
 #[derive(Drop)]
 pub struct NotedBytes {
     pub bytes: NotedValue<BytesNote>,
@@ -43,8 +43,8 @@ impl NotedBytes {
         }
     }
 
-    // The noted bytes, followed by `count` bytes of a body from that place on, which are not read. They are
-    // filled up with 00h where there are fewer.
+    // The noted bytes, followed by `count` bytes of the body of frame `frame` from its byte `from` on, which are not
+    // read. Where the body has fewer there, bytes of 00h follow.
     pub(crate) fn with_unread<D: Disk>(
         &self,
         journal: &Journal<D>,

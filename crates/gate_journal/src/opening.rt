@@ -13,9 +13,9 @@ use std::alloc::Global;
 use tape_disk::Disk;
 
 impl<D: Disk> Journal<D> {
-    /// Opens the side on the disk. The call begins with a sync, and writes nothing. At every moment of the call, and
-    /// after every error, the disk stands for the same as before. After `NotOurs`, `Damaged` and `NoMemory` that is
-    /// sure too.
+    /// Opens the side on the disk. The call begins with a sync, and writes nothing: at every moment of the call, a
+    /// crash leaves only what it might have left before. At Ok, and after `NotOurs`, `Damaged` and `NoMemory`, a crash
+    /// leaves exactly the bytes that reads returned before the call.
     pub fn open(alloc: Global, disk: D) -> Result<Journal<D>, Refused<D>>
         ensures disk { Keeps (D.state disk) (D.state (disk_after result)) }
         ensures ok { IfOk result (λ journal. (journal.failed ≡ false)
@@ -30,8 +30,8 @@ impl<D: Disk> Journal<D> {
         Self::open_asked(alloc, disk, None)
     }
 
-    /// Opens the side of this kind on the disk, as `open` does. The front is read before any frame, so a side
-    /// of the other kind is `NotOurs`, even where it is damaged.
+    /// Opens the side on the disk as `open` does, if it is of kind `kind`. For a side of the other kind the error is
+    /// `NotOurs`, even where the side is damaged, since the front is read before any frame.
     pub fn open_as(alloc: Global, disk: D, kind: SideKind) -> Result<Journal<D>, Refused<D>>
         ensures disk { Keeps (D.state disk) (D.state (disk_after result)) }
         ensures ok { IfOk result (λ journal. (journal.front.head.heading.kind ≡ kind) × (journal.failed ≡ false)
@@ -46,7 +46,7 @@ impl<D: Disk> Journal<D> {
         Self::open_asked(alloc, disk, Some(kind))
     }
 
-    // Opens the side on the disk, where it is of the required kind.
+    // Opens the side on the disk as `open` does, if it is of kind `asked`; None asks for a side of either kind.
     fn open_asked(alloc: Global, disk: D, asked: Option<SideKind>) -> Result<Journal<D>, Refused<D>>
         ensures disk { Keeps (D.state disk) (D.state (disk_after result)) }
         ensures ok { IfOk result (λ journal. IsAsked asked journal.front.head.heading.kind

@@ -1,4 +1,5 @@
-//! Giving a body to a decoder in pieces. Bytes that the decoder does not need to see are not read.
+//! Giving a body to a decoder in pieces. Where the decoder does not need to see more than 65,536 of the next bytes,
+//! these are not read.
 ghost use Rattle.std.specs.Prelude.{◌≡◌, ◌<◌, ◌≤◌, ℕ, List, [], length, slice_index_or, IfOk, IfErr, false};
 ghost use Rattle.tape_disk.specs.Disk.{Keeps};
 ghost use Rattle.gate_journal.specs.Answers.{NoneFailed};
@@ -15,11 +16,11 @@ use crate::journal::Journal;
 use crate::noted::NotedBytes;
 use tape_disk::Disk;
 
-/// The most bytes of a body that are read at a time. Where the decoder does not need to see more than these,
-/// they are passed over.
+/// How many bytes of a body are read at once, at most. If the decoder does not need to see the next bytes, and these
+/// are more than this number, they are passed over.
 pub(crate) const PIECE_BYTES: usize = 65_536;
 
-/// The most bytes that are read after bytes that were passed over.
+/// How many bytes are read at most in the piece after bytes that were passed over.
 pub(crate) const JUMP_BYTES: usize = 4_096;
 
 // How many bytes of a body were taken so far, how many are read next at most, and the bytes so far.
@@ -30,7 +31,7 @@ struct SoFar {
     bytes: NotedBytes,
 }
 
-// Gives the body of that frame to the decoder. False: the body is bad.
+// Gives the body of frame `frame` to the decoder. Returns false where the body is bad.
 pub(crate) fn decode_body<D: Disk, T: Decodes>(
     journal: &mut Journal<D>,
     frame: usize,
@@ -70,7 +71,7 @@ pub(crate) fn decode_body<D: Disk, T: Decodes>(
     Ok(decoder.end_body(at, &so_far.bytes))
 }
 
-// Gives the next bytes of the body to the decoder, or passes over them. False: the body is bad.
+// Gives the next bytes of the body to the decoder, or passes over them. Returns false where the body is bad.
 fn take_next<D: Disk, T: Decodes>(
     journal: &mut Journal<D>,
     frame: usize,
@@ -109,7 +110,8 @@ fn take_next<D: Disk, T: Decodes>(
     }
 }
 
-// Passes over the bytes that the decoder does not need to see, which are more than a piece.
+// Passes over the bytes that the decoder does not need to see, which are more than 65,536. Returns false where the body
+// is bad.
 fn pass_over<D: Disk, T: Decodes>(
     journal: &Journal<D>,
     frame: usize,
@@ -139,7 +141,8 @@ fn pass_over<D: Disk, T: Decodes>(
     Ok(good)
 }
 
-// Reads the next bytes of the body and gives them to the decoder. At most a piece of them could be passed over.
+// Reads the next bytes of the body and gives them to the decoder. Those that it does not need to see are at most
+// 65,536. Returns false where the body is bad.
 fn read_on<D: Disk, T: Decodes>(
     journal: &mut Journal<D>,
     frame: usize,

@@ -36,14 +36,15 @@ pub(crate) struct ReadFront {
     pub start: u64,
 }
 
-/// Where the bodies of a side lie, and its end gate.
+/// Where the bodies of a side lie, and the place of its end gate.
 #[derive(Drop)]
 pub(crate) struct Frames {
     pub extents: Vec<(u64, u32)>,
     pub end: u64,
 }
 
-// The side on the disk, where it is of the required kind. It begins with a sync, so what is read is sure.
+// Reads the side on the disk. It must be of kind `asked`, or of either kind where that is None; else the error is
+// `NotOurs`. The call begins with a sync, so a crash after it leaves what was read.
 pub(crate) fn read_side<D: Disk>(
     alloc: Global,
     disk: &mut D,
@@ -70,7 +71,8 @@ fn make_sure<D: Disk>(disk: &mut D) -> Result<(), DevFault>
     disk.sync()
 }
 
-// The front at the start of the disk, where it is of the required kind.
+// Reads the front at the start of the disk. The side must be of kind `asked`, or of either kind where that is None;
+// else the error is `NotOurs`.
 pub(crate) fn read_asked<D: Disk>(
     alloc: Global,
     disk: &mut D,
@@ -134,7 +136,7 @@ fn find_front<D: Disk>(disk: &mut D) -> Result<(FrontBytes, ParsedFront), Journa
     }
 }
 
-// The first bytes of the disk, as many as the byte of their count says a front has.
+// The first bytes of the disk, as many as a front has by its count of capacities (place 10).
 fn read_bytes<D: Disk>(disk: &mut D) -> Result<FrontBytes, JournalError>
     ensures disk { Keeps (D.state disk.old) (D.state disk.new) }
     ensures unwritten { (D.state disk.old).honest →
@@ -160,7 +162,7 @@ fn read_bytes<D: Disk>(disk: &mut D) -> Result<FrontBytes, JournalError>
     Ok(FrontBytes { bytes, len })
 }
 
-// The length of a front after its first 27 bytes, by the byte of its count.
+// How many bytes of a front follow its first 27, by the byte at place 10, its count of capacities.
 fn size_behind(count: u8) -> usize
     ensures { result ≡ size_behind count }
 {
@@ -171,7 +173,7 @@ fn size_behind(count: u8) -> usize
     }
 }
 
-// The header in the bytes of a front, given what was read from it.
+// The header in the bytes of a front, given what `parse_front` read from them.
 fn header_parsed(alloc: Global, bytes: &[u8], parsed: ParsedFront) -> Result<Header, AllocError>
     requires some { 27 + copied_size parsed.copied ≤ parsed.size }
     requires inside { parsed.size ≤ length bytes.now }
@@ -198,8 +200,9 @@ fn numbers(alloc: Global, bytes: &[u8]) -> Result<Vec<u64>, AllocError>
     Ok(numbers)
 }
 
-// Gate and length at that place, which lies inside the disk: the length of the body, or None where the gate
-// is closed.
+// Reads the gate at place `at`, which lies inside the disk of `len` bytes, and the length after it. Returns the length
+// of the body, or None where the gate is closed. The error is `Damaged` where the gate is open and no whole frame and
+// further byte follow.
 pub(crate) fn read_mark<D: Disk>(
     disk: &mut D,
     at: u64,
@@ -242,7 +245,8 @@ fn length_behind(mark: &[u8; 5]) -> u32
     BigEndian::read_u32(&mark[1..])
 }
 
-// The frames from that place on, up to the first closed gate; there must be at least `base`.
+// Finds the frames from place `start` on, up to the first closed gate. With fewer than `base` of them, the side is
+// damaged at that gate.
 pub(crate) fn read_frames<D: Disk>(
     alloc: Global,
     disk: &mut D,

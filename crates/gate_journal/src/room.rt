@@ -7,7 +7,8 @@ use crate::frame::Frame;
 use std::alloc::AllocError;
 use vtl_base::limits::MAX_BODY;
 
-// Makes room for that many frames. Where memory runs out, the room stays.
+// Reserves memory for `frames` more frames: the extent of each, and a buffer for the longest. Where memory runs out, as
+// many frames as before are reserved.
 pub(crate) fn make_room(
     extents: &mut Vec<(u64, u32)>,
     buffer: &mut Frame,

@@ -1,4 +1,4 @@
-//! The layout of a side (own). Numbers are big-endian.
+//! The layout of a side, the bytes of one file (own). Numbers are big-endian.
 //!
 //! A gate is one byte. It is open at A5h and closed at every other value; a closed one is written
 //! 00h.
@@ -7,24 +7,26 @@
 //! |---|---|
 //! | 0 | the side's gate, open |
 //! | 1 to 8 | `VTLCART1` of a cartridge, `VTLRESV1` of a drive's saved reservations |
-//! | 9 | the pair gate: of a cartridge any byte, 00h where it was made; of a store 00h |
-//! | 10 | N, the count of capacities: 1 to 4 of a cartridge, of a copy with 80h added; 0 of a store |
+//! | 9 | the pair gate: of a cartridge any byte, 00h in a side that was just made; of a store 00h |
+//! | 10 | N, the count of capacities: 1 to 4 of a cartridge, plus 80h of a copy; 0 of a store |
 //! | 11 to 26 | the barcode, or `DRIVE` and the drive's number, filled up with spaces |
-//! | 27 on | N capacities in bytes, each a number of 8 bytes from 4,096 to 1,099,511,627,776 |
+//! | 27 on | N capacities, each a number of 8 bytes: 4,096 to 1,099,511,627,776, in bytes |
 //! | 27 + 8N | of a copy: its epoch, a number of 8 bytes |
 //! | 35 + 8N | of a copy: its base, a number of 4 bytes |
 //! | 27 + 8N | the gate of the first frame; of a copy at 39 + 8N |
 //!
-//! What stands before the first gate is the side's front: the ten bytes up to the pair gate, and from place
-//! 10 on the head, which holds no gate (`heads.rt`). This crate does not ask whether the pair gate is open,
-//! or which of two sides counts: a side is read in the same way.
+//! What stands before the gate of the first frame is the side's front: the ten bytes up to the pair gate, and from
+//! place 10 on the head, which holds no gate (`heads.rt`). This crate does not ask whether the pair gate is open, or
+//! which of two sides counts: each side is read in the same way.
 //!
-//! A frame is its gate (1), the length of its body (4; 1 to 8,388,608) and its body. The gate of the next
-//! frame follows it. A side is read from the first gate on, and reading ends at the first closed one: what
-//! lies after it does not count. A copy has at least as many frames as its base before that gate; else it is
-//! damaged there. A frame is added in four calls of the disk. Length, body and the next closed gate are
-//! written after the closed gate at the end, in one write; a sync follows. Then A5h is written into the gate,
-//! and a sync follows.
+//! A frame is its gate (1 byte), the length of its body (4 bytes; 1 to 8,388,608) and its body. The gate of the next
+//! frame follows it. A side is read from the gate of its first frame on, and reading ends at the first closed gate:
+//! what lies after that does not count. A copy has at least as many frames as its base before that gate; else it is
+//! damaged there.
+//!
+//! A frame is added with two syncs. The length, the body and the next gate, closed, are written after the closed gate
+//! at the end, in one write or, where parts of the body are long, in several; a sync follows. Then A5h is written over
+//! the gate at the end; a sync follows.
 ghost use Rattle.std.specs.Prelude.{◌≡◌, ◌↔◌, ◌≤◌, [], ◌∷◌, ◌++◌, length, take, drop, IfOk, IsTrue};
 ghost use Rattle.std.specs.List.{All, flat_map};
 ghost use Rattle.std.specs.Int.{to_be_bytes, w64};
@@ -44,13 +46,13 @@ pub(crate) const OPEN: u8 = 0xa5;
 /// A closed gate, as it is written.
 pub(crate) const CLOSED: u8 = 0x00;
 
-/// The bytes of a side before its head: two gates, and its mark between them.
+/// How many bytes of a side stand before its head: its gate, the 8 bytes of its mark, and the pair gate.
 pub(crate) const BEGUN_BYTES: usize = 10;
 
-/// The bytes of a front before the capacities.
+/// How many bytes of a front stand before the capacities.
 pub(crate) const START_BYTES: usize = 27;
 
-/// The bytes of the longest front: of a copy with the most capacities.
+/// How many bytes the longest front has: that of a copy with 4 capacities.
 pub(crate) const HEADER_BYTES: usize = START_BYTES + 8 * MAX_PARTITIONS as usize + COPIED_BYTES;
 
 // The ten bytes at the start of a side of this kind, where its gate is open and its pair gate is this byte.
@@ -89,7 +91,7 @@ fn spell_capacities(bytes: &mut Vec<u8>, capacities: &[u64]) -> Result<(), Alloc
     Ok(())
 }
 
-// The same with the side's gate closed, followed by a closed gate.
+// The bytes that `spell_header` returns, but with the side's gate closed, and followed by a closed gate.
 pub(crate) fn spell_closed(alloc: Global, header: &Header) -> Result<Vec<u8>, AllocError>
     requires { length header.now.capacities.items ≤ 4 }
     ensures { IfOk result (λ bytes.
@@ -101,7 +103,7 @@ pub(crate) fn spell_closed(alloc: Global, header: &Header) -> Result<Vec<u8>, Al
     Ok(bytes)
 }
 
-// The kind, by this byte of its mark.
+// The kind of a side by the byte at its place 4: a cartridge's for `C`, a store's for every other byte.
 pub(crate) fn kind_by_letter(byte: u8) -> SideKind
     ensures { result ≡ kind_by_letter byte }
 {
@@ -112,7 +114,7 @@ pub(crate) fn kind_by_letter(byte: u8) -> SideKind
     }
 }
 
-// The name in the bytes of a header.
+// The name in the bytes of a front, which are at least 27.
 pub(crate) fn name_in(bytes: &[u8]) -> [u8; NAME_BYTES]
     requires { 27 ≤ length bytes.now }
     ensures { result ≡ take 16 (drop 11 bytes.now) }

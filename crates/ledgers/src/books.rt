@@ -1,4 +1,4 @@
-//! One ledger, while changes are entered and while its shares are gathered. It takes no bytes.
+//! One ledger, while changes are entered and while its shares are gathered. It occupies no bytes of memory.
 ghost use Rattle.std.specs.Prelude.{◌≡◌, ◌+◌, ◌-◌, ◌^◌, ◌<◌, ◌≤◌};
 ghost use Rattle.ledgers.specs.Ledgers.{IsBlankOf, and_share, no_share};
 
@@ -7,7 +7,7 @@ use crate::shares::PartyShare;
 use std::marker::Model;
 use std::sync::ledger::{Blank, Book, Share};
 
-/// A ledger's book, and the parts that no party has yet.
+/// The book of a ledger in which changes are entered, and the parts of the ledger that no party has yet.
 #[derive(Drop)]
 pub(crate) struct OpenBook<L: Parties> {
     book: Book<L>,
@@ -26,7 +26,7 @@ impl<L: Parties> Model for OpenBook<L> {
 }
 
 impl<L: Parties> OpenBook<L> {
-    /// The open book of a blank ledger.
+    /// Opens the book of a blank ledger. Nothing is entered, and no party has its share yet.
     pub(crate) fn open(blank: Blank) -> OpenBook<L>
         requires { IsBlankOf blank L.name L.parts L.all }
         ensures { result ≡ record { total = 0; left = L.all } }
@@ -35,7 +35,7 @@ impl<L: Parties> OpenBook<L> {
         OpenBook { book, left }
     }
 
-    /// A share for one more party.
+    /// Returns the share of one more party, for which nothing is entered yet.
     pub(crate) fn give(&mut self) -> PartyShare<L>
         requires { 0 < self.old.left }
         ensures share { result ≡ 0 }
@@ -44,7 +44,7 @@ impl<L: Parties> OpenBook<L> {
         PartyShare::of(self.left.split_off(1, 0))
     }
 
-    /// Enters one change for a party.
+    /// Enters one change for the party with this share.
     pub(crate) fn enter(&mut self, share: &mut PartyShare<L>)
         requires { self.old.total + 1 < 2 ^ 64 }
         ensures share { share.new ≡ share.old + 1 }
@@ -54,7 +54,7 @@ impl<L: Parties> OpenBook<L> {
         share.enter(&mut self.book);
     }
 
-    /// Closes the book: nothing is entered any more.
+    /// Closes the book: from now on no change is entered, and shares are gathered.
     pub(crate) fn gather(self) -> ClosedBook<L>
         ensures { result ≡ record { total = self.total; gathered = no_share } }
     {
@@ -65,7 +65,7 @@ impl<L: Parties> OpenBook<L> {
     }
 }
 
-/// A ledger's book, and what was gathered of its shares.
+/// The book of a ledger in which no change is entered any more, and the shares that were gathered.
 #[derive(Drop)]
 pub(crate) struct ClosedBook<L: Parties> {
     book: Book<L>,
@@ -94,7 +94,8 @@ impl<L: Parties> ClosedBook<L> {
         self.book.audit(&mut self.part);
     }
 
-    /// Shows how the gathered shares relate to the total.
+    /// Changes nothing. It establishes for a proof that the gathered shares have at most the total, and exactly the
+    /// total where the shares of all parties are gathered.
     pub(crate) fn audit(&mut self)
         ensures same { self.new ≡ self.old }
         ensures bound { self.new.gathered.changes ≤ self.new.total }

@@ -9,18 +9,20 @@ use crate::shares::PartyShare;
 use std::marker::Model;
 use thiserror::Error;
 
-/// The gathered seats have fewer changes than were entered, so at least one is missing. Own.
+/// The error of `Gathering::compare`: the gathered seats have fewer changes than were entered, so at least one seat is
+/// missing (own).
 #[derive(Clone, Copy, PartialEq, Eq, Debug, Error)]
 #[error("seats with {seats} of {total} changes")]
 pub struct SeatsMissing {
     /// How many changes were entered in either ledger.
     pub total: u64,
-    /// How many of them were entered for the gathered seats.
+    /// How many of these changes were entered for the gathered seats.
     pub seats: u64,
 }
 
-/// The ledger of the bays and that of the hosts at the end. The shares of the bays and the seats of the hosts
-/// are returned in any order, and then both are compared with the total. It takes no memory. Own.
+/// The ledger of the bays and the ledger of the hosts, once both are closed. The shares of the bays and the seats of
+/// the hosts are taken back in any order, and then the seats are compared with the total. No call allocates memory
+/// (own).
 #[derive(Drop)]
 pub struct Gathering<B: Parties, H: Parties> {
     total: u64,
@@ -72,8 +74,9 @@ impl<B: Parties, H: Parties> Gathering<B, H> {
         self.seats += amount;
     }
 
-    /// How many changes were entered in either ledger, if the gathered seats have all of them. The shares of
-    /// all bays have all of them. With the seats of all hosts the result is Ok.
+    /// Returns how many changes were entered in either ledger, or `SeatsMissing` where the gathered seats have fewer.
+    /// Once the seats of all hosts are gathered, the result is Ok. Once the shares of all bays are gathered, they have
+    /// as many changes as were entered.
     pub fn compare(self) -> Result<u64, SeatsMissing>
         ensures within { (self.bays.changes ≤ self.total) × (self.hosts.changes ≤ self.total) }
         ensures bays { self.bays.shares ≡ B.all → self.bays.changes ≡ self.total }

@@ -4,8 +4,8 @@ ghost use Rattle.std.specs.Prelude.{ℕ};
 use std::marker::Brand;
 use std::sync::ledger::Ledger;
 
-/// A ledger with one part for each of its parties, which are bays or hosts. The invariant of a type can name `all`, but
-/// not a ledger's `parts`. Own.
+/// A ledger with one part for each of its parties, which are bays or hosts. `all` is the number of parties; it is
+/// stated here, since the invariant of a type cannot name a ledger's `parts` (own).
 pub trait Parties: Ledger {
     /// How many parties there are, each with one part.
     ghost all: { ℕ };

@@ -7,8 +7,8 @@ use crate::shares::PartyShare;
 use std::marker::Model;
 use vtl_base::Nexus;
 
-/// A host's place in a library: its nexus, and its share of the ledger of the hosts. It goes where the host
-/// goes, to another thread too. A seat that is dropped is missing at the end. Own.
+/// A host's seat in a library: its nexus, and its share of the ledger of the hosts. The seat moves with its host, even
+/// to another thread. A seat that is dropped is missing when the seats are gathered (own).
 #[derive(Drop)]
 pub struct Seat<H: Parties> {
     nexus: Nexus,
@@ -24,14 +24,14 @@ impl<H: Parties> Model for Seat<H> {
 }
 
 impl<H: Parties> Seat<H> {
-    /// The host's number, from 1 to 64.
+    /// The host's nexus, from 1 to 64.
     pub fn nexus(&self) -> Nexus
         ensures { result ≡ self.now.nexus }
     {
         self.nexus
     }
 
-    /// How many changes of its commands were accepted, as entered for it.
+    /// How many changes were entered for the host: the accepted changes of its commands.
     pub fn amount(&self) -> u64
         ensures { result ≡ self.now.amount }
     {
@@ -54,7 +54,7 @@ impl<H: Parties> Seat<H> {
         hosts.enter(&mut self.share);
     }
 
-    // Its share, which has its amount.
+    // The seat's share, which has the seat's amount.
     pub(crate) fn into_share(self) -> PartyShare<H>
         ensures { result ≡ self.amount }
     {

@@ -5,9 +5,9 @@ use crate::parties::Parties;
 use std::marker::Model;
 use std::sync::ledger::{Book, Share};
 
-/// A party's share of its ledger: how many changes were entered for it, below 2^64. Only `Tally::enter` raises it, and
-/// it cannot be copied. A bay's share stands with the bay, a host's in its `Seat`. A share that is dropped is missing
-/// at the end. Own.
+/// A party's share of its ledger: how many changes were entered for the party, below 2^64. Only `Tally::enter` raises
+/// this number, and a share cannot be copied. A bay's share is kept with the bay, a host's share in its `Seat`. A share
+/// that is dropped is missing when the shares are gathered (own).
 #[derive(Drop)]
 pub struct PartyShare<L: Parties> {
     amount: u64,
@@ -52,7 +52,7 @@ impl<L: Parties> PartyShare<L> {
         self.amount += 1;
     }
 
-    // Its part, which has its amount.
+    // The share's part of the ledger, which has the share's amount.
     pub(crate) fn into_part(self) -> Share<L>
         ensures { (result.parts ≡ 1) × (result.amount ≡ self) }
     {

@@ -12,8 +12,8 @@ use std::sync::Wait;
 use std::sync::ledger::Blank;
 use vtl_base::Nexus;
 
-/// The ledger of the bays and that of the hosts, for a lock of its own. Both totals are always equal, since
-/// one call enters a change in both. Own.
+/// The ledger of the bays and the ledger of the hosts, to be guarded by a lock of their own. Their totals are always
+/// equal, since one call enters a change in both (own).
 #[derive(Drop)]
 pub struct Tally<B: Parties, H: Parties> {
     total: u64,
@@ -33,7 +33,7 @@ impl<B: Parties, H: Parties> Model for Tally<B, H> {
 }
 
 impl<B: Parties, H: Parties> Tally<B, H> {
-    /// Opens both ledgers. Nothing is entered, and no party has its share yet.
+    /// Opens both ledgers, which must be blank. No change is entered, and no party has its share yet.
     pub fn open(bay_ledger: Blank, host_ledger: Blank) -> Tally<B, H>
         requires bays { IsBlankOf bay_ledger B.name B.parts B.all }
         requires hosts { IsBlankOf host_ledger H.name H.parts H.all }
@@ -46,7 +46,8 @@ impl<B: Parties, H: Parties> Tally<B, H> {
         }
     }
 
-    /// The share of one more bay.
+    /// Returns the share of one more bay, for which no change is entered yet. At least one bay must still be without a
+    /// share.
     pub fn add_bay(&mut self) -> PartyShare<B>
         requires { 0 < self.old.bays_left }
         ensures share { result ≡ 0 }
@@ -55,7 +56,8 @@ impl<B: Parties, H: Parties> Tally<B, H> {
         self.bays.give()
     }
 
-    /// The seat of the host with this nexus. The caller ensures that different seats have different nexuses.
+    /// Returns the seat of one more host, with this nexus; no change is entered for it yet. At least one host must
+    /// still be without a seat. The caller ensures that different seats have different nexuses.
     pub fn add_host(&mut self, nexus: Nexus) -> Seat<H>
         requires { 0 < self.old.hosts_left }
         ensures seat { result ≡ record { nexus = nexus; amount = 0 } }
@@ -64,8 +66,8 @@ impl<B: Parties, H: Parties> Tally<B, H> {
         Seat::of(nexus, self.hosts.give())
     }
 
-    /// Enters one change that a bay accepted from a host, in both ledgers. With 2^64 - 1 changes entered it
-    /// never returns.
+    /// Enters in both ledgers one change that a bay accepted from a host. `bay` is the share of that bay, `seat` the
+    /// seat of that host. Where 2^64 - 1 changes are entered already, the call waits on `rt` and never returns.
     pub fn enter<R: Wait>(&mut self, rt: &R, bay: &mut PartyShare<B>, seat: &mut Seat<H>)
         ensures bay { bay.new ≡ bay.old + 1 }
         ensures seat { seat.new ≡ record seat.old { amount = seat.old.amount + 1 } }
@@ -81,7 +83,7 @@ impl<B: Parties, H: Parties> Tally<B, H> {
         self.total += 1;
     }
 
-    /// Ends the entries: from now on the shares are gathered.
+    /// Closes both ledgers: from now on no change is entered, and shares are gathered.
     pub fn gather(self) -> Gathering<B, H>
         ensures { result ≡ record { total = self.total; bays = no_share; hosts = no_share } }
     {

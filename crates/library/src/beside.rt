@@ -14,9 +14,10 @@ use std::thread::Threads;
 use tape_disk::Disk;
 use vtl_base::DriveNo;
 
-/// Does some work. Meanwhile a flusher of each configured drive, from this number on, takes turns in a thread of its
-/// own. The call returns once all flushers have ended. The work has to end with `close`: without it the flushers do not
-/// end. A flusher for which no thread can be made is called after the work, and so ends at once (own).
+/// Calls `work`, and returns what it returned. Meanwhile each configured drive whose number is `number` or higher has a
+/// flusher with the gate `gate`, which takes turns in a thread of its own. The call returns once all flushers have
+/// ended. `work` has to end with a call of `close`: without that the flushers do not end. A flusher for which no thread
+/// can be made is called after `work`, and so ends at once (own).
 pub fn beside_flushers<
     D: Disk + Drop + Send,
     B: Parties + Rings + Send + Sync,

@@ -1,4 +1,5 @@
-//! The end of a library: every buffer is written out, and the drives' counts are compared with the seats' amounts.
+//! The end of a library: every buffer is written out, and the changes that the drives counted are compared with those
+//! that were entered for the seats.
 ghost use Rattle.std.specs.Prelude.{◌≡◌, ◌≢◌, ◌+◌, ℕ, Err, Some, IfOk, IfErr, OnOk, OnErr, is_some, length, vec_len};
 ghost use Rattle.vtl_base.specs.declared.limits.TheConstants.{DRIVES};
 ghost use Rattle.ledgers.specs.Ledgers.{no_share};
@@ -15,7 +16,7 @@ use crate::places::EndedPlace;
 use crate::rows::Row;
 use crate::shared::SharedBay;
 use bays::{Bay, Parked, Unwritten};
-use changer::Slots;
+use element_slots::Slots;
 use ledgers::{Gathering, Parties, Seat, SeatsMissing};
 use split_bay::Rings;
 use std::fmt::Debug;
@@ -27,28 +28,34 @@ use vtl_base::limits::DRIVES;
 /// Why a library did not end well.
 #[derive(Clone, Copy, PartialEq, Eq, Debug, Error)]
 pub enum FinishError {
-    /// The loaded medium of a drive has failed, before the last turn or in it. So not all is stored.
+    /// The medium that is loaded in some drive has failed, before the last turn or in it. So changes that it accepted
+    /// may not be stored.
     #[error("not all is written out")]
     Unwritten,
-    /// The returned seats have fewer changes than the drives accepted, so at least one seat is missing.
+    /// The drives accepted `total` changes, but the changes entered for the returned seats add up to only `seats`. So
+    /// at least one seat is missing.
     #[error("seats with {seats} of {total} changes")]
     SeatsMissing { total: u64, seats: u64 },
 }
 
-/// The parts of a library, however it ended.
+/// The parts of a library that has ended, with or without an error.
 #[derive(Drop)]
 pub struct Finished<D: Disk> {
     /// The slots.
     pub slots: Slots<Parked<D>>,
-    /// The drives, from number 1 on.
+    /// The drives, from number 1 on, or None where there is no drive.
     pub bays: Vec<Option<Bay<D>>>,
-    /// How many changes each drive accepted, from number 1 on. The seats' amounts have the same sum.
+    /// At Ok: for each drive number, from 1 on, how many changes the drive accepted, or None where there is no drive.
+    /// These counts add up to the number of changes that were entered for the seats. Otherwise: why the library did not
+    /// end well.
     pub counts: Result<[Option<u64>; 16], FinishError>,
 }
 
 impl<D: Disk + Drop, B: Parties + Rings, H: Parties> Library<D, B, H> {
-    /// Writes every buffer out, by a turn of each drive, and compares the drives' counts with the seats. Call it at the
-    /// end, when nobody else shares the library. It takes no memory. A failed medium is reported before missing seats.
+    /// Ends the library, which nothing else shares any more. Each drive takes a turn, which writes its buffer out. Then
+    /// the number of changes that the drives accepted is compared with the number entered for `seats`. Drives and slots
+    /// are returned even after an error. A failed medium is reported before missing seats. The call allocates no
+    /// memory.
     pub fn finish<R: Wait>(self, rt: &R, seats: Vec<Seat<H>>) -> Finished<D>
         ensures drives { which_are_there result.bays.items ≡ self }
         ensures counts { IfOk result.counts (λ counts. (counts ≡ counts_of result.bays.items)
@@ -130,7 +137,7 @@ fn end_drives<D: Disk + Drop, B: Parties + Rings, H: Parties, R: Wait>(
     written
 }
 
-// A drive at the end, if there is one, and whether all is written out.
+// A drive at the end, if there is one, and whether its loaded medium has stored all that it accepted.
 #[derive(Drop)]
 struct DriveEnd<D: Disk> {
     bay: Option<Bay<D>>,

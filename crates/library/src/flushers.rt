@@ -8,22 +8,24 @@ use tape_disk::Disk;
 use volume_core::Turn;
 use vtl_base::DriveNo;
 
-/// The trait of a gate, which a flusher asks before each turn and informs after it.
+/// The gate of a flusher. The flusher asks it before each turn, and informs it as the turn begins and after the turn
+/// has ended.
 pub trait Gate {
-    /// Whether there is to be another turn. No lock is held.
+    /// Returns whether the flusher is to take another turn; after false it ends. Called while no lock is held.
     fn before_turn(&self) -> bool;
 
-    /// A turn begins: the lock of the drive's disk's half is held.
+    /// Called as a turn begins, while the lock of the disk's half of the drive is held.
     fn in_turn(&self);
 
-    /// A turn has ended with this result. No lock is held.
+    /// Called after a turn, with what the turn did, while no lock is held.
     fn after_turn(&self, turn: Turn);
 }
 
 impl<D: Disk + Drop, B: Parties + Rings, H: Parties> Library<D, B, H> {
-    /// Takes turns at a drive until the library is closed, or the gate says that there is to be none. After a
-    /// turn that stored something the next one follows; after any other it waits until a command has accepted
-    /// a change. Where the drive is not configured, it does nothing.
+    /// Stores what is pending in the drive `drive`, turn by turn, until the library is closed or `gate.before_turn`
+    /// returns false. A turn that stored something is followed by the next one. After any other turn the flusher waits
+    /// until a command has accepted a change, or the library is closed. If the drive is not configured, the call does
+    /// nothing.
     pub fn flusher<R: Wait, G: Gate>(&self, rt: &R, drive: DriveNo, gate: &G) {
         let Some(bay) = &self.bays[drive.place()] else {
             return;

@@ -7,7 +7,7 @@ ghost use Rattle.library.specs.Seen.{is_place_seen, seen_at};
 
 use crate::libraries::Library;
 use bays::Parked;
-use changer::Slots;
+use element_slots::Slots;
 use ledgers::Parties;
 use split_bay::Rings;
 use std::fmt::Debug;
@@ -18,7 +18,7 @@ use vtl_base::limits::{DRIVES, SLOTS};
 /// The content of an element address.
 #[derive(Clone, Copy, PartialEq, Eq, Debug)]
 pub enum Element {
-    /// No drive of this number is configured.
+    /// The address is that of a drive that is not configured.
     Missing,
     /// No cartridge is there.
     Empty,
@@ -35,7 +35,7 @@ pub struct Inventory {
     pub drives: [Element; 16],
 }
 
-// The invariants of the cartridges in the slots, in one fact.
+// The invariants of the cartridges in the slots as one fact, for the proof alone.
 pub(crate) fn known_slots<D: Disk + Drop>(slots: &Slots<Parked<D>>)
     ensures { KeepsSlots D.state slots.now }
 {
@@ -71,9 +71,8 @@ pub fn seen_in_slots<D: Disk + Drop>(slots: &Slots<Parked<D>>) -> [Element; 256]
 }
 
 impl<D: Disk + Drop, B: Parties + Rings, H: Parties> Library<D, B, H> {
-    /// The content of each element address. The drives are looked at one after another, while the slots' lock
-    /// is held. Nothing is moved meanwhile, so no cartridge is seen twice, and none is missed. It takes no
-    /// memory.
+    /// The content of each element address. The drives are looked at one after another, while the slots' lock is held.
+    /// Nothing is moved meanwhile, so no cartridge is seen twice, and none is missed. The call allocates no memory.
     pub fn inventory<R: Wait>(&self, rt: &R) -> Inventory
         ensures drives { (number : ℕ) → number < DRIVES
             → is_place_seen (slice_index_or result.drives number Element.Missing) ≡ has_drive self.now (number + 1) }

@@ -1,5 +1,5 @@
-//! A library that threads share: each half of a drive behind a lock of its own, the slots behind one, and two ledgers
-//! of changes behind one.
+//! A tape library that threads share. A drive has two halves, the hosts' and the disk's, each behind a lock of its own.
+//! One more lock holds the slots. Another holds the two ledgers, which count the changes that the drives accept.
 #![tactic(auto)]
 
 pub mod beside;

@@ -9,7 +9,7 @@ ghost use Rattle.library.specs.Served.{IsServed};
 use crate::rows::Row;
 use crate::shared::SharedBay;
 use bays::{Parked, drive_of};
-use changer::Slots;
+use element_slots::Slots;
 use ledgers::{Parties, Seat, Tally};
 use scsi_sense::Reply;
 use split_bay::Rings;
@@ -20,10 +20,10 @@ use std::sync::{Mutex, Wait};
 use tape_disk::Disk;
 use vtl_base::{Bytes, DriveNo};
 
-/// Slots and drives, and two ledgers of the changes that the drives accepted. Each half of a drive is behind a lock of
-/// its own, the slots are behind one, and the ledgers behind one. The lock of the ledgers is taken inside the lock of a
-/// drive's hosts' half, for one entry. The number of drives is `B::all`, that of hosts `H::all`. A contract sees for
-/// each drive number whether there is a drive.
+/// Slots and drives, and two ledgers of the changes that the drives accepted: one by drive, one by host. Each half of a
+/// drive is behind a lock of its own, the slots are behind one lock, and the two ledgers are behind another. The lock
+/// of the ledgers is taken for one change at a time, while the lock of a drive's hosts' half is held. `B::all` is the
+/// number of drives, and `H::all` that of hosts. A contract sees, for each drive number, whether there is a drive.
 #[derive(Drop)]
 pub struct Library<D: Disk, B: Parties + Rings, H: Parties> {
     pub(crate) alloc: Global,
@@ -48,16 +48,17 @@ impl<D: Disk, B: Parties + Rings, H: Parties> Model for Library<D, B, H> {
 }
 
 impl<D: Disk + Drop, B: Parties + Rings, H: Parties> Library<D, B, H> {
-    /// Whether there is a drive of this number.
+    /// Whether there is a drive with the number `drive`.
     pub fn configured(&self, drive: DriveNo) -> bool
         ensures { result ≡ has_drive self.now drive }
     {
         self.bays[drive.place()].is_some()
     }
 
-    /// Answers a command of a seat's host to a configured drive. The command's data are lent: a written block takes
-    /// them without copying; else the caller still has them. The change that the command made, if any, is entered for
-    /// the drive and for the seat.
+    /// Carries out a command of the host that has `seat`, on the configured drive `drive`, and returns the reply. `cdb`
+    /// is the command block, and `sent` are the data that came with it. If the command makes a change, the change takes
+    /// over these data without a copy, and `sent` is empty afterwards; otherwise `sent` is as before. The change is
+    /// entered in the ledgers, for the drive and for the seat.
     pub fn command<R: Wait>(
         &self,
         rt: &R,
@@ -76,7 +77,7 @@ impl<D: Disk + Drop, B: Parties + Rings, H: Parties> Library<D, B, H> {
         }
     }
 
-    /// From now on each flusher ends before its next round, and one that waits is woken.
+    /// Closes the library: from now on each flusher ends before its next round. A flusher that waits is woken.
     pub fn close<R: Wait>(&self, rt: &R) {
         self.closed.store(true, Ordering::SeqCst);
         for place in &self.bays {
@@ -86,7 +87,7 @@ impl<D: Disk + Drop, B: Parties + Rings, H: Parties> Library<D, B, H> {
         }
     }
 
-    // The drive of this element address, if it is a drive's address and the drive is configured.
+    // The drive at this element address; None where the address is not that of a configured drive.
     pub(crate) fn drive_at(&self, address: u32) -> Option<&SharedBay<D, B>>
         ensures there { is_some result ≡ has_drive self.now address }
         ensures address { IfSome result (λ bay. IsDriveAddress address) }

@@ -13,7 +13,7 @@ use split_bay::Rings;
 use std::sync::Wait;
 use tape_disk::Disk;
 
-// The drive in this place, if there is one, with both its locks, that of the hosts' half taken first.
+// Takes both locks of a drive, if there is one, that of the hosts' half first.
 fn lock_both<'a, D: Disk + Drop, B: Parties + Rings, R: Wait>(
     place: Option<&'a SharedBay<D, B>>,
     rt: &R,
@@ -27,8 +27,9 @@ fn lock_both<'a, D: Disk + Drop, B: Parties + Rings, R: Wait>(
 }
 
 impl<D: Disk + Drop, B: Parties + Rings, H: Parties> Library<D, B, H> {
-    /// Moves a cartridge from one element address to another, as `move_lent` does. It takes the slots' lock,
-    /// and inside it both locks of each drive at the two addresses, those of the lower number first.
+    /// Moves a cartridge from the element address `from` to the element address `to`, as `move_lent` of the crate
+    /// `bays` does, and returns the reply to the move. The slots' lock is held meanwhile. While it is held, both locks
+    /// of each drive at the two addresses are taken, those of the drive with the lower number first.
     pub fn move_medium<R: Wait>(&self, rt: &R, from: u32, to: u32) -> Reply
         ensures { IsMovedAmong D.state self.now from to result }
     {

@@ -1,4 +1,4 @@
-//! Opening a library: its drives go behind their locks, and its hosts get their seats.
+//! Opening a library: the halves of its drives go behind their locks, and its hosts get their seats.
 ghost use Rattle.std.specs.Prelude.{◌≡◌, ◌+◌, ◌<◌, ◌≤◌, [], is_some, nat_eq, length, map, All, IfOk, IfErr, vec_capacity};
 ghost use Rattle.std.specs.List.{IsDistinct};
 ghost use Rattle.vtl_base.specs.declared.limits.TheConstants.{DRIVES};
@@ -12,7 +12,7 @@ use crate::ring_rows::RingRow;
 use crate::rows::Row;
 use crate::shared::SharedBay;
 use bays::{Bay, Parked};
-use changer::Slots;
+use element_slots::Slots;
 use ledgers::{Parties, PartyShare, Seat, Tally};
 use split_bay::{Ends, NewRing, Rings, part};
 use std::alloc::Global;
@@ -23,10 +23,10 @@ use tape_disk::Disk;
 use vtl_base::limits::DRIVES;
 use vtl_base::{DriveNo, Nexus};
 
-/// The parts of a library that was not opened, since memory ran out.
+/// The parts of a library that was not opened because memory ran out: all but the rings.
 #[derive(Drop)]
 pub struct NotOpened<D: Disk> {
-    /// The drives, from number 1 on.
+    /// The drives, from number 1 on, or None where there is no drive.
     pub bays: Vec<Option<Bay<D>>>,
     /// The slots.
     pub slots: Slots<Parked<D>>,
@@ -37,10 +37,11 @@ pub struct NotOpened<D: Disk> {
 }
 
 impl<D: Disk + Drop, B: Parties + Rings, H: Parties> Library<D, B, H> {
-    /// A library with these slots, and these drives, each in the place of its number, and with a seat for each host.
-    /// The drives have accepted no change yet, and the hosts differ. There may be no drive, and no host. The ledgers
-    /// have a party for each drive and for each host, and each drive has a ring. Where memory runs out, all parts but
-    /// the rings are returned.
+    /// Opens a library, and returns it with a seat for each host, in the order of `hosts`. `bays` has a place for each
+    /// drive number, from 1 to 16, with the drive if there is one; `rings` has a ring for each drive. No drive has
+    /// accepted a change yet, and no host occurs twice. The library may have no drives, and no hosts. Both ledgers are
+    /// blank: `bay_ledger` has a party for each drive, and `host_ledger` one for each host. If memory runs out, all
+    /// parts but the rings are returned.
     pub fn new(
         alloc: Global,
         bays: Vec<Option<Bay<D>>>,

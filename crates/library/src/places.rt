@@ -1,4 +1,5 @@
-//! The two halves of a drive, each to stand behind a lock of its own. Nothing else reaches the drive.
+//! The two halves of a drive, each in a place that a lock of its own is to guard. The drive is reached only through
+//! these.
 ghost use Rattle.std.specs.Prelude.{◌≡◌, Some, is_some, true};
 ghost use Rattle.library.specs.Halves.{HasShare, IsAccepted, TurnsHeld};
 ghost use Rattle.library.specs.Seen.{is_place_seen, seen_of_front};
@@ -17,7 +18,7 @@ use std::marker::Model;
 use tape_disk::Disk;
 use volume_core::Turn;
 
-/// The hosts' half of a drive, with its share of the ledger of drives, which is the count of the changes that the drive
+/// The hosts' half of a drive, with the drive's share of the ledger of drives: the count of the changes that the drive
 /// accepted. A contract sees the half.
 #[derive(Drop)]
 pub struct FrontPlace<D: Disk, B: Parties + Rings> {
@@ -57,7 +58,8 @@ impl<D: Disk, B: Rings> Model for BackPlace<D, B> {
 }
 
 impl<D: Disk, B: Parties + Rings> FrontPlace<D, B> {
-    /// The hosts' half of a drive that has accepted no change yet, with the share of a party without entries.
+    /// Puts `half`, the hosts' half of a drive, together with `share`, the drive's share of the ledger of drives. The
+    /// share has to count as many changes as the drive accepted; for a drive that has accepted none, it is a new share.
     pub fn new(half: Front<D, B>, share: PartyShare<B>) -> FrontPlace<D, B>
         requires { share ≡ half.drive.accepted }
         ensures { result ≡ Some half }
@@ -78,7 +80,7 @@ impl<D: Disk, B: Parties + Rings> FrontPlace<D, B> {
         }
     }
 
-    /// The drive as an inventory shows it.
+    /// What an inventory shows of the drive: `Full` if it has a cartridge, loaded or not, and `Empty` otherwise.
     pub fn seen(&self) -> Element
         ensures seen { result ≡ seen_of_front self.now }
         ensures there { is_place_seen result ≡ true }
@@ -104,7 +106,8 @@ impl<D: Disk, B: Rings> BackPlace<D, B> {
         BackPlace { half: Some(half) }
     }
 
-    /// A flusher's turn, with the disk's half alone. It takes no memory.
+    /// Takes a flusher's turn with the disk's half alone: stores what is pending, and returns what the turn did. The
+    /// call allocates no memory.
     pub fn turn(&mut self) -> Turn
         ensures { TurnsHeld D.state self.old result self.new }
     {

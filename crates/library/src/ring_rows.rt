@@ -1,4 +1,5 @@
-//! A new ring for each drive that a library is to have.
+//! A new ring for each drive that a library is to have. The hosts' half of a drive sends changes through it to the
+//! disk's half.
 ghost use Rattle.std.specs.Prelude.{◌≡◌, ◌<◌, None, IfOk, is_some, length, slice_index_or, slice_set};
 ghost use Rattle.vtl_base.specs.declared.limits.TheConstants.{DRIVES};
 ghost use Rattle.library.specs.Counts.{which_are_there};
@@ -11,7 +12,8 @@ use tape_disk::Disk;
 use vtl_base::NoMemory;
 use vtl_base::limits::DRIVES;
 
-/// New rings, each in the place of its drive's number. A contract sees the ends that send.
+/// New rings: a place for each drive number, from 1 to 16, with the ring of that drive if there is one. Of each ring a
+/// contract sees the sending end.
 #[derive(Drop)]
 pub struct RingRow {
     rings: Vec<Option<NewRing>>,
@@ -30,7 +32,8 @@ impl Model for RingRow {
 }
 
 impl RingRow {
-    /// A ring for each of these drives, with memory for all its places.
+    /// Makes a ring for each drive of `bays`, which has a place for each drive number, from 1 to 16. All memory that a
+    /// ring needs is allocated here. If memory runs out, an error is returned.
     pub fn of_drives<D: Disk>(alloc: Global, bays: &[Option<Bay<D>>]) -> Result<RingRow, NoMemory>
         requires { length bays.now ≡ DRIVES }
         ensures { IfOk result (λ rings. which_are_there rings ≡ which_are_there bays.now) }

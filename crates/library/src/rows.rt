@@ -1,4 +1,4 @@
-//! The row in which the drives of a library are passed in and returned.
+//! A row of drives: in it a library gets its drives, and in it they are returned at the end.
 ghost use Rattle.std.specs.Prelude.{◌≡◌, ◌<◌, None, Some, length, slice_index_or, slice_set};
 ghost use Rattle.vtl_base.specs.declared.limits.TheConstants.{DRIVES};
 ghost use Rattle.library.specs.Counts.{count_of_drive};
@@ -7,7 +7,7 @@ use bays::Bay;
 use std::marker::Model;
 use tape_disk::Disk;
 
-/// One place for each drive that a library may have.
+/// One place for each drive number, from 1 to 16, with the drive if there is one.
 #[derive(Drop)]
 pub(crate) struct Row<D: Disk> {
     places: Vec<Option<Bay<D>>>,
@@ -58,7 +58,7 @@ impl<D: Disk + Drop> Row<D> {
         self.places[place] = bay;
     }
 
-    // The count of the drive in this place, if there is one.
+    // The count of changes of the drive in this place; None where there is no drive.
     pub(crate) fn count(&self, place: usize) -> Option<u64>
         requires { place < DRIVES }
         ensures { result ≡ count_of_drive (slice_index_or self.now place None) }

@@ -1,4 +1,4 @@
-//! The lines of a host in a phase.
+//! The lines of one host in a phase of a script.
 ghost use Rattle.std.specs.Prelude.{◌≡◌, ◌≤◌, [], nat_eq, true, length, vec_capacity, IfOk, OnErr};
 ghost use Rattle.std.specs.List.{list_all};
 ghost use Rattle.bays.specs.Runs.{line_request};
@@ -17,9 +17,10 @@ use vtl_base::NoMemory;
 use vtl_script::Line;
 
 impl<D: Disk + Drop, B: Parties + Rings, H: Parties> Library<D, B, H> {
-    /// Carries out the commands of these lines for the host of a seat, in order, each on the drive that it names, and
-    /// returns their replies. A written block takes the data of its line without copying. Where memory runs out, no
-    /// line is carried out.
+    /// Carries out the commands of `lines` for the host that has `seat`, in order, each on the drive that its line
+    /// names, and returns their replies. The lines have to be that host's, and their drives configured. A block that is
+    /// written takes over the data of its line without a copy. If memory for the replies runs out, an error is
+    /// returned, and no line is carried out.
     pub fn host_session<R: Wait>(
         &self,
         rt: &R,
@@ -38,7 +39,8 @@ impl<D: Disk + Drop, B: Parties + Rings, H: Parties> Library<D, B, H> {
         Ok(replies)
     }
 
-    /// Does the same where there is room for all replies, and none yet. It takes no memory.
+    /// Carries out `lines` as `host_session` does, and appends their replies to `replies`, which has to be empty and to
+    /// have room for all of them. No memory is allocated for `replies`.
     pub fn session<R: Wait>(
         &self,
         rt: &R,
@@ -57,9 +59,9 @@ impl<D: Disk + Drop, B: Parties + Rings, H: Parties> Library<D, B, H> {
         }
     }
 
-    /// Carries out the command of a line of a seat's host, on the configured drive that it names. A written block takes
-    /// the line's data without copying. The change that the command made, if any, is entered for the drive and for the
-    /// seat.
+    /// Carries out the command of `line`, on the configured drive that it names, and returns the reply. `seat` is the
+    /// seat of the line's host. A block that is written takes over the line's data without a copy. The change that the
+    /// command makes, if any, is entered in the ledgers, for the drive and for the seat.
     pub fn serve_line<R: Wait>(&self, rt: &R, seat: &mut Seat<H>, line: &mut Line) -> Reply
         requires host { line.old.host ≡ seat.old.nexus }
         requires configured { has_drive self.now line.old.drive ≡ true }

@@ -58,7 +58,7 @@ impl<D: Disk + Drop, B: Parties + Rings> SharedBay<D, B> {
         reply
     }
 
-    // The same, with the hosts' half locked.
+    // As `serve`, with the hosts' half locked by the caller.
     fn serve_locked<H: Parties, R: Wait>(
         &self,
         front: &mut FrontPlace<D, B>,
@@ -80,15 +80,15 @@ impl<D: Disk + Drop, B: Parties + Rings> SharedBay<D, B> {
         }
     }
 
-    // Takes a flusher's turn, with the disk's half alone locked. Returns the count of changes before the turn, so that
-    // a change during the turn raises the count.
+    // Takes a flusher's turn, with the disk's half alone locked. Returns what the turn did, and the drive's count of
+    // changes before it, so that a change during the turn raises the count.
     pub(crate) fn take_turn<R: Wait, G: Gate>(&self, rt: &R, gate: &G) -> (Turn, u64) {
         let count = self.front.lock(rt).accepted();
         let turn = self.turn(rt, gate);
         match turn {
             Turn::Idle => {}
             Turn::Stored(_) => self.renew(rt),
-            Turn::Device => self.tell(rt),
+            Turn::Device => self.report_fault(rt),
         }
         (turn, count)
     }
@@ -100,8 +100,8 @@ impl<D: Disk + Drop, B: Parties + Rings> SharedBay<D, B> {
         back.turn()
     }
 
-    // Lets hosts send as much again as the buffer takes, under both locks. No turn runs meanwhile. So a host that sends
-    // less than that during a turn never waits for the turn.
+    // Lets hosts send as many changes again as the buffer takes, under both locks. No turn runs meanwhile. So a host
+    // that sends less than that during a turn never waits for the turn.
     fn renew<R: Wait>(&self, rt: &R) {
         let mut front = self.front.lock(rt);
         let mut back = self.back.lock(rt);
@@ -109,13 +109,13 @@ impl<D: Disk + Drop, B: Parties + Rings> SharedBay<D, B> {
     }
 
     // Reports a fault of the disk's half to hosts, under both locks.
-    fn tell<R: Wait>(&self, rt: &R) {
+    fn report_fault<R: Wait>(&self, rt: &R) {
         let mut front = self.front.lock(rt);
         let mut back = self.back.lock(rt);
-        front.tell(&mut back, rt);
+        front.report_fault(&mut back, rt);
     }
 
-    // Waits until a command has accepted a change that is not in this count, or the library is closed.
+    // Waits until the drive's count of changes is no longer `count`, or the library is closed.
     pub(crate) fn wait<R: Wait>(&self, rt: &R, count: u64, closed: &AtomicBool) {
         let held = self.front.lock(rt);
         let _ = self.bell.wait_while(rt, held, |place| {

@@ -1,4 +1,4 @@
-//! The runner of a script's items over a library.
+//! The runner of a script's items, over the hosts of a library.
 ghost use Rattle.std.specs.Prelude.{◌≡◌, ◌∷◌, [], true, IfOk, OnErr};
 ghost use Rattle.std.specs.List.{list_all};
 ghost use Rattle.vtl_script.specs.declared.items.Item.TheVariants as Kinds;
@@ -12,8 +12,8 @@ use std::alloc::Global;
 use vtl_base::{DriveNo, NoMemory};
 use vtl_script::{Item, Line, Runner};
 
-/// The hosts of a library, and the function that carries out the lines dealt to them, each host's in a thread
-/// of its own. A method of a trait can start no thread by itself, so it calls this function.
+/// The hosts of a library, and `serve`, a function that carries out the lines dealt to them, in threads side by side. A
+/// method of a trait can start no thread by itself, so it calls this function.
 #[derive(Drop)]
 pub(crate) struct Crew<S: Hosts, F: Fn(&mut S)> {
     pub(crate) hosts: S,
@@ -21,7 +21,8 @@ pub(crate) struct Crew<S: Hosts, F: Fn(&mut S)> {
 }
 
 impl<S: Hosts, F: Fn(&mut S)> Crew<S, F> {
-    // Carries out the lines of a phase. Where memory runs out, no line is carried out.
+    // Carries out the lines of a phase, and returns their replies. If memory runs out, an error is returned, and no
+    // line is carried out.
     fn run_lines(&mut self, alloc: Global, lines: &mut [Line]) -> Result<Vec<Reply>, NoMemory>
         requires serves { ServesHosts S.is_dealt S.is_served F.Fn self.old.serve }
         requires configured { list_all (λ line. has_drive (S.crew self.old.hosts).drives line.drive) lines.old ≡ true }

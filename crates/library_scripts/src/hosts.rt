@@ -1,4 +1,4 @@
-//! The hosts of a library, for the runner of a script's items.
+//! The hosts of a library, as the runner of a script's items uses them.
 ghost use Rattle.std.specs.Prelude.{◌≡◌, ◌≤◌, ◌++◌, ◌∷◌, [], true, List, length, vec_capacity, IfOk, OnErr, OnOk};
 ghost use Rattle.std.specs.List.{list_all};
 ghost use Rattle.std.specs.List.Sorted.{IsNonDecreasingBy};
@@ -14,40 +14,42 @@ use std::alloc::Global;
 use vtl_base::{DriveNo, NoMemory};
 use vtl_script::Line;
 
-/// The hosts of a library. The lines of a phase are dealt to them, then each carries out its own, and then
-/// they return their replies.
+/// The hosts of a library. The lines of a phase are dealt to their hosts. Then each host carries out its own lines, and
+/// at the end the hosts' replies are collected.
 pub(crate) trait Hosts {
-    /// Which drives there are, and the seats.
+    /// Which drives are configured, and the hosts' seats.
     ghost crew: { Self → CrewState };
 
-    /// These items may have these replies, one after another.
+    /// These items may have these replies, one item after another, and change the first state into the second.
     ghost answers: { CrewState → List Item → List Reply → CrewState → Type 0 };
 
-    /// These lines were dealt to their hosts.
+    /// These lines, dealt to their hosts, change the first value into the second.
     ghost deals: { Self → List Line → Self → Type 0 };
 
-    /// Each host may carry out its lines.
+    /// Each host has its lines and room for their replies, and may carry them out.
     ghost is_dealt: { Self → Type 0 };
 
-    /// Each host has carried out its lines.
+    /// Each host carried out its lines, which changed the first value into the second.
     ghost is_served: { Self → Self → Type 0 };
 
-    /// The replies that the hosts have, by rising host.
+    /// The replies that the hosts have, by rising number of the host.
     ghost given: { Self → List Reply };
 
     /// Whether this drive is configured.
     fn configured(&self, drive: DriveNo) -> bool
         ensures { result ≡ has_drive (crew self.now).drives drive };
 
-    /// Carries out the lines of a phase, one after another. Where memory runs out, no line is carried out.
+    /// Carries out the lines of a phase, one after another, and returns their replies. If memory runs out, an error is
+    /// returned, and no line is carried out.
     fn run_in_turn(&mut self, alloc: Global, lines: &mut [Line]) -> Result<Vec<Reply>, NoMemory>
         requires { list_all (λ line. has_drive (crew self.old).drives line.drive) lines.old ≡ true }
         ensures ok { IfOk result (λ replies.
             answers (crew self.old) (Kinds.Phase lines.old ∷ []) replies.items (crew self.new)) }
         ensures err { OnErr result (crew self.new ≡ crew self.old) };
 
-    /// Deals the lines of a phase, whose hosts rise, and makes room for their replies. Where memory runs out,
-    /// no line is to be carried out.
+    /// Deals the lines of a phase to their hosts, and reserves memory for their replies. The hosts' numbers have to
+    /// rise, or stay, from line to line. If memory runs out, an error is returned: no line was carried out, and none
+    /// may be carried out then.
     fn deal(&mut self, lines: &mut [Line]) -> Result<(), NoMemory>
         requires rising { IsNonDecreasingBy (λ line. line.host) lines.old }
         requires configured { list_all (λ line. has_drive (crew self.old).drives line.drive) lines.old ≡ true }
@@ -55,37 +57,39 @@ pub(crate) trait Hosts {
         ensures ready { OnOk result (is_dealt self.new) }
         ensures err { OnErr result (crew self.new ≡ crew self.old) };
 
-    /// Moves the replies of all hosts into a vector that has room for them.
+    /// Moves the replies of all hosts into `replies`, which has to be empty and to have room for all of them.
     fn give(&mut self, replies: &mut Vec<Reply>)
         requires { (replies.old.items ≡ []) × (length (given self.old) ≤ vec_capacity replies.old) }
         ensures replies { replies.new.items ≡ given self.old }
         ensures crew { crew self.new ≡ crew self.old };
 
-    /// Moves a cartridge. Where memory runs out, nothing is moved.
+    /// Moves a cartridge from the element address `from` to `to`, and returns the one reply to that. If memory for it
+    /// runs out, an error is returned, and nothing is moved.
     fn run_move(&mut self, alloc: Global, from: u32, to: u32) -> Result<Vec<Reply>, NoMemory>
         ensures ok { IfOk result (λ replies.
             answers (crew self.old) (Kinds.Move from to ∷ []) replies.items (crew self.new)) }
         ensures err { OnErr result (crew self.new ≡ crew self.old) };
 
-    /// Lines that were dealt and carried out are answered as a phase.
+    /// The replies to lines that were dealt and then carried out are an answer to a phase of these lines.
     ghost answered: { (old dealt served : Self) (lines : List Line) → deals old lines dealt → is_served dealt served
         → answers (crew old) (Kinds.Phase lines ∷ []) (given served) (crew served) };
 
-    /// Each line has one reply.
+    /// After the lines were dealt and carried out, there are as many replies as lines.
     ghost counted: { (old dealt served : Self) (lines : List Line) → deals old lines dealt → is_served dealt served
         → length (given served) ≡ length lines };
 
-    /// The same drives are configured.
+    /// After items were answered, the same drives are configured as before.
     ghost same: { (old new : CrewState) (items : List Item) (replies : List Reply) → answers old items replies new
         → new.drives ≡ old.drives };
 
-    /// No items, no replies, no change.
+    /// No items have no replies and change nothing.
     ghost answers_none: { (crew : CrewState) → answers crew [] [] crew };
 
-    /// The same for a phase without commands.
+    /// A phase without commands has no replies and changes nothing.
     ghost answers_empty: { (crew : CrewState) → answers crew (Kinds.Phase [] ∷ []) [] crew };
 
-    /// A run that starts where another ended extends that run.
+    /// A run of items, followed by another that begins where the first one ended, is a run of all their items, with all
+    /// their replies.
     ghost answers_on: { (old mid new : CrewState) (first rest : List Item) (replies others : List Reply)
         → answers old first replies mid → answers mid rest others new
         → answers old (first ++ rest) (replies ++ others) new };

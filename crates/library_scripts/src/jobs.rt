@@ -1,4 +1,4 @@
-//! A host's part of a phase.
+//! The lines of one host in a phase.
 ghost use Rattle.std.specs.Prelude.{◌≡◌, ◌≤◌, ◌+◌, ◌++◌, ◌∷◌, [], true, length, vec_capacity, OnOk};
 ghost use Rattle.bays.specs.Runs.{line_request};
 ghost use Rattle.library.specs.Counts.{has_drive};
@@ -16,7 +16,7 @@ use tape_disk::Disk;
 use vtl_base::NoMemory;
 use vtl_script::Line;
 
-/// The seat of a host, and its lines of a phase with room for their replies.
+/// A job: the seat of a host, the host's lines of a phase, and room for their replies.
 #[derive(Drop)]
 pub(crate) struct Job<H: Parties> {
     seat: Seat<H>,
@@ -41,7 +41,7 @@ impl<H: Parties> Idle for Job<H> {
 }
 
 impl<H: Parties> Job<H> {
-    /// The job of a seat's host. It takes no memory.
+    /// A job without lines, for the host that has this seat. It takes no memory.
     pub(crate) fn of(alloc: Global, seat: Seat<H>) -> Job<H>
         ensures { result.seat ≡ seat }
     {
@@ -52,7 +52,7 @@ impl<H: Parties> Job<H> {
         }
     }
 
-    /// Begins a phase without lines and replies.
+    /// Begins a phase: removes all lines and replies of the job.
     pub(crate) fn begin(&mut self)
         ensures seat { self.new.seat ≡ self.old.seat }
         ensures none { (self.new.lines ≡ []) × (self.new.replies ≡ []) }
@@ -61,7 +61,8 @@ impl<H: Parties> Job<H> {
         self.replies.clear();
     }
 
-    /// Adds a line, and room for its reply.
+    /// Adds a line to the job, and reserves memory for its reply. The command block and the data are moved out of
+    /// `line`. If memory runs out, an error is returned.
     pub(crate) fn add(&mut self, line: &mut Line) -> Result<(), NoMemory>
         requires { self.old.replies ≡ [] }
         ensures same { (self.new.seat ≡ self.old.seat) × (self.new.replies ≡ self.old.replies) }
@@ -80,7 +81,7 @@ impl<H: Parties> Job<H> {
         Ok(())
     }
 
-    /// Carries out its lines, in order.
+    /// Carries out the lines of the job, in order. Their replies are in the job then.
     pub(crate) fn serve<D: Disk + Drop, B: Parties + Rings, R: Wait>(
         &mut self,
         rt: &R,
@@ -97,7 +98,8 @@ impl<H: Parties> Job<H> {
         library.session(rt, seat, lines.as_mut_slice(), replies);
     }
 
-    /// Carries out one line directly. A written block takes the line's data without copying.
+    /// Carries out a line that was not added to the job, for the job's host. A block that is written takes the line's
+    /// data without a copy.
     pub(crate) fn serve_line<D: Disk + Drop, B: Parties + Rings, R: Wait>(
         &mut self,
         rt: &R,
@@ -111,7 +113,7 @@ impl<H: Parties> Job<H> {
         library.serve_line(rt, &mut self.seat, line)
     }
 
-    /// Appends its replies to others.
+    /// Moves the replies of the job to the end of `replies`, which has to have room for them.
     pub(crate) fn give(&mut self, replies: &mut Vec<Reply>)
         requires { length replies.old.items + length self.old.replies ≤ vec_capacity replies.old }
         ensures replies { replies.new.items ≡ replies.old.items ++ self.old.replies }
@@ -121,7 +123,7 @@ impl<H: Parties> Job<H> {
         replies.append(&mut self.replies).unwrap();
     }
 
-    /// The seat.
+    /// Returns the seat.
     pub(crate) fn into_seat(self) -> Seat<H>
         ensures { result ≡ self.seat }
     {

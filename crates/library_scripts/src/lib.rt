@@ -1,4 +1,5 @@
-//! Scripts over a library whose drives threads share. Each host of a phase has a thread, and each drive a flusher.
+//! Scripts over a library whose drives threads share. In a phase of several hosts, the hosts' lines run in threads side
+//! by side; each drive has a flusher in a thread beside them.
 #![tactic(auto)]
 
 mod crews;

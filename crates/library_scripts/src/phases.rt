@@ -1,4 +1,4 @@
-//! The lines of a phase: dealt to the jobs of their hosts, or carried out one after another.
+//! The lines of a phase: they are dealt to the jobs of their hosts, or carried out one after another.
 ghost use Rattle.std.specs.Prelude.{◌≡◌, ◌≤◌, ◌<◌, ◌+◌, [], true, map, length, vec_capacity, IfOk, OnErr, OnOk, All};
 ghost use Rattle.std.specs.List.{list_all};
 ghost use Rattle.std.specs.List.Sorted.{IsNonDecreasingBy};
@@ -19,7 +19,8 @@ use tape_disk::Disk;
 use vtl_base::NoMemory;
 use vtl_script::Line;
 
-/// Whether these lines are of several hosts, and none comes after one of a higher host.
+/// Returns true where these lines are of at least two hosts, and no line comes after one of a host with a higher
+/// number.
 pub(crate) fn are_of_rising_hosts(lines: &[Line]) -> bool
     ensures { result ≡ true → IsNonDecreasingBy (λ line. line.host) lines.now }
 {
@@ -34,7 +35,7 @@ pub(crate) fn are_of_rising_hosts(lines: &[Line]) -> bool
     }
 }
 
-// The place of the job of a line's host.
+// The place of the job of a line's host, counted from 0.
 fn job_place(line: &Line) -> usize
     ensures place { result + 1 ≡ line.now.host }
     ensures range { result < NEXUSES }
@@ -42,7 +43,8 @@ fn job_place(line: &Line) -> usize
     usize::from(line.host.number()) - 1
 }
 
-/// Carries out the lines one after another. Where memory runs out, no line is carried out.
+/// Carries out the lines one after another, in this thread, and returns their replies. If memory for the replies runs
+/// out, an error is returned, and no line is carried out.
 pub(crate) fn serve_in_turn<D: Disk + Drop, B: Parties + Rings, H: Parties, R: Wait>(
     rt: &R,
     alloc: Global,
@@ -66,7 +68,7 @@ pub(crate) fn serve_in_turn<D: Disk + Drop, B: Parties + Rings, H: Parties, R: W
     Ok(replies)
 }
 
-/// Begins a phase for each host.
+/// Begins a phase for each host: its job has no lines and no replies then.
 pub(crate) fn begin_all<H: Parties>(jobs: &mut [Job<H>])
     ensures seats { seats_of jobs.new ≡ seats_of jobs.old }
     ensures none { All (λ job. (job.lines ≡ []) × (job.replies ≡ [])) jobs.new }
@@ -76,7 +78,8 @@ pub(crate) fn begin_all<H: Parties>(jobs: &mut [Job<H>])
     }
 }
 
-/// Deals each line to the job of its host, with room for its reply.
+/// Moves each line to the job of its host, and reserves memory for its reply. The hosts' numbers have to rise, or stay,
+/// from line to line. If memory runs out, an error is returned, and some lines may have been moved.
 pub(crate) fn deal_all<H: Parties>(jobs: &mut [Job<H>], lines: &mut [Line]) -> Result<(), NoMemory>
     requires places { AreInPlace (seats_of jobs.old) }
     requires none { All (λ job. (job.lines ≡ []) × (job.replies ≡ [])) jobs.old }
@@ -92,7 +95,8 @@ pub(crate) fn deal_all<H: Parties>(jobs: &mut [Job<H>], lines: &mut [Line]) -> R
     Ok(())
 }
 
-/// Appends the replies of all jobs, one after another.
+/// Moves the replies of all jobs, one job after another, into `replies`, which has to be empty and to have room for all
+/// of them.
 pub(crate) fn give_all<H: Parties>(jobs: &mut [Job<H>], replies: &mut Vec<Reply>)
     requires { (replies.old.items ≡ []) × (length (replies_of jobs.old) ≤ vec_capacity replies.old) }
     ensures replies { replies.new.items ≡ replies_of jobs.old }

@@ -18,7 +18,7 @@ use crate::jobs::Job;
 use crate::serving::serve_all;
 use crate::stages::Stage;
 use bays::{Bay, Parked};
-use changer::Slots;
+use element_slots::Slots;
 use ledgers::{Parties, Seat};
 use library::{Finished, Gate, Library, NotOpened, RingRow, Rings, beside_flushers};
 use std::alloc::Global;
@@ -32,16 +32,16 @@ use vtl_base::limits::NEXUSES;
 use vtl_base::{Nexus, NoMemory};
 use vtl_script::{Runner, ScriptFault, run_script};
 
-/// The parts of a library over which a script was run.
+/// What is left of a library over which a script was run.
 #[derive(Drop)]
 pub struct Ran<D: Disk> {
-    /// Slots, drives and counts.
+    /// The library's slots and drives, and how the library ended.
     pub finished: Finished<D>,
-    /// How the script ended.
+    /// Ok where the script ran to its end; otherwise the fault that ended it.
     pub outcome: Result<(), ScriptFault>,
 }
 
-// Runs the script, and then ends every flusher.
+// Runs the script, and then closes the library, so that every flusher ends.
 fn run_and_close<
     D: Disk + Drop,
     B: Parties + Rings,
@@ -69,7 +69,7 @@ fn run_and_close<
     outcome
 }
 
-// Runs the script with a flusher of each drive beside it.
+// Runs the script while each drive has a flusher beside it.
 fn run_beside<
     D: Disk + Drop + Send,
     B: Parties + Rings + Send + Sync,
@@ -175,11 +175,17 @@ fn run_opened<
     }
 }
 
-/// Runs a script over these slots, and these drives, each in the place of its number. The hosts have the
-/// numbers 1 to 64. A line is written for each reply. The items run one after another. In a phase of several
-/// hosts the lines of each host run in order in a thread of its own; those of a single host run in the
-/// caller's thread. Each drive has a flusher beside them, in a thread of its own. At the end all threads are
-/// joined, and every buffer is written out. Where memory runs out before the script begins, all parts but the
+/// Opens a library, runs a script over it, and ends the library. `bays` has a place for each drive number, from 1 to
+/// 16, with the drive if there is one. `rings` has a ring for each of these drives, and `hosts` are the numbers 1 to
+/// 64. `bay_ledger` and `host_ledger` are blank ledgers, for the drives and for the hosts.
+///
+/// The script is read from `reader`, and a line is written to `writer` for each reply. The items of the script run one
+/// after another. In a phase of several hosts, each host's lines run in order in a thread of their own, but those of
+/// the last host run in the caller's thread. The lines of a single host run in the caller's thread. Meanwhile each
+/// drive has a flusher in a thread of its own, which asks `gate` before each turn.
+///
+/// At the end all threads are joined, and each drive takes a turn, which writes its buffer out unless its medium has
+/// failed. `Ran::finished` says whether a medium has. If memory runs out before the script begins, all parts but the
 /// rings are returned, and nothing is read or written.
 pub fn run_library<
     D: Disk + Drop + Send,

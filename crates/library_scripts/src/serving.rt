@@ -1,4 +1,4 @@
-//! The lines of several hosts, in threads.
+//! Carrying out the lines of several hosts, in threads.
 ghost use Rattle.std.specs.Prelude.{All};
 ghost use Rattle.library_scripts.specs.Inner.Jobs.{AreDone, IsDone, IsReady, IsServedStage};
 ghost use Rattle.library_scripts.specs.Inner.Staged.{AreReady};
@@ -13,8 +13,8 @@ use std::sync::Wait;
 use std::thread::Threads;
 use tape_disk::Disk;
 
-/// Carries out the lines of each host. Each host that has lines has a thread of its own. The last host runs in the
-/// caller's thread.
+/// Carries out the lines of each host. The last host that has lines runs in the caller's thread, each other one in a
+/// thread of its own.
 pub(crate) fn serve_all<
     'a,
     D: Disk + Drop + Send,

@@ -1,4 +1,4 @@
-//! The hosts of a library, each with its seat and its part of a phase.
+//! The hosts of a library, each with its seat and its lines of a phase.
 ghost use Rattle.std.specs.Prelude.{◌≡◌, ◌≤◌, [], length, vec_capacity};
 ghost use Rattle.vtl_base.specs.declared.limits.TheConstants.{NEXUSES};
 ghost use Rattle.library_scripts.specs.Crews.{AnswersCrew};
@@ -21,7 +21,8 @@ use tape_disk::Disk;
 use vtl_base::{DriveNo, NoMemory};
 use vtl_script::Line;
 
-/// The hosts of a library, from number 1 on. A contract sees which drives are configured, and the job of each host.
+/// The hosts of a library, from number 1 on. A contract sees which drives are configured, and the job of each host: its
+/// seat and its lines of a phase.
 #[derive(Drop)]
 pub(crate) struct Stage<'a, D: Disk, B: Parties + Rings, H: Parties, R> {
     pub(crate) rt: &'a R,
@@ -40,7 +41,7 @@ impl<'a, D: Disk, B: Parties + Rings, H: Parties, R> Model for Stage<'a, D, B, H
     ghost invariant = { λ s. AreInPlace (seats_of s.jobs.items) };
 }
 
-// A job for each seat.
+// A job for each seat, in `room`.
 fn jobs_of<H: Parties>(alloc: Global, room: Vec<Job<H>>, seats: Vec<Seat<H>>) -> Vec<Job<H>>
     requires { (room.items ≡ []) × (length seats.items ≤ vec_capacity room) }
     ensures { seats_of result.items ≡ seats.items }
@@ -52,7 +53,7 @@ fn jobs_of<H: Parties>(alloc: Global, room: Vec<Job<H>>, seats: Vec<Seat<H>>) ->
     jobs
 }
 
-// Takes the seats out of their jobs.
+// Takes the seats out of their jobs, into `room`.
 fn seats_in<H: Parties>(room: Vec<Seat<H>>, jobs: Vec<Job<H>>) -> Vec<Seat<H>>
     requires { (room.items ≡ []) × (length jobs.items ≤ vec_capacity room) }
     ensures { result.items ≡ seats_of jobs.items }
@@ -65,7 +66,8 @@ fn seats_in<H: Parties>(room: Vec<Seat<H>>, jobs: Vec<Job<H>>) -> Vec<Seat<H>>
 }
 
 impl<'a, D: Disk + Drop, B: Parties + Rings, H: Parties, R> Stage<'a, D, B, H, R> {
-    /// The hosts of these seats, with room for their jobs. It takes no memory.
+    /// The hosts that have these seats. `room` is empty, with room for a job for each of them. The call takes no
+    /// memory.
     pub(crate) fn of(
         rt: &'a R,
         alloc: Global,
@@ -85,7 +87,8 @@ impl<'a, D: Disk + Drop, B: Parties + Rings, H: Parties, R> Stage<'a, D, B, H, R
         }
     }
 
-    /// The seats. It takes no memory.
+    /// Returns the seats, by rising host, in `room`, which has to be empty and to have room for 64 seats. It takes no
+    /// memory.
     pub(crate) fn into_seats(self, room: Vec<Seat<H>>) -> Vec<Seat<H>>
         requires { (room.items ≡ []) × (NEXUSES ≤ vec_capacity room) }
         ensures seats { result.items ≡ seats_of self.entry.jobs }

@@ -1,4 +1,4 @@
-//! Work on several values, in threads of their own.
+//! Work on several values, in threads side by side.
 ghost use Rattle.std.specs.Prelude.{◌≡◌, All, length};
 ghost use Rattle.std.specs.Fork.{AcceptsAt, ChangesAt};
 ghost use Rattle.library_scripts.specs.Inner.Threads.{ChangesAll};
@@ -8,14 +8,15 @@ use std::marker::{Send, Sync};
 use std::thread;
 use std::thread::Threads;
 
-/// A value that may have nothing to do.
+/// A value for which there may be nothing to do.
 pub(crate) trait Idle {
-    /// Whether it has nothing to do and needs no thread.
+    /// Returns true where there is nothing to do for this value, so that it needs no thread.
     fn is_idle(&self) -> bool;
 }
 
-/// Calls a function on each of these values, in the order of their places. Each value that has something to do has a
-/// thread of its own. The last one runs in the caller's thread.
+/// Calls `f` once on each of `items`, with the number 0. Of the values for which there is something to do, the last one
+/// runs in the caller's thread, and each other one in a thread of its own. The call returns once all calls of `f` have
+/// returned.
 #[cycle(each)]
 pub(crate) fn each_beside<R: Threads + Sync, T: Idle + Send, F: Fn(usize, &mut T) + Sync>(
     rt: &R,
@@ -37,7 +38,7 @@ pub(crate) fn each_beside<R: Threads + Sync, T: Idle + Send, F: Fn(usize, &mut T
     }
 }
 
-// Calls the function on the first value in a new thread, and on the others beside it.
+// Calls the function on the only value of `first` in a new thread, and beside it on those of `rest`.
 #[cycle(each)]
 fn first_beside<R: Threads + Sync, T: Idle + Send, F: Fn(usize, &mut T) + Sync>(
     rt: &R,
@@ -62,7 +63,7 @@ fn first_beside<R: Threads + Sync, T: Idle + Send, F: Fn(usize, &mut T) + Sync>(
     thread::join_mut(rt, &mut one, &mut others);
 }
 
-// Calls the function on the only one of these values.
+// Calls the function on the only value of `first`, in this thread.
 fn at_first<T, F: Fn(usize, &mut T)>(f: &F, first: &mut [T])
     requires one { length first.old ≡ 1 }
     requires first { All (AcceptsAt F.Fn f.now 0) first.old }
@@ -79,7 +80,7 @@ fn at_one<T, F: Fn(usize, &mut T)>(f: &F, item: &mut T)
     f(0, item);
 }
 
-// Whether none of these has something to do.
+// Returns true where there is nothing to do for any of these values.
 fn are_idle<T: Idle>(items: &[T]) -> bool {
     for item in items {
         if !item.is_idle() {

@@ -5,7 +5,8 @@ ghost use Rattle.std.specs.Prelude.{◌≡◌};
 
 use std::marker::{Model, PhantomData};
 
-/// A value that only proofs see. `N` is a type whose model says of which kind the value is.
+/// A value that only proofs see, and that takes no memory. The type `N` says of which kind it is: contracts see it
+/// as they would see an `N` (`Model`). No value of type `N` itself is needed.
 pub struct NotedValue<N> {
     marker: PhantomData<N>,
     pub ghost value: { N } by { N.code },
@@ -29,7 +30,7 @@ impl<N> Drop for NotedValue<N> {
     }
 }
 
-/// The value that the caller's proof names, by what is given.
+/// Returns a noted value. The caller's proof names it, in terms of what `_from` refers to, which no code reads.
 pub fn note<N, A>(_from: &A) -> NotedValue<N>
     ghost value: { N }
     ensures { result ≡ value }
@@ -39,7 +40,8 @@ pub fn note<N, A>(_from: &A) -> NotedValue<N>
     }
 }
 
-/// The value that the caller's proof names, by two things that are given.
+/// Returns a noted value. The caller's proof names it, in terms of what `_from` and `_with` refer to, which no code
+/// reads.
 pub fn note_both<N, A, B>(_from: &A, _with: &B) -> NotedValue<N>
     ghost value: { N }
     ensures { result ≡ value }

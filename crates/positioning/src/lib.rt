@@ -1,4 +1,4 @@
-//! The position on a tape of the next command, where SPACE and LOCATE end, and the data of READ POSITION.
+//! The position of the next command on a tape, where SPACE and LOCATE end, and the data of READ POSITION.
 #![tactic(auto)]
 
 pub mod laws;

@@ -97,8 +97,9 @@ fn marks_backward<C: Catalog>(catalog: &C, pos: Pos, count: u32) -> Moved
     moved(pos, walk.at, stop, walk.left)
 }
 
-/// Moves over blocks or filemarks, backward where the count is below 0, or to the end of data. It always
-/// succeeds, and looks at no object.
+/// Returns where SPACE from `pos` ends. As `code` says, it passes `count` blocks or filemarks, backward where `count`
+/// is below 0, or goes to the end of data. Where it ends earlier, the result says why. The medium must be awake, and
+/// `pos` must be on its tape. The call always succeeds, and looks at no object.
 pub fn space<C: Catalog>(catalog: &C, pos: Pos, code: SpaceCode, count: i32) -> Moved
     requires awake { (C.state catalog.now).awake ≡ true }
     requires on_tape { IsOnTape (volume_of (C.state catalog.now)) pos }
@@ -118,7 +119,8 @@ pub fn space<C: Catalog>(catalog: &C, pos: Pos, code: SpaceCode, count: i32) -> 
     }
 }
 
-/// Moves to an object of the position's partition, or to the end of data where there are fewer. It always
+/// Returns where LOCATE to object `to` of the partition of `pos` ends: before that object, or at the end of data where
+/// the partition has fewer than `to` objects. The medium must be awake, and `pos` must be on its tape. The call always
 /// succeeds, and looks at no object.
 pub fn locate<C: Catalog>(catalog: &C, pos: Pos, to: ObjNo) -> Moved
     requires awake { (C.state catalog.now).awake ≡ true }

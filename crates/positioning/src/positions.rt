@@ -1,8 +1,8 @@
 //! Positions, and the result of a motion.
 use vtl_base::{ObjNo, PartNo};
 
-/// The position of the next command: a partition, and the number of the object in it before which it works
-/// (SSC-4, logical position).
+/// The position on a tape where the next command works: before object `obj` of partition `part`. At the end of data
+/// `obj` is how many objects the partition has (SSC-4, logical position).
 #[derive(Clone, Copy, PartialEq, Eq, Debug)]
 pub struct Pos {
     pub part: PartNo,
@@ -12,21 +12,22 @@ pub struct Pos {
 /// Why a motion ended where it did (SSC-4, SPACE(6) and LOCATE(10)).
 #[derive(Clone, Copy, PartialEq, Eq, Debug)]
 pub enum Stop {
-    /// It was completed.
+    /// The motion was completed.
     Done,
-    /// It met a filemark on its way over blocks.
+    /// A motion over blocks met a filemark.
     AtMark,
-    /// It met the end of data.
+    /// The motion met the end of data.
     AtEnd,
-    /// It met the beginning of the partition.
+    /// The motion met the beginning of the partition.
     AtStart,
 }
 
-/// How a motion ended.
+/// Where a motion ended, why it ended there, and how much was left of its count.
 #[derive(Clone, Copy, PartialEq, Eq, Debug)]
 pub struct Moved {
     pub pos: Pos,
     pub stop: Stop,
-    /// The size of the count without the objects that were passed (SSC-4, INFORMATION of SPACE(6)).
+    /// How many of the blocks or filemarks that were to be passed were not; 0 for LOCATE (SSC-4, INFORMATION of
+    /// SPACE(6)).
     pub left: u32,
 }

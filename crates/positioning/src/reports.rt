@@ -7,8 +7,8 @@ ghost use Rattle.positioning.specs.Report.{is_near_end, report_of};
 use crate::positions::Pos;
 use volume_core::{Catalog, is_in_early_zone};
 
-/// Whether a position is near the end of its partition: what the objects before it take reaches
-/// into the last sixteenth of the capacity (SSC-4, EOP and early warning; the zone own).
+/// Whether `pos` is near the end of its partition: whether the objects before it use so many bytes that they reach into
+/// the last sixteenth of the capacity (SSC-4, EOP and early warning; the zone own). The medium must be awake.
 pub fn is_near_end<C: Catalog>(catalog: &C, pos: Pos) -> bool
     requires { (C.state catalog.now).awake ≡ true }
     ensures { result ≡ is_near_end (volume_of (C.state catalog.now)) pos }
@@ -17,7 +17,8 @@ pub fn is_near_end<C: Catalog>(catalog: &C, pos: Pos) -> bool
     is_in_early_zone(catalog.capacity(pos.part), used)
 }
 
-/// The 20 bytes of READ POSITION's short form for a position, where nothing is pending (SSC-4).
+/// The 20 bytes of READ POSITION's short form for the position `pos`, where nothing is pending (SSC-4). The medium must
+/// be awake, and `pos` must be on its tape.
 pub fn report<C: Catalog>(catalog: &C, pos: Pos) -> [u8; 20]
     requires awake { (C.state catalog.now).awake ≡ true }
     requires on_tape { IsOnTape (volume_of (C.state catalog.now)) pos }

@@ -1,5 +1,5 @@
-//! Moving over filemarks by their numbers. A motion looks at no object: it asks how many filemarks come
-//! before a place, and for the place of the filemark with a number.
+//! Motions over filemarks by their numbers. A motion looks at no object: it only asks the catalog how many filemarks
+//! come before a place, and at which place the filemark with a number stands.
 ghost use Rattle.std.specs.Prelude.{◌≡◌, ◌≤◌, true};
 ghost use Rattle.volume_core.specs.Volume.{count_of, objects_of};
 ghost use Rattle.volume_core.specs.Medium.{volume_of};

@@ -10,8 +10,8 @@ use scsi_attention::{Attention, AttnSet};
 use std::marker::Model;
 use vtl_base::Nexus;
 
-/// The unit attention conditions that an order establishes for each nexus. A contract sees them as the list
-/// of the sets, by rising nexus.
+/// The unit attention conditions that an order establishes: one `AttnSet` for each nexus. A contract sees the list of
+/// these sets, in the order of the nexus numbers.
 #[derive(Clone, Copy)]
 pub struct Attns {
     sets: [AttnSet; 64],
@@ -60,7 +60,7 @@ impl Attns {
         }
     }
 
-    /// The conditions for each nexus, by rising nexus.
+    /// The 64 sets of conditions, one for each nexus, in the order of the nexus numbers.
     pub fn sets(&self) -> &[AttnSet]
         ensures sets { result.now ≡ self.now }
         ensures all { length self.now ≡ NEXUSES }

@@ -16,8 +16,8 @@ pub enum KeeperError {
     /// The store has no room for the state. Nothing has changed.
     #[error("store full")]
     SideFull,
-    /// The device failed in this call, and the keeper has failed with it. The saved state is the one before,
-    /// or this one.
+    /// The device failed in this call, and each later save returns `Failed`. The saved state is either the one before
+    /// this call or the new one.
     #[error("device fault")]
     Device,
     /// The keeper failed in an earlier call. Nothing has changed.
@@ -30,24 +30,25 @@ pub trait Keeper {
     /// What the keeper has saved, and whether it has failed.
     ghost kept: { Self → KeeperState };
 
-    /// What a contract sees of the layers below: the failures of the device, whether the device keeps the
-    /// promises of a disk, and the states that were saved from one value of the keeper to another.
+    /// What a contract sees of the layers below: how often the device has failed, whether it keeps the promises of a
+    /// disk, and whether it may be called. It also sees which states were saved, or may have been at a fault, between
+    /// two values of the keeper.
     ghost below: { Below Self PrState };
 
-    /// Saves these reservations whole, in place of those saved before.
+    /// Saves `reservations` whole, in place of those saved before.
     fn save(&mut self, reservations: &Reservations) -> Result<(), KeeperError>
         ensures answer { Saves (kept self.old) reservations.now result (kept self.new) }
         ensures advances { Advances below
             self.old (saved_by result reservations.now) (save_met_fault result) self.new };
 
-    /// Whether the device has failed since the keeper was opened. After that no save succeeds.
+    /// Whether the device has failed since the keeper was opened. If so, no save succeeds any more.
     fn has_failed(&self) -> bool
         ensures { result ≡ (kept self.now).failed };
 
-    /// A run without a call saves nothing, and meets no fault.
+    /// Where no call is made, nothing is saved and no fault is met.
     ghost advances_nowhere: { (keeper : Self) → Advances below keeper [] false keeper };
 
-    /// Two runs, one after the other, save the states of the first and then those of the second.
+    /// Two sequences of calls, one after the other, save the states of the first sequence and then those of the second.
     ghost moves_on: { (a b c : Self) (first second : List PrState)
         → below.moves a first b → below.moves b second c → below.moves a (first ++ second) c };
 }

@@ -70,7 +70,7 @@ impl PrState {
         }
     }
 
-    // The conditions for another nexus, where this one is established for the other registered nexuses.
+    // The conditions for `other`, where `attention` is established for the registered nexuses other than `nexus`.
     fn established_for(&self, nexus: Nexus, attention: Attention, other: Nexus) -> AttnSet
         ensures { result ≡ establishes (others self.now nexus) attention other }
     {
@@ -81,7 +81,7 @@ impl PrState {
         }
     }
 
-    // This condition for the other registered nexuses.
+    // This condition for the registered nexuses other than `nexus`.
     pub(crate) fn establishes_for_others(&self, nexus: Nexus, attention: Attention) -> Attns
         ensures { Shows no_attentions result (establishes (others self.now nexus) attention) }
     {
@@ -90,7 +90,7 @@ impl PrState {
         }))
     }
 
-    // The key of a nexus, unless the nexus is one of those removed.
+    // The key of a nexus; None where the nexus is not registered or is one of those removed.
     fn key_left(&self, removed: &[bool; 64], nexus: Nexus) -> Option<u64>
         ensures { result ≡ keys_without self.now (row_at false removed.now) nexus }
     {
@@ -101,7 +101,7 @@ impl PrState {
         }
     }
 
-    // The registrations without those of some nexuses.
+    // The registrations without those of the removed nexuses.
     pub(crate) fn without(&self, removed: &[bool; 64]) -> [Option<u64>; 64]
         ensures { (set : _) → Shows false removed.now set → Shows None result (keys_without self.now set) }
     {

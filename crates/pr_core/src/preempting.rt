@@ -16,7 +16,8 @@ use scsi_attention::{Attention, AttnSet};
 use scsi_lists::PrType;
 use vtl_base::Nexus;
 
-// The conditions that a preemption establishes for a nexus: it is removed, or the reservation was released.
+// The conditions that a preemption establishes for a nexus: registrations preempted where it is in `removed`, else
+// reservations released where it is in `released`, else none.
 fn preemption_establishes(removed: &[bool; 64], released: &[bool; 64], nexus: Nexus) -> AttnSet
     ensures { result ≡ established_by_preemption (row_at false removed.now) (row_at false released.now) nexus }
 {
@@ -78,7 +79,7 @@ impl PrState {
         }
     }
 
-    // The registrations with the key are removed, and the reservation stays.
+    // The registrations of other nexuses with the key are removed, and the reservation stays.
     fn preempt_registrants(&self, nexus: Nexus, key: u64) -> Outcome
         ensures { Brings (preempt_registrants self.now nexus key) result.answer result.established result.state }
     {
@@ -95,7 +96,8 @@ impl PrState {
         }
     }
 
-    // Removes these nexuses. The requester gets a reservation in place of the one of type `was`.
+    // Removes the registrations of the nexuses in `removed`. The requester gets a reservation of type `kind` in place
+    // of the one of type `was`. Where `kind` is None, nothing changes.
     fn takes_over(
         &self,
         nexus: Nexus,
@@ -123,7 +125,8 @@ impl PrState {
         }
     }
 
-    // Whether the release is reported to another nexus: it stays registered, and the type changes.
+    // Whether the release is reported to `other`: the type changed, and `other` is a registered nexus that is neither
+    // the requester nor removed.
     fn is_released_by_type(
         &self,
         nexus: Nexus,
@@ -136,7 +139,7 @@ impl PrState {
         changed && self.is_other(nexus, other) && !is_in(removed, other)
     }
 
-    // The other nexuses that stay registered, where the type changes.
+    // The nexuses other than the requester that stay registered; none where the type does not change.
     fn released_by_type(
         &self,
         nexus: Nexus,
@@ -161,7 +164,7 @@ impl PrState {
         row_of(false, |other| self.is_other(nexus, other))
     }
 
-    // Whether another nexus than the requester is registered with a key.
+    // Whether `other` is registered with a key and is not the requester.
     fn is_preempted(&self, nexus: Nexus, key: u64, other: Nexus) -> bool
         ensures { result ≡ preempted_by self.now nexus key other }
     {
@@ -175,7 +178,7 @@ impl PrState {
         row_of(false, |other| self.is_preempted(nexus, key, other))
     }
 
-    // Whether a key is the key of the single holder.
+    // Whether a key is that of the single holder of the reservation; false under types 7 and 8, which have none.
     fn is_key_of_holder(&self, held: &Reservation, key: u64) -> bool
         ensures { result ≡ is_key_of_holder held.now self.now key }
     {

@@ -61,7 +61,7 @@ impl PrState {
         }
     }
 
-    // Whether a nexus gives its own key, or 0 where it is not registered.
+    // Whether `key` is the one that a nexus is registered with, or is 0 where the nexus is not registered.
     fn shows_key(&self, nexus: Nexus, key: u64) -> bool
         ensures { result ≡ shows_key (key_of self.now nexus) key }
     {
@@ -71,7 +71,7 @@ impl PrState {
         }
     }
 
-    // The key of a nexus after `nexus` is registered with `key`.
+    // The key of `other` after `nexus` is registered with `key`; None where it has none.
     fn key_with(&self, nexus: Nexus, key: u64, other: Nexus) -> Option<u64>
         ensures { result ≡ with_key self.now nexus key other }
     {

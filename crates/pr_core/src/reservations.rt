@@ -16,7 +16,8 @@ use std::alloc::Global;
 use std::marker::Model;
 use vtl_base::{Bytes, Nexus, NoMemory};
 
-/// The registrations and the reservation of a drive. A contract sees them as a state that meets the rules.
+/// The registrations and the reservation of a drive. A contract sees them as a state that meets the rules that
+/// `Reservations::of` names.
 #[derive(Clone, Copy)]
 pub struct Reservations {
     state: PrState,
@@ -45,8 +46,9 @@ impl Reservations {
         }
     }
 
-    /// The reservations of a state that meets the rules: a reservation of types 7 and 8 names no holder, and
-    /// some nexus is registered. One of another type names a holder, who is registered. No key is 0.
+    /// The reservations that `state` describes; None where it breaks one of three rules. A reservation of type 7 or 8
+    /// names no holder, and at least one nexus is registered. A reservation of another type names a holder, which is
+    /// registered. No key is 0.
     pub fn of(state: PrState) -> Option<Self>
         ensures sound { IsSome result ↔ IsSound state }
         ensures value { IfSome result (λ reservations. reservations ≡ state) }
@@ -65,8 +67,8 @@ impl Reservations {
         &self.state
     }
 
-    /// Carries out an order of a nexus. Returns its answer, and the conditions for each nexus. It takes no
-    /// memory.
+    /// Carries out an order of a nexus. Returns the answer, and the unit attention conditions that the order
+    /// establishes for each nexus. It allocates nothing.
     pub fn pr_out(&mut self, nexus: Nexus, order: &PrOut) -> (PrAnswer, Attns)
         ensures { Orders self.old nexus order.now result.0 result.1 self.new }
     {
@@ -75,7 +77,9 @@ impl Reservations {
         (outcome.answer, outcome.established)
     }
 
-    /// Whether the reservation lets the commands of a nexus through, one rule for all types (own).
+    /// Whether the commands of a nexus are let through (own, one rule for all types). True where there is no
+    /// reservation, where the nexus holds the reservation, or where the reservation has one of the types 5 to 8 and the
+    /// nexus is registered.
     pub fn allowed(&self, nexus: Nexus) -> bool
         ensures { result ≡ is_allowed self.now nexus }
     {
@@ -89,16 +93,17 @@ impl Reservations {
         self.state.reservation.is_some()
     }
 
-    /// Whether these reservations have to be saved in place of the old ones: registrations, reservation or APTPL
-    /// differ.
+    /// Whether these reservations have to be saved in place of `old`: true where the two differ in registrations,
+    /// reservation or APTPL.
     pub fn needs_save(&self, old: &Reservations) -> bool
         ensures { result ≡ needs_save old.now self.now }
     {
         self.state.needs_save(&old.state)
     }
 
-    /// The first `room` bytes of the data of READ KEYS: PRGENERATION, the length of the rest, the keys by
-    /// rising nexus. Up to 24 bytes take no memory.
+    /// Returns the first `room` bytes of the data of READ KEYS: PRGENERATION, the length of the rest in bytes, and the
+    /// keys in the order of the nexus numbers. A result of at most 24 bytes is always Ok, and nothing is allocated for
+    /// it. For a longer one, `NoMemory` is returned if memory runs out.
     pub fn read_keys(&self, alloc: Global, room: usize) -> Result<Bytes, NoMemory>
         ensures bytes { IfOk result (λ bytes. bytes ≡ take room (keys_read self.now)) }
         ensures few { length (take room (keys_read self.now)) ≤ 24 → IsOk result }
@@ -106,8 +111,8 @@ impl Reservations {
         keys_read(alloc, &self.state, room)
     }
 
-    /// The first `room` bytes of the data of READ RESERVATION: PRGENERATION, the length of the rest, the
-    /// reservation. Up to 24 bytes take no memory.
+    /// Returns the first `room` bytes of the data of READ RESERVATION: PRGENERATION, the length of the rest in bytes,
+    /// and the reservation, if there is one. The result has at most 24 bytes, so it allocates nothing and is always Ok.
     pub fn read_reservation(&self, alloc: Global, room: usize) -> Result<Bytes, NoMemory>
         ensures bytes { IfOk result (λ bytes. bytes ≡ take room (reservation_read self.now)) }
         ensures few { length (take room (reservation_read self.now)) ≤ 24 → IsOk result }
@@ -115,7 +120,8 @@ impl Reservations {
         reservation_read(alloc, &self.state, room)
     }
 
-    /// The reservations after a loss of power.
+    /// The reservations after a loss of power. Where APTPL is set, only PRGENERATION changes: it becomes 0. Where APTPL
+    /// is not set, the result is that of `empty`.
     pub fn power_loss(&self) -> Self
         ensures { result ≡ power_loss self.now }
     {

@@ -6,7 +6,7 @@ ghost use Rattle.pr_core.specs.Sets.{GivesEntries, Shows, is_some_in};
 use vtl_base::Nexus;
 use vtl_base::limits::NEXUSES;
 
-// The place of a nexus in a row. The contract of `Nexus` does not say that there is one.
+// The place of a nexus in a row, from 0 to 63; None for the number 0, since a contract sees a nexus as any number.
 pub(crate) fn place_of(nexus: Nexus) -> Option<usize>
     ensures some { IfSome result (λ place. (place < NEXUSES) × (nexus ≡ place + 1)) }
     ensures none { IfNone result (nexus ≡ 0) }
@@ -17,7 +17,7 @@ pub(crate) fn place_of(nexus: Nexus) -> Option<usize>
     Some(nexus.place())
 }
 
-// The row with the function's value for each nexus.
+// The row that has the value of `entry` for each nexus.
 pub(crate) fn row_of<T: Copy, F: Fn(Nexus) -> T>(nothing: T, entry: F) -> [T; 64]
     requires { F.IsAlwaysCallable entry }
     ensures { (entries : _) → GivesEntries (F.post entry) entries → Shows nothing result entries }

@@ -8,38 +8,41 @@ use crate::rows::{any, place_of};
 use scsi_lists::PrType;
 use vtl_base::Nexus;
 
-/// A persistent reservation (SPC-4). Every registered nexus holds one of types 7 and 8, which names no
-/// holder. One of another type names its holder.
+/// A persistent reservation (SPC-4). A reservation of type 7 or 8 is held by every registered nexus, and `holder` is
+/// None. A reservation of another type is held by the nexus in `holder`.
 #[derive(Clone, Copy, PartialEq, Eq, Debug)]
 pub struct Reservation {
     pub kind: PrType,
     pub holder: Option<Nexus>,
 }
 
-/// Registrations, reservation, APTPL and PRGENERATION (SPC-4), as plain data: any values.
+/// Registrations, reservation, APTPL and PRGENERATION (SPC-4), as plain data. The fields may have any values, even
+/// those that break the rules that `Reservations::of` names.
 #[derive(Clone, Copy)]
 pub struct PrState {
-    /// The key of each nexus, by rising nexus. None: the nexus is not registered.
+    /// The key of each nexus, in the order of the nexus numbers; None where the nexus is not registered.
     pub keys: [Option<u64>; 64],
     pub reservation: Option<Reservation>,
     /// Whether registrations and reservation outlive a loss of power.
     pub aptpl: bool,
-    /// How many orders raised it, from 0, wrapping at 2^32.
+    /// PRGENERATION: how many orders raised it since power on, modulo 2^32. RESERVE and RELEASE do not raise it.
     pub generation: u32,
 }
 
 /// The answer to an order.
 #[derive(Clone, Copy, PartialEq, Eq, Debug)]
 pub enum PrAnswer {
+    /// The order was carried out. It may have changed nothing.
     Good,
     /// RESERVATION CONFLICT. Nothing has changed.
     Conflict,
-    /// The reservation to be made has a bad scope or type (24/00). Nothing has changed.
+    /// PREEMPT would make a reservation, but no reservation can have the scope or type that it names (24/00). Nothing
+    /// has changed.
     BadType,
-    /// The key 0 is preempted where not every registered nexus holds the reservation (26/00). Nothing has
-    /// changed.
+    /// PREEMPT names the key 0, and there is no reservation of type 7 or 8 (26/00). Nothing has changed.
     BadKey,
-    /// A reservation is released under another type than its own (26/04). Nothing has changed.
+    /// A holder of the reservation requests RELEASE with a type that is not that of the reservation (26/04). Nothing
+    /// has changed.
     BadRelease,
 }
 
@@ -86,7 +89,7 @@ impl PrState {
         self.key_of(nexus) == Some(key)
     }
 
-    // Whether another nexus than this one is registered.
+    // Whether `other` is registered and is not `nexus`.
     pub(crate) fn is_other(&self, nexus: Nexus, other: Nexus) -> bool
         ensures { result ≡ others self.now nexus other }
     {

@@ -1,4 +1,4 @@
-//! Binary search: the block or the run of filemarks for a number.
+//! Binary searches for the block with an object number, and for a run of filemarks.
 ghost use Rattle.std.specs.Prelude.{◌≡◌, ◌≤◌, length, slice_get};
 ghost use Rattle.vtl_base.specs.Steps.{AddsDigits};
 ghost use Rattle.record_index.specs.Inner.RunSearch.{IsLastBelow, IsNotBelow, key_of};
@@ -22,8 +22,8 @@ pub(crate) struct Below {
     pub(crate) last: Option<MarkRun>,
 }
 
-// How many of the first blocks have a lower object number, by binary search: among 16,000,000 in 24 steps.
-// Each step of the search is one turn of this loop.
+// How many blocks have an object number lower than `at`, by binary search: among 16,000,000 blocks in 24 steps. Each
+// step of the search is one turn of this loop.
 pub(crate) fn blocks_before(blocks: &[BlockEntry], at: ObjNo) -> usize
     ensures within { result ≤ length blocks.now }
     ensures split { IsSplitAt blocks.now at result }
@@ -50,7 +50,8 @@ fn key_of(by: Key, run: MarkRun) -> u32
     }
 }
 
-// The first runs whose numbers are below a bound, by binary search.
+// Finds the first runs whose numbers, chosen by `by`, are below a bound: how many they are, and the last of them. It is
+// a binary search.
 pub(crate) fn runs_below(runs: &Runs, by: Key, bound: u64, steps: &mut Steps) -> Below
     ensures within { result.count ≤ length runs.now.runs }
     ensures last { IsLastBelow runs.now.runs by bound result.count result.last }

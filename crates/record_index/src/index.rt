@@ -16,9 +16,9 @@ use std::marker::Model;
 use volume_core::{ApplyError, Kind, Refusal};
 use vtl_base::{NoMemory, ObjNo, PartNo, Steps};
 
-/// Where each object of a cartridge lies: 1 to 4 partitions, with an entry of 24 bytes for each block and one
-/// of 12 for each run of filemarks. A contract sees the list of its partitions, each with the list of its
-/// objects and their places. No call walks over a partition.
+/// An index of where each object of a cartridge lies. It has 1 to 4 partitions, with an entry of 24 bytes for each
+/// block and one of 12 bytes for each run of filemarks. A contract sees the list of its partitions, each with the list
+/// of its objects and their places. No call except `copy` walks through a whole partition.
 #[derive(Drop)]
 pub struct Index {
     partitions: Vec<PlacedPartition>,
@@ -37,8 +37,8 @@ impl Model for Index {
 }
 
 impl Index {
-    /// An index of empty partitions with these capacities in bytes. `volume_core::are_capacities`
-    /// tests the condition.
+    /// Makes an index of empty partitions with these capacities in bytes, which `volume_core::are_capacities` must
+    /// accept.
     pub fn new(alloc: Global, capacities: &[u64]) -> Result<Self, NoMemory>
         requires { IsTrue (are_capacities capacities.now) }
         ensures { IfOk result (λ index. index ≡ map empty_placed capacities.now) }
@@ -50,7 +50,7 @@ impl Index {
         Ok(Index { partitions })
     }
 
-    /// A copy of the index, with nothing reserved. An error where memory runs out.
+    /// Copies the index, with nothing reserved in the copy. Returns an error where memory runs out.
     pub fn copy(&self, alloc: Global) -> Result<Self, NoMemory>
         ensures { IfOk result (λ copy. copy ≡ map unreserved self.now) }
     {
@@ -100,22 +100,24 @@ impl Index {
         }
     }
 
-    /// The object with this number: for a block its place and its length. None where there is none.
+    /// The object with number `at` in a partition; for a block, with its place and its length. None where there is no
+    /// such object.
     pub fn place(&self, part: PartNo, at: ObjNo) -> Option<Placed>
         ensures { result ≡ slice_get (placed_objects self.now part) at }
     {
         self.partition(part)?.place(at)
     }
 
-    /// The kind of the object with this number, None where there is none.
+    /// The kind of the object with number `at` in a partition: a block or a filemark. None where there is no such
+    /// object.
     pub fn kind_at(&self, part: PartNo, at: ObjNo) -> Option<Kind>
         ensures { result ≡ kind_at (outline self.now) part at }
     {
         Some(self.place(part, at)?.kind())
     }
 
-    /// What the first n objects of a partition take of its capacity, in bytes; all of them where there are
-    /// fewer.
+    /// How many bytes of its capacity the first `n` objects of a partition take. Where the partition has fewer objects,
+    /// all of them are counted.
     pub fn used(&self, part: PartNo, n: ObjNo) -> u64
         ensures used { result ≡ used_up_to (outline self.now) part n }
         ensures bound { result ≤ capacity_of (outline self.now) part }
@@ -126,8 +128,8 @@ impl Index {
         }
     }
 
-    /// The last run of filemarks of a partition that begins before object number n; None where no filemark stands
-    /// before object n. A binary search finds the run, in at most 24 steps.
+    /// The last run of filemarks of a partition that begins before object number `n`; None where no filemark comes
+    /// before that object. A binary search finds the run, and adds at most 24 steps to `steps`.
     pub fn run_upto(&self, part: PartNo, n: ObjNo, steps: &mut Steps) -> Option<MarkRun>
         ensures found { IsRunUpto (placed_objects self.now part) n result }
         ensures steps { AddsDigitsOfRuns (placed_objects self.now part) steps.old steps.new }
@@ -139,8 +141,8 @@ impl Index {
         }
     }
 
-    /// The run of a partition that has filemark number k, counted from 0; None where there are at most k. It is found
-    /// by binary search, in at most 24 steps.
+    /// The run that contains filemark `k` of a partition, counted from 0; None where the partition has at most `k`
+    /// filemarks. A binary search finds the run, and adds at most 24 steps to `steps`.
     pub fn run_of(&self, part: PartNo, k: u32, steps: &mut Steps) -> Option<MarkRun>
         ensures found { IsRunWith (placed_objects self.now part) k result }
         ensures steps { AddsDigitsOfRuns (placed_objects self.now part) steps.old steps.new }
@@ -152,8 +154,8 @@ impl Index {
         }
     }
 
-    /// How many filemarks are among the first n objects of a partition; among all of them where
-    /// there are fewer.
+    /// How many filemarks are among the first `n` objects of a partition. Where the partition has fewer objects, all
+    /// its filemarks are counted.
     pub fn marks_upto(&self, part: PartNo, n: ObjNo) -> u32
         ensures marks { result ≡ marks_upto (outline self.now) part n }
         ensures bound { result ≤ MAX_OBJECTS }
@@ -167,7 +169,8 @@ impl Index {
         }
     }
 
-    /// The object number of a partition's filemark number k, counted from 0.
+    /// The object number of filemark `k` of a partition. Filemarks are counted from 0, and the partition must have more
+    /// than `k` of them.
     pub fn mark_at(&self, part: PartNo, k: u32) -> ObjNo
         requires { k < mark_count (outline self.now) part }
         ensures { IsMarkOf (outline self.now) part k result }
@@ -181,7 +184,8 @@ impl Index {
         }
     }
 
-    /// Why a change with this record is refused: the first cause that holds. None where it is not refused.
+    /// Why the change of the record `item` would be refused: the first cause that holds. None where the change would
+    /// not be refused.
     pub fn refusal(&self, item: Record) -> Option<Refusal>
         ensures { result ≡ refusal_of (outline self.now) (outlined item) }
     {
@@ -191,8 +195,9 @@ impl Index {
         }
     }
 
-    /// Makes room in memory for `runs` more blocks and runs of marks in a partition, which then take none: 24
-    /// bytes for a block, and 12 for a run.
+    /// Reserves memory for `runs` later additions to a partition, which then allocate nothing. An addition is a block
+    /// or a run of filemarks. Since either may come, 24 bytes for a block and 12 bytes for a run are reserved for each
+    /// addition.
     pub fn reserve(&mut self, part: PartNo, runs: usize) -> Result<(), NoMemory>
         requires { part < length self.old }
         ensures same { self.new ≡ with_objects self.old part (placed_objects self.old part)
@@ -207,7 +212,8 @@ impl Index {
         Ok(())
     }
 
-    /// Cuts a partition after its first n objects; all stay where there are fewer.
+    /// Cuts a partition after its first `n` objects, and removes all later ones. Where the partition has fewer objects,
+    /// all of them stay.
     pub fn cut_at(&mut self, part: PartNo, n: ObjNo)
         requires { part < length self.old }
         ensures objects { self.new ≡ with_objects self.old part
@@ -218,8 +224,8 @@ impl Index {
         partition.cut(n);
     }
 
-    /// Appends a block or a run of marks to the objects of a partition. It takes memory only where nothing is
-    /// reserved there; after an `Err` nothing has changed.
+    /// Appends `run`, a block or a run of filemarks, to the objects of a partition, whose limits it must not exceed.
+    /// Allocates memory only where nothing is reserved in the partition. After an `Err` nothing has changed.
     pub fn add(&mut self, part: PartNo, run: Run) -> Result<(), NoMemory>
         requires there { part < length self.old }
         requires fits { IfSome (slice_get self.old part) (λ p. CanAdd p run) }
@@ -234,9 +240,9 @@ impl Index {
         Ok(())
     }
 
-    /// Carries out the change of a record whose block lies at that place, or refuses it for the first cause that holds.
-    /// It takes memory only where nothing is reserved in the record's partition, and none for an erase. It returns
-    /// `NoMemory` only where no cause holds. After an `Err` nothing has changed.
+    /// Carries out the change of the record `item`, whose block lies at `place`, or refuses the change for the first
+    /// cause that holds. Allocates memory only where nothing is reserved in the record's partition, and never for an
+    /// erase. Returns `NoMemory` only where there is no cause to refuse the change. After an `Err` nothing has changed.
     pub fn apply(&mut self, item: Record, place: u64) -> Result<(), ApplyError>
         requires { place < 2 ^ 64 - 1 }
         ensures answer { AppliesUnless (refusal_of (outline self.old) (outlined item)) self.old

@@ -7,7 +7,7 @@ ghost use Rattle.record_index.specs.ChangesOn.{changes_on};
 ghost use Rattle.record_index.specs.Places.{PlacedPart, Reading, change_by, outline, placed_after, volume_by};
 ghost use Rattle.record_index.specs.Shapes.{IsIndexOf, shape_of, shape_of_change};
 
-/// A change has one spelling.
+/// A change has at most one spelling.
 pub fn a_change_has_one_spelling()
     ensures { (a b : List ℕ) (change : Change) → Spells a change → Spells b change → a ≡ b }
 {}
@@ -17,13 +17,15 @@ pub fn the_size_of_a_record()
     ensures { (change : Change) → size_of (record_of change) ≡ length (spell_change change) }
 {}
 
-/// No spelling of a change begins that of another: bytes that begin with two of them begin with one.
+/// No spelling of a change is a proper prefix of the spelling of another change. Where bytes begin with the spellings
+/// of two changes, the two changes are the same, and the same bytes follow their spellings.
 pub fn no_spelling_begins_another()
     ensures { (a b x y : List ℕ) (change other : Change) → Spells a change → Spells b other →
         a ++ x ≡ b ++ y → (change ≡ other) × (a ≡ b) × (x ≡ y) }
 {}
 
-/// Bytes spell at most one list of changes, are bad at no more than one place, and never both.
+/// Bytes spell at most one list of changes, and have a bad record at no more than one place. Bytes that spell a list
+/// have no bad record.
 pub fn bytes_spell_at_most_one_list()
     ensures one_list { (bytes : List ℕ) (changes others : List Change) →
         SpellsAll bytes changes → SpellsAll bytes others → changes ≡ others }
@@ -32,7 +34,8 @@ pub fn bytes_spell_at_most_one_list()
         SpellsAll bytes changes → IsBadAt bytes at → ⊥ }
 {}
 
-/// The changes on bytes are those that they spell. Where they spell none, they are bad at a place.
+/// `changes_on` of bytes is the list of changes that they spell. Where they spell no list, `changes_on` is None, and
+/// the bytes have a bad record at some place.
 pub fn the_changes_on_bytes()
     ensures spelled { (bytes : List ℕ) (changes : List Change) →
         (changes_on bytes ≡ Some changes) ↔ SpellsAll bytes changes }
@@ -45,7 +48,8 @@ pub fn what_applies_has_a_spelling()
         refusal_of volume change ≡ None → IsRecord change }
 {}
 
-/// Counts, kinds, filemarks, costs and refusals do not depend on the bytes of blocks.
+/// The capacities, counts, kinds, filemarks, costs and refusals of a volume do not depend on the bytes of its blocks,
+/// only on their lengths.
 pub fn a_volume_is_seen_by_its_shape()
     ensures capacity { (volume : List Part) (part : ℕ) →
         capacity_of (shape_of volume) part ≡ capacity_of volume part }
@@ -63,7 +67,9 @@ pub fn a_volume_is_seen_by_its_shape()
         refusal_of (shape_of volume) (shape_of_change change) ≡ refusal_of volume change }
 {}
 
-/// An index follows a volume through a change: it still has its shape, and gives the same blocks.
+/// When the record of a change is applied to an index of a volume, the result is an index of the changed volume. If a
+/// read at the record's place returns the block of the change, the volume as it is read through the index changes by
+/// just that change.
 pub fn an_index_follows_a_volume()
     ensures shape { (parts : List PlacedPart) (volume : List Part) (change : Change)
         (place reserved : ℕ) → IsIndexOf parts volume →

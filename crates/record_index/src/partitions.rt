@@ -56,7 +56,7 @@ impl PlacedPartition {
         }
     }
 
-    // A copy of it, with nothing reserved.
+    // A copy of the partition, with nothing reserved.
     pub(crate) fn copy(&self, alloc: Global) -> Result<Self, AllocError>
         ensures part { IfOk result (λ copy. copy ≡ unreserved self.now) }
         ensures limits { IfOk result (λ copy. IsPart (filled_part blank copy)) }
@@ -88,7 +88,7 @@ impl PlacedPartition {
         self.table.place(at)
     }
 
-    // What the first n objects take, in bytes; all of them where there are fewer.
+    // How many bytes the first n objects take. Where there are fewer, all of them are counted.
     pub(crate) fn used(&self, n: ObjNo) -> u64
         ensures used { result ≡ used_of (take n (filled_part blank self.now).objects) }
         ensures bound { result ≤ self.now.capacity }
@@ -96,7 +96,7 @@ impl PlacedPartition {
         self.table.used(n)
     }
 
-    // The last run of filemarks that begins before the object with that number.
+    // The last run of filemarks that begins before object number n; None where no filemark stands before it.
     pub(crate) fn run_upto(&self, n: ObjNo, steps: &mut Steps) -> Option<MarkRun>
         ensures found { IsRunUpto self.now.objects n result }
         ensures steps { AddsDigitsOfRuns self.now.objects steps.old steps.new }
@@ -105,7 +105,7 @@ impl PlacedPartition {
         self.table.run_upto(n, steps)
     }
 
-    // The run that has filemark number k, counted from 0.
+    // The run that has filemark k, where the first filemark is filemark 0; None where there are at most k filemarks.
     pub(crate) fn run_of(&self, k: u32, steps: &mut Steps) -> Option<MarkRun>
         ensures found { IsRunWith self.now.objects k result }
         ensures steps { AddsDigitsOfRuns self.now.objects steps.old steps.new }
@@ -114,7 +114,7 @@ impl PlacedPartition {
         self.table.run_of(k, steps)
     }
 
-    // Why a record for this partition is refused; None where it is not.
+    // Why the change of a record for this partition would be refused; None where it would not.
     pub(crate) fn refusal(&self, item: Record) -> Option<Refusal>
         ensures { result ≡ refusal_in (Some (filled_part blank self.now)) (outlined item) }
     {

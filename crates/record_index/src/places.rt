@@ -6,14 +6,15 @@ ghost use Rattle.record_index.specs.Places.{blank, filled, objects_of_run};
 use volume_core::Kind;
 use vtl_base::ObjNo;
 
-/// An object of a partition: a block of `length` bytes at that place of a disk, or a filemark.
+/// An object of a partition: a filemark, or a block of `length` bytes that lies at `place`, a number such as an offset
+/// on a disk.
 #[derive(Clone, Copy, PartialEq, Eq, Debug)]
 pub enum Placed {
     Block { place: u64, length: u32 },
     Mark,
 }
 
-/// Objects that take one entry: a block, or filemarks.
+/// Objects that need at most one entry in an index: a block, or `count` consecutive filemarks.
 #[derive(Clone, Copy, PartialEq, Eq, Debug)]
 pub enum Run {
     Block { place: u64, length: u32 },
@@ -21,7 +22,7 @@ pub enum Run {
 }
 
 impl Placed {
-    /// Whether it is a block or a mark.
+    /// Whether the object is a block or a filemark.
     pub fn kind(self) -> Kind
         ensures { result ≡ kind_of (filled blank self) }
     {
@@ -33,7 +34,7 @@ impl Placed {
 }
 
 impl Run {
-    /// How many objects it has.
+    /// How many objects the run has.
     pub fn count(self) -> ObjNo
         ensures { result ≡ length (objects_of_run self) }
     {

@@ -1,4 +1,4 @@
-//! Reading a body in pieces, however it is cut.
+//! Reads the records of a body that comes in pieces, wherever it is cut.
 ghost use Rattle.std.specs.Prelude.{◌≡◌, ◌≤◌, ◌<◌, ◌+◌, ◌-◌, ◌^◌, ◌++◌, [], ℕ, List, IfNone, length, take};
 ghost use Rattle.volume_core.specs.declared.changes.Change.{Change};
 ghost use Rattle.record_index.specs.Records.{record_length};
@@ -8,8 +8,8 @@ use crate::head::Head;
 use crate::records::{HEAD_BYTES, Record, RecordError};
 use std::marker::Model;
 
-/// Reads the records of a body that comes in pieces. Between two pieces it holds the head of the present
-/// record, at most ten bytes, and its numbers, but no block.
+/// A reader for the records of a frame's body that comes in pieces. Between two pieces it holds the bytes of the
+/// current record's head that have come, at most 10, and a few numbers, but no bytes of a block.
 #[derive(Drop)]
 pub struct RecordReader {
     // The first bytes of the present record's head, as far as they have come.
@@ -37,33 +37,33 @@ impl Model for RecordReader {
     } };
 }
 
-/// A record that is whole, and where in the body it begins.
+/// A whole record `item`, and the byte `at` of the body at which it begins.
 #[derive(Clone, Copy, PartialEq, Eq, Debug)]
 pub struct Found {
     pub item: Record,
     pub at: usize,
 }
 
-/// The result of a piece.
+/// The result of feeding one piece of a body to a reader.
 #[derive(Clone, Copy, PartialEq, Eq, Debug)]
 pub enum Fed {
-    /// A record is whole, which begins at that place of the body. `taken` bytes of the piece were taken; the
+    /// A record is now whole. It begins at byte `at` of the body. The first `taken` bytes of the piece were taken; the
     /// others are to be fed next.
     Found {
         item: Record,
         at: usize,
         taken: usize,
     },
-    /// The piece was taken, and no record is whole.
+    /// All of the piece was taken, and no record ends in it.
     More,
-    /// The piece was taken, and no record begins at that place of the body, however it goes on.
+    /// All of the piece was taken. No record begins at byte `at` of the body, whatever bytes follow.
     Bad {
         at: usize,
     },
 }
 
 impl RecordReader {
-    /// A reader of a body of which no byte has come.
+    /// Makes a reader for a body of which no byte has come.
     pub fn new() -> Self
         ensures after { IsAfter [] [] result }
         ensures at { result.at ≡ 0 }
@@ -77,21 +77,24 @@ impl RecordReader {
         }
     }
 
-    /// How many bytes of the body have come.
+    /// How many bytes of the body have come, fed or passed over.
     pub fn at(&self) -> usize
         ensures { result ≡ self.now.at }
     {
         self.at
     }
 
-    /// How many of the next bytes it does not need to see: those of a block.
+    /// How many of the next bytes of the body belong to a block, so that they need not be fed: `pass` passes over them.
+    /// 0 where the next byte belongs to a head.
     pub fn unseen(&self) -> usize
         ensures { result ≡ self.now.left }
     {
         self.left as usize
     }
 
-    /// Passes over bytes that it need not see. The result is as if they had been fed, whatever they are.
+    /// Passes over the next `count` bytes of the body, which need not be fed. `count` must be at most what `unseen`
+    /// returns, which must not be 0. The effect is as if these bytes had been fed, whatever they are. Returns the
+    /// record that they complete, or None where more bytes of its block are to come.
     pub fn pass(&mut self, count: usize) -> Option<Found>
         requires some { 1 ≤ self.old.left }
         requires unseen { count ≤ self.old.left }
@@ -115,7 +118,7 @@ impl RecordReader {
         })
     }
 
-    /// Takes the next piece of the body, up to the end of the first record that ends in it.
+    /// Takes `piece`, the next piece of the body, but only up to the end of the first record that ends in it.
     pub fn feed(&mut self, piece: &[u8]) -> Fed
         requires fits { self.old.at + length piece.now < 2 ^ 64 }
         ensures feeds { (before : List ℕ) (changes : List Change) → IsAfter before changes self.old →
@@ -197,8 +200,8 @@ impl RecordReader {
         }
     }
 
-    /// The result at the end of a body: it has records alone, or the first one that is bad or not whole is at
-    /// this place.
+    /// Ends the body. Returns Ok where the body consists of whole records; else `BadRecord`, with the place in the body
+    /// of the first record that is bad or not whole.
     pub fn end(&self) -> Result<(), RecordError>
         ensures { (bytes : List ℕ) (changes : List Change) → IsAfter bytes changes self.now →
             Ends result bytes changes }
@@ -211,7 +214,7 @@ impl RecordReader {
     }
 }
 
-// The length of its block in bytes, 0 where it has no block.
+// The length of a record's block in bytes, 0 where it has no block.
 fn length_of(item: Record) -> u32
     ensures { result ≡ record_length item }
 {

@@ -1,13 +1,13 @@
-//! Records: the changes of a frame's body, format 1 (own). Numbers are big-endian. A body is one
-//! record after the other.
+//! Records: how the changes of a frame's body are spelled, format 1 (own). Numbers are big-endian. A body is one record
+//! after another.
 //!
 //! | Place | Content |
 //! |---|---|
 //! | 0 | kind: 01h a block, 02h marks, 03h an erase |
 //! | 1 | the partition |
 //! | 2 to 5 | how many of its objects stay |
-//! | 6 to 9 | the block's length, 1 to 1,048,576; the count of marks, 1 to 16,000,000; 0 of an erase |
-//! | 10 on | the block |
+//! | 6 to 9 | of a block its length in bytes, 1 to 1,048,576; of marks their count, 1 to 16,000,000; of an erase 0 |
+//! | 10 on | the bytes of the block, if there is one |
 ghost use Rattle.std.specs.Prelude.{◌≡◌, ◌≤◌, ◌<◌, ◌-◌, ◌^◌, IfOk, IfSome, IfNone, length};
 ghost use Rattle.record_index.specs.Records.{BeginsWithRecord, IsAtFront, IsRecord, change_in, record_of, size_of};
 ghost use Rattle.volume_core.specs.Volume.{added_by, is_well_formed, used_of};
@@ -23,7 +23,9 @@ use volume_core::Change;
 use vtl_base::limits::{MAX_BLOCK, MAX_OBJECTS, OBJECT_COST};
 use vtl_base::{Bytes, NoMemory, ObjNo, PartNo};
 
-/// The bytes of a record before its block: kind, partition, object number, number.
+/// The length of a record's head in bytes. The head comes before the block. It has the record's kind, the number of the
+/// partition, the count of objects that stay, and one more number: the length of the block in bytes, the count of
+/// filemarks, or 0 for an erase.
 pub const HEAD_BYTES: usize = 10;
 
 // The kinds.
@@ -33,7 +35,7 @@ pub(crate) const MARKS: u8 = 2;
 
 pub(crate) const ERASE: u8 = 3;
 
-/// A record without the bytes of its block: these stay in place, directly after its head of 10 bytes.
+/// A record without the bytes of its block, which stay where they are, directly after the record's head of 10 bytes.
 #[derive(Clone, Copy, PartialEq, Eq, Debug)]
 pub enum Record {
     /// Cuts the partition after its first `at` objects, and appends a block of `length` bytes.
@@ -42,7 +44,7 @@ pub enum Record {
         at: ObjNo,
         length: u32,
     },
-    /// Cuts the partition after its first `at` objects, and appends this many filemarks.
+    /// Cuts the partition after its first `at` objects, and appends `count` filemarks.
     Marks {
         part: PartNo,
         at: ObjNo,
@@ -55,10 +57,10 @@ pub enum Record {
     },
 }
 
-/// Why bytes are not decoded.
+/// Why bytes were not decoded as changes.
 #[derive(Clone, Copy, PartialEq, Eq, Debug, Error)]
 pub enum RecordError {
-    /// The bytes are records up to this place, and begin with no record from it on.
+    /// There are only whole records before byte `at`. More bytes follow, but they do not begin with a whole record.
     #[error("bad record at {at}")]
     BadRecord { at: usize },
     /// Memory ran out.
@@ -89,7 +91,7 @@ impl From<NoMemory> for RecordError {
 }
 
 impl Record {
-    /// The record of a change.
+    /// The record of a change: all of the change but the bytes of its block.
     pub fn of(change: &Change) -> Self
         requires { IsRecord change.now }
         ensures { result ≡ record_of change.now }
@@ -112,8 +114,8 @@ impl Record {
         }
     }
 
-    /// The record at the start of these bytes, with its block. None where they begin with no record, however
-    /// they go on. It takes no memory, and reads at most 10 bytes.
+    /// The record at the beginning of `bytes`; None where they do not begin with a whole record, its block included.
+    /// Allocates nothing, and reads at most 10 bytes.
     pub fn read(bytes: &[u8]) -> Option<Self>
         ensures found { IfSome result (λ item. IsAtFront item bytes.now) }
         ensures none { IfNone result (BeginsWithRecord bytes.now → ⊥) }
@@ -121,7 +123,7 @@ impl Record {
         decoded(bytes)
     }
 
-    /// Its length in bytes, with its block.
+    /// The length of the record in bytes, with its block.
     pub fn size(self) -> usize
         ensures { result ≡ size_of self }
     {
@@ -131,7 +133,7 @@ impl Record {
         }
     }
 
-    /// Its partition.
+    /// The number of the partition that the record changes.
     pub fn part(self) -> PartNo
         ensures { result ≡ record_part self }
     {
@@ -142,7 +144,7 @@ impl Record {
         }
     }
 
-    /// How many objects of the partition stay.
+    /// How many of the partition's first objects stay: the record's `at`.
     pub fn staying(self) -> ObjNo
         ensures { result ≡ record_staying self }
     {
@@ -167,7 +169,7 @@ impl Record {
         })
     }
 
-    // The run that it adds, with its block at that place.
+    // The run that the record adds, with its block at `place`; None for an erase, which adds nothing.
     pub(crate) fn run(self, place: u64) -> Option<Run>
         requires { place < 2 ^ 64 - 1 }
         ensures { AddsRun self place result }
@@ -179,7 +181,7 @@ impl Record {
         }
     }
 
-    // How many objects it adds.
+    // How many objects the record adds.
     pub(crate) fn added(self) -> u32
         ensures { result ≡ length (added_by (outlined self)) }
     {
@@ -190,7 +192,7 @@ impl Record {
         }
     }
 
-    // What the objects that it adds take, in bytes.
+    // How many bytes of a partition's capacity the added objects take.
     pub(crate) fn cost(self) -> u64
         ensures { result ≡ used_of (added_by (outlined self)) }
     {
@@ -201,7 +203,7 @@ impl Record {
         }
     }
 
-    // Whether its block has 1 to 1,048,576 bytes, and its marks are at least one.
+    // Whether the block has 1 to 1,048,576 bytes, or there is at least one filemark. Always true for an erase.
     pub(crate) fn is_well_formed(self) -> bool
         ensures { result ≡ is_well_formed (outlined self) }
     {
@@ -223,7 +225,7 @@ fn decoded(bytes: &[u8]) -> Option<Record>
     head_decoded(bytes, bytes.len() - HEAD_BYTES)
 }
 
-// The record whose head begins these bytes, if the `there` bytes after it suffice for its block.
+// The record with this head, if the head is valid and the `there` bytes after it suffice for the block.
 pub(crate) fn head_decoded(head: &[u8], there: usize) -> Option<Record>
     requires { 10 ≤ length head.now }
     ensures { result ≡ head_decoded head.now there }
@@ -239,7 +241,7 @@ pub(crate) fn head_decoded(head: &[u8], there: usize) -> Option<Record>
     }
 }
 
-// A block of 1 to 1,048,576 bytes, all of which are present.
+// The record of a block of 1 to 1,048,576 bytes, all of which are there; else None.
 fn block_decoded(part: PartNo, at: ObjNo, length: u32, there: usize) -> Option<Record>
     ensures { result ≡ block_decoded part at length there }
 {
@@ -250,7 +252,7 @@ fn block_decoded(part: PartNo, at: ObjNo, length: u32, there: usize) -> Option<R
     }
 }
 
-// Marks, 1 to 16,000,000.
+// The record of 1 to 16,000,000 filemarks; None for any other count.
 fn marks_decoded(part: PartNo, at: ObjNo, count: u32) -> Option<Record>
     ensures { result ≡ marks_decoded part at count }
 {
@@ -261,7 +263,7 @@ fn marks_decoded(part: PartNo, at: ObjNo, count: u32) -> Option<Record>
     }
 }
 
-// An erase, which has no number.
+// The record of an erase; None where its number is not 0.
 fn erase_decoded(part: PartNo, at: ObjNo, number: u32) -> Option<Record>
     ensures { result ≡ erase_decoded part at number }
 {

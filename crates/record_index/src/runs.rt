@@ -6,21 +6,21 @@ use std::alloc::{AllocError, Global};
 use std::marker::Model;
 use vtl_base::{ObjNo, Steps};
 
-/// A run of filemarks, in 12 bytes.
+/// A run of filemarks: consecutive filemarks of a partition. It occupies 12 bytes of memory.
 #[derive(Clone, Copy, PartialEq, Eq, Debug)]
 pub struct MarkRun {
-    /// The number of its first object.
+    /// The object number of the run's first filemark.
     pub first: ObjNo,
-    /// How many filemarks it is.
+    /// How many filemarks the run has.
     pub count: u32,
-    /// How many filemarks come before it.
+    /// How many filemarks of the partition come before the run.
     pub before: u32,
 }
 
 const _: () = prove!(size_of::<MarkRun>() == 12);
 
-/// Runs of filemarks in order. A contract sees their list, and how many can be added without memory. One call
-/// reads an entry, `at`, and that is a step.
+/// Runs of filemarks in order. A contract sees their list, and how many more can be added without allocating. A search
+/// reads an entry only by `at`, and each call of `at` counts as one step.
 #[derive(Drop)]
 pub struct Runs {
     entries: Vec<MarkRun>,
@@ -47,7 +47,7 @@ impl Runs {
         }
     }
 
-    // A copy of them.
+    // A copy of the runs.
     pub(crate) fn copy(&self, alloc: Global) -> Result<Self, AllocError>
         ensures { IfOk result (λ copy. copy.runs ≡ self.now.runs) }
     {
@@ -63,7 +63,8 @@ impl Runs {
         self.entries.len()
     }
 
-    /// The run with that number, from 0 on. The call is a step.
+    /// The run with this number, counted from 0; there must be such a run. Adds one step to `steps`, whose count stops
+    /// at 2^64 - 1.
     pub fn at(&self, number: usize, steps: &mut Steps) -> MarkRun
         requires { number < length self.now.runs }
         ensures run { slice_get self.now.runs number ≡ Some result }
@@ -74,7 +75,7 @@ impl Runs {
         self.entries[number]
     }
 
-    // Makes room for `count` more, which then take no memory.
+    // Reserves memory for `count` more runs, which then take none.
     pub(crate) fn reserve(&mut self, count: usize) -> Result<(), AllocError>
         ensures runs { self.new.runs ≡ self.old.runs }
         ensures grows { self.old.free ≤ self.new.free }
@@ -83,7 +84,7 @@ impl Runs {
         self.entries.reserve(count)
     }
 
-    // Appends one.
+    // Appends a run.
     pub(crate) fn push(&mut self, run: MarkRun)
         requires { 1 ≤ self.old.free }
         ensures runs { self.new.runs ≡ self.old.runs ++ run ∷ [] }

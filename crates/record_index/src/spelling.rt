@@ -1,4 +1,4 @@
-//! Changes to bytes, and bytes to changes.
+//! Spells changes in bytes, and reads the changes that bytes spell.
 ghost use Rattle.std.specs.Prelude.{◌≡◌, ◌≤◌, ◌<◌, ◌+◌, ◌++◌, ◌∷◌, [], IfOk, IfErr, OnOk, OnErr, length, vec_len, vec_capacity};
 ghost use Rattle.std.specs.Int.{to_be_bytes, w32};
 ghost use Rattle.record_index.specs.Records.{IsRecord, NotDecoded, SpellsAll, spell_change, spell_head};
@@ -9,8 +9,8 @@ use std::alloc::{AllocError, Global};
 use volume_core::Change;
 use vtl_base::{NoMemory, ObjNo, PartNo};
 
-/// Appends the spelling of a change. Within the capacity of `into` it takes no memory. After an `Err`, which
-/// comes only where the capacity is too small, `into` is unchanged.
+/// Appends the spelling of a change to `into`. Allocates memory only where the capacity of `into` is too small. If
+/// memory then runs out, the bytes in `into` are as before.
 pub fn encode_change(change: &Change, into: &mut Vec<u8>) -> Result<(), NoMemory>
     requires { IsRecord change.now }
     ensures ok { OnOk result (into.new.items ≡ into.old.items ++ spell_change change.now) }
@@ -26,7 +26,8 @@ pub fn encode_change(change: &Change, into: &mut Vec<u8>) -> Result<(), NoMemory
     Ok(())
 }
 
-/// The bytes of a change without copying a block: the head of its record, and the bytes after it.
+/// The spelling of a change in two parts: the 10 bytes of its record's head, and the bytes after them. These are the
+/// bytes of the block, borrowed and not copied; there are none for filemarks and for an erase.
 pub fn spelled_parts(change: &Change) -> ([u8; HEAD_BYTES], &[u8])
     requires { IsRecord change.now }
     ensures { result.0 ++ result.1.now ≡ spell_change change.now }
@@ -53,8 +54,8 @@ fn head(kind: u8, part: PartNo, at: ObjNo, number: u32) -> [u8; HEAD_BYTES]
     head
 }
 
-/// The changes that these bytes spell, with a copy of each block. `BadRecord` has the place of the first
-/// record that is wrong or not whole. No bytes spell no changes.
+/// The list of changes that `bytes` spell, with a copy of each block. Empty `bytes` spell the empty list. The error is
+/// `BadRecord`, with the place of the first record that is wrong or not whole, or `NoMemory` where memory runs out.
 pub fn decode_changes(alloc: Global, bytes: &[u8]) -> Result<Vec<Change>, RecordError>
     ensures ok { IfOk result (λ changes. SpellsAll bytes.now changes.items) }
     ensures err { IfErr result (λ error. NotDecoded bytes.now error) }

@@ -68,7 +68,7 @@ fn end_of(blocks: &[BlockEntry], count: usize) -> ObjNo
     }
 }
 
-// What the objects up to the first `count` blocks take, in bytes.
+// How many bytes the first `count` blocks take, with all filemarks before the last of them.
 fn cost_of(blocks: &[BlockEntry], count: usize) -> u64
     requires count { count ≤ length blocks.now }
     requires table { IsTable blocks.now }
@@ -81,7 +81,8 @@ fn cost_of(blocks: &[BlockEntry], count: usize) -> u64
     }
 }
 
-// What n objects take, in bytes: the first `count` blocks, those before them, and marks.
+// How many bytes the first n objects take: the first `count` blocks, the filemarks before them, and filemarks after
+// them.
 fn cost_up_to(blocks: &[BlockEntry], count: usize, n: ObjNo) -> u64
     requires count { count ≤ length blocks.now }
     requires table { IsTable blocks.now }
@@ -127,7 +128,7 @@ impl ObjectTable {
         }
     }
 
-    // A copy of it, with nothing reserved.
+    // A copy of the table, with nothing reserved.
     pub(crate) fn copy(&self, alloc: Global) -> Result<Self, AllocError>
         ensures { IfOk result (λ copy. copy ≡ record { objects = self.now.objects; reserved = 0 }) }
     {
@@ -154,7 +155,7 @@ impl ObjectTable {
         object_at(&self.blocks, self.count, at)
     }
 
-    // What the first n objects take, in bytes; all of them where there are fewer.
+    // How many bytes the first n objects take. Where there are fewer, all of them are counted.
     pub(crate) fn used(&self, n: ObjNo) -> u64
         ensures { result ≡ cost_of_objects (take n self.now.objects) }
     {
@@ -162,7 +163,7 @@ impl ObjectTable {
         cost_up_to(&self.blocks, blocks_before(&self.blocks, n), n)
     }
 
-    // The last run of filemarks that begins before the object with that number.
+    // The last run of filemarks that begins before object number n; None where no filemark stands before it.
     pub(crate) fn run_upto(&self, n: ObjNo, steps: &mut Steps) -> Option<MarkRun>
         ensures found { IsRunUpto self.now.objects n result }
         ensures steps { AddsDigitsOfRuns self.now.objects steps.old steps.new }
@@ -170,7 +171,7 @@ impl ObjectTable {
         runs_below(&self.runs, Key::First, n as u64, steps).last
     }
 
-    // The run that has filemark number k, counted from 0.
+    // The run that has filemark k, where the first filemark is filemark 0; None where there are at most k filemarks.
     pub(crate) fn run_of(&self, k: u32, steps: &mut Steps) -> Option<MarkRun>
         ensures found { IsRunWith self.now.objects k result }
         ensures steps { AddsDigitsOfRuns self.now.objects steps.old steps.new }
@@ -244,7 +245,7 @@ impl ObjectTable {
         self.reserved -= 1;
     }
 
-    // Appends filemarks to the objects. With those after the last block they are one run.
+    // Appends filemarks to the objects. They form one run with the filemarks that already stand after the last block.
     fn add_marks(&mut self, count: u32)
         requires room { 1 ≤ self.old.reserved }
         requires some { 1 ≤ count }

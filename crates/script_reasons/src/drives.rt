@@ -7,7 +7,8 @@ use std::alloc::Global;
 use vtl_base::{DriveNo, NoMemory};
 use vtl_script::{Item, Runner};
 
-/// The drives that are configured. With them a line is parsed as for a runner with these drives. They run nothing.
+/// The set of the drives that are configured. It is a `Runner`, so that lines can be parsed as they are for a library
+/// with these drives. It carries out no command: its `run` returns no replies.
 #[derive(Clone, Copy, Debug)]
 pub struct Drives {
     // by place, from 0 on
@@ -15,21 +16,21 @@ pub struct Drives {
 }
 
 impl Drives {
-    /// No drive.
+    /// A set without any drive.
     pub fn none() -> Self
         ensures { AreNone result }
     {
         Drives { are: [false; 16] }
     }
 
-    /// Every drive that a library may have.
+    /// The set of all 16 drives that a library may have.
     pub fn all() -> Self
         ensures { AreAll result }
     {
         Drives { are: [true; 16] }
     }
 
-    /// These drives and one more.
+    /// Returns these drives together with `drive`.
     pub fn with(self, drive: DriveNo) -> Self
         ensures { AreWith drive self result }
     {

@@ -1,4 +1,4 @@
-//! The fields of a line, by their places.
+//! Finds the fields of a line: parts without spaces, each given by the places of its bytes in the line.
 ghost use Rattle.std.specs.Prelude.{◌≤◌, IfSome, length};
 ghost use Rattle.script_reasons.specs.Reasons.{IsFieldOf};
 
@@ -9,7 +9,8 @@ pub(crate) struct Part {
     pub(crate) to: usize,
 }
 
-// The first place from this one on whose byte is a space, or is none.
+// The first place from `from` on whose byte is a space, if `is_space` is true, or another byte, if it is false. Where
+// there is none, the end of the line.
 fn place_of(line: &[u8], from: usize, is_space: bool) -> usize
     requires { from ≤ length line.now }
     ensures { (from ≤ result) × (result ≤ length line.now) }
@@ -22,7 +23,7 @@ fn place_of(line: &[u8], from: usize, is_space: bool) -> usize
     line.len()
 }
 
-// The field that begins first from this place on.
+// The first field from place `from` on; None where only spaces are left.
 pub(crate) fn field_from(line: &[u8], from: usize) -> Option<Part>
     requires { from ≤ length line.now }
     ensures { IfSome result (IsFieldOf line.now) }

@@ -13,24 +13,26 @@ use std::alloc::{AllocError, Global};
 use vtl_base::limits::LINE_BYTES;
 use vtl_script::lines::{ParsedLine, parse};
 
-/// What is wrong with a line, at its first field that is wrong.
+/// What is wrong with a line of a script, or with one of its fields. The fields are checked from left to right. After
+/// `move`, a missing address is reported before an address that is not a number.
 #[derive(Clone, Copy, PartialEq, Eq, Debug)]
 pub enum Fault {
-    /// The line has more bytes than a line may have.
+    /// The line has more than 2,200,000 bytes (`LINE_BYTES`).
     TooLong,
     /// HOST is not a number from 1 to 64.
     Host,
     /// DRIVE is not a number from 1 to 16.
     Drive,
-    /// DRIVE is not configured.
+    /// DRIVE is a number from 1 to 16, but there is no such drive in the configuration.
     NotConfigured,
-    /// The command block or the data have an odd number of digits.
+    /// The command block, or the data, has an odd number of hexadecimal digits.
     Odd,
-    /// The command block or the data have another byte than hexadecimal digits, the first where the part begins.
+    /// The command block, or the data, has a byte that is not a hexadecimal digit. The part that is reported begins at
+    /// the first such byte.
     NoHex,
-    /// A field is missing.
+    /// DRIVE or the command block is missing.
     Missing,
-    /// There is a field too many.
+    /// The line has more fields than it may have.
     TooMany,
     /// FROM or TO is not a number of 1 to 5 digits.
     Address,
@@ -43,17 +45,19 @@ pub enum Fault {
 pub struct LineReason {
     /// The line's number, counted from 1 on.
     pub line: u64,
-    /// Where the part begins that is wrong, or the line ends, counted in bytes from 1 on.
+    /// The column, counted in bytes from 1, where the wrong part begins. If something is missing, it is the column
+    /// after the last byte of the line; if the line is too long, it is the column of the first byte past the limit.
     pub column: usize,
     /// What is wrong.
     pub fault: Fault,
-    /// The part, where there is one and it is text: a field, or its end.
+    /// The text of the part that is wrong: a field, or the end of a field. None where a field is missing, where the
+    /// line is too long, or where the part is not UTF-8.
     pub field: Option<String>,
     /// The drives that are configured.
     pub drives: Drives,
 }
 
-// Whether a line is refused, where memory does not run out.
+// Whether a line is refused. False means nothing: memory may have run out.
 fn is_refused(alloc: Global, drives: &Drives, line: &[u8]) -> bool
     ensures { IsLineRefused (has drives.now) line.now result }
 {
@@ -63,7 +67,7 @@ fn is_refused(alloc: Global, drives: &Drives, line: &[u8]) -> bool
     }
 }
 
-// What is wrong after `move`.
+// What is wrong after `move`, which ends at place `behind`; None where nothing is.
 fn move_fault(line: &[u8], behind: usize) -> Option<Wrong>
     requires { behind ≤ length line.now }
     ensures { (drives : Drives) → IfSome result (IsWrongIn drives line.now) }
@@ -83,7 +87,7 @@ fn move_fault(line: &[u8], behind: usize) -> Option<Wrong>
     field_too_many(line, to.to)
 }
 
-// What is wrong with the data, or after them.
+// What is wrong with the data, or after them; None where nothing is. The command block ends at place `behind`.
 fn data_fault(line: &[u8], behind: usize) -> Option<Wrong>
     requires { behind ≤ length line.now }
     ensures { (drives : Drives) → IfSome result (IsWrongIn drives line.now) }
@@ -95,7 +99,7 @@ fn data_fault(line: &[u8], behind: usize) -> Option<Wrong>
     field_too_many(line, data.to)
 }
 
-// What is wrong with a command, whose first field is this.
+// What is wrong with a command whose first field is `host`; None where nothing is.
 fn command_fault(drives: &Drives, line: &[u8], host: Part) -> Option<Wrong>
     requires { IsPartOf line.now host }
     ensures { IfSome result (IsWrongIn drives.now line.now) }
@@ -133,7 +137,7 @@ fn fault_in(drives: &Drives, line: &[u8]) -> Option<Wrong>
     command_fault(drives, line, first)
 }
 
-// The text of a part, where it has bytes and is text.
+// The text of a part; None where it has no bytes, or is not UTF-8.
 fn field_of(alloc: Global, line: &[u8], part: Part) -> Result<Option<String>, AllocError>
     requires { IsPartOf line.now part }
     ensures { IfOk result (λ field. IfSome field (λ text. string_bytes text ≡ bytes_of_part line.now part)) }
@@ -148,8 +152,9 @@ fn field_of(alloc: Global, line: &[u8], part: Part) -> Result<Option<String>, Al
 }
 
 impl LineReason {
-    /// Why this line is refused. The line is given without its line feed and without a carriage return before that.
-    /// None where it is not refused, and where memory runs out.
+    /// Returns why `line` is refused in a library of the drives `drives`, or None if it is not refused or memory runs
+    /// out. `number` is the number of the line, counted from 1. `line` is passed without its line feed, and without a
+    /// carriage return before that.
     pub fn of(alloc: Global, drives: Drives, number: u64, line: &[u8]) -> Option<LineReason>
         ensures { IfSome result (IsLineReason drives number line.now) }
     {
@@ -166,7 +171,8 @@ impl LineReason {
         })
     }
 
-    /// A line of more bytes than a line may have.
+    /// Returns the reason for the line with the number `number`, which has more than 2,200,000 bytes (`LINE_BYTES`).
+    /// `drives` are the drives that are configured.
     pub fn too_long(drives: Drives, number: u64) -> LineReason
         ensures { result ≡ too_long drives number }
     {

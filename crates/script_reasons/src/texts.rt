@@ -23,7 +23,7 @@ fn add_number(text: &mut String, number: u8) -> Result<(), AllocError>
     Ok(())
 }
 
-// Adds the number of a drive that is configured.
+// Adds the number of a drive, if the drive is configured; else nothing.
 fn add_drive(text: &mut String, drives: &Drives, number: u8) -> Result<(), AllocError>
     requires { (1 ≤ number) × (number ≤ 16) }
     ensures { OnOk result (string_bytes text.new ≡ with_configured drives.now (string_bytes text.old) number) }
@@ -45,7 +45,7 @@ fn numbers_of(alloc: Global, drives: &Drives) -> Result<String, AllocError>
     Ok(text)
 }
 
-// The drives that are configured, or that there is none.
+// The numbers of the drives that are configured, or words that say that none is.
 fn drives_text(alloc: Global, drives: &Drives) -> Result<String, AllocError>
     ensures { IfOk result (λ text. string_bytes text ≡ drives_text drives.now) }
 {
@@ -57,7 +57,7 @@ fn drives_text(alloc: Global, drives: &Drives) -> Result<String, AllocError>
     }
 }
 
-// What is refused, before the field.
+// What is refused: the words before the field.
 fn subject_of(fault: Fault) -> &'static str
     ensures { result.now ≡ fault_subject fault }
 {
@@ -74,7 +74,7 @@ fn subject_of(fault: Fault) -> &'static str
     }
 }
 
-// What is shown where there is no field, or none that is text.
+// What is shown in place of a field, where there is none or it is not UTF-8.
 fn no_field(fault: Fault) -> &'static str
     ensures { result.now ≡ no_field fault }
 {
@@ -84,7 +84,7 @@ fn no_field(fault: Fault) -> &'static str
     }
 }
 
-// The field, where there is one.
+// The field, or what is shown in its place.
 fn text_of(fault: Fault, field: &Option<String>) -> &str
     ensures { result.now ≡ field_text fault field.now }
 {
@@ -119,14 +119,14 @@ fn allowed(alloc: Global, fault: Fault, drives: &Drives) -> Result<String, Alloc
     }
 }
 
-// Whether a line shows each of these bytes.
+// Whether each of these bytes is shown as it is: a printable ASCII character other than the space.
 fn is_printed(field: &[u8]) -> bool
     ensures { result ≡ list_all is_ascii_graphic field.now }
 {
     field.iter().all(|byte| byte.is_ascii_graphic())
 }
 
-// What is said behind a field that has a byte which a line shows as a question mark. A field has no spaces.
+// The note after a field that has a byte which is shown as a question mark; empty for any other. A field has no spaces.
 fn unprinted_note(field: &Option<String>) -> &'static str
     ensures { result.now ≡ unprinted_note field.now }
 {
@@ -163,8 +163,8 @@ fn fix() -> &'static str
 }
 
 impl LineReason {
-    /// Adds four lines: what is refused, where, what is allowed, and what to do. Where memory runs out, only the first
-    /// of them may be there.
+    /// Adds four lines to `lines`: what is refused, where, what is allowed, and what to do. If memory runs out, only
+    /// the first few of these lines, or none, are added.
     pub fn add_to(&self, alloc: Global, lines: &mut Explanation) -> Result<(), AllocError>
         ensures { OnOk result (lines.new ≡ lines.old ++ reason_lines self.now) }
     {

@@ -20,7 +20,7 @@ pub(crate) struct Wrong {
     pub(crate) part: Part,
 }
 
-// A decimal number of at most 5 digits.
+// The decimal number that a field spells; None where it has more than 5 bytes, or a byte that is no digit.
 fn number_in(field: &[u8]) -> Option<u32>
     ensures { result ≡ decimal_of field.now }
 {
@@ -45,7 +45,7 @@ pub(crate) fn text_in<'a>(line: &'a [u8], part: Part) -> &'a [u8]
     &line[part.from..part.to]
 }
 
-// The end of a line, where something is missing.
+// The empty part at the end of a line, where something is missing.
 fn end_of(line: &[u8]) -> Part
     ensures part { result ≡ empty_end line.now }
     ensures inside { IsPartOf line.now result }
@@ -77,7 +77,7 @@ fn is_hex(field: &[u8]) -> bool
     field.iter().all(|byte| byte.is_ascii_hexdigit())
 }
 
-// Whether a field begins with another byte than a hexadecimal digit.
+// Whether a field begins with a byte that is no hexadecimal digit.
 fn starts_otherwise(field: &[u8]) -> bool
     ensures { result ≡ starts_otherwise field.now }
 {
@@ -87,7 +87,8 @@ fn starts_otherwise(field: &[u8]) -> bool
     }
 }
 
-// What is wrong with a field that has another byte than a hexadecimal digit: the field from the first such byte on.
+// What is wrong with a field that has a byte which is no hexadecimal digit; the part begins at the first such byte.
+// None where there is no such byte.
 fn digit_fault(line: &[u8], part: Part) -> Option<Wrong>
     requires { IsPartOf line.now part }
     ensures { (drives : Drives) → IfSome result (IsWrongIn drives line.now) }
@@ -158,7 +159,7 @@ pub(crate) fn drive_fault(drives: &Drives, line: &[u8], part: Part) -> Option<Wr
     }
 }
 
-// A field too many, where there is one from this place on.
+// That there is a field too many, if a field follows from place `from` on; else None.
 pub(crate) fn field_too_many(line: &[u8], from: usize) -> Option<Wrong>
     requires { from ≤ length line.now }
     ensures { (drives : Drives) → IfSome result (IsWrongIn drives line.now) }
@@ -170,7 +171,7 @@ pub(crate) fn field_too_many(line: &[u8], from: usize) -> Option<Wrong>
     })
 }
 
-// An element address that is missing.
+// That an element address is missing, at the end of the line.
 pub(crate) fn no_address(line: &[u8]) -> Option<Wrong>
     ensures { (drives : Drives) → IfSome result (IsWrongIn drives line.now) }
 {
@@ -180,7 +181,7 @@ pub(crate) fn no_address(line: &[u8]) -> Option<Wrong>
     })
 }
 
-// A drive or a command block that is missing.
+// That a drive or a command block is missing, at the end of the line.
 pub(crate) fn no_field(line: &[u8]) -> Option<Wrong>
     ensures { (drives : Drives) → IfSome result (IsWrongIn drives line.now) }
 {

@@ -6,21 +6,22 @@ ghost use Rattle.scsi_attention.specs.AttentionSets.{contains, first_of, no_atte
 use bitflags::{Flag, Flags, bitflag_items};
 use std::marker::Model;
 
-/// A unit attention condition (SAM-5): an event that is reported to a host before its next command. The cases
-/// are in the order in which they are reported (own).
+/// A unit attention condition (SAM-5): an event that is reported to a host before its next command. The variants are in
+/// the order in which they are reported (own).
 #[derive(Clone, Copy, PartialEq, Eq, Debug)]
 pub enum Attention {
     /// The drive was powered on.
     PowerOn,
     /// The medium may have been changed.
     MediumChanged,
-    /// Another host cleared the reservations.
+    /// Another host removed the reservation and all registrations by CLEAR.
     ReservationsPreempted,
-    /// Another host removed this one's registration.
+    /// Another host removed this host's registration by PREEMPT.
     RegistrationsPreempted,
-    /// Another host released a reservation of registrants.
+    /// Another host released a reservation for registrants, or ended one by unregistering, or replaced one by a
+    /// reservation of another type with PREEMPT.
     ReservationsReleased,
-    /// Another host changed the mode.
+    /// Another host changed the mode parameters by MODE SELECT.
     ModeChanged,
 }
 
@@ -72,7 +73,7 @@ impl Flags for AttnFlags {
     }
 }
 
-/// A set of conditions: those that are established for one nexus and not reported yet.
+/// A set of unit attention conditions: those that are established for one nexus and not reported yet.
 #[derive(Clone, Copy, PartialEq, Eq, Debug)]
 pub struct AttnSet {
     flags: AttnFlags,
@@ -112,7 +113,7 @@ impl Attention {
 }
 
 impl AttnSet {
-    /// No condition.
+    /// The set without conditions.
     pub fn empty() -> Self
         ensures { result ≡ no_attentions }
     {
@@ -121,7 +122,7 @@ impl AttnSet {
         }
     }
 
-    /// Whether this condition is established.
+    /// Whether this condition is in the set.
     #[tactic(auto, using(crate::proofs::BitLemmas::contains_by_bits))]
     pub fn contains(&self, attention: Attention) -> bool
         ensures { result ≡ contains attention self.now }
@@ -129,7 +130,7 @@ impl AttnSet {
         self.flags.contains(attention.flag())
     }
 
-    /// The condition that is reported first.
+    /// The condition of the set that is reported first; None where the set is empty.
     pub fn first(&self) -> Option<Attention>
         ensures { result ≡ first_of self.now }
     {
@@ -155,7 +156,7 @@ impl AttnSet {
         self.flags.remove(attention.flag());
     }
 
-    /// The conditions of both sets.
+    /// The union of the two sets: the conditions that are in one of them or in both.
     #[tactic(auto, using(crate::proofs::BitLemmas::union_by_bits, crate::proofs::BitLemmas::both_fit))]
     pub fn join(self, other: AttnSet) -> AttnSet
         ensures { result ≡ union self other }

@@ -7,8 +7,8 @@ use crate::attention_sets::{Attention, AttnSet};
 use std::marker::Model;
 use vtl_base::Nexus;
 
-/// The conditions that are established for each nexus. A contract sees them as the list of the sets, by
-/// rising nexus.
+/// The unit attention conditions that are established for each nexus: one `AttnSet` for each nexus. A contract sees the
+/// list of these sets, in the order of the nexuses' numbers.
 #[derive(Drop)]
 pub struct Attentions {
     sets: [AttnSet; 64],
@@ -24,21 +24,21 @@ impl Model for Attentions {
 }
 
 impl Attentions {
-    /// The same conditions for each nexus.
+    /// The same conditions, those in `set`, for each of the 64 nexuses.
     pub fn all(set: AttnSet) -> Self
         ensures { result ≡ replicate NEXUSES set }
     {
         Attentions { sets: [set; 64] }
     }
 
-    /// The condition that is reported to a nexus next, if any is established.
+    /// The condition that is reported to this nexus next; None where none is established.
     pub fn first(&self, nexus: Nexus) -> Option<Attention>
         ensures { result ≡ attention_of self.now nexus }
     {
         self.sets[nexus.place()].first()
     }
 
-    /// Clears a condition for a nexus; nothing else changes.
+    /// Clears this condition for this nexus; nothing else changes.
     pub fn clear(&mut self, nexus: Nexus, attention: Attention)
         ensures { self.new ≡ cleared self.old nexus attention }
     {
@@ -46,14 +46,14 @@ impl Attentions {
         set.remove(attention);
     }
 
-    /// Establishes a condition for every nexus.
+    /// Establishes this condition for every nexus.
     pub fn establish_for_all(&mut self, attention: Attention)
         ensures { self.new ≡ established_for_all self.old attention }
     {
         insert_in_each(&mut self.sets, attention);
     }
 
-    /// Establishes a condition for every nexus but one.
+    /// Establishes this condition for every nexus but this one.
     pub fn establish_for_others(&mut self, nexus: Nexus, attention: Attention)
         ensures { self.new ≡ established_for_others self.old nexus attention }
     {
@@ -62,8 +62,8 @@ impl Attentions {
         self.sets[nexus.place()] = own;
     }
 
-    /// Establishes conditions for each nexus: one set for each, by rising nexus. The set of a nexus without
-    /// new conditions stays.
+    /// Establishes further conditions for each nexus. `established` has one set for each nexus, in the order of the
+    /// nexuses' numbers. A nexus without conditions in `established` keeps its set as it is.
     pub fn establish_each(&mut self, established: &[AttnSet])
         ensures { self.new ≡ established_by self.old established.now }
     {

@@ -22,29 +22,29 @@ const TYPES: [PrType; 6] = [
     PrType::ExclusiveAccessAllRegistrants,
 ];
 
-/// A service action of PERSISTENT RESERVE OUT, with the other fields of the command block that count for it
-/// (SPC-4; which actions there are, own).
+/// A service action of PERSISTENT RESERVE OUT, with the other fields of the command block that count for it (SPC-4;
+/// that there are no more actions, own).
 #[derive(Clone, Copy, PartialEq, Eq, Debug)]
 pub enum PrAction {
     Register,
     Reserve(PrType),
     Release(PrType),
     Clear,
-    /// The type of the reservation that a preemption may make; None where scope or type belong to no
-    /// reservation. It counts only where a reservation is made.
+    /// The type of the reservation that PREEMPT may make; None where no reservation has the scope and type of the
+    /// block. The type counts only where a reservation is made.
     Preempt(Option<PrType>),
     RegisterAndIgnoreExistingKey,
 }
 
 impl PrType {
-    /// The type with this number, if there is one.
+    /// The type with this number (SPC-4); None where no type has it.
     pub fn of(number: u8) -> Option<Self>
         ensures { result ≡ type_of number }
     {
         TYPES.iter().copied().find(|kind| kind.number() == number)
     }
 
-    /// Its number.
+    /// The number of the type (SPC-4).
     pub fn number(self) -> u8
         ensures number { result ≡ type_number self }
         ensures range { result < 16 }
@@ -52,7 +52,7 @@ impl PrType {
         self as u8
     }
 
-    // The type in byte 2 of a command block, of scope 0.
+    // The type in byte 2 of a command block; None where the scope is not 0, or no type has the number.
     fn within(scope_type: u8) -> Option<Self>
         ensures { result ≡ type_in scope_type }
     {
@@ -64,8 +64,9 @@ impl PrType {
 }
 
 impl PrAction {
-    /// The action of a command block, by its service action, bits 4 to 0 of byte 1, and its scope and
-    /// type, byte 2. None is an invalid field in the command block.
+    /// The action of a command block. `service_action` is bits 4 to 0 of its byte 1, and `scope_type` is its byte 2.
+    /// None where the service action is unknown, or where no reservation has the scope and type of a RESERVE or
+    /// RELEASE; the block then has an invalid field.
     pub fn of(service_action: u8, scope_type: u8) -> Option<Self>
         ensures { result ≡ action_of service_action scope_type }
     {

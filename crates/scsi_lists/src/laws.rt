@@ -6,7 +6,7 @@ pub fn types_differ()
     ensures { TypesDiffer }
 {}
 
-/// The data of MODE SENSE may be sent with MODE SELECT, and ask for the mode that they reported.
+/// The data of MODE SENSE are accepted as the list of MODE SELECT, and ask for the mode that they reported.
 pub fn mode_data_asks_for_its_mode()
     ensures { ModeDataAsksForItsMode }
 {}

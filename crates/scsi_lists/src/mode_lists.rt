@@ -5,16 +5,16 @@ ghost use Rattle.scsi_lists.specs.ModeLists.{buffered_mode, device_specific, fix
 use byteorder::{BigEndian, ByteOrder};
 use scsi_sense::Sense;
 
-/// The bytes of a list's header.
+/// The length of the header of a mode parameter list, in bytes.
 pub const MODE_HEADER_BYTES: usize = 4;
 
-/// The bytes of a list's header with one block descriptor.
+/// The length of a mode parameter list with a header and one block descriptor, in bytes.
 pub const MODE_LIST_BYTES: usize = 12;
 
 /// The mode that a parameter list of MODE SELECT asks for (SPC-4, SSC-4; which fields count, own).
 #[derive(Clone, Copy, PartialEq, Eq, Debug)]
 pub struct ModeList {
-    /// Whether the drive is buffered from then on. None, for an empty list, changes nothing.
+    /// Whether buffered mode is to be on from now on; None for an empty list, which changes nothing.
     pub buffered: Option<bool>,
 }
 
@@ -26,7 +26,7 @@ fn buffered_mode(list: &[u8]) -> u8
     list[2] / 16 % 8
 }
 
-// A block descriptor that asks for blocks of one length.
+// Whether the list has a block descriptor that asks for blocks of one length.
 fn fixes_block_length(list: &[u8]) -> bool
     ensures { result ≡ fixes_block_length list.now }
 {
@@ -43,9 +43,10 @@ fn has_refused_mode(list: &[u8]) -> bool
 }
 
 impl ModeList {
-    /// The mode that a list of MODE SELECT(6) asks for, or why it is refused. First a length other than 0, 4
-    /// and 12 (1A/00); then block descriptors that are not as long as the rest after the header, a block
-    /// length other than 0, or a buffered mode above 1 (26/00). Every other field is ignored.
+    /// Returns the mode that a list of MODE SELECT(6) asks for, or the sense data with which the list is refused. A
+    /// length other than 0, 4 and 12 bytes is refused first (1A/00). Refused next (26/00) are a block descriptor length
+    /// that is not the length of what follows the header, a block length other than 0, and a buffered mode above 1.
+    /// Every other field is ignored.
     pub fn decode(list: &[u8]) -> Result<Self, Sense>
         ensures { result ≡ mode_decoded list.now }
     {
@@ -70,7 +71,8 @@ fn device_specific(buffered: bool) -> u8
     if buffered { 0x10 } else { 0x00 }
 }
 
-/// The 12 bytes of MODE SENSE(6): a header with the buffered mode, and a block descriptor of 0 (SPC-4, SSC-4).
+/// The 12 bytes of MODE SENSE(6): a header, with buffered mode 1 where `buffered` is true and else 0, and a block
+/// descriptor whose 8 bytes are 0 (SPC-4, SSC-4).
 pub fn mode_data(buffered: bool) -> [u8; 12]
     ensures { result ≡ mode_data buffered false }
 {
@@ -78,7 +80,8 @@ pub fn mode_data(buffered: bool) -> [u8; 12]
     [0x0b, 0, mode, 8, 0, 0, 0, 0, 0, 0, 0, 0]
 }
 
-/// The 4 bytes of MODE SENSE(6) where block descriptors are disabled (DBD): the header alone (SPC-4, SSC-4).
+/// The 4 bytes of MODE SENSE(6) where block descriptors are disabled (DBD): the header alone, with buffered mode 1
+/// where `buffered` is true and else 0 (SPC-4, SSC-4).
 pub fn mode_data_without_descriptors(buffered: bool) -> [u8; 4]
     ensures { result ≡ mode_data buffered true }
 {

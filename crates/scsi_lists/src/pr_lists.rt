@@ -6,15 +6,15 @@ use crate::actions::{PrAction, PrType};
 use byteorder::{BigEndian, ByteOrder};
 use scsi_sense::Sense;
 
-/// The bytes of the list.
+/// The length of the parameter list of PERSISTENT RESERVE OUT, in bytes.
 pub const PR_LIST_BYTES: usize = 24;
 
-/// An order to the reservations of a drive, with the fields that count for it (SPC-4, PERSISTENT RESERVE
-/// OUT). `key` is the RESERVATION KEY, by which a host proves that it is registered.
+/// What a host orders with PERSISTENT RESERVE OUT, with the fields that count for it (SPC-4). `key` is RESERVATION KEY:
+/// the key that the host is registered with. In `Register` it is 0 for a host that is not registered.
 #[derive(Clone, Copy, PartialEq, Eq, Debug)]
 pub enum PrOut {
-    /// Registers the host with `new_key`, or unregisters it where that is 0. `aptpl` is APTPL: registrations
-    /// and reservation outlive a loss of power.
+    /// Registers the host with `new_key`, or unregisters it where `new_key` is 0. `aptpl` is APTPL: whether the
+    /// registrations and the reservation outlive a loss of power.
     Register {
         key: u64,
         new_key: u64,
@@ -31,8 +31,9 @@ pub enum PrOut {
     Clear {
         key: u64,
     },
-    /// Removes the registrations with the key `preempted`. `kind` is the type of a new reservation, or None where scope
-    /// or type are those of no reservation.
+    /// Removes the registrations of other hosts with the key `preempted`. Where `preempted` is 0, under a reservation
+    /// of type 7 or 8, it removes those of all other hosts. `kind` is the type of the reservation that the order may
+    /// make; None where no reservation has the scope and type of the command block.
     Preempt {
         key: u64,
         preempted: u64,
@@ -45,7 +46,7 @@ pub enum PrOut {
     },
 }
 
-/// The parameter list of PERSISTENT RESERVE OUT, as a host sends it.
+/// The decoder of the parameter list that a host sends with PERSISTENT RESERVE OUT.
 pub struct PrList;
 
 fn has_bit(list: &[u8], bit: u32) -> bool
@@ -63,7 +64,7 @@ fn key_in(list: &[u8]) -> u64
     BigEndian::read_u64(list)
 }
 
-// SPEC_I_PT, or ALL_TG_PT where a host is registered.
+// Whether a bit is set that is refused: SPEC_I_PT, or ALL_TG_PT where the action registers a host.
 fn has_refused_bit(action: PrAction, list: &[u8]) -> bool
     requires { 20 < length list.now }
     ensures { result ≡ has_refused_bit action list.now }
@@ -105,8 +106,9 @@ fn order_of(action: PrAction, list: &[u8]) -> PrOut
 }
 
 impl PrList {
-    /// The order of a list under this action of its command block, or why it is refused: a length other than
-    /// 24 (1A/00), then SPEC_I_PT, or ALL_TG_PT where a host is registered (26/00).
+    /// Returns the order that this action of a command block and its parameter list make, or the sense data with which
+    /// the list is refused. A length other than 24 bytes is refused first (1A/00). Then SPEC_I_PT is refused, and
+    /// ALL_TG_PT where the action registers a host (26/00).
     pub fn decode(action: PrAction, list: &[u8]) -> Result<PrOut, Sense>
         ensures { result ≡ list_decoded action list.now }
     {

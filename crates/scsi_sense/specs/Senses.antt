@@ -1,4 +1,4 @@
--- All sense data that drives and changers report, each by its name.
+-- All sense data that drives and moves report, each by its name.
 use Rattle.std.specs.Prelude.{ℕ, Option, Some, true}
 use Rattle.scsi_attention.specs.declared.attention_sets.Attention.{Attention}
 use Rattle.scsi_attention.specs.declared.attention_sets.Attention.TheVariants.{PowerOn, MediumChanged, ReservationsPreempted, RegistrationsPreempted, ReservationsReleased, ModeChanged}

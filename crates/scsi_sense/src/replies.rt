@@ -14,7 +14,7 @@ pub enum Status {
     Conflict = 0x18,
 }
 
-/// The reply to a host: `bytes` are the data that it gets. Only `Check` has sense data.
+/// The reply to a host. `bytes` are the data that the host gets. `sense` is None unless the status is `Check`.
 #[derive(Drop)]
 pub struct Reply {
     pub status: Status,
@@ -23,7 +23,7 @@ pub struct Reply {
 }
 
 impl Status {
-    /// Its byte (SAM-5, status codes).
+    /// The byte of the status (SAM-5, status codes).
     pub fn code(self) -> u8
         ensures { result ≡ status_code self }
     {
@@ -32,7 +32,7 @@ impl Status {
 }
 
 impl Reply {
-    /// GOOD with these bytes.
+    /// A reply with the status GOOD and these bytes.
     pub fn good(bytes: Bytes) -> Self
         ensures { result ≡ good_with bytes }
     {
@@ -43,7 +43,7 @@ impl Reply {
         }
     }
 
-    /// CHECK CONDITION with this sense data and these bytes.
+    /// A reply with the status CHECK CONDITION, this sense data and these bytes.
     pub fn check(sense: Sense, bytes: Bytes) -> Self
         ensures { result ≡ check_with sense bytes }
     {
@@ -54,7 +54,7 @@ impl Reply {
         }
     }
 
-    /// RESERVATION CONFLICT, which takes no memory.
+    /// A reply with the status RESERVATION CONFLICT and no bytes. This call allocates nothing.
     pub fn conflict(alloc: Global) -> Self
         ensures { result ≡ conflict }
     {

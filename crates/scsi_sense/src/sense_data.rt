@@ -16,7 +16,8 @@ pub enum SenseKey {
     VolumeOverflow = 0xd,
 }
 
-/// Sense data in fixed format (SPC-4). `incorrect_length` is ILI; without `information` VALID is 0.
+/// Sense data in fixed format (SPC-4). `code` and `qualifier` are ASC and ASCQ, and `incorrect_length` is ILI. Where
+/// `information` is None, VALID is 0. `deferred` is true for a deferred error.
 #[derive(Clone, Copy, PartialEq, Eq, Debug)]
 pub struct Sense {
     pub key: SenseKey,
@@ -45,7 +46,8 @@ impl SenseKey {
 }
 
 impl Sense {
-    /// Sense data of a key, an additional code and its qualifier alone.
+    /// Sense data with this key, additional sense code and qualifier alone: every flag is false, and there is no
+    /// information.
     pub(crate) fn plain(key: SenseKey, code: u8, qualifier: u8) -> Self
         ensures { result ≡ plain_sense key code qualifier }
     {

@@ -1,4 +1,4 @@
-//! All sense data that drives and changers report, each by its name (SPC-4, SSC-4, SMC-3).
+//! All sense data that drives and moves report, each by its name (SPC-4, SSC-4, SMC-3).
 ghost use Rattle.std.specs.Prelude.{◌≡◌};
 ghost use Rattle.scsi_sense.specs.Senses.{filemark_detected, attention_sense, invalid_element_address, invalid_field, invalid_parameter, parameter_list_length_error, invalid_release, beginning, destination_full, early_warning, end_of_data, deferred_write_error, keeper_failed, medium_failed, insufficient_resources, volume_overflow, medium_not_present, no_sense, incorrect_length, read_error, source_empty, store_full, invalid_operation_code, write_error};
 
@@ -20,8 +20,8 @@ impl Sense {
         Sense::plain(SenseKey::IllegalRequest, 0x20, 0x00)
     }
 
-    /// The length of a command block, one of its fields or the count of bytes sent with
-    /// it is wrong (INVALID FIELD IN CDB).
+    /// A command block has a wrong length or a wrong field, or a wrong number of bytes was sent with it (INVALID FIELD
+    /// IN CDB).
     pub fn invalid_field() -> Self
         ensures { result ≡ invalid_field }
     {
@@ -86,23 +86,22 @@ impl Sense {
         Sense::plain(SenseKey::NotReady, 0x3a, 0x00)
     }
 
-    /// The medium has failed, and stays so until it is unloaded and loaded (INTERNAL
-    /// TARGET FAILURE).
+    /// The medium has failed, and stays failed until it is unloaded and loaded again (INTERNAL TARGET FAILURE).
     pub fn medium_failed() -> Self
         ensures { result ≡ medium_failed }
     {
         Sense::plain(SenseKey::HardwareError, 0x44, 0x00)
     }
 
-    /// The keeper of the reservations has failed, and stays so until a restart. It is reported like a failed
-    /// medium (INTERNAL TARGET FAILURE, own).
+    /// The keeper, which saves the reservations, has failed, and stays failed until a restart. This is reported like a
+    /// failed medium (INTERNAL TARGET FAILURE, own).
     pub fn keeper_failed() -> Self
         ensures { result ≡ keeper_failed }
     {
         Sense::medium_failed()
     }
 
-    /// A device failed while a command stored what was pending (WRITE ERROR).
+    /// A device failed while a command stored pending changes (WRITE ERROR).
     pub fn write_error() -> Self
         ensures { result ≡ write_error }
     {
@@ -120,8 +119,8 @@ impl Sense {
         }
     }
 
-    /// A device failed while a block was read or a cartridge loaded, or the side was
-    /// refused (UNRECOVERED READ ERROR).
+    /// A device failed while a block was read or a cartridge was loaded, or a side was refused; a side is the bytes of
+    /// one of the cartridge's files (UNRECOVERED READ ERROR).
     pub fn read_error() -> Self
         ensures { result ≡ read_error }
     {
@@ -146,8 +145,8 @@ impl Sense {
         }
     }
 
-    /// The data do not fit, and nothing changed (END-OF-PARTITION/MEDIUM DETECTED). `residue` is how much was not
-    /// written, if it is reported.
+    /// The data do not fit, and nothing changed (END-OF-PARTITION/MEDIUM DETECTED). `residue` is how many bytes or
+    /// filemarks were not written; None where this is not reported.
     pub fn volume_overflow(residue: Option<u32>) -> Self
         ensures { result ≡ volume_overflow residue }
     {
@@ -158,7 +157,8 @@ impl Sense {
         }
     }
 
-    /// The end of data was met (END-OF-DATA DETECTED). `residue` is how much was not passed or read, if it is reported.
+    /// The end of data was met (END-OF-DATA DETECTED). `residue` is how many bytes were not read, or how many blocks or
+    /// filemarks were not passed; None where this is not reported.
     pub fn end_of_data(residue: Option<u32>) -> Self
         ensures { result ≡ end_of_data residue }
     {
@@ -168,7 +168,8 @@ impl Sense {
         }
     }
 
-    /// A filemark was met (FILEMARK DETECTED). `residue` is how much was not passed or read.
+    /// A filemark was met (FILEMARK DETECTED). `residue` is how many bytes were not read, or how many blocks were not
+    /// passed.
     pub fn filemark_detected(residue: u32) -> Self
         ensures { result ≡ filemark_detected residue }
     {
@@ -179,8 +180,8 @@ impl Sense {
         }
     }
 
-    /// The beginning of a partition was met (BEGINNING-OF-PARTITION/MEDIUM DETECTED). `residue` is how much was not
-    /// passed.
+    /// The beginning of a partition was met (BEGINNING-OF-PARTITION/MEDIUM DETECTED). `residue` is how many blocks or
+    /// filemarks were not passed.
     pub fn beginning(residue: u32) -> Self
         ensures { result ≡ beginning residue }
     {
@@ -191,8 +192,8 @@ impl Sense {
         }
     }
 
-    /// A block has another length than a read (NO ADDITIONAL SENSE INFORMATION).
-    /// `residue` is the read's length minus the block's, in two's complement.
+    /// A block has another length than the READ asked for (NO ADDITIONAL SENSE INFORMATION). `residue` is the length
+    /// asked for minus that of the block, in bytes, in 32-bit two's complement.
     pub fn incorrect_length(residue: u32) -> Self
         ensures { result ≡ incorrect_length residue }
     {
@@ -203,7 +204,7 @@ impl Sense {
         }
     }
 
-    /// A unit attention condition, each with a code of its own.
+    /// A unit attention condition is reported. Each condition has its own pair of code and qualifier.
     pub fn attention(attention: Attention) -> Self
         ensures { result ≡ attention_sense attention }
     {

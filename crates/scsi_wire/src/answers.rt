@@ -22,7 +22,8 @@ pub fn block_limits() -> [u8; 6]
     limits
 }
 
-/// The part of these bytes that fits a host's room for `allocation` bytes (SPC-4, ALLOCATION LENGTH).
+/// The first `allocation` of these bytes, or all where there are fewer: the part for which a host has room (SPC-4,
+/// ALLOCATION LENGTH).
 pub fn cut_to(bytes: &[u8], allocation: usize) -> &[u8]
     ensures { result.now ≡ cut_to allocation bytes.now }
 {

@@ -9,7 +9,7 @@ use scsi_lists::PrAction;
 use scsi_sense::Sense;
 use vtl_base::{ObjNo, PartNo, SpaceCode};
 
-/// What PERSISTENT RESERVE IN reads, by its service action (SPC-4; which there are, own).
+/// What PERSISTENT RESERVE IN reads, by its service action (SPC-4; that there are no more, own).
 #[derive(Clone, Copy, PartialEq, Eq, Debug)]
 pub enum PrRead {
     ReadKeys,
@@ -26,7 +26,7 @@ pub enum Command {
         length: u8,
     },
     ReadBlockLimits,
-    /// `suppress_length` is SILI: an incorrect length is not reported.
+    /// `suppress_length` is SILI: where it is true, an incorrect length is not reported.
     Read {
         length: u32,
         suppress_length: bool,
@@ -34,12 +34,12 @@ pub enum Command {
     Write {
         length: u32,
     },
-    /// `immediate` is IMMED: the status does not wait until all is stored.
+    /// `immediate` is IMMED: where it is true, the status does not wait until all is stored.
     WriteFilemarks {
         count: u32,
         immediate: bool,
     },
-    /// A `count` below 0 is backward, -8,388,608 to 8,388,607.
+    /// `count` is from -8,388,608 to 8,388,607. Where it is below 0, the motion is backward.
     Space {
         code: SpaceCode,
         count: i32,
@@ -53,17 +53,17 @@ pub enum Command {
         length: u8,
     },
     Erase,
-    /// `length` is the room that the host has for the data; `disable_descriptors` is DBD: it wants no block
-    /// descriptor.
+    /// `length` is the room that the host has for the data. `disable_descriptors` is DBD: where it is true, the host
+    /// wants no block descriptor.
     ModeSense {
         length: u8,
         disable_descriptors: bool,
     },
-    /// `load` is LOAD: the medium is loaded, else it is unloaded.
+    /// `load` is LOAD: where it is true, the medium is loaded, else it is unloaded.
     LoadUnload {
         load: bool,
     },
-    /// `part` is the partition, where the command names one (CP).
+    /// `part` is the partition that the command names; None where it names none (CP is 0).
     Locate {
         object: ObjNo,
         part: Option<PartNo>,
@@ -74,18 +74,19 @@ pub enum Command {
         action: PrRead,
         length: u16,
     },
-    /// `length` is that of the parameter list, which the host sends: any number of four bytes.
+    /// `length` is that of the parameter list, which the host sends. It may be any number that fits 4 bytes.
     PersistentReserveOut {
         action: PrAction,
         length: u32,
     },
 }
 
-/// A command descriptor block, as a host sends it.
+/// The decoder of the command descriptor blocks that a host sends.
 pub struct Cdb;
 
 impl Command {
-    /// The command of a block with this operation code, where its length and its fields are right.
+    /// The command in the block `cdb`, whose operation code is `opcode`; None where the block's length or one of its
+    /// fields is wrong. The first byte of the block is not read.
     pub fn of(opcode: Opcode, cdb: &[u8]) -> Option<Self>
         ensures command { result ≡ command_of opcode cdb.now }
         ensures code { IfSome result (λ command. code_of command ≡ opcode) }
@@ -115,7 +116,7 @@ impl Command {
         }
     }
 
-    /// Its operation code.
+    /// The operation code of the command.
     pub fn opcode(self) -> Opcode
         ensures { result ≡ code_of self }
     {
@@ -140,7 +141,7 @@ impl Command {
         }
     }
 
-    /// How many bytes a host sends with it.
+    /// How many bytes a host sends with the command: those of a WRITE's block or of a parameter list, else 0.
     pub fn sent_length(self) -> u32
         ensures { result ≡ sent_length self }
     {
@@ -154,8 +155,8 @@ impl Command {
 }
 
 impl Cdb {
-    /// The command of a block, or why it has none: an unknown or missing code (20/00), a wrong length or
-    /// field (24/00).
+    /// Returns the command of a block, or the sense data with which the block is refused. An unknown or missing
+    /// operation code is refused first (20/00), then a wrong length or field (24/00).
     pub fn decode(cdb: &[u8]) -> Result<Command, Sense>
         ensures { result ≡ decoded cdb.now }
     {

@@ -1,4 +1,5 @@
-//! The fields of command descriptor blocks, command by command. Each block has the length of its code.
+//! The fields of command descriptor blocks, command by command. Each block has the length that belongs to its operation
+//! code.
 ghost use Rattle.std.specs.Prelude.{◌≡◌, ◌<◌, ◌≤◌, Some, length};
 ghost use Rattle.scsi_wire.specs.Commands.{command_by_fields, is_bit_set, is_fixed, is_mode_page_known, pr_read_of, space_code, transfer_length};
 
@@ -30,7 +31,7 @@ fn transfer_length(cdb: &[u8]) -> u32
     BigEndian::read_u24(&cdb[2..])
 }
 
-/// REQUEST SENSE: DESC is refused.
+/// Reads the fields of REQUEST SENSE. Returns None where DESC is set.
 pub fn request_sense(cdb: &[u8]) -> Option<Command>
     requires { 5 ≤ length cdb.now }
     ensures { result ≡ command_by_fields Opcode.RequestSense cdb.now }
@@ -41,7 +42,7 @@ pub fn request_sense(cdb: &[u8]) -> Option<Command>
     Some(Command::RequestSense { length: cdb[4] })
 }
 
-/// READ BLOCK LIMITS: MLOI is refused.
+/// Reads the fields of READ BLOCK LIMITS. Returns None where MLOI is set.
 pub fn read_block_limits(cdb: &[u8]) -> Option<Command>
     requires { 2 ≤ length cdb.now }
     ensures { result ≡ command_by_fields Opcode.ReadBlockLimits cdb.now }
@@ -52,7 +53,7 @@ pub fn read_block_limits(cdb: &[u8]) -> Option<Command>
     Some(Command::ReadBlockLimits)
 }
 
-/// READ: FIXED is refused.
+/// Reads the fields of READ. Returns None where FIXED is set.
 pub fn read(cdb: &[u8]) -> Option<Command>
     requires { 5 ≤ length cdb.now }
     ensures { result ≡ command_by_fields Opcode.Read cdb.now }
@@ -66,7 +67,7 @@ pub fn read(cdb: &[u8]) -> Option<Command>
     })
 }
 
-/// WRITE: FIXED is refused, and a block that is too long.
+/// Reads the fields of WRITE. Returns None where FIXED is set or the block is longer than 1,048,576 bytes.
 pub fn write(cdb: &[u8]) -> Option<Command>
     requires { 5 ≤ length cdb.now }
     ensures { result ≡ command_by_fields Opcode.Write cdb.now }
@@ -78,7 +79,7 @@ pub fn write(cdb: &[u8]) -> Option<Command>
     Some(Command::Write { length })
 }
 
-/// WRITE FILEMARKS.
+/// Reads the fields of WRITE FILEMARKS. No field is refused.
 pub fn write_filemarks(cdb: &[u8]) -> Command
     requires { 5 ≤ length cdb.now }
     ensures { Some result ≡ command_by_fields Opcode.WriteFilemarks cdb.now }
@@ -89,7 +90,7 @@ pub fn write_filemarks(cdb: &[u8]) -> Command
     }
 }
 
-/// SPACE: a code that is not known is refused.
+/// Reads the fields of SPACE. Returns None where CODE is not known.
 pub fn space(cdb: &[u8]) -> Option<Command>
     requires { 5 ≤ length cdb.now }
     ensures { result ≡ command_by_fields Opcode.Space cdb.now }
@@ -112,7 +113,7 @@ fn space_code(code: u8) -> Option<SpaceCode>
     }
 }
 
-/// INQUIRY: product pages are refused.
+/// Reads the fields of INQUIRY. Returns None where EVPD is set or PAGE CODE is not 0.
 pub fn inquiry(cdb: &[u8]) -> Option<Command>
     requires { 5 ≤ length cdb.now }
     ensures { result ≡ command_by_fields Opcode.Inquiry cdb.now }
@@ -125,7 +126,7 @@ pub fn inquiry(cdb: &[u8]) -> Option<Command>
     })
 }
 
-/// MODE SELECT: SP is refused.
+/// Reads the fields of MODE SELECT. Returns None where SP is set.
 pub fn mode_select(cdb: &[u8]) -> Option<Command>
     requires { 5 ≤ length cdb.now }
     ensures { result ≡ command_by_fields Opcode.ModeSelect cdb.now }
@@ -136,7 +137,7 @@ pub fn mode_select(cdb: &[u8]) -> Option<Command>
     Some(Command::ModeSelect { length: cdb[4] })
 }
 
-/// MODE SENSE: an unknown page is refused.
+/// Reads the fields of MODE SENSE. Returns None where PAGE CODE is neither 0 nor 3Fh.
 pub fn mode_sense(cdb: &[u8]) -> Option<Command>
     requires { 5 ≤ length cdb.now }
     ensures { result ≡ command_by_fields Opcode.ModeSense cdb.now }
@@ -150,7 +151,7 @@ pub fn mode_sense(cdb: &[u8]) -> Option<Command>
     })
 }
 
-// No page, or all pages, of which there are none.
+// Whether PAGE CODE asks for no page (0), or for all pages (3Fh), of which there are none.
 fn is_mode_page_known(cdb: &[u8]) -> bool
     requires { 3 ≤ length cdb.now }
     ensures { result ≡ is_mode_page_known cdb.now }
@@ -158,7 +159,7 @@ fn is_mode_page_known(cdb: &[u8]) -> bool
     matches!(cdb[2] % 64, 0x00 | 0x3f)
 }
 
-/// LOAD UNLOAD.
+/// Reads the fields of LOAD UNLOAD. No field is refused.
 pub fn load_unload(cdb: &[u8]) -> Command
     requires { 5 ≤ length cdb.now }
     ensures { Some result ≡ command_by_fields Opcode.LoadUnload cdb.now }
@@ -168,7 +169,7 @@ pub fn load_unload(cdb: &[u8]) -> Command
     }
 }
 
-/// LOCATE.
+/// Reads the fields of LOCATE. No field is refused.
 pub fn locate(cdb: &[u8]) -> Command
     requires { 9 ≤ length cdb.now }
     ensures { Some result ≡ command_by_fields Opcode.Locate cdb.now }
@@ -184,7 +185,7 @@ pub fn locate(cdb: &[u8]) -> Command
     }
 }
 
-/// READ POSITION: every form but the short one is refused.
+/// Reads the fields of READ POSITION. Returns None for every form but the short one.
 pub fn read_position(cdb: &[u8]) -> Option<Command>
     requires { 2 ≤ length cdb.now }
     ensures { result ≡ command_by_fields Opcode.ReadPosition cdb.now }
@@ -195,7 +196,7 @@ pub fn read_position(cdb: &[u8]) -> Option<Command>
     Some(Command::ReadPosition)
 }
 
-/// PERSISTENT RESERVE IN: a service action that is not known is refused.
+/// Reads the fields of PERSISTENT RESERVE IN. Returns None where the service action is not known.
 pub fn persistent_reserve_in(cdb: &[u8]) -> Option<Command>
     requires { 9 ≤ length cdb.now }
     ensures { result ≡ command_by_fields Opcode.PersistentReserveIn cdb.now }
@@ -217,8 +218,8 @@ fn pr_read(service_action: u8) -> Option<PrRead>
     }
 }
 
-/// PERSISTENT RESERVE OUT: an unknown service action is refused, and a scope or type of no reservation where
-/// one is made or released.
+/// Reads the fields of PERSISTENT RESERVE OUT. Returns None where the service action is not known, or where no
+/// reservation has the scope and type of a RESERVE or RELEASE.
 pub fn persistent_reserve_out(cdb: &[u8]) -> Option<Command>
     requires { 9 ≤ length cdb.now }
     ensures { result ≡ command_by_fields Opcode.PersistentReserveOut cdb.now }

@@ -24,7 +24,7 @@ pub enum Opcode {
     PersistentReserveOut,
 }
 
-/// The row of a code.
+/// The row of an operation code in the table.
 #[derive(Clone, Copy)]
 struct Row {
     code: u8,
@@ -69,14 +69,14 @@ impl Row {
 }
 
 impl Opcode {
-    /// The operation code of a command block, its first byte, where it is known.
+    /// The operation code of a command block, which is its first byte; None where that is unknown or missing.
     pub fn of(cdb: &[u8]) -> Option<Self>
         ensures { result ≡ opcode_of cdb.now }
     {
         Opcode::at(*cdb.first()?)
     }
 
-    /// Whether its commands are carried out whatever is pending, reserved or loaded: no deferred error, unit
+    /// Whether commands with this code are exempt from the checks of the drive's state: no deferred error, unit
     /// attention condition, reservation or missing medium stops them (own).
     pub fn is_exempt(self) -> bool
         ensures { result ≡ is_exempt self }
@@ -84,21 +84,22 @@ impl Opcode {
         self.row().exempt
     }
 
-    /// Whether another host's reservation stops its commands (own, one rule for all types).
+    /// Whether a reservation stops commands with this code from a host that it does not let through (own, one rule for
+    /// all types).
     pub fn is_stopped_by_reservation(self) -> bool
         ensures { result ≡ is_stopped_by_reservation self }
     {
         self.row().stopped
     }
 
-    /// Whether its commands need a medium that is loaded and has not failed (own).
+    /// Whether commands with this code need a medium that is loaded and has not failed (own).
     pub fn needs_medium(self) -> bool
         ensures { result ≡ needs_medium self }
     {
         self.row().on_medium
     }
 
-    /// The bytes of its command blocks.
+    /// The length of a command block with this code, in bytes.
     pub fn block_length(self) -> usize
         ensures { result ≡ block_length self }
     {
@@ -114,8 +115,8 @@ impl Opcode {
             .find(|opcode| opcode.row().code == code)
     }
 
-    // The row of a code: its byte, the bytes of its blocks, and whether it is exempt from the checks, is
-    // stopped by a reservation, needs a medium.
+    // The row of a code: its byte, the length of its blocks in bytes, whether it is exempt from the checks of the
+    // drive's state, whether a reservation stops it, and whether it needs a medium.
     fn row(self) -> Row
         ensures { result ≡ row_of self }
     {
@@ -141,7 +142,7 @@ impl Opcode {
     }
 }
 
-/// The bytes of a command block with this operation code, where the code is known.
+/// The length of a command block with this operation code, in bytes; None where the code is not known.
 pub fn length_of(op: u8) -> Option<usize>
     ensures { result ≡ length_at op }
 {

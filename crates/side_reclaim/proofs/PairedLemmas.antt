@@ -3,11 +3,11 @@ use Rattle.std.proofs.Common.{◌≡◌, ◌≢◌, ◌⊎◌, inl, inr, ℕ, Li
 use Rattle.std.proofs.lemmas.Bool.Decides.{eqb_tells}
 use Rattle.gate_journal.specs.Heads.{Head, epoch_of, spell_side_head}
 use Rattle.gate_journal.specs.Side.{CLOSED, OPEN}
-use Rattle.side_pairs.specs.declared.which.Which.{Which}
-use Rattle.side_pairs.specs.declared.which.Which.TheVariants.{First, Second}
-use Rattle.side_pairs.specs.Inner.Images.{same_pair, yields_start}
-use Rattle.side_pairs.specs.Pairs.{IsOpenSide, StandsBeside, YieldsTo, begun}
-use Rattle.side_pairs.specs.Passes.{HasStart, IsPrepared, IsShutPair}
+use Rattle.cartridge_sides.specs.declared.which.Which.{Which}
+use Rattle.cartridge_sides.specs.declared.which.Which.TheVariants.{First, Second}
+use Rattle.cartridge_sides.specs.Inner.Images.{same_pair, yields_start}
+use Rattle.cartridge_sides.specs.Pairs.{IsOpenSide, StandsBeside, YieldsTo, begun}
+use Rattle.cartridge_sides.specs.Passes.{HasStart, IsPrepared, IsShutPair}
 use Rattle.side_reclaim.specs.Ready.{GivesSide, resting}
 
 open_start : (pair : ℕ) (head : Head) (rest image : List ℕ) → IsOpenSide pair head rest image → HasStart image

@@ -8,12 +8,12 @@ use Rattle.tape_disk.specs.TwoDisks as Two
 use Rattle.tape_disk.specs.TwoDisks.{AreHonest, EachOfTwo, FirstMoves, SecondMoves, TwoDisks, TwoLeave, seen_of_two}
 use Rattle.gate_journal.specs.Crash.{Unwritten}
 use Rattle.gate_journal.specs.Heads.{Head}
-use Rattle.side_pairs.specs.declared.which.Which.{Which}
-use Rattle.side_pairs.specs.declared.which.Which.TheVariants.{First, Second}
+use Rattle.cartridge_sides.specs.declared.which.Which.{Which}
+use Rattle.cartridge_sides.specs.declared.which.Which.TheVariants.{First, Second}
 use Rattle.gate_journal.specs.Side.{OPEN}
-use Rattle.side_pairs.specs.Inner.Images.{same_pair}
-use Rattle.side_pairs.specs.Pairs.{PairStandsFor}
-use Rattle.side_pairs.specs.Passes.{IsClosedNow, IsPairedNow, IsPreparedBeside, IsShutPair, IsSureStart}
+use Rattle.cartridge_sides.specs.Inner.Images.{same_pair}
+use Rattle.cartridge_sides.specs.Pairs.{PairStandsFor}
+use Rattle.cartridge_sides.specs.Passes.{IsClosedNow, IsPairedNow, IsPreparedBeside, IsShutPair, IsSureStart}
 use Rattle.side_reclaim.specs.Ready.{GivesSide, GivesSurely, IsPaired, IsPreparedIfShut, IsReady, StillGives, counting}
 use Rattle.side_reclaim.proofs.PairedLemmas.{first_start, prepared_of, resting_start, second_paired, shut_or_not}
 

@@ -11,11 +11,11 @@ use Rattle.gate_journal.specs.declared.header.Header.{Header}
 use Rattle.gate_journal.specs.declared.heads.Copied.{Copied}
 use Rattle.gate_journal.specs.Heads.{Head, epoch_of, spell_side_head}
 use Rattle.gate_journal.specs.Side.{CLOSED, IsBody, OPEN, frame, heading_of}
-use Rattle.side_pairs.specs.declared.which.Which.{Which}
-use Rattle.side_pairs.specs.declared.which.Which.TheVariants.{First, Second}
-use Rattle.side_pairs.specs.Copying.{GivesAll, IsCopyBody, IsWritten, said_of}
-use Rattle.side_pairs.specs.Pairs.{begun}
-use Rattle.side_pairs.specs.Passes.{HasStart, HasWritten, IsCopy, IsOpenSideOf, IsShutPair, SidesStandFor, TakesOver, copy_head, first_image, spell_copy}
+use Rattle.cartridge_sides.specs.declared.which.Which.{Which}
+use Rattle.cartridge_sides.specs.declared.which.Which.TheVariants.{First, Second}
+use Rattle.cartridge_sides.specs.Copying.{GivesAll, IsCopyBody, IsWritten, said_of}
+use Rattle.cartridge_sides.specs.Pairs.{begun}
+use Rattle.cartridge_sides.specs.Passes.{HasStart, HasWritten, IsCopy, IsOpenSideOf, IsShutPair, SidesStandFor, TakesOver, copy_head, first_image, spell_copy}
 use Rattle.side_reclaim.specs.Taking.{HasTaken, MayTake, WithOrWithoutCopy}
 use Rattle.side_reclaim.proofs.PairedLemmas.{second_paired}
 

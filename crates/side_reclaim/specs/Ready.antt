@@ -3,10 +3,10 @@ use Rattle.std.specs.Prelude.{◌≡◌, ℕ, List, drop}
 use Rattle.tape_disk.specs.Disk.{DiskState, Only}
 use Rattle.tape_disk.specs.TwoDisks.{Images, TwoDisks, seen_of_two}
 use Rattle.gate_journal.specs.Heads.{Head}
-use Rattle.side_pairs.specs.declared.which.Which.{Which}
-use Rattle.side_pairs.specs.declared.which.Which.TheVariants.{First, Second}
-use Rattle.side_pairs.specs.Pairs.{PairStandsFor}
-use Rattle.side_pairs.specs.Passes.{IsPrepared, IsShutPair, ReadsClosed}
+use Rattle.cartridge_sides.specs.declared.which.Which.{Which}
+use Rattle.cartridge_sides.specs.declared.which.Which.TheVariants.{First, Second}
+use Rattle.cartridge_sides.specs.Pairs.{PairStandsFor}
+use Rattle.cartridge_sides.specs.Passes.{IsPrepared, IsShutPair, ReadsClosed}
 
 -- the pair of images stands for this side, this head and these frames (own)
 abbrev pub GivesSide : Which → Head → List (List ℕ) → Images → Type 0

@@ -6,9 +6,9 @@ use Rattle.gate_journal.specs.declared.heads.Copied.{Copied}
 use Rattle.gate_journal.specs.Answers.{NoneFailed}
 use Rattle.gate_journal.specs.Heads.{Head, epoch_of}
 use Rattle.gate_journal.specs.Side.{heading_of}
-use Rattle.side_pairs.specs.declared.which.Which.{Which}
-use Rattle.side_pairs.specs.Copying.{GivesAll}
-use Rattle.side_pairs.specs.Passes.{IsOpenSideOf, IsShutPair, ReadsClosed, SidesStandFor, TakesOver, first_image, spell_copy}
+use Rattle.cartridge_sides.specs.declared.which.Which.{Which}
+use Rattle.cartridge_sides.specs.Copying.{GivesAll}
+use Rattle.cartridge_sides.specs.Passes.{IsOpenSideOf, IsShutPair, ReadsClosed, SidesStandFor, TakesOver, first_image, spell_copy}
 
 -- With this image of the side that counts, the spare may take a copy, with its heading and the next epoch: the spare's
 -- gate is closed, the pair gate is open, and that is sure (own).

@@ -3,16 +3,17 @@
 ghost use Rattle.std.specs.Prelude.{◌≡◌, List, ℕ, OnOk};
 ghost use Rattle.tape_disk.specs.TwoDisks.{AreHonest, KeepsDisks, TwoDisks, TwoLeave};
 ghost use Rattle.gate_journal.specs.Heads.{Head};
-ghost use Rattle.side_pairs.specs.declared.which.Which.{Which};
-ghost use Rattle.side_pairs.specs.Choosing.{FaultsOfOne};
+ghost use Rattle.cartridge_sides.specs.declared.which.Which.{Which};
+ghost use Rattle.cartridge_sides.specs.Choosing.{FaultsOfOne};
 ghost use Rattle.side_reclaim.specs.Ready.{GivesSide, GivesSurely, IsPaired, IsPreparedIfShut, IsReady, StillGives};
 
-use side_pairs::{Which, close_spare, open_pair, prepare_pair};
+use cartridge_sides::{Which, close_spare, open_pair, prepare_pair};
 use tape_disk::Disk;
 use vtl_base::DevFault;
 
-/// Makes two disks ready for a copy, where side `which` counts. At every moment, and after a fault of either
-/// disk, each pair of images stands for the same as before.
+/// Prepares the two disks of a cartridge for a copy (`copy_over`) on the side that does not count. `which` is the side
+/// that counts. At every moment, and after a fault of either disk, each pair of images that a crash may leave stands
+/// for the same as before.
 pub fn make_ready<D: Disk>(which: Which, first: &mut D, second: &mut D) -> Result<(), DevFault>
     ensures disks { KeepsDisks D.state (record { first = first.old; second = second.old })
         (record { first = first.new; second = second.new }) }
@@ -58,7 +59,7 @@ fn prepare<D: Disk>(which: Which, first: &mut D, second: &mut D) -> Result<(), D
     prepare_pair(first, second)
 }
 
-// Opens the pair gate, where it is closed and the second disk is prepared.
+// Opens the pair gate, if it is closed. In that case the second disk must be prepared.
 fn pair<D: Disk>(which: Which, first: &mut D, second: &mut D) -> Result<(), DevFault>
     ensures disks { KeepsDisks D.state (record { first = first.old; second = second.old })
         (record { first = first.new; second = second.new }) }
@@ -83,7 +84,7 @@ fn pair<D: Disk>(which: Which, first: &mut D, second: &mut D) -> Result<(), DevF
     open_pair(first, second)
 }
 
-// Closes the gate of the side that does not count, where the pair gate is open.
+// Closes the gate of the side that does not count, if that gate is open. The pair gate must be open.
 fn close<D: Disk>(which: Which, first: &mut D, second: &mut D) -> Result<(), DevFault>
     ensures disks { KeepsDisks D.state (record { first = first.old; second = second.old })
         (record { first = first.new; second = second.new }) }

@@ -1,21 +1,23 @@
-//! Writing a copy on the side that does not count, and opening it: it counts from then on.
+//! Writing a copy on the side that does not count, and opening its gate: the copy counts from then on.
 ghost use Rattle.std.specs.Prelude.{◌≡◌, ◌+◌, ◌≤◌, List, ℕ, IfErr, OnOk, vec_capacity};
 ghost use Rattle.tape_disk.specs.Disk.{Keeps};
 ghost use Rattle.tape_disk.specs.Moments.{LeavesOnly};
 ghost use Rattle.gate_journal.specs.Heads.{Head};
 ghost use Rattle.gate_journal.specs.Side.{IsHeading, heading_of};
-ghost use Rattle.side_pairs.specs.declared.which.Which.{Which};
-ghost use Rattle.side_pairs.specs.declared.copying.TheConstants.{COPY_BODY};
-ghost use Rattle.side_pairs.specs.Copying.{NotCopied};
+ghost use Rattle.cartridge_sides.specs.declared.which.Which.{Which};
+ghost use Rattle.cartridge_sides.specs.declared.copying.TheConstants.{COPY_BODY};
+ghost use Rattle.cartridge_sides.specs.Copying.{NotCopied};
 ghost use Rattle.side_reclaim.specs.Taking.{HasTaken, MayTake, WithOrWithoutCopy};
 
+use cartridge_sides::{GivesBodies, open_copy, write_copy};
 use gate_journal::{Copied, Header};
-use side_pairs::{GivesBodies, open_copy, write_copy};
 use tape_disk::Disk;
 use vtl_base::DevFault;
 
-/// Writes a copy on the side that does not count, and makes it count. At every moment, and after a fault of
-/// its disk or of the source, each pair of images stands for the same as before, or for the copy.
+/// Writes a copy to `spare`, the side that does not count, and opens the gate of that side: after Ok the copy counts.
+/// The head of the copy is made from `header` and `copied`. Its bodies come from `source`, through `buffer`, which must
+/// have a capacity of at least 4,194,309 bytes. At every moment, and after a fault of the disk or of the source, each
+/// pair of images that a crash may leave stands for the same as before, or for the copy.
 pub fn copy_over<D: Disk, S: GivesBodies>(
     spare: &mut D,
     header: &Header,

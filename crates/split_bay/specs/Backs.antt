@@ -51,9 +51,8 @@ module _ {D : Type 0} (state : D → DiskState) where
   FollowsIn None span = span.begin.seen ≡ None
   FollowsIn (Some medium) span = FollowsSpan medium span
 
-  -- The invariant of a disk's half. Over honest disks each pair of images that a crash now may leave gives what is
-  -- safe, or what is stored. The medium is as hosts see it, as far as its changes were received and stored. No more was
-  -- received than the span allows (own).
+  -- The invariant of a disk's half: what holds of its cartridge over honest disks (`KeepsCartridgeIn`); the medium is
+  -- as hosts see it, as far as its changes were received and stored; no more was received than the span allows (own).
   pub record KeepsDiskHalf (back : BackState D) : Type 0 where
     pub cartridge : KeepsCartridgeIn state (option_map (λ m. m.buffer) back.medium)
     pub follows : FollowsIn back.medium (span_of back.received)

@@ -39,8 +39,8 @@ impl<D: Disk, R: Rings> Model for Back<D, R> {
 
 impl<D: Disk, R: Rings> Back<D, R> {
     /// Takes a flusher's turn: stores what was pending and the changes that it finds in the ring, as one frame. Returns
-    /// `Idle` where nothing is pending then, where no medium is loaded, or where the half is stuck. After `Device` the
-    /// half is stuck. The call takes no memory.
+    /// `Idle` where there is nothing to store, where no medium is loaded, or where the half is stuck. Where it returns
+    /// `Device`, the device failed, and the half is stuck from then on. The call allocates no memory.
     pub fn turn(&mut self) -> Turn
         ensures { TurnsBack D.state (works_in D.state self.old.medium) self.old result self.new }
     {
@@ -55,7 +55,7 @@ impl<D: Disk, R: Rings> Back<D, R> {
         medium.flush_turn()
     }
 
-    /// Whether a medium is loaded, and its device has not failed.
+    /// Whether a medium is loaded whose device has not failed.
     pub fn works(&self) -> bool
         ensures { result ≡ works_in D.state self.now.medium }
     {
@@ -75,8 +75,11 @@ impl<D: Disk, R: Rings> Back<D, R> {
         }
     }
 
-    /// The type's invariant. Over honest disks each pair of images that a crash now may leave gives what is safe, or
-    /// what is stored. The medium is as hosts see it, as far as its changes were received and stored.
+    /// Establishes, for proofs, the type's invariant. Over honest disks, each pair of images that a crash may leave now
+    /// gives the volume that is safe, or the one that is stored. This holds for a medium that gives a volume, if it was
+    /// opened before or if a crash leaves only what reads return. The medium is as hosts see it after the changes
+    /// received so far, except that some of its pending changes may be stored, and that its device may have failed. No
+    /// more changes were received than the span allows.
     pub fn known(&self)
         ensures cartridge { KeepsCartridgeIn D.state (option_map (λ m. m.buffer) self.now.medium) }
         ensures follows { FollowsIn D.state self.now.medium (span_of self.now.received) }
@@ -88,8 +91,8 @@ impl<D: Disk, R: Rings> Back<D, R> {
         }
     }
 
-    /// The disk of the side that counts, of the medium in the drive, for reading. Of a parked medium it is the first
-    /// disk.
+    /// The disk, for reading, whose side counts for the medium in the drive; if that medium is parked, its first disk.
+    /// None where no medium is in the drive.
     pub fn disk(&self) -> Option<&D>
         ensures disk { IfSome result (λ disk. IfSome self.now.medium (λ medium.
             disk_in medium.buffer.held ≡ Some disk.now)) }

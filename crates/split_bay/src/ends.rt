@@ -18,13 +18,13 @@ use std::marker::{Brand, Model, PhantomData};
 use volume_core::Change;
 use vtl_base::DriveNo;
 
-/// The ring of each drive, by the drive's number. One implementation gives the rings of all drives, so all bays have
-/// one type.
+/// The ring of each drive, by the drive's number. One implementation names the rings of all drives, so all bays have
+/// the same type.
 pub trait Rings {
     ghost use Rattle.std.specs.Prelude.{ℕ, Option};
     ghost use Rattle.split_bay.specs.Rings.{Sender};
 
-    /// The ring of the drive with this number, given as the end that sends.
+    /// The ring of the drive with this number, named by its sending end; None where there is no such ring.
     ghost ring: { ℕ → Option Sender };
 }
 
@@ -94,7 +94,8 @@ impl<R: Rings> Model for Receiving<R> {
 }
 
 impl<R: Rings> Sending<R> {
-    /// The hosts' end of the ring of this drive, into which nothing was sent yet.
+    /// Makes the hosts' end of the ring of drive `number`. `producer` must be the producer of that ring, with 256
+    /// places, and nothing may have been sent by it yet.
     pub fn new(number: DriveNo, producer: Producer<Item, Global, InSpans>) -> Self
         requires ring { SendsInto (R.ring number) producer }
         requires places { producer_capacity producer ≡ RING_RECORDS }
@@ -112,14 +113,14 @@ impl<R: Rings> Sending<R> {
         }
     }
 
-    /// The number of its drive.
+    /// The number of the drive whose ring this is.
     pub(crate) fn number(&self) -> DriveNo
         ensures { result ≡ self.now.number }
     {
         self.number
     }
 
-    /// What was sent keeps the limits of its span.
+    /// Establishes, for proofs, that what was sent keeps the limits of its span.
     pub(crate) fn known(&self)
         ensures { KeepsLimits (span_of self.now.sent) }
     {
@@ -127,7 +128,7 @@ impl<R: Rings> Sending<R> {
         let _ = &self.producer;
     }
 
-    /// Whether this span has room for one more frame, with a block of this many bytes.
+    /// Whether this span has room for one more frame: 15 bytes and a block of `bytes` bytes.
     pub(crate) fn has_room(&self, bytes: u32) -> bool
         ensures { IsTrue result
             ↔ sum_by frame_size (span_of self.now.sent).since + (15 + bytes) ≤ (span_of self.now.sent).begin.room }
@@ -135,8 +136,8 @@ impl<R: Rings> Sending<R> {
         15 + bytes as u64 <= self.room
     }
 
-    /// Whether the limits of this span allow one more change, whose block has this many bytes, 0 for a change with no
-    /// block.
+    /// Whether the limits of this span allow one more change, whose block has `bytes` bytes (0 for a change without a
+    /// block).
     pub(crate) fn takes(&self, bytes: u32) -> bool
         ensures { result ≡ takes_more (span_of self.now.sent) bytes }
     {
@@ -144,7 +145,7 @@ impl<R: Rings> Sending<R> {
         self.left > 0 && bytes <= self.bytes && 15 + bytes <= self.room
     }
 
-    /// Sends a change, within the limits of its span. It takes no memory, and waits for nothing.
+    /// Sends a change, within the limits of its span. It allocates no memory, and waits for nothing.
     pub(crate) fn send(&mut self, change: Change)
         requires applies { refusal_of (volume_seen (span_of self.old.sent)) change ≡ None }
         requires within { takes_more (span_of self.old.sent) (block_bytes change) ≡ true }
@@ -159,7 +160,8 @@ impl<R: Rings> Sending<R> {
 }
 
 impl<R: Rings> Receiving<R> {
-    /// The disk's end of the ring of this drive, from which nothing was received yet.
+    /// Makes the disk's end of the ring of drive `number`. `consumer` must be the consumer of that ring, and nothing
+    /// may have been received by it yet.
     pub fn new(number: DriveNo, consumer: Consumer<Item, Global, InSpans>) -> Self
         requires ring { ReceivesFrom (R.ring number) consumer }
         requires none { received consumer ≡ [] }
@@ -173,14 +175,14 @@ impl<R: Rings> Receiving<R> {
         }
     }
 
-    /// The number of its drive.
+    /// The number of the drive whose ring this is.
     pub(crate) fn number(&self) -> DriveNo
         ensures { result ≡ self.now.number }
     {
         self.number
     }
 
-    /// What was received keeps the limits of its span.
+    /// Establishes, for proofs, that what was received keeps the limits of its span.
     pub(crate) fn known(&self)
         ensures { KeepsLimits (span_of self.now.received) }
     {
@@ -188,7 +190,7 @@ impl<R: Rings> Receiving<R> {
         let _ = &self.consumer;
     }
 
-    /// Looks at what waits in the ring.
+    /// Looks how many items wait in the ring. These are then known to wait.
     pub(crate) fn look(&mut self)
         ensures same { self.new ≡ record self.old { waiting = self.new.waiting } }
         ensures more { IsPrefix self.old.waiting self.new.waiting }

@@ -25,8 +25,8 @@ use tape_buffer::Cataloged;
 use tape_disk::Disk;
 use vtl_base::{Bytes, Nexus};
 
-/// The hosts' half of a bay: the drive, over the hosts' half of its medium, with its store of reservations. Where
-/// nothing is in the drive, `end` has its end of the ring.
+/// The hosts' half of a bay: the drive, over the hosts' half of its medium, with its store of reservations. The medium
+/// has the sending end of the ring; where the drive is empty, this half itself has it.
 #[derive(Drop)]
 pub struct Front<D: Disk, R: Rings> {
     pub(crate) drive: Drive<Hosts<Near<R>, Cataloged<D>>, AptplStore<D>>,
@@ -46,8 +46,9 @@ impl<D: Disk, R: Rings> Model for Front<D, R> {
 }
 
 impl<D: Disk, R: Rings> Front<D, R> {
-    /// Answers a command of a host, whose data are lent, if it needs no disk. Where both halves are needed the result
-    /// is None, and nothing has changed: the data are still there.
+    /// Answers a command of the host `nexus`, if the command needs no disk. `cdb` is the command block, and `sent`
+    /// holds the data that are lent with it. Where both halves are needed, the result is None and nothing has changed:
+    /// the data are still in `sent`.
     pub fn execute_lent(&mut self, nexus: Nexus, cdb: &[u8], sent: &mut Bytes) -> Option<Reply>
         ensures step { AnswersAlone state_near store_kept alone_near near_below (store_below D.state)
             self.old.drive (asked nexus cdb.now sent.old) result self.new.drive sent.new }
@@ -65,7 +66,7 @@ impl<D: Disk, R: Rings> Front<D, R> {
         self.drive.execute_alone(nexus, cdb, sent)
     }
 
-    /// Whether these are the two halves of one bay, and the same number of spans began in both.
+    /// Whether this half and `back` have the same drive number, and equally many spans began in both, modulo 2^64.
     pub fn fits(&self, back: &Back<D, R>) -> bool
         ensures { IsTrue result ↔ AreEnds (end_of self.now) back.now.number back.now.received }
     {
@@ -76,7 +77,7 @@ impl<D: Disk, R: Rings> Front<D, R> {
         }
     }
 
-    /// Whether there is no cartridge in the drive, loaded or not.
+    /// Whether the drive is empty: no cartridge is in it, loaded or not.
     pub fn is_empty(&self) -> bool
         ensures { IsTrue result ↔ (self.now.drive.bay ≡ Bays.Empty) }
     {
@@ -90,14 +91,14 @@ impl<D: Disk, R: Rings> Front<D, R> {
         self.drive.held()
     }
 
-    /// How many changes were accepted since the drive was switched on, as `Drive::accepted` says.
+    /// How many changes were accepted since the drive was switched on; see `Drive::accepted`.
     pub fn accepted(&self) -> u64
         ensures { result ≡ self.now.drive.accepted }
     {
         self.drive.accepted()
     }
 
-    /// Whether hosts see the loaded medium as failed.
+    /// Whether hosts see the loaded medium as failed; false where none is loaded.
     pub fn has_failed(&self) -> bool
         ensures { result ≡ has_failed_in state_near self.now.drive.bay }
     {
@@ -105,7 +106,7 @@ impl<D: Disk, R: Rings> Front<D, R> {
     }
 
     /// How many changes are pending, as hosts see it: those that were pending when both halves were last held, and all
-    /// that were accepted since. A turn may have stored some of them. Without a cartridge there are none.
+    /// that were accepted since. A turn may have stored some of them. Without a cartridge the result is 0.
     pub fn pending(&self) -> usize
         ensures { result ≡ pending_of (medium_in self.now.drive.bay) }
     {
@@ -116,14 +117,14 @@ impl<D: Disk, R: Rings> Front<D, R> {
         }
     }
 
-    /// The store of its reservations, for reading.
+    /// The store of the drive's reservations, for reading.
     pub fn keeper(&self) -> &AptplStore<D>
         ensures { result.now ≡ self.now.drive.keeper }
     {
         self.drive.keeper()
     }
 
-    // What was sent keeps the limits of its span.
+    // Establishes, for proofs, that what was sent keeps the limits of its span.
     fn known_end(&self)
         ensures { KeepsLimits (span_of (end_of self.now).sent) }
     {
@@ -134,9 +135,9 @@ impl<D: Disk, R: Rings> Front<D, R> {
         }
     }
 
-    /// The type's invariant. Over an honest disk each image of the store that a crash now may leave gives the
-    /// reservations as a loss of power leaves them, or those of the order whose save failed. No more was sent than the
-    /// span allows. The position is on the volume that hosts see.
+    /// Establishes, for proofs, the type's invariant. Over an honest disk, each image of the store that a crash may
+    /// leave now opens as the reservations that a loss of power leaves, either of those held now or of those whose save
+    /// failed. No more changes were sent than the span allows. The position is on the volume that hosts see.
     pub fn known(&self)
         ensures keeps { KeepsHostsHalf D.state self.now }
         ensures opens { GivesOrders D.state self.now.drive }

@@ -1,4 +1,4 @@
-//! Puts the two halves of a bay together, and parts them again.
+//! Joins the two halves of a bay, and splits the bay into its halves again.
 ghost use Rattle.std.specs.Prelude.{◌≡◌, ◌&&◌, None, not};
 ghost use Rattle.drive_core.specs.declared.bays.Bay.TheVariants as Bays;
 ghost use Rattle.tape_buffer.specs.State.{state_of};
@@ -30,8 +30,9 @@ use tape_disk::Disk;
 use volume_core::Medium;
 use vtl_base::{Bytes, Nexus};
 
-/// Puts the two halves of a bay together. The changes that wait in the ring become pending. A fault of the disk's half
-/// that was not reported yet establishes a deferred error. The call takes no memory, and calls no device.
+/// Joins the two halves of a bay, which must fit (`Front::fits`). Returns the bay, and the ends of its ring. The
+/// changes that wait in the ring become pending. If the disk's half has a fault that was not reported yet, a deferred
+/// error is established. The call allocates no memory, and calls no device.
 pub fn join<D: Disk, R: Rings>(front: Front<D, R>, back: Back<D, R>) -> (Bay<D>, Ends<R>)
     requires { AreEnds (end_of front) back.number back.received }
     ensures { Joins D.state front back result.0 result.1 }
@@ -46,8 +47,8 @@ pub fn join<D: Disk, R: Rings>(front: Front<D, R>, back: Back<D, R>) -> (Bay<D>,
     (Bay::of_drive(drive), ends)
 }
 
-/// Parts a bay into its halves. The call takes memory for as many records as may be pending. Where memory runs out, no
-/// record may be sent until the halves part again.
+/// Splits a bay into its halves. The call allocates memory for as many changes as may be pending. Where memory runs
+/// out, no change may be sent until the halves are joined and split again.
 pub fn part<D: Disk, R: Rings>(bay: Bay<D>, ends: Ends<R>) -> (Front<D, R>, Back<D, R>)
     ensures { Parts D.state bay ends result.0 result.1 }
 {
@@ -59,7 +60,9 @@ pub fn part<D: Disk, R: Rings>(bay: Bay<D>, ends: Ends<R>) -> (Front<D, R>, Back
     (Front { drive, end }, back)
 }
 
-/// Answers a command of a host, whose data are lent, with both halves.
+/// Answers a command of the host `nexus` with both halves, which must fit (`Front::fits`). The halves are joined for
+/// the command, and then split again. `cdb` is the command block, and `sent` holds the data that are lent with it.
+/// Returns the reply and the two halves.
 pub fn execute_both<D: Disk, R: Rings>(
     front: Front<D, R>,
     back: Back<D, R>,
@@ -81,9 +84,13 @@ pub fn execute_both<D: Disk, R: Rings>(
     (reply, front, back)
 }
 
-/// Reports a fault of the disk's half to hosts: a deferred error is established, and no change is accepted from then
-/// on. Where there is no fault, or it was reported, nothing changes.
-pub fn tell<D: Disk, R: Rings>(front: Front<D, R>, back: Back<D, R>) -> (Front<D, R>, Back<D, R>)
+/// Reports a fault of the disk's half `back` to hosts: a deferred error is established, and hosts see that the loaded
+/// medium has failed, so it accepts no more changes. Where there is no fault, or it was reported already, nothing
+/// changes. The halves must fit (`Front::fits`). Returns the two halves.
+pub fn report_fault<D: Disk, R: Rings>(
+    front: Front<D, R>,
+    back: Back<D, R>,
+) -> (Front<D, R>, Back<D, R>)
     requires { AreEnds (end_of front) back.number back.received }
     ensures { ReportsBoth D.state (is_unreported D.state front back) front back result.0 result.1 }
 {
@@ -123,7 +130,7 @@ struct PartedBay<D: Disk, R: Rings> {
     back: Back<D, R>,
 }
 
-// Puts the content of a drive together from its halves.
+// Joins the content of a drive from its halves.
 fn join_bay<D: Disk, R: Rings>(
     bay: Place<Near<R>>,
     end: Option<Sending<R>>,
@@ -171,7 +178,7 @@ fn join_bay<D: Disk, R: Rings>(
     }
 }
 
-// The ends of a drive with nothing in it.
+// Joins the ends of the ring of an empty drive.
 fn join_empty<D: Disk, R: Rings>(
     end: Option<Sending<R>>,
     receiving: Receiving<R>,
@@ -192,7 +199,7 @@ fn join_empty<D: Disk, R: Rings>(
     }
 }
 
-// Puts the medium of a drive together from its halves.
+// Joins the medium of a drive from its halves.
 fn join_there<D: Disk, R: Rings>(
     near: Near<R>,
     receiving: Receiving<R>,
@@ -218,7 +225,7 @@ fn join_there<D: Disk, R: Rings>(
     }
 }
 
-// Parts the content of a drive into its halves.
+// Splits the content of a drive into its halves.
 fn part_bay<D: Disk, R: Rings>(bay: Place<Cataloged<D>>, ends: Ends<R>) -> PartedBay<D, R>
     ensures { PartsBay D.state bay ends result.bay result.end result.back }
 {

@@ -1,4 +1,4 @@
-//! Puts the two halves of a medium together, and parts them again.
+//! Joins the two halves of a medium, and splits the medium into its halves again.
 ghost use Rattle.std.specs.Prelude.{◌≡◌, ◌≤◌, ◌⊎◌, ◌&&◌, None, length, not};
 ghost use Rattle.vtl_base.specs.declared.limits.TheConstants.{BUFFER_RECORDS};
 ghost use Rattle.cartridge.specs.Shown.{HasEntriesIn, IsGrownIn};
@@ -44,7 +44,8 @@ impl<R: Rings> Model for Ends<R> {
 }
 
 impl<R: Rings> Ends<R> {
-    /// Both ends of the ring of a drive. All that was sent is received.
+    /// Puts together both ends of a drive's ring. They must belong to the same drive, and all that was sent must have
+    /// been received.
     pub fn new(sending: Sending<R>, receiving: Receiving<R>) -> Self
         requires number { receiving.number ≡ sending.number }
         requires level { receiving.received ≡ sending.sent }
@@ -54,17 +55,18 @@ impl<R: Rings> Ends<R> {
     }
 }
 
-/// A medium, put together from its halves.
+/// A medium, joined from its halves.
 pub(crate) struct Joined<D: Disk, R: Rings> {
     /// The medium.
     pub(crate) medium: Cataloged<D>,
-    /// Both ends of its ring.
+    /// Both ends of the ring.
     pub(crate) ends: Ends<R>,
-    /// Whether its device has failed, and the fault was not reported.
+    /// Whether the device has failed, and the fault was not reported.
     pub(crate) fails: bool,
 }
 
-/// Puts the halves of a medium together. The call takes no memory, and calls no device.
+/// Joins the halves of a medium. The changes that wait in the ring become pending. The call allocates no memory, and
+/// calls no device.
 pub(crate) fn join_medium<D: Disk, R: Rings>(
     near: Near<R>,
     receiving: Receiving<R>,
@@ -100,7 +102,7 @@ pub(crate) fn join_medium<D: Disk, R: Rings>(
     }
 }
 
-/// The ends of the ring of a drive with nothing in it.
+/// Joins the ends of the ring of an empty drive, into which nothing may be sent: all that was sent is received.
 pub(crate) fn join_ends<R: Rings>(sending: Sending<R>, receiving: Receiving<R>) -> Ends<R>
     requires ends { AreEnds sending receiving.number receiving.received }
     requires none { (span_of sending.sent).begin.left ≡ 0 }
@@ -114,7 +116,8 @@ pub(crate) fn join_ends<R: Rings>(sending: Sending<R>, receiving: Receiving<R>) 
     Ends { sending, receiving }
 }
 
-/// Parts a medium into its halves, and begins a span.
+/// Splits a medium into its halves, and begins a span. Where memory for the catalog runs out, no change may be sent in
+/// the span.
 pub(crate) fn part_medium<D: Disk, R: Rings>(
     medium: Cataloged<D>,
     ends: Ends<R>,
@@ -148,7 +151,7 @@ pub(crate) fn part_medium<D: Disk, R: Rings>(
     (near, Back { receiving, medium })
 }
 
-/// Parts the two ends of the ring of a drive with nothing in it.
+/// Splits the two ends of the ring of an empty drive, and begins a span in which nothing may be sent.
 pub(crate) fn part_ends<D: Disk, R: Rings>(ends: Ends<R>) -> (Sending<R>, Back<D, R>)
     ensures begins { BeginsNext ends result.0 }
     ensures none { span_of result.0.sent ≡ no_span }
@@ -179,7 +182,7 @@ fn seen_of<D: Disk>(buffered: &Buffered<D>, catalog: &Option<Index>) -> (bool, u
     }
 }
 
-// How much may be sent: all that the medium takes, or no record where memory for the catalog runs out.
+// How much may be sent: all that the medium takes, or no change where memory for the catalog runs out.
 fn allow(catalog: Option<Index>, left: Budget) -> (Option<Index>, Budget)
     requires { left.records ≤ BUFFER_RECORDS }
     ensures grown { IsGrownIn catalog result.0 }

@@ -7,13 +7,13 @@ use crate::near::Near;
 use volume_core::{Catalog, Change, Kind, Medium, MediumError, NotAccepted, Turn};
 use vtl_base::{ObjNo, PartNo};
 
-/// The medium of a drive: the hosts' half, whose device stands behind a lock of its own, or the whole medium. Hosts see
-/// the same in both. Both do all that needs no device.
+/// The medium of a drive: either only the hosts' half, while the device is behind another lock, or the whole medium.
+/// Hosts see the same in both cases. Both variants do all that needs no device.
 #[derive(Drop)]
 pub enum Hosts<N, M> {
     /// The hosts' half. Its device is not at hand.
     Apart(N),
-    /// Both halves, put together.
+    /// Both halves, joined.
     Whole(M),
 }
 

@@ -9,7 +9,7 @@ use crate::ends::{Receiving, Rings, Sending};
 use crate::items::Item;
 use crate::noted::NotedBeginning;
 
-// Whether these are the two ends of one drive's ring, and the same number of spans began in both.
+// Whether these are the two ends of one drive's ring, and the same number of spans, modulo 2^64, began in both.
 pub(crate) fn are_ends<R: Rings>(sending: &Sending<R>, receiving: &Receiving<R>) -> bool
     ensures { IsTrue result ↔ AreEnds sending.now receiving.now.number receiving.now.received }
 {

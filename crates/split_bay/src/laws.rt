@@ -12,16 +12,17 @@ use drive_laws::replies_show_changes;
 use tape_buffer::Cataloged;
 use tape_disk::Disk;
 
-/// A reply shows how many changes the hosts' half accepted with the command, as `drive_laws::replies_show_changes` says
-/// of a drive.
+/// A reply of the hosts' half shows how many changes this half accepted in the command, as
+/// `drive_laws::replies_show_changes` says of a whole drive.
 pub fn replies_show_changes_alone<D: Disk, R: Rings>()
     ensures { RepliesShowChanges state_near near_below store_kept (store_below D.state) }
 {
     replies_show_changes::<Hosts<Near<R>, Cataloged<D>>, AptplStore<D>>();
 }
 
-/// Where both halves are held, the drive is in the state that a flusher's turn of the whole drive leaves, taken before
-/// its last changes were accepted. With no medium, or with an unloaded one that is not awake, all is as it was.
+/// Once both halves are held, a drive with a loaded and awake medium is found as if it had taken one flusher's turn, as
+/// a whole drive, before its last changes were accepted. A drive that is empty, or that has an unloaded medium which is
+/// not awake, is found as it was.
 pub fn what_is_found_is_turned()
     ensures loaded { FoundIsTurned }
     ensures other { FoundAsItWas }

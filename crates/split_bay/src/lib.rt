@@ -1,4 +1,4 @@
-//! A cartridge in two halves, and the ring that joins them.
+//! A drive in two halves, the hosts' and the disk's, each for a lock of its own; and the ring that joins them.
 #![tactic(auto)]
 
 pub mod backs;
@@ -20,7 +20,7 @@ mod taking;
 pub use backs::Back;
 pub use ends::{Receiving, Rings, Sending};
 pub use fronts::Front;
-pub use halves::{execute_both, join, part, tell};
+pub use halves::{execute_both, join, part, report_fault};
 pub use halving::Ends;
 pub use hosts::Hosts;
 pub use items::{Item, RING_RECORDS};

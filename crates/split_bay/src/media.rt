@@ -78,8 +78,8 @@ impl<R: Rings> Catalog for Near<R> {
 }
 
 impl<R: Rings> Near<R> {
-    /// Accepts a change, and sends it to the disk's half. A change that is refused is returned. It takes no memory, and
-    /// waits for nothing.
+    /// Accepts a change, and sends it to the disk's half. A change that is refused is returned with the cause. The call
+    /// allocates no memory, and waits for nothing.
     pub fn accept(&mut self, change: Change) -> Result<(), NotAccepted>
         requires awake { (state_near self.old).awake ≡ true }
         requires alone { alone_near self.old (block_bytes change) ≡ true }
@@ -108,15 +108,16 @@ impl<R: Rings> Near<R> {
         }
     }
 
-    /// Whether these are the two halves of one drive's medium, and the same number of spans began in both.
+    /// Whether this half and `back` have the same drive's number, and as many spans began in the one as in the other,
+    /// modulo 2^64.
     pub fn fits<D: Disk>(&self, back: &Back<D, R>) -> bool
         ensures { IsTrue result ↔ AreEnds self.now back.now.number back.now.received }
     {
         are_ends(&self.sending, &back.receiving)
     }
 
-    /// Whether the file has room for what is pending and a change whose block has this many bytes, 0 for a change with
-    /// no block.
+    /// Whether the side (the bytes of the file) has room for all pending changes and for one more, whose block has
+    /// `bytes` bytes (0 for a change without a block).
     pub fn has_room_for(&self, bytes: u32) -> bool
         requires { (state_near self.now).awake ≡ true }
         ensures { IsTrue result ↔ HasRoomFor (state_near self.now).room (state_near self.now).pending bytes }
@@ -124,8 +125,8 @@ impl<R: Rings> Near<R> {
         self.sending.has_room(bytes)
     }
 
-    /// Whether a change whose block has this many bytes, 0 for a change with no block, may be sent before both halves
-    /// are held again.
+    /// Whether one more change, whose block has `bytes` bytes (0 for a change without a block), may be sent before both
+    /// halves are held the next time.
     pub fn takes_alone(&self, bytes: u32) -> bool
         requires { (state_near self.now).awake ≡ true }
         ensures { result ≡ alone_near self.now bytes }
@@ -133,7 +134,7 @@ impl<R: Rings> Near<R> {
         self.sending.takes(bytes)
     }
 
-    /// How many changes are pending.
+    /// How many changes are pending, as hosts see it.
     pub fn pending(&self) -> usize
         ensures { result ≡ length (state_near self.now).pending }
     {

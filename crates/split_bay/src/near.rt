@@ -7,8 +7,9 @@ use crate::ends::{Rings, Sending};
 use record_index::Index;
 use std::marker::Model;
 
-/// The hosts' half of a medium: a catalog of the volume that hosts see, while the medium is awake, and the sending end
-/// of the ring, into which accepted changes go. The half has no byte of a block that was sent.
+/// The hosts' half of a medium. It has the sending end of the ring, into which accepted changes go. While the medium is
+/// awake (open in a drive), it also has a catalog of the volume that hosts see. It keeps no bytes of the blocks that
+/// were sent.
 #[derive(Drop)]
 pub struct Near<R: Rings> {
     pub(crate) sending: Sending<R>,

@@ -1,4 +1,4 @@
-//! A ring that was just made, for a drive that is about to be parted.
+//! A ring that was just made, for a drive that is about to be split into halves.
 ghost use Rattle.std.specs.Prelude.{◌≡◌, [], Some};
 
 use crate::ends::{Receiving, Rings, Sending};
@@ -10,7 +10,7 @@ use std::alloc::Global;
 use std::marker::Model;
 use vtl_base::{DriveNo, NoMemory};
 
-/// A ring of 256 places into which nothing was sent yet. A contract sees the end that sends.
+/// A ring of 256 places into which nothing was sent yet. Contracts see a ring as its sending end.
 #[derive(Drop)]
 pub struct NewRing {
     producer: Producer<Item, Global, InSpans>,
@@ -32,7 +32,7 @@ impl Model for NewRing {
 }
 
 impl NewRing {
-    /// A ring with memory for all its places.
+    /// Makes a ring, and allocates memory for its 256 places. Returns `NoMemory` if memory runs out.
     pub fn new(alloc: Global) -> Result<NewRing, NoMemory> {
         let (producer, consumer) = RingBuffer::with_protocol::<Global, InSpans>(
             alloc,
@@ -41,7 +41,7 @@ impl NewRing {
         Ok(NewRing { producer, consumer })
     }
 
-    /// Both ends of the ring. It is the ring of this drive.
+    /// Splits the ring into its two ends, for the drive `number`. `R` must name this ring as the ring of that drive.
     pub fn into_ends<R: Rings>(self, number: DriveNo) -> Ends<R>
         requires { R.ring number ≡ Some self }
         ensures { result ≡ record { number = number; sent = [] } }

@@ -1,4 +1,5 @@
-//! A note of a span, for proofs alone. It takes no bytes: the hosts' half has no stored volume in memory.
+//! A note of how a span began, for proofs alone. It takes no memory: the hosts' half does not keep the stored volume
+//! that the note names.
 ghost use Rattle.std.specs.Prelude.{◌≡◌, option_map};
 ghost use Rattle.tape_buffer.specs.State.{state_of};
 ghost use Rattle.split_bay.specs.Beginnings.{Beginning};
@@ -8,7 +9,7 @@ use std::marker::Model;
 use tape_buffer::Lent;
 use tape_disk::Disk;
 
-/// The kind of the note: how a span began. No value of this type is made.
+/// The kind of note that says how a span began. No value of this type is made.
 pub struct BeginningNote {}
 
 impl Model for BeginningNote {
@@ -22,14 +23,15 @@ impl Model for BeginningNote {
     ghost view = { λ _. record { seen = None; left = 0; bytes = 0; room = 0 } };
 }
 
-/// How a span began.
+/// A note of how a span began: the medium that was in the drive, and how much may be sent in the span.
 #[derive(Drop)]
 pub struct NotedBeginning {
     pub begin: NotedValue<BeginningNote>,
 }
 
 impl NotedBeginning {
-    /// Notes the medium in the drive, and how many records, bytes of blocks and bytes of room may be sent.
+    /// Notes the medium in the drive, or that there is none, and how much may be sent: `left` changes, `bytes` bytes of
+    /// blocks, and frames of `room` bytes in all.
     pub(crate) fn of<D: Disk>(
         medium: &Option<Lent<D>>,
         left: &usize,
@@ -47,7 +49,7 @@ impl NotedBeginning {
     }
 }
 
-// The beginning that the caller names, in terms of a medium and of numbers.
+// A note of the beginning that the caller names in its ghost argument. The other arguments serve to name it.
 fn by_medium<D: Disk>(
     _medium: &Option<Lent<D>>,
     _left: &usize,

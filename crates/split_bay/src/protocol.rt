@@ -2,7 +2,10 @@
 use crate::items::Item;
 use rtrb::Protocol;
 
-/// With each item, after the items before it, the span keeps its limits.
+/// The protocol of a drive's ring: an item may be sent only where its span, with that item, stays within the limits of
+/// the span. A span is all that is sent from one splitting of the bay into halves to the next. The limits say how many
+/// changes, how many bytes of blocks and how many bytes of frames may be sent, and that each change applies after those
+/// before it.
 #[derive(Clone, Copy)]
 pub struct InSpans;
 

@@ -1,18 +1,16 @@
 -- A change more is pending.
-use Rattle.std.specs.Prelude.{◌≡◌, ◌+◌, ◌++◌, ◌≤◌, ◌<◌, ℕ, List, [], ◌∷◌, Bool, true, false, Option, None, Some, Ok, Err, IsTrue, length, sum_by, slice_get, not, if◌then◌else◌, refl}
+use Rattle.std.specs.Prelude.{◌≡◌, ◌+◌, ◌++◌, ◌≤◌, ℕ, List, [], ◌∷◌, Bool, true, false, None, Ok, Err, IsTrue, length, sum_by, not, refl}
 use Rattle.std.proofs.Common.{inl, sym, ◌∙◌, ap, subst, arith, append_assoc}
 use Rattle.std.proofs.lemmas.Bool.{and_parts, leb-true}
 use Rattle.std.proofs.lemmas.List.{append-nil}
 use Rattle.std.proofs.lemmas.List.Sums.{sum_by-append, sum_by-take-le}
-use Rattle.std.proofs.lemmas.Option.{slice_get_within}
 use Rattle.vtl_base.specs.Below.{Advances, advances_on}
 use Rattle.tape_disk.specs.Disk.{DiskState, IsDisk}
 use Rattle.volume_core.specs.declared.changes.Change.{Change}
 use Rattle.volume_core.specs.declared.changes.Change.TheVariants.{Put, Marks, Erase}
-use Rattle.volume_core.specs.declared.changes.Refusal.TheVariants.{PastEnd, NoRoom, TooLong}
 use Rattle.volume_core.specs.declared.media.MediumError.{MediumError}
 use Rattle.volume_core.specs.declared.media.MediumError.TheVariants.{Refused, NoMemory, SideFull, Device, Failed, Unreadable}
-use Rattle.volume_core.specs.Volume.{AllApply, Part, after, changed, is_well_formed, part_of, refusal_in, refusal_of}
+use Rattle.volume_core.specs.Volume.{AllApply, Part, after, changed, is_well_formed, refusal_of}
 use Rattle.volume_core.specs.Medium.{Accepts, MediumState, Settles, Works, block_bytes, frame_size, volume_of}
 use Rattle.volume_core.specs.Stores.{Stores, after_append, stores_on}
 use Rattle.volume_core.specs.Plain.{moves_on_by_changes}
@@ -24,12 +22,13 @@ use Rattle.accepting.specs.Core.{Core, with_item}
 use Rattle.accepting.specs.Device.{two_disks, two_is_device}
 use Rattle.accepting.specs.Events.{CoreMoves}
 use Rattle.accepting.specs.Kinds.{moves_accepting}
-use Rattle.tape_buffer.specs.Limits.{FitsBuffer}
+use Rattle.waiting_changes.specs.Limits.{FitsBuffer}
 use Rattle.tape_buffer.specs.Moves.{buffer_below, medium_moves_on}
 use Rattle.tape_buffer.specs.Rules.{applies_behind, is_unrefused, medium_rules}
 use Rattle.tape_buffer.specs.State.{IsPendingOver, IsReservedFor, open_buffer, open_core, open_state}
 use Rattle.tape_buffer.proofs.CoreLemmas.{open_is_core}
-use Rattle.tape_buffer.proofs.PendingLemmas.{records_of}
+use Rattle.waiting_changes.proofs.ChangeLemmas.{well_formed}
+use Rattle.waiting_changes.proofs.PendingLemmas.{records_of}
 use Rattle.tape_buffer.proofs.TwoLemmas.{are_disks}
 
 -- what may be pending is short
@@ -39,17 +38,6 @@ spelled_short changes fits = omega (arith, records_of changes, fits.few, fits.sh
 -- as many changes have as many bytes at least
 pub no_shorter : (changes : List Change) → length changes ≤ length (spell_all changes)
 no_shorter changes = omega (arith, records_of changes)
-
-there : (found : Option Part) (change : Change) → refusal_in found change ≡ None → (p : Part) × (found ≡ Some p)
-there None change none = absurd (cc)
-there (Some p) change none = (p, refl)
-
--- a change that is not refused concerns a partition that is there
-pub inside_of : (volume : List Part) (change : Change) → refusal_of volume change ≡ None
-    → part_of change < length volume
-inside_of volume change none =
-    let found = there (slice_get volume (part_of change)) change none in
-    slice_get_within volume (part_of change) found.0 found.1
 
 -- a change that applies behind others applies with them
 pub apply_more : (volume : List Part) (changes : List Change) (change : Change) → AllApply volume changes
@@ -125,24 +113,6 @@ pub fits_more : (room size : ℕ) (has : Bool) (pending : List Change) (change :
 fits_more room size true pending change told is none =
     omega (arith, told refl, is, sum_by-append frame_size pending (change ∷ []))
 fits_more room size false pending change told is none = absurd (cc)
-
-unless : (past room well : Bool)
-    → (if past then Some PastEnd else (if not room then Some NoRoom else (if not well then Some TooLong else None)))
-    ≡ None → well ≡ true
-unless true room well e = absurd (cc)
-unless false false well e = absurd (cc)
-unless false true false e = absurd (cc)
-unless false true true e = refl
-
--- a change that is not refused is well-formed
-pub well_formed : (volume : List Part) (change : Change) → refusal_of volume change ≡ None
-    → is_well_formed change ≡ true
-well_formed volume change none =
-    let found = there (slice_get volume (part_of change)) change none in
-    fine found.0 (subst (λ (f : Option Part). refusal_in f change ≡ None) found.1 none)
-  where
-    fine : (part : Part) → refusal_in (Some part) change ≡ None → is_well_formed change ≡ true
-    fine part none = unless _ _ _ none
 
 -- a change that is not refused may be pending alone
 pub alone_fits : (volume : List Part) (change : Change) → refusal_of volume change ≡ None → FitsBuffer (change ∷ [])

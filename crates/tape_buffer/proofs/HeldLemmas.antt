@@ -19,7 +19,7 @@ use Rattle.tape_buffer.specs.Invariants.{IsHeld}
 use Rattle.tape_buffer.specs.Moves.{IsSafeOrPending, ShowsOn}
 use Rattle.tape_buffer.specs.Rules.{GivesChanges, medium_rules}
 use Rattle.tape_buffer.specs.State.{IsPendingOver, IsSettledIn, IsSettledOn, closed_state, core_held, disks_in, found_core, found_in, state_held, torn_in}
-use Rattle.tape_buffer.proofs.VolumeLemmas.{stays_so}
+use Rattle.waiting_changes.proofs.VolumeLemmas.{stays_so}
 use Rattle.tape_buffer.proofs.CoreLemmas.{gives_changes, gives_more, open_is_core, open_shows}
 
 -- a closed cartridge's core is one

@@ -16,14 +16,15 @@ use Rattle.cartridge.specs.State.{OpenCartridge}
 use Rattle.tape_buffer.specs.declared.budgets.Budget.{Budget}
 use Rattle.tape_buffer.specs.Inner.Lending.{LendsOver}
 use Rattle.tape_buffer.specs.Inner.Storing.{IsRoomyFor}
-use Rattle.tape_buffer.specs.Limits.{FitsBuffer}
+use Rattle.waiting_changes.specs.Limits.{FitsBuffer}
 use Rattle.tape_buffer.specs.Moves.{buffer_below}
 use Rattle.tape_buffer.specs.State.{BufferState, IsPendingOver, IsReservedFor, IsTornFrom, open_buffer, open_state, state_of}
 use Rattle.tape_buffer.specs.Taking.{KeepsBudget, LentState, LendsRecords, budget_after, longest_body}
-use Rattle.tape_buffer.proofs.AddingLemmas.{advances_more, apply_more, inside_of, pending_still, ready_as_it_is, spelled_short}
+use Rattle.tape_buffer.proofs.AddingLemmas.{advances_more, apply_more, pending_still, ready_as_it_is, spelled_short}
+use Rattle.waiting_changes.proofs.ChangeLemmas.{inside_of}
 use Rattle.tape_buffer.proofs.CoreLemmas.{rests}
 use Rattle.tape_buffer.proofs.RoomLemmas.{few_entries, one_frame_fits, reserved_more, reserved_still}
-use Rattle.tape_buffer.proofs.VolumeLemmas.{stays_so}
+use Rattle.waiting_changes.proofs.VolumeLemmas.{stays_so}
 
 -- what is pending was stored, or was not
 module _ {D : Type 0} (c c' : OpenCartridge D) (changes : List Change) (left : Budget)

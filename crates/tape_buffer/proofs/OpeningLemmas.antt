@@ -16,7 +16,7 @@ use Rattle.volume_core.specs.Stores.{after_append}
 use Rattle.gate_journal.specs.Heads.{Head, spell_side_head}
 use Rattle.gate_journal.specs.Side.{IsBody, frame}
 use Rattle.gate_journal.specs.State.{room_behind}
-use Rattle.side_pairs.specs.Pairs.{gate_behind}
+use Rattle.cartridge_sides.specs.Pairs.{gate_behind}
 use Rattle.record_index.specs.Records.{spell_all}
 use Rattle.cartridge.specs.Contents.{Contents, GivesContents, ShowsContents, Start, bodies_of, changes_in, changes_of, changes_since, start_of, volume_made, with_frames}
 use Rattle.cartridge.specs.ContentsOn.{contents_on_is}

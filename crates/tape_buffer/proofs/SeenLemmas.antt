@@ -20,8 +20,8 @@ use Rattle.record_index.specs.Indexes.{indexes_block, indexes_shape}
 use Rattle.record_index.specs.MarkFacts.{mark_count_by_shape, marks_by_shape, objects_outlined}
 use Rattle.record_index.specs.Places.{PlacedPart, blank, filled, outline, placed_objects}
 use Rattle.record_index.specs.Shapes.{shape_of}
-use Rattle.tape_buffer.specs.Tail.{IsBlockOf, IsSeenAs, IsTailOf, TailState, staying_in}
-use Rattle.tape_buffer.proofs.CutLemmas.{get_behind, get_front, take_parts}
+use Rattle.waiting_changes.specs.Tail.{IsBlockOf, IsSeenAs, IsTailOf, TailState, staying_in}
+use Rattle.waiting_changes.proofs.CutLemmas.{get_behind, get_front, take_parts}
 
 -- 1 of a mark, 0 of a block
 abbrev mark_number : Object → ℕ

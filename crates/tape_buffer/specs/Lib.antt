@@ -2,10 +2,8 @@ pub mod Catalogs
 pub mod Frames
 pub mod Inner
 pub mod Invariants
-pub mod Limits
 pub mod Moves
 pub mod Reclaiming
 pub mod Rules
 pub mod State
-pub mod Tail
 pub mod Taking

@@ -6,17 +6,17 @@ ghost use Rattle.volume_core.specs.Medium.{Accepts, accept_answer, accepted_by, 
 ghost use Rattle.volume_core.specs.Stores.{Stores};
 ghost use Rattle.cartridge.specs.Contents.{volume_made};
 ghost use Rattle.tape_buffer.specs.Frames.{AcceptsInFrames};
-ghost use Rattle.tape_buffer.specs.Limits.{FitsBuffer};
+ghost use Rattle.waiting_changes.specs.Limits.{FitsBuffer};
 ghost use Rattle.tape_buffer.specs.State.{IsPendingOver, open_buffer, open_state};
 ghost use Rattle.tape_buffer.specs.Moves.{buffer_below};
 ghost use Rattle.tape_buffer.specs.Inner.Adding.{IsReadyToAdd, IsWay};
 
-use crate::pending::Pending;
 use crate::seen::refusal_seen;
 use crate::storing::{reserve_over, settle_over};
 use cartridge::Cartridge;
 use tape_disk::Disk;
 use volume_core::{Change, MediumError, NotAccepted};
+use waiting_changes::pending::Pending;
 
 // Accepts a change over an open cartridge, or refuses it. Where no more may be pending, what is pending is stored
 // first. A change that is not accepted is returned. `roomy` is false where memory ran out for the caller's catalog;

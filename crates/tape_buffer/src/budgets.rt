@@ -1,12 +1,12 @@
 //! How much may still be accepted without taking memory.
 
-/// What a buffered medium may still accept without taking memory and without its device (own).
+/// How much a buffered medium may still accept without allocating memory and without calling its device (own).
 #[derive(Clone, Copy, PartialEq, Eq, Debug)]
 pub struct Budget {
-    /// The number of records.
+    /// How many changes may be accepted.
     pub records: usize,
-    /// The bytes of their blocks.
+    /// How many bytes the blocks of these changes may have in all.
     pub bytes: u64,
-    /// The bytes of the side, each record as a frame of its own.
+    /// How many bytes of the side these changes may take, where each is stored as a frame of its own.
     pub room: u64,
 }

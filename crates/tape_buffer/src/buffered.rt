@@ -2,23 +2,24 @@
 ghost use Rattle.std.specs.Prelude.{◌≡◌, ◌⊎◌, List, Some, true, false};
 ghost use Rattle.volume_core.specs.Volume.{Part};
 ghost use Rattle.accepting.specs.Core.{IsCore};
-ghost use Rattle.tape_buffer.specs.Limits.{FitsBuffer};
+ghost use Rattle.waiting_changes.specs.Limits.{FitsBuffer};
 ghost use Rattle.tape_buffer.specs.Rules.{medium_rules};
 ghost use Rattle.tape_buffer.specs.State.{IsSettledIn, closed_buffer, disk_in, disks_in, state_of};
 ghost use Rattle.tape_buffer.specs.Moves.{IsSafeOrPending, ShowsOn, medium_core};
 ghost use Rattle.tape_buffer.specs.declared.holding.Holding.TheVariants as Holdings;
 
 use crate::holding::Holding;
-use crate::pending::Pending;
 use accepting::Accepting;
 use cartridge::{Cartridge, Shelved};
 use std::alloc::Global;
 use std::marker::Model;
 use tape_disk::Disk;
+use waiting_changes::pending::Pending;
 
-/// A medium over a cartridge on two disks, open or parked. What it accepts waits in memory until it is stored, all of
-/// it as one frame: at the latest when the caller asks for it, before the 257th change, and before the blocks that wait
-/// would pass 4,194,304 bytes. After a device fault it accepts nothing until it is parked and woken.
+/// A medium over a cartridge on two disks, open or parked (closed, so that it may be moved). What it accepts waits in
+/// memory until all of it is stored as one frame. That is done at the latest when the caller asks for it, before a
+/// 257th change is accepted, and before the blocks that wait would have more than 4,194,304 bytes. After a device fault
+/// the medium accepts nothing until it is parked and woken.
 #[derive(Drop)]
 pub struct Buffered<D: Disk> {
     pub(crate) alloc: Global,
@@ -49,8 +50,8 @@ impl<D: Disk> Accepting for Buffered<D> {
 }
 
 impl<D: Disk> Buffered<D> {
-    /// A parked medium over a closed cartridge. Where the cartridge was never opened, nothing is known of the medium
-    /// until it is woken: it is unread.
+    /// Makes a parked medium of a closed cartridge. If nothing is known of the cartridge, the medium is unread: nothing
+    /// is known of it either, until it is woken.
     pub fn parked(alloc: Global, shelved: Shelved<D>) -> Buffered<D>
         ensures { result ≡ closed_buffer shelved }
     {
@@ -61,7 +62,7 @@ impl<D: Disk> Buffered<D> {
         }
     }
 
-    /// Returns the closed cartridge of a parked medium, which may be parked again as it is.
+    /// Returns the closed cartridge of a parked medium. `parked` makes the same medium of it again.
     pub fn into_shelved(self) -> Shelved<D>
         requires { (state_of D.state self).awake ≡ false }
         ensures { self.held ≡ Holdings.Closed result }
@@ -74,10 +75,12 @@ impl<D: Disk> Buffered<D> {
         }
     }
 
-    /// The invariant of every buffered medium. What is safe is stored, and what is stored was accepted. While the
-    /// medium is open and has not failed, all that is stored is safe, and the rest is pending. Each pair of images that
-    /// a crash now may leave gives what is safe, or what is stored. For a parked medium this needs a side that gives a
-    /// volume, and that the medium was opened before or a crash leaves just what a read gives.
+    /// Does nothing; its contract is the invariant of every buffered medium. What is safe (no crash loses it) is
+    /// stored, and what is stored was accepted. While the medium is open and has not failed, all that is stored is
+    /// safe, and the rest is pending. No more is pending than the limits allow. Where both disks are honest, each pair
+    /// of images that a crash now may leave gives what is safe, or what is stored. For a parked medium this needs two
+    /// things: that its side gives a volume, and that the medium is not unread or a crash leaves just what a read
+    /// gives.
     pub fn known(&self)
         ensures core { IsCore (medium_core D.state self.now) }
         ensures whole { IsSafeOrPending (medium_core D.state self.now) self.now.pending }
@@ -105,7 +108,7 @@ impl<D: Disk> Buffered<D> {
         }
     }
 
-    /// The disk of the side that counts, for reading; of a parked medium the first disk.
+    /// For reading: the disk of the side that counts, or the first disk where the medium is parked.
     pub fn disk(&self) -> &D
         ensures { disk_in self.now.held ≡ Some result.now }
     {

@@ -3,7 +3,7 @@ ghost use Rattle.std.specs.Prelude.{◌≡◌, ◌⊎◌, List, Some, false};
 ghost use Rattle.volume_core.specs.Volume.{Part};
 ghost use Rattle.accepting.specs.Core.{IsCore};
 ghost use Rattle.tape_buffer.specs.Catalogs.{IsCataloged};
-ghost use Rattle.tape_buffer.specs.Limits.{FitsBuffer};
+ghost use Rattle.waiting_changes.specs.Limits.{FitsBuffer};
 ghost use Rattle.tape_buffer.specs.Moves.{IsSafeOrPending, ShowsOn, medium_core};
 ghost use Rattle.tape_buffer.specs.State.{IsSettledIn, closed_buffer, disk_in, disks_in, state_of};
 ghost use Rattle.tape_buffer.specs.declared.holding.Holding.TheVariants as Holdings;
@@ -16,7 +16,8 @@ use std::alloc::Global;
 use std::marker::Model;
 use tape_disk::Disk;
 
-/// A buffered medium, and while it is awake a catalog of the volume that a caller sees. The two can be taken apart.
+/// A buffered medium and, while it is awake (open), a catalog of the volume that a caller sees. It can be split into
+/// these two, and they can be joined again.
 #[derive(Drop)]
 pub struct Cataloged<D: Disk> {
     pub(crate) buffered: Buffered<D>,
@@ -46,7 +47,7 @@ impl<D: Disk> Accepting for Cataloged<D> {
 }
 
 impl<D: Disk> Cataloged<D> {
-    /// A parked medium over a closed cartridge, as `Buffered::parked`.
+    /// Makes a parked medium of a closed cartridge, as `Buffered::parked` does.
     pub fn parked(alloc: Global, shelved: Shelved<D>) -> Cataloged<D>
         ensures { result ≡ closed_buffer shelved }
     {
@@ -56,7 +57,7 @@ impl<D: Disk> Cataloged<D> {
         }
     }
 
-    /// Returns the closed cartridge of a parked medium, which may be parked again as it is.
+    /// Returns the closed cartridge of a parked medium. `parked` makes the same medium of it again.
     pub fn into_shelved(self) -> Shelved<D>
         requires { (state_of D.state self).awake ≡ false }
         ensures { self.held ≡ Holdings.Closed result }
@@ -65,7 +66,7 @@ impl<D: Disk> Cataloged<D> {
         buffered.into_shelved()
     }
 
-    /// The medium and its catalog, apart.
+    /// Returns the buffered medium and its catalog, which is None where the medium is parked.
     pub fn into_halves(self) -> (Buffered<D>, Option<Index>)
         ensures same { result.0 ≡ self }
         ensures catalog { IsCataloged D.state result.0 result.1 }
@@ -74,7 +75,8 @@ impl<D: Disk> Cataloged<D> {
         (buffered, catalog)
     }
 
-    /// The medium with its catalog.
+    /// Joins a buffered medium and its catalog. The catalog of an awake medium must be that of the volume that a caller
+    /// sees; that of a parked medium must be None.
     pub fn of_halves(buffered: Buffered<D>, catalog: Option<Index>) -> Cataloged<D>
         requires { IsCataloged D.state buffered catalog }
         ensures { result ≡ buffered }
@@ -82,7 +84,7 @@ impl<D: Disk> Cataloged<D> {
         Cataloged { buffered, catalog }
     }
 
-    /// The same as `Buffered::known`.
+    /// Does nothing; its contract is that of `Buffered::known`.
     pub fn known(&self)
         ensures core { IsCore (medium_core D.state self.now) }
         ensures whole { IsSafeOrPending (medium_core D.state self.now) self.now.pending }
@@ -94,7 +96,7 @@ impl<D: Disk> Cataloged<D> {
         self.buffered.known();
     }
 
-    /// The disk of the side that counts, for reading; of a parked medium the first disk.
+    /// For reading: the disk of the side that counts, or the first disk where the medium is parked.
     pub fn disk(&self) -> &D
         ensures { disk_in self.now.held ≡ Some result.now }
     {

@@ -59,7 +59,8 @@ impl<D: Disk> Medium for Cataloged<D> {
 
     ghost alone = { λ medium bytes. false };
 
-    /// As `accept` of `Buffered`. Memory may run out for the catalog too, after room was made for the change.
+    /// Accepts a change as `Buffered` does. Memory may run out for the catalog too. By then room was made for the
+    /// change: if the buffer was too full for it, what was pending is stored.
     fn accept(&mut self, change: Change) -> Result<(), NotAccepted>
         requires { (state_of D.state self.old).awake ≡ true }
         ensures answer { Accepts (state_of D.state self.old) change (accept_answer result)
@@ -132,7 +133,8 @@ impl<D: Disk> Medium for Cataloged<D> {
         }
     }
 
-    /// As `wake` of `Buffered`. Memory may run out for the catalog too; the medium is then closed as it was.
+    /// Opens the medium as `Buffered` does. Memory may run out for the catalog too; the medium is then still parked, as
+    /// it was.
     fn wake(&mut self) -> Result<(), MediumError>
         ensures answer { Wakes ((buffer_below D.state).honest self.old) (state_of D.state self.old) result
             (state_of D.state self.new) }

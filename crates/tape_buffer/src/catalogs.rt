@@ -1,4 +1,4 @@
-//! The catalog of a buffered medium's volume: what is stored, with what is pending carried out.
+//! The catalog of a buffered medium's volume: the volume that is stored, with the pending changes carried out on it.
 use crate::buffered::Buffered;
 use crate::holding::Holding;
 use crate::seen::{count_seen, kind_seen, mark_seen, marks_seen, used_seen};

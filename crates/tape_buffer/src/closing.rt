@@ -12,7 +12,6 @@ ghost use Rattle.tape_buffer.specs.Frames.{ParksInFrames};
 ghost use Rattle.tape_buffer.specs.Moves.{LeavesAlone, LeavesEachAlone, buffer_below};
 ghost use Rattle.tape_buffer.specs.Inner.Waking.{wake_error_of};
 
-use crate::pending::Pending;
 use crate::storing::settle_over;
 use cartridge::laws::a_pair_gives_one_volume;
 use cartridge::{Cartridge, CartridgeError, NotOpened, Opening, Shelved};
@@ -21,6 +20,7 @@ use std::alloc::Global;
 use tape_disk::Disk;
 use volume_core::MediumError;
 use vtl_base::NoMemory;
+use waiting_changes::pending::Pending;
 
 // Closes a cartridge, once what is pending over it is stored. Where the cartridge has failed, what is pending is
 // dropped. After a device fault the cartridge is returned open, and has failed.
@@ -102,7 +102,7 @@ pub(crate) fn wake_closed<D: Disk>(
                 Ok((cartridge, catalog))
             }
             Err(_) => {
-                let shelved = opening.give_back();
+                let shelved = opening.into_shelved();
                 Err((MediumError::NoMemory, shelved))
             }
         },

@@ -14,13 +14,13 @@ ghost use Rattle.cartridge.specs.Contents.{volume_made};
 ghost use Rattle.tape_buffer.specs.State.{IsPendingOver, open_buffer, open_state};
 ghost use Rattle.tape_buffer.specs.Moves.{buffer_below};
 
-use crate::pending::Pending;
 use crate::seen::front_of;
 use cartridge::{Cartridge, CartridgeError};
 use record_index::Placed;
 use tape_disk::Disk;
 use volume_core::{Change, MediumError};
 use vtl_base::{ObjNo, PartNo};
+use waiting_changes::pending::Pending;
 
 // Reads a block of the volume that is seen into `into`, in place of what that held.
 pub(crate) fn fetch_over<D: Disk>(

@@ -13,7 +13,7 @@ pub enum Holding<C, S> {
     Between,
 }
 
-/// Puts a cartridge into a place that holds neither.
+/// Puts a cartridge, open or closed, into `place`, which must hold neither.
 pub(crate) fn hold<C, S>(place: &mut Holding<C, S>, held: Holding<C, S>)
     requires { place.old ≡ Holdings.Between }
     ensures { place.new ≡ held }

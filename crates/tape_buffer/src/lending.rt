@@ -19,21 +19,22 @@ use crate::budgets::Budget;
 use crate::buffered::Buffered;
 use crate::holding::Holding;
 use crate::lent::{Lending, Lent, Taking};
-use crate::loose::Loose;
-use crate::pending::{Pending, block_bytes};
 use crate::storing::store_all;
 use cartridge::Cartridge;
 use std::alloc::Global;
 use tape_disk::Disk;
 use volume_core::{Change, Turn};
 use vtl_base::limits::{BUFFER_BYTES, BUFFER_RECORDS};
+use waiting_changes::loose::Loose;
+use waiting_changes::pending::{Pending, block_bytes};
 
 // The bytes of the longest body of what is pending: of all records that may be, with all their bytes.
 const LONGEST_BODY: usize = BUFFER_BYTES + 10 * BUFFER_RECORDS;
 
 impl<D: Disk> Buffered<D> {
-    /// Lends the medium, so that it accepts changes without taking memory and without its device: as many as its buffer
-    /// and its side have room for. It accepts none where it is parked, where it has failed, or where memory ran out.
+    /// Lends the medium, so that it accepts changes without allocating memory and without calling its device: as many
+    /// as its buffer and its side have room for. It accepts none where it is parked, where it has failed, or where
+    /// memory ran out.
     pub fn lend(self) -> Lent<D>
         ensures lends { LendsFrom self result }
         ensures state { state_of D.state result.buffer ≡ state_of D.state self }
@@ -128,7 +129,7 @@ fn rest_over<D: Disk>(
     }
 }
 
-// Reserves the memory for storing as many records as may be pending, one by one or all at once. Returns false where
+// Reserves the memory for storing as many changes as may be pending, one by one or all at once. Returns false where
 // memory runs out, or where the cartridge has failed.
 fn reserve_all<D: Disk>(cartridge: &mut Cartridge<D>) -> bool
     ensures same { cartridge.new ≡ record cartridge.old { reserved = cartridge.new.reserved } }

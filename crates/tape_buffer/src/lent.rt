@@ -6,7 +6,7 @@ ghost use Rattle.volume_core.specs.Medium.{Turns, turn_met_fault, volume_of};
 ghost use Rattle.volume_core.specs.Stores.{Stores};
 ghost use Rattle.accepting.specs.Core.{IsCore};
 ghost use Rattle.tape_buffer.specs.Frames.{IsOneFrameIn, frames_in};
-ghost use Rattle.tape_buffer.specs.Limits.{FitsBuffer};
+ghost use Rattle.waiting_changes.specs.Limits.{FitsBuffer};
 ghost use Rattle.tape_buffer.specs.Moves.{IsSafeOrPending, ShowsOn, buffer_below, medium_core};
 ghost use Rattle.tape_buffer.specs.State.{IsSettledIn, disk_in, disks_in, state_of};
 ghost use Rattle.tape_buffer.specs.Taking.{KeepsBudget, budget_after};
@@ -15,16 +15,16 @@ use crate::budgets::Budget;
 use crate::buffered::Buffered;
 use crate::holding::Holding;
 use crate::lending::{take_over, turn_lent};
-use crate::loose::Loose;
 use cartridge::Cartridge;
 use std::alloc::Global;
 use std::marker::Model;
 use tape_disk::Disk;
 use volume_core::{Change, Medium, Turn};
+use waiting_changes::loose::Loose;
 
-/// A medium that is lent: it accepts changes without taking memory and without its device, as many as its budget has,
-/// and stores all that is pending in a turn, as one frame. It shows nothing of its volume and reads no block until it
-/// is returned.
+/// A medium that is lent. Within its budget it accepts changes without allocating memory and without calling its
+/// device. A flusher's turn stores all that is pending, as one frame. Until the medium is returned (`into_buffered`),
+/// it shows nothing of its volume and reads no block.
 #[derive(Drop)]
 pub struct Lent<D: Disk> {
     pub(crate) lending: Lending<D>,
@@ -58,15 +58,15 @@ impl<D: Disk> Model for Lent<D> {
 }
 
 impl<D: Disk> Lent<D> {
-    /// What it may still accept.
+    /// The budget that is left: how much the medium may still accept.
     pub fn left(&self) -> Budget
         ensures { result ≡ self.now.left }
     {
         self.left
     }
 
-    /// Accepts a change that its volume does not refuse, within its budget. It takes no memory, and calls no disk.
-    /// Where the device has failed, the medium accepts the change too, but never stores it.
+    /// Accepts a change. The volume must not refuse it, and the budget must suffice for it. The call allocates no
+    /// memory, and calls no disk. After a device fault the medium accepts the change too, but never stores it.
     pub fn take(&mut self, change: Change)
         requires applies { refusal_of (volume_of (state_of D.state self.old.buffer)) change ≡ None }
         requires within { KeepsBudget self.old.left (change ∷ []) }
@@ -91,7 +91,9 @@ impl<D: Disk> Lent<D> {
         }
     }
 
-    /// Stores all that is pending, as one frame, in a flusher's turn. It takes no memory.
+    /// Stores all that is pending, as one frame, in a flusher's turn. The medium must be open. The result is `Idle`
+    /// where nothing is pending or the medium has failed, `Stored` with the number of changes that were stored, or
+    /// `Device` where the device failed. The call allocates no memory.
     pub fn flush_turn(&mut self) -> Turn
         requires { (state_of D.state self.old.buffer).awake ≡ true }
         ensures left { self.new.left ≡ self.old.left }
@@ -108,7 +110,7 @@ impl<D: Disk> Lent<D> {
         }
     }
 
-    /// Returns the medium. What was accepted and is not stored is then pending. It takes no memory.
+    /// Returns the medium, in which all that was accepted and is not stored is pending. The call allocates no memory.
     pub fn into_buffered(self) -> Buffered<D>
         ensures { result ≡ self.buffer }
     {
@@ -141,7 +143,8 @@ impl<D: Disk> Lent<D> {
         }
     }
 
-    /// Whether the device has failed since it was opened. Then nothing more is stored.
+    /// Whether the device has failed since the medium was opened. If so, nothing more is stored. The medium must be
+    /// open.
     pub fn has_failed(&self) -> bool
         requires { (state_of D.state self.now.buffer).awake ≡ true }
         ensures { result ≡ (state_of D.state self.now.buffer).failed }
@@ -152,7 +155,7 @@ impl<D: Disk> Lent<D> {
         }
     }
 
-    /// The same as `Buffered::known`, for the medium that is lent.
+    /// Does nothing; its contract is that of `Buffered::known`, for the medium that is lent.
     pub fn known(&self)
         ensures core { IsCore (medium_core D.state self.now.buffer) }
         ensures whole { IsSafeOrPending (medium_core D.state self.now.buffer) self.now.buffer.pending }
@@ -171,7 +174,7 @@ impl<D: Disk> Lent<D> {
         }
     }
 
-    /// The disk of the side that counts, for reading; of a parked medium the first disk.
+    /// For reading: the disk of the side that counts, or the first disk where the medium is parked.
     pub fn disk(&self) -> &D
         ensures { disk_in self.now.buffer.held ≡ Some result.now }
     {

@@ -12,13 +12,10 @@ mod fetching;
 pub mod holding;
 mod lending;
 pub mod lent;
-mod loose;
 mod media;
-mod pending;
 mod reclaiming;
 mod seen;
 mod storing;
-mod tail;
 mod waking;
 
 pub use budgets::Budget;

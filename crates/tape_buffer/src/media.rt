@@ -112,9 +112,11 @@ impl<D: Disk> Medium for Buffered<D> {
         }
     }
 
-    /// Opens the medium. A medium that is awake stays as it is, and the result says whether it has failed. Nothing is
-    /// written, whatever the result is. At every moment a crash leaves what it might have left before; that holds of
-    /// one honest disk beside a dishonest one too. Unless a device fails, what stands on the disks is then sure.
+    /// Opens the medium. A medium that is awake stays as it is; the result is then `Failed` if it has failed, and else
+    /// Ok. Nothing is written, whatever the result is. At every moment a crash leaves only what it might have left
+    /// before; that holds of an honest disk (one that keeps the promises of a disk) beside a dishonest one too. Where
+    /// both disks are honest and neither fails, a crash after the opening of a parked medium leaves just what a read
+    /// gives.
     fn wake(&mut self) -> Result<(), MediumError>
         ensures answer { Wakes ((buffer_below D.state).honest self.old) (state_of D.state self.old) result
             (state_of D.state self.new) }

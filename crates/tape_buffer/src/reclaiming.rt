@@ -1,4 +1,5 @@
-//! Reclaiming a closed cartridge: what it accepted goes into the volume from which later changes are carried out.
+//! Reclaiming a closed cartridge: the changes that it accepted go into the volume on which later changes are carried
+//! out.
 ghost use Rattle.tape_buffer.specs.Reclaiming.{ReclaimsShelved};
 
 use cartridge::laws::{a_pair_gives_one_volume, a_volume_is_made_since};
@@ -6,9 +7,9 @@ use cartridge::{Cartridge, NotReclaimed, Shelved};
 use std::alloc::Global;
 use tape_disk::Disk;
 
-/// Reclaims a closed cartridge, parked or not yet opened, as `Cartridge::reclaim` does. All that it accepted since it
-/// was made or last reclaimed goes into the volume of the copy. After an `Err` without a device fault nothing was
-/// written.
+/// Reclaims the closed cartridge of a parked medium, or one that was not opened yet, as `Cartridge::reclaim` does. All
+/// changes that the cartridge accepted since it was made or last reclaimed go into the volume of the copy. After an
+/// error other than a device fault nothing was written.
 pub fn reclaim<D: Disk>(alloc: Global, shelved: Shelved<D>) -> Result<Shelved<D>, NotReclaimed<D>>
     ensures { ReclaimsShelved D.state shelved result }
 {

@@ -1,17 +1,17 @@
-//! The volume that is seen: that of an open cartridge, with what is pending behind it.
+//! The volume that a caller sees: that of an open cartridge, with the pending changes carried out on it.
 ghost use Rattle.std.specs.Prelude.{◌≡◌, ◌≤◌, ◌<◌, min};
 ghost use Rattle.vtl_base.specs.declared.limits.TheConstants.{MAX_OBJECTS};
 ghost use Rattle.volume_core.specs.Volume.{AllApply, IsMarkOf, after, capacity_of, count_of, kind_at, mark_count, marks_upto, refusal_of, used_up_to};
 ghost use Rattle.cartridge.specs.Contents.{volume_made};
-ghost use Rattle.tape_buffer.specs.Tail.{staying_in};
+ghost use Rattle.waiting_changes.specs.Tail.{staying_in};
 
-use crate::pending::Pending;
-use crate::tail::Tail;
 use cartridge::Cartridge;
 use tape_disk::Disk;
 use volume_core::{Change, Kind, Refusal};
 use vtl_base::limits::MAX_OBJECTS;
 use vtl_base::{ObjNo, PartNo};
+use waiting_changes::pending::Pending;
+use waiting_changes::tail::Tail;
 
 // How many of the stored objects of a partition come before those that wait.
 pub(crate) fn front_of<D: Disk>(cartridge: &Cartridge<D>, tail: &Tail, part: PartNo) -> ObjNo

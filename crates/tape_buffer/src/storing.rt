@@ -4,18 +4,18 @@ ghost use Rattle.vtl_base.specs.Below.{Advances};
 ghost use Rattle.volume_core.specs.Volume.{part_of};
 ghost use Rattle.volume_core.specs.Medium.{Settles, Turns, met_fault, turn_met_fault};
 ghost use Rattle.volume_core.specs.Stores.{Stores};
-ghost use Rattle.tape_buffer.specs.Limits.{FitsBuffer};
+ghost use Rattle.waiting_changes.specs.Limits.{FitsBuffer};
 ghost use Rattle.tape_buffer.specs.State.{IsPendingOver, IsReservedFor, open_buffer, open_state};
 ghost use Rattle.tape_buffer.specs.Moves.{buffer_below};
 ghost use Rattle.tape_buffer.specs.Frames.{IsOneFrame, IsOneFrameIn};
 ghost use Rattle.tape_buffer.specs.Inner.Storing.{IsRoomyFor, left_of};
 ghost use Rattle.tape_buffer.specs.declared.budgets.Budget.{Budget};
 
-use crate::pending::Pending;
 use cartridge::{Cartridge, CartridgeError};
 use tape_disk::Disk;
 use volume_core::{Change, MediumError, Turn};
 use vtl_base::NoMemory;
+use waiting_changes::pending::Pending;
 
 // Stores these changes, which are all that is pending over an open cartridge. It takes no memory. At Ok none of them is
 // pending any more.

@@ -1,4 +1,4 @@
-//! Waking a medium and accepting a change, for a caller that may have a catalog of it.
+//! Waking a medium, and accepting a change, for a caller that may have a catalog of the medium's volume.
 ghost use Rattle.std.specs.Prelude.{◌≡◌, ◌≢◌, [], true, false, IfErr, IfOk, OnOk};
 ghost use Rattle.vtl_base.specs.Below.{Advances};
 ghost use Rattle.volume_core.specs.declared.media.MediumError.TheVariants as Errors;
@@ -41,8 +41,8 @@ impl<D: Disk> Buffered<D> {
         }
     }
 
-    // Wakes the medium as `Medium::wake` does. Where a catalog is wanted of a medium that was parked, there is one at
-    // Ok.
+    // Wakes the medium as `Medium::wake` does. At Ok it returns a catalog of a medium that was parked, if one is
+    // wanted, and else None.
     pub(crate) fn wake_as(&mut self, wanted: bool) -> Result<Option<Index>, MediumError>
         ensures answer { Wakes ((buffer_below D.state).honest self.old) (state_of D.state self.old)
             (answer_of result) (state_of D.state self.new) }

@@ -23,7 +23,7 @@ impl Count {
         start(&0)
     }
 
-    /// One more than this.
+    /// Returns a count that is greater by one.
     pub(crate) fn after(&self) -> Count
         ensures { result.value ≡ self.now.value + 1 }
     {

@@ -1,4 +1,4 @@
-//! A disk over another one, whose calls fail where a test wants it.
+//! A disk over another one, whose calls fail where a test wants them to.
 ghost use Rattle.std.specs.Prelude.{◌≡◌, ◌+◌, ◌-◌, ◌≤◌, ◌^◌, min, length, OnOk, OnErr, Result, slice_range};
 ghost use Rattle.tape_disk.specs.Disk.{Elapses, Passes, Same, Writes, Cuts, Syncs, ReadAt, WriteAt, CutAt, SyncAll};
 ghost use Rattle.vtl_base.specs.declared.faults.DevFault.{DevFault};
@@ -8,7 +8,7 @@ use crate::disk::Disk;
 use crate::failures::Failures;
 use vtl_base::DevFault;
 
-/// A disk over another one. It counts the failures of its own calls, with those of the disk below.
+/// A disk over another one. It counts each of its calls that fails, here or in the disk below.
 #[derive(Drop)]
 pub(crate) struct Failing<D> {
     pub(crate) disk: D,
@@ -28,7 +28,7 @@ impl<D: Disk> Failing<D> {
         }
     }
 
-    // Reading no bytes of the disk below moves its clock on.
+    // Fails a call. To move the clock of the disk below on, 0 bytes are read from it.
     fn refuse(&mut self) -> DevFault
         ensures below { (answer : Result Unit DevFault) ×
             CalledOnce D.state D.effect (ReadAt 0 0) answer self.old.disk self.new.disk }

@@ -4,7 +4,7 @@ ghost use Rattle.std.specs.Prelude.{◌≡◌, ◌+◌, ◌-◌, ◌^◌, min, �
 use crate::count::Count;
 use vtl_base::DevFault;
 
-/// The failures of a disk. Their count has no bound; the number in a fault stops at 2^64 - 1.
+/// The count of a disk's failures. The count has no bound; the number that a fault reports stops at 2^64 - 1.
 #[derive(Drop)]
 pub struct Failures {
     known: u64,
@@ -15,7 +15,7 @@ pub struct Failures {
 impl Failures {
     ghost use Rattle.tape_disk.specs.Failures.{failure_count};
 
-    /// No failure yet.
+    /// Returns a count of 0 failures.
     pub fn none() -> Failures
         ensures { failure_count result ≡ 0 }
     {
@@ -25,7 +25,7 @@ impl Failures {
         }
     }
 
-    /// One more failure, and the fault that reports it.
+    /// Counts one more failure, and returns a fault that reports the new count, or 2^64 - 1 where the count is greater.
     pub fn rise(&mut self) -> DevFault
         ensures count { failure_count self.new ≡ failure_count self.old + 1 }
         ensures reported { result.failures ≡ min (failure_count self.new) (2 ^ 64 - 1) }

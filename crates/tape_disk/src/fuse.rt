@@ -6,7 +6,8 @@ use crate::disk::Disk;
 use crate::failing::Failing;
 use vtl_base::DevFault;
 
-/// A disk whose fuse lets some calls pass. All later ones fail, and do nothing to the disk below.
+/// A disk over another one, whose fuse lets a number of calls pass to the disk below. All later calls fail, and do
+/// nothing to the disk below.
 #[derive(Drop)]
 pub struct FuseDisk<D> {
     below: Failing<D>,
@@ -16,7 +17,7 @@ pub struct FuseDisk<D> {
 impl<D: Disk> FuseDisk<D> {
     ghost use Rattle.tape_disk.specs.FuseDisk.{fuse_disk_below, fuse_calls_left, fuse_state};
 
-    /// A disk of which the first `calls` calls pass. `len` is not counted.
+    /// Makes a disk over `disk`, whose first `calls` calls pass. `len` is not counted as a call.
     pub fn new(disk: D, calls: u64) -> FuseDisk<D>
         ensures disk { fuse_disk_below result ≡ disk }
         ensures failures { (fuse_state D.state result).failures ≡ 0 }
@@ -41,7 +42,7 @@ impl<D: Disk> FuseDisk<D> {
         self.below.disk
     }
 
-    // Whether a call passes. It uses up one of those that are left.
+    // Counts a call. Returns true where it passes, and false once all calls that may pass are used up.
     fn take_turn(&mut self) -> bool
         ensures passes { result ≡ holds (fuse_calls_left self.old) }
         ensures left { fuse_calls_left self.new ≡ fuse_calls_left self.old - 1 }

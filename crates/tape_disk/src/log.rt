@@ -8,8 +8,8 @@ use crate::overwrite::overwrite;
 use std::alloc::{AllocError, Global};
 use std::collections::LinkedList;
 
-/// A call that changed the disk or made it safe. `idle` counts the calls between the last such one and it
-/// that did neither.
+/// A logged call: one that changed the disk or made it safe. `idle` is how many calls that did neither came between the
+/// logged call before this one and this one.
 #[derive(Drop)]
 pub(crate) enum Call {
     Wrote {
@@ -26,7 +26,8 @@ pub(crate) enum Call {
     },
 }
 
-/// The first bytes of the disk, and each call since, the newest first.
+/// The bytes that the disk began with, and each logged call since, the newest first. `idle` is how many calls came
+/// after the newest logged call.
 #[derive(Drop)]
 pub(crate) struct Log {
     alloc: Global,
@@ -142,8 +143,8 @@ impl Log {
             .count() as u64
     }
 
-    /// What a crash leaves: of the bytes written since the last sync the first `keep` land, and the others
-    /// hold the fill.
+    /// The bytes that a crash leaves. Of the bytes written since the last sync the first `keep` were stored; each of
+    /// the others is `fill`.
     pub(crate) fn torn(self, keep: u64, fill: u8) -> Result<Vec<u8>, AllocError>
         ensures { IfOk result (λ image.
             image.items ≡ torn self.base.items keep fill (log_of self).calls) }
@@ -171,7 +172,8 @@ impl Log {
     }
 }
 
-// The bytes that still land stay, and the others are filled.
+// Keeps the first `left` of these bytes, and sets each of the others to `fill`. `left` falls by the number of bytes
+// kept.
 fn land(bytes: &mut Vec<u8>, left: &mut u64, fill: u8)
     ensures bytes { bytes.new.items ≡ landed left.old fill bytes.old.items }
     ensures left { left.new ≡ left.old - length bytes.old.items }

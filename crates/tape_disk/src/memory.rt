@@ -11,9 +11,10 @@ use crate::overwrite::overwrite;
 use std::alloc::{AllocError, Global};
 use vtl_base::{DevFault, NoMemory};
 
-/// A disk in memory, which is always honest. Its log has the first bytes and each byte written since, beside
-/// the bytes that reads return. So a side that is written once takes its bytes twice, and each byte that is
-/// written over another takes one more. A refused growth is a counted failure, and changes nothing.
+/// A disk in memory, which is always honest. Besides the bytes that reads return, it has a log of the bytes that it
+/// began with and of all bytes written since. So bytes that are written once are held twice, and each byte that is
+/// written over another needs one byte more. A call of a `Disk` method for which memory runs out is a counted failure,
+/// and changes nothing.
 #[derive(Drop)]
 pub struct MemDisk {
     alloc: Global,
@@ -28,7 +29,7 @@ pub struct MemDisk {
 impl MemDisk {
     ghost use Rattle.tape_disk.specs.MemDisk.{mem_log, mem_failures, mem_widest};
 
-    /// A disk of no bytes.
+    /// Makes a disk without bytes.
     pub fn new(alloc: Global) -> MemDisk
         ensures { (mem_log result ≡ new_log []) × (mem_failures result ≡ 0) × (mem_widest result ≡ 0) }
     {
@@ -41,7 +42,7 @@ impl MemDisk {
         }
     }
 
-    /// A disk with these bytes, all of them safe.
+    /// Makes a disk with these bytes, all of them safe.
     pub fn from_bytes(alloc: Global, bytes: &[u8]) -> Result<MemDisk, NoMemory>
         ensures { IfOk result (λ disk. (mem_log disk ≡ new_log bytes.now) × (mem_failures disk ≡ 0)
             × (mem_widest disk ≡ 0)) }
@@ -63,7 +64,7 @@ impl MemDisk {
         })
     }
 
-    /// Another disk with the same past.
+    /// Copies the disk, with its log, its count of failures and the size of its widest read.
     pub fn copy(&self) -> Result<MemDisk, NoMemory>
         ensures { IfOk result (λ copy.
             (mem_log copy ≡ mem_log self.now) × (mem_failures copy ≡ mem_failures self.now)
@@ -92,15 +93,15 @@ impl MemDisk {
         self.log.syncs()
     }
 
-    /// How many bytes the widest read asked for, since the disk was made.
+    /// How many bytes the widest read asked for since the disk was made; 0 where nothing was read.
     pub fn widest_read(&self) -> usize
         ensures { result ≡ mem_widest self.now }
     {
         self.widest
     }
 
-    /// The disk that a crash leaves: of the bytes written since the last sync the first `keep` landed, in the
-    /// order of the writes, and the others hold the fill. Each cut since then was carried out.
+    /// Returns a disk that a crash may leave. Of the bytes written since the last sync, in the order of the writes, the
+    /// first `keep` were stored; each of the others is `fill`. Each cut since that sync was carried out.
     pub fn crash(self, keep: u64, fill: u8) -> Result<MemDisk, NoMemory>
         ensures image { IfOk result (λ disk.
             (mem_log disk ≡ new_log (torn (mem_log self).base keep fill (mem_log self).calls))
@@ -119,7 +120,7 @@ impl MemDisk {
         MemDisk::holding(alloc, image)
     }
 
-    // The fault of a call for which memory ran out.
+    // Counts a failure of a call for which memory ran out, and returns the fault.
     fn fail(&mut self) -> DevFault
         ensures log { mem_log self.new ≡ idled (mem_log self.old) }
         ensures count { mem_failures self.new ≡ mem_failures self.old + 1 }
@@ -131,7 +132,7 @@ impl MemDisk {
     }
 }
 
-// Logs the write, and then does it.
+// Logs a write, and then writes the bytes.
 fn write(bytes: &mut Vec<u8>, log: &mut Log, at: u64, new: &[u8]) -> Result<(), AllocError>
     ensures ok { OnOk result (
         (log_of log.new ≡ logged (WriteAt at new.now) (log_of log.old))

@@ -6,7 +6,8 @@ use crate::disk::Disk;
 use crate::failing::Failing;
 use vtl_base::DevFault;
 
-/// A disk of which one call fails, and does nothing to the disk below. The calls before it and after it pass.
+/// A disk over another one. One of its calls fails, and does nothing to the disk below; all calls before and after that
+/// call pass to the disk below.
 #[derive(Drop)]
 pub struct OnceDisk<D> {
     below: Failing<D>,
@@ -16,7 +17,8 @@ pub struct OnceDisk<D> {
 impl<D: Disk> OnceDisk<D> {
     ghost use Rattle.tape_disk.specs.OnceDisk.{once_disk_below, once_calls_left, once_state};
 
-    /// A disk of which one call fails, after `calls` calls that pass. `len` is not counted.
+    /// Makes a disk over `disk`: `calls` calls pass, then one fails, and all later ones pass. `len` is not counted as a
+    /// call.
     pub fn new(disk: D, calls: u64) -> OnceDisk<D>
         ensures disk { once_disk_below result ≡ disk }
         ensures failures { (once_state D.state result).failures ≡ 0 }
@@ -41,7 +43,7 @@ impl<D: Disk> OnceDisk<D> {
         self.below.disk
     }
 
-    // Whether a call passes: it is not the one that fails.
+    // Counts a call. Returns false where it is the one that is to fail, else true.
     fn take_turn(&mut self) -> bool
         ensures passes { result ≡ not (is_due (once_calls_left self.old)) }
         ensures left { once_calls_left self.new ≡ after_call (once_calls_left self.old) }

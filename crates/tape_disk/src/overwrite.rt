@@ -4,7 +4,8 @@ ghost use Rattle.tape_disk.specs.Disk.{overwritten};
 
 use std::alloc::AllocError;
 
-/// Writes at a place, or at the end where that comes first. It takes memory only for bytes past the end.
+/// Writes `new` over the bytes from `at` on, or at their end where that comes before `at`. It takes memory only for
+/// bytes past the end; if memory runs out, the bytes are as before.
 pub(crate) fn overwrite(bytes: &mut Vec<u8>, at: usize, new: &[u8]) -> Result<(), AllocError>
     ensures ok { OnOk result (bytes.new.items ≡ overwritten at new.now bytes.old.items) }
     ensures err { OnErr result (bytes.new.items ≡ bytes.old.items) }

@@ -8,9 +8,9 @@ use std::alloc::{AllocError, Global};
 use std::collections::BTreeMap;
 use vtl_base::DevFault;
 
-/// A disk of any length, which takes memory only for bytes that were written and are not 00h. It is never
-/// honest: no contract says what a crash leaves of it. A read that passes its end is a counted failure; so is
-/// a write that passes 2^64 - 1, and a refused growth.
+/// A disk of any length, which allocates memory only for bytes that were written and are not 00h. It is never honest:
+/// no contract says what a crash leaves of it. A read past the end is a counted failure; so is a write that would make
+/// the disk longer than 2^64 - 1 bytes, and a call for which memory runs out.
 #[derive(Drop)]
 pub struct SparseDisk {
     // The bytes by their places.
@@ -24,7 +24,7 @@ pub struct SparseDisk {
 impl SparseDisk {
     ghost use Rattle.tape_disk.specs.SparseDisk.{sparse_byte, sparse_failures, sparse_len};
 
-    /// A disk of no bytes.
+    /// Makes a disk without bytes.
     pub fn new(alloc: Global) -> SparseDisk
         ensures bytes { (place : ℕ) → sparse_byte result place ≡ 0 }
         ensures len { sparse_len result ≡ 0 }
@@ -37,7 +37,8 @@ impl SparseDisk {
         }
     }
 
-    /// The byte at a place: the one that was written there last, else 00h.
+    /// The byte at offset `place` in bytes: the one that was written there last, else 00h. A byte that was cut off
+    /// counts as not written.
     pub fn byte_at(&self, place: u64) -> u8
         ensures { result ≡ sparse_byte self.now place }
     {
@@ -79,7 +80,7 @@ fn fill(written: &BTreeMap<u64, u8>, at: u64, buffer: &mut [u8])
     }
 }
 
-// Sets the byte at a place. `is_new` says that none was written there.
+// Sets the byte at `place`. `is_new` must be true only where that byte is 00h.
 fn set(
     written: &mut BTreeMap<u64, u8>,
     is_new: bool,
@@ -99,8 +100,8 @@ fn set(
     Ok(())
 }
 
-// Sets the bytes from a place on. `are_new` says that none was written there. Where memory runs out, some of them are
-// set.
+// Sets the bytes from byte `at` on. `are_new` must be true only where all bytes from there on are 00h. Where memory
+// runs out, some of the bytes may have been set.
 fn put(
     written: &mut BTreeMap<u64, u8>,
     are_new: bool,
@@ -120,7 +121,7 @@ fn put(
     Ok(())
 }
 
-// Removes the bytes from a place on.
+// Removes the bytes from byte `len` on. After an error all bytes are as before.
 fn drop_from(written: &mut BTreeMap<u64, u8>, len: u64) -> Result<(), AllocError>
     ensures gone { OnOk result ((place : ℕ) → len ≤ place → byte_in written.new place ≡ 0) }
     ensures before { (place : ℕ) → place < len →

@@ -1,5 +1,5 @@
 //! The side of two frames as a journal's, and what tests do with it.
-use gate_journal::{Frame, Header, Journal, JournalError, Refused, SideKind};
+use gate_journal::{Frame, Header, Journal, JournalError, NoParts, Refused, SideKind};
 use std::alloc::{AllocError, Global};
 use std::test::Fail;
 use tape_disk::{Disk, MemDisk};
@@ -104,7 +104,7 @@ pub fn place<D: Disk + Drop>(
     if size == 0 || size > MAX_BODY as usize {
         return Err(JournalError::NotOurs);
     }
-    journal.append_frame(frame)
+    journal.append_frame(frame, &NoParts)
 }
 
 /// The place of a body, and whether it has these bytes.

@@ -18,6 +18,8 @@ mod liar;
 #[cfg(test)]
 mod liar_tests;
 #[cfg(test)]
+mod long_tests;
+#[cfg(test)]
 mod pair_tests;
 #[cfg(test)]
 mod piece_tests;

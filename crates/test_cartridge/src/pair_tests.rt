@@ -1,7 +1,7 @@
 //! Which of two sides counts, and that a cartridge calls only the disk of that side.
 use crate::samples::{FAULT, SIDE, erased, extent_of, opened};
 use cartridge::{Cartridge, CartridgeError};
-use side_pairs::Which;
+use cartridge_sides::Which;
 use std::alloc::Global;
 use std::process::Abort;
 use std::test::Fail;

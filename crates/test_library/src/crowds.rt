@@ -86,7 +86,7 @@ impl Script {
 
 // The condition that is reported to the hosts of a drive at the beginning of a round: in the first its power
 // on, and later its new cartridge where one was moved before.
-fn told(round: u32, drive: u32) -> &'static str {
+fn wanted_answer(round: u32, drive: u32) -> &'static str {
     let moved = 2 * (round % 8);
     if round == 0 {
         POWERED_ON
@@ -100,7 +100,7 @@ fn told(round: u32, drive: u32) -> &'static str {
 // All hosts send TEST UNIT READY to their drives.
 fn add_asking(alloc: Global, script: &mut Script, round: u32) -> Result<(), Fail> {
     for place in 0..64u32 {
-        let answer = told(round, place % 16 + 1);
+        let answer = wanted_answer(round, place % 16 + 1);
         script.asks(alloc, place, "000000000000", answer, 0)?;
     }
     script.ends_phase()

@@ -12,7 +12,7 @@ use crate::opening::{count_fresh, hosts};
 use crate::samples::{Sample, loaded};
 use crate::stages::Stage;
 use bays::{Bay, Parked};
-use changer::Slots;
+use element_slots::Slots;
 use library::{FinishError, Finished, Library, Parties, RingRow, Rings, Seat};
 use std::alloc::Global;
 use std::marker::Brand;

@@ -78,17 +78,21 @@ fn byte_at(line: &[u8], place: usize) -> u8 {
 }
 
 // The position of the drive after each block, as its host read it.
-fn told(rt: &impl Abort, alloc: Global, answers: &mut Answers<'_>) -> Result<[u8; 80], Fail> {
-    let mut told = [0u8; 80];
+fn positions_reported(
+    rt: &impl Abort,
+    alloc: Global,
+    answers: &mut Answers<'_>,
+) -> Result<[u8; 80], Fail> {
+    let mut reported = [0u8; 80];
     for block in 0..ALL {
         assert_equal!(rt; answers.next(), b"GOOD".as_slice(); block);
         let line = answers.next();
         let place = byte_at(line, 19);
         let wanted = format!(in alloc; "GOOD 00000000{place:08x}{place:08x}0000000000000000")?;
         assert_equal!(rt; line, wanted.as_bytes(); block);
-        told[block] = place;
+        reported[block] = place;
     }
-    Ok(told)
+    Ok(reported)
 }
 
 // The place of each block on the tape: each is there once.
@@ -109,14 +113,14 @@ fn places(rt: &impl Abort, alloc: Global, answers: &mut Answers<'_>) -> Result<[
 // Each host reads a place after its block, and not after its next one. So the blocks in the order of the
 // tape, with each question after as many blocks as were read, are an order of all commands that gives these
 // answers.
-fn is_some_order(rt: &impl Abort, told: &[u8; 80], places: &[u8; 80]) {
+fn is_some_order(rt: &impl Abort, reported: &[u8; 80], places: &[u8; 80]) {
     for block in 0..ALL {
         let next = if block % EACH + 1 < EACH {
             places[(block + 1) % ALL]
         } else {
             80
         };
-        assert_holds!(rt; places[block] < told[block] && told[block] <= next; block);
+        assert_holds!(rt; places[block] < reported[block] && reported[block] <= next; block);
     }
 }
 
@@ -125,11 +129,11 @@ fn is_answered(rt: &impl Abort, alloc: Global, text: &[u8]) -> Result<(), Fail> 
     for host in 0..HOSTS {
         assert_equal!(rt; answers.next(), POWERED_ON.as_bytes(); host);
     }
-    let told = told(rt, alloc, &mut answers)?;
+    let reported = positions_reported(rt, alloc, &mut answers)?;
     assert_equal!(rt; answers.next(), b"GOOD".as_slice());
     let places = places(rt, alloc, &mut answers)?;
     assert_equal!(rt; answers.rest.len(), 0);
-    is_some_order(rt, &told, &places);
+    is_some_order(rt, &reported, &places);
     Ok(())
 }
 

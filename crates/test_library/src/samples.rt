@@ -6,7 +6,7 @@ use crate::stages::Stage;
 use aptpl_store::AptplStore;
 use bays::{Bay, Parked};
 use cartridge::Cartridge;
-use changer::Slots;
+use element_slots::Slots;
 use pr_core::Reservations;
 use std::alloc::Global;
 use std::process::Abort;

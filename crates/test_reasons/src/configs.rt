@@ -33,7 +33,7 @@ pub(crate) fn check_rows(rt: &impl Abort, alloc: Global, rows: &[Row]) -> Result
 static TEXTS: &'static [Row] = &[
     (
         &[b'a', 0xe9, b'='],
-        "refused: the text is no UTF-8\n\
+        "refused: the text is not UTF-8\n\
         where: line 1, column 2, in a.toml\n\
         allowed: UTF-8\n\
         to do: save the file as UTF-8\n",

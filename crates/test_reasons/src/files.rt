@@ -40,7 +40,7 @@ static ROWS: &'static [(FileCall, Answer, &'static str)] = &[
         FileCall::Look,
         Answer::BadName,
         "failed: look at, of the file a.tape\n\
-        answer: the name is too long, a folder in it is none, or its links lead nowhere\n\
+        answer: the name is too long, a part of it is not a folder, or its links form a loop\n\
         to do: correct the name\n",
     ),
     (

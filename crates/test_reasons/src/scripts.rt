@@ -94,7 +94,7 @@ static COMMANDS: &'static [Row] = &[
         3,
         DRIVES,
     ),
-    // what is no UTF-8
+    // what is not UTF-8
     (&[0xff, 0xfe, b'1'], "HOST is no text", 1, HOSTS),
     (
         &[b'1', b' ', 0xe9, b' ', b'0'],

@@ -1,7 +1,7 @@
 //! Volumes that look random, reclaimed three times each and 1,020 times in all, against a volume in memory.
 use crate::samples::{Pair, empty, holds, opened, reclaim, side_of, store};
 use cartridge::Cartridge;
-use side_pairs::Which;
+use cartridge_sides::Which;
 use std::alloc::Global;
 use std::process::Abort;
 use std::test::Fail;

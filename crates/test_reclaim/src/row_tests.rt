@@ -2,7 +2,7 @@
 use crate::rows::{BEFORE, ONCE, PAIRED, THRICE, TWICE, VECTOR};
 use crate::samples::{Pair, block, opened, pair_of, reclaim, side_of, store};
 use cartridge::ReclaimError;
-use side_pairs::Which;
+use cartridge_sides::Which;
 use std::alloc::Global;
 use std::process::Abort;
 use std::test::Fail;

@@ -6,8 +6,8 @@ ghost use Rattle.record_index.specs.Records.{spell_all};
 ghost use Rattle.cartridge.specs.Contents.{volume_made};
 
 use cartridge::{Cartridge, CartridgeError, ReclaimError, Shelved};
+use cartridge_sides::Which;
 use record_index::{Index, Record};
-use side_pairs::Which;
 use std::alloc::Global;
 use std::test::Fail;
 use tape_disk::{Disk, MemDisk};

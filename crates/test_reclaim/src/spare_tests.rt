@@ -2,7 +2,7 @@
 use crate::rows::{BEFORE, ONCE, PAIRED, PREPARED, TWICE, VECTOR};
 use crate::samples::{Pair, opened, reclaim, side_of};
 use cartridge::{Cartridge, CartridgeError, ReclaimError};
-use side_pairs::Which;
+use cartridge_sides::Which;
 use std::alloc::Global;
 use std::process::Abort;
 use std::test::Fail;

@@ -10,7 +10,7 @@ use crate::frames::{add_bytes, exchange};
 use crate::opening::{count_fresh, hosts};
 use crate::samples::row;
 use bays::{Bay, Parked};
-use changer::Slots;
+use element_slots::Slots;
 use ledgers::{Parties, Seat};
 use library::{Library, RingRow, Rings};
 use std::alloc::Global;

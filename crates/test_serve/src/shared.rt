@@ -3,7 +3,7 @@ use crate::frames::add_bytes;
 use crate::opening::{count_fresh, hosts};
 use crate::samples::row;
 use crate::turns::{Turns, Watching};
-use changer::Slots;
+use element_slots::Slots;
 use library::{Gate, RingRow};
 use std::alloc::Global;
 use std::io::{Read, Write};

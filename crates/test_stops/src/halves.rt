@@ -6,7 +6,7 @@ ghost use Rattle.split_bay.specs.Rings.{AreEnds};
 use crate::drives::TestDrive;
 use bays::Bay;
 use scsi_sense::Reply;
-use split_bay::{Back, Ends, Front, Rings, execute_both, join, part, tell};
+use split_bay::{Back, Ends, Front, Rings, execute_both, join, part, report_fault};
 use std::alloc::Global;
 use tape_disk::Disk;
 use volume_core::Turn;
@@ -89,7 +89,7 @@ impl<D: Disk + Drop, R: Rings> Parted<D, R> {
     fn report(&mut self) -> bool {
         match self.take_both() {
             Some((front, back)) => {
-                let (front, back) = tell(front, back);
+                let (front, back) = report_fault(front, back);
                 self.put_both(front, back);
                 true
             }

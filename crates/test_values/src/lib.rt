@@ -1,5 +1,5 @@
 //! The tests of the crates of plain values: vtl_base, ledgers, scsi_attention, scsi_sense, scsi_wire, scsi_lists,
-//! pr_core, positioning and changer.
+//! pr_core, positioning and element_slots.
 #![tactic(auto)]
 
 #[cfg(test)]

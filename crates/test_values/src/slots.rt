@@ -1,5 +1,5 @@
 //! Placing, taking and refusing, over all addresses; slots in another thread.
-use changer::{SlotError, Slots};
+use element_slots::{SlotError, Slots};
 use std::process::Abort;
 use std::test::Fail;
 use std::thread;

@@ -1,4 +1,4 @@
-//! The tests of vtl_files, vtl_notes, vtl_runs and vtl_program.
+//! The tests of vtl_files, vtl_notes, vtl_power_on and vtl_program.
 #![tactic(auto)]
 
 #[cfg(test)]

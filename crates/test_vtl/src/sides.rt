@@ -1,13 +1,13 @@
 //! The lines of sides, by each byte, and over a disk that fails.
 use super::plain_sides::plain_lines;
+use check_lines::checking::{Checked, check_side};
 use std::alloc::Global;
 use std::process::Abort;
 use std::test::Fail;
 use tape_disk::{Disk, FuseDisk, MemDisk, OnceDisk};
 use test_assertions::{assert_equal, assert_holds};
 use vtl_base::Bytes;
-use vtl_files::checking::{Checked, check_side};
-use vtl_files::faults::VtlFault;
+use vtl_faults::faults::VtlFault;
 
 // A cartridge `T00001L6` of one partition of 4,096 bytes, with two frames, whose gates are at 35, 55 and 70:
 // a block `hello`, and a filemark after it.
@@ -36,7 +36,7 @@ const STORE: &'static [u8; 64] = b"\xa5VTLRESV1\0\0DRIVE1          \
 const STORED: &str = "reservations DRIVE1 frames 2 registrations 1\n";
 
 // The lines of the side with these bytes, which stay unchanged.
-fn told(rt: &impl Abort, alloc: Global, bytes: &[u8]) -> Result<Bytes, Fail> {
+fn lines_of(rt: &impl Abort, alloc: Global, bytes: &[u8]) -> Result<Bytes, Fail> {
     let disk = MemDisk::from_bytes(alloc, bytes)?;
     let Checked {
         lines,
@@ -47,7 +47,7 @@ fn told(rt: &impl Abort, alloc: Global, bytes: &[u8]) -> Result<Bytes, Fail> {
     assert_equal!(rt; second.len(), 0);
     match lines {
         Ok(text) => Ok(text),
-        Err(_) => Err(Fail::from("not told")),
+        Err(_) => Err(Fail::from("no lines")),
     }
 }
 
@@ -65,7 +65,7 @@ fn each_byte_with_each_value(rt: HostRuntime) -> Result<(), Fail> {
     for place in 0..SIDE.len() {
         for value in 0..=255 {
             let bytes = changed(place, value);
-            let text = told(&rt, alloc, &bytes)?;
+            let text = lines_of(&rt, alloc, &bytes)?;
             let plain = plain_lines(alloc, &bytes)?;
             assert_equal!(rt; text.as_slice(), plain.as_bytes(); (value, place));
         }
@@ -82,7 +82,7 @@ fn assert_fails_before(
 ) {
     match lines {
         Ok(text) => {
-            assert_holds!(rt; stands, "told too early");
+            assert_holds!(rt; stands, "printed too early");
             assert_equal!(rt; text.as_slice(), wanted.as_bytes());
         }
         Err(fault) => {

@@ -21,7 +21,7 @@ use std::test::Fail;
 use streams::{BadReader, BadWriter};
 use tape_disk::MemDisk;
 use test_assertions::assert_equal;
-use vtl_runs::starting::built_in;
+use vtl_power_on::starting::built_in;
 use vtl_script::ScriptFault;
 
 const ATTENTION: &str = "CHECK 700006000000000a00000000290000000000\n";

@@ -1,4 +1,4 @@
-//! Words of which one is no UTF-8, and the lines that say so, written by hand from FORMATS.md (docs).
+//! Words of which one is not UTF-8, and the lines that say so, written by hand from FORMATS.md (docs).
 use explanations::Explanation;
 use std::alloc::{AllocError, Global};
 use std::env::{Env, FillError};
@@ -75,7 +75,7 @@ static NAMED: &'static [Row] = &[
         "word 1, ?a?,",
         "vtl <COMMAND>",
     ),
-    // a command that there is none of, and a name of the program that is no UTF-8
+    // a command that there is none of, and a name of the program that is not UTF-8
     (
         &[b"vtl", b"frob", b"--explain", &[0xff]],
         "word 3, ?,",
@@ -110,7 +110,7 @@ fn a_word_that_is_no_utf_8_is_named(rt: HostRuntime) -> Result<(), Fail> {
     let alloc = rt.alloc();
     for &(words, refused, usage) in NAMED {
         let wanted = format!(in alloc;
-            "refused: {refused} is no UTF-8\nUsage: {usage}\n\
+            "refused: {refused} is not UTF-8\nUsage: {usage}\n\
             to do: write the word in UTF-8, and rename the file that it names\n"
         )?;
         assert_equal!(rt; lines_of(alloc, words)?.as_str(), wanted.as_str(); refused);
@@ -147,7 +147,7 @@ fn the_lines_are_written(rt: HostRuntime) -> Result<(), Fail> {
     if let Some(word) = UnreadWord::find(&Given { words }, alloc) {
         word.explain(alloc, &mut errors);
     }
-    let wanted = "refused: word 2, ?, is no UTF-8\nUsage: vtl serve [OPTIONS]\n\
+    let wanted = "refused: word 2, ?, is not UTF-8\nUsage: vtl serve [OPTIONS]\n\
         to do: write the word in UTF-8, and rename the file that it names\n";
     assert_equal!(rt; errors.as_slice(), wanted.as_bytes());
     Ok(())

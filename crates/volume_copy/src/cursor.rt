@@ -10,14 +10,15 @@ use crate::entries::Entry;
 use record_index::{Index, Placed, Record};
 use vtl_base::{ObjNo, PartNo, Steps};
 
-/// The position in a copy: an object of a partition, at which no run of filemarks continues.
+/// A position in a copy: before object `at` of partition `part`, or at the end of the partition's objects. A position
+/// that `start` or `next` returns never splits a run of filemarks.
 #[derive(Clone, Copy, PartialEq, Eq, Debug)]
 pub struct Cursor {
     pub part: PartNo,
     pub at: ObjNo,
 }
 
-/// The next entry of a copy, and the position after it.
+/// The next entry of a copy, and `behind`, the position after this entry.
 #[derive(Clone, Copy, PartialEq, Eq, Debug)]
 pub struct Ahead {
     pub entry: Entry,
@@ -33,7 +34,8 @@ impl Cursor {
         Cursor { part: 0, at: 0 }
     }
 
-    /// The next entry in the copy of an index; None at its end.
+    /// The next entry in the copy of the volume that `index` describes, and the position after it. None at the end of
+    /// the copy.
     pub fn next(self, index: &Index) -> Option<Ahead>
         ensures some { IfSome result (λ ahead. entries_from index.now self.part self.at
             ≡ ahead.entry ∷ entries_from index.now ahead.behind.part ahead.behind.at) }
@@ -46,7 +48,7 @@ impl Cursor {
         }
     }
 
-    // The same position, after the partitions that have no more objects.
+    // The same position in the copy, moved past partitions that have no more objects.
     fn settled(self, index: &Index) -> Self
         ensures same { entries_from index.now result.part result.at
             ≡ entries_from index.now self.part self.at }
@@ -63,7 +65,7 @@ impl Cursor {
         cursor
     }
 
-    // Whether there is such a partition, and it has no more objects.
+    // Whether the position is in a partition that exists and that has no objects after it.
     fn is_at_end(self, index: &Index) -> bool
         ensures yes { result ≡ true → (self.part < length index.now)
             × (length index.now ≤ MAX_PARTITIONS)
@@ -74,7 +76,7 @@ impl Cursor {
         self.part < index.parts() && index.count(self.part) <= self.at
     }
 
-    // The next entry, for the object at the position.
+    // The next entry: that of `object`, which stands at the position.
     fn ahead(self, object: Placed, index: &Index) -> Ahead
         requires { slice_get (placed_objects index.now self.part) self.at ≡ Some object }
         ensures { entries_from index.now self.part self.at
@@ -111,7 +113,7 @@ impl Cursor {
         }
     }
 
-    // The position `count` objects further.
+    // The position `count` objects further on.
     fn behind(self, count: u32) -> Self
         requires { self.at + count ≤ MAX_OBJECTS }
         ensures part { result.part ≡ self.part }
@@ -123,7 +125,7 @@ impl Cursor {
         }
     }
 
-    // How many filemarks there are from the position on.
+    // How many filemarks the run at the position has from there on.
     fn marks(self, index: &Index) -> u32
         requires { HasMarkAt (placed_objects index.now self.part) self.at }
         ensures runs { RunOfMarks (placed_objects index.now self.part) self.at result }

@@ -2,7 +2,7 @@
 
 use record_index::Record;
 
-/// A record of a copy, and the place of its block; 0 where it has no block.
+/// A record of a copy, and the place on the disk where its block lies. The place is 0 for a record without a block.
 #[derive(Clone, Copy, PartialEq, Eq, Debug)]
 pub struct Entry {
     pub item: Record,

@@ -10,14 +10,15 @@ ghost use Rattle.volume_copy.specs.Copies.{Makes, NoRunIsCut, copy_of};
 ghost use Rattle.volume_copy.specs.CopyFacts.{capacities_of};
 ghost use Rattle.volume_copy.specs.Frames.{ArePackedInto, change_size, frames_of};
 
-/// The copy of a volume, carried out on a volume without objects, makes it again, and each of its changes
-/// applies.
+/// The changes of a volume's copy apply, one after another, to a volume that has the same capacities and no objects,
+/// and turn it into the copied volume.
 pub fn a_copy_makes_the_volume()
     ensures { (volume : List Part) → IsVolume volume →
         Makes (empty_volume (capacities_of volume)) (copy_of volume) volume }
 {}
 
-/// A copy has one record for each longest run of filemarks.
+/// A copy has one record for each longest run of filemarks: no two neighbouring changes of it append filemarks to the
+/// same partition.
 pub fn no_run_is_cut()
     ensures { (volume : List Part) → NoRunIsCut (copy_of volume) }
 {}
@@ -27,8 +28,8 @@ pub fn a_copy_is_spelled()
     ensures { (volume : List Part) → IsVolume volume → All IsRecord (copy_of volume) }
 {}
 
-/// A copy is packed into frames, as many records into each as fit. One after another they are the copy, and
-/// the body of each has 1 to 4,194,304 bytes.
+/// A copy is packed into frames, as many records into each as fit. The changes of the frames, one frame after another,
+/// are the copy. The body of each frame has 1 to 4,194,304 bytes.
 pub fn a_copy_is_packed()
     ensures packed { (volume : List Part) → IsVolume volume →
         ArePackedInto change_size (copy_of volume) (frames_of (copy_of volume)) }
@@ -40,13 +41,14 @@ pub fn a_copy_is_packed()
     ensures bound { FRAME_BODY ≡ 4194304 }
 {}
 
-/// There is one packing of changes into frames.
+/// There is only one way to pack changes into frames: that of `frames_of`.
 pub fn changes_are_packed_in_one_way()
     ensures { (changes : List Change) (frames : List (List Change)) →
         ArePackedInto change_size changes frames → frames ≡ frames_of changes }
 {}
 
-/// The number and the length of a copy's frames do not depend on the bytes of blocks.
+/// The records of a copy's frames depend on the lengths of blocks, but not on the bytes in them. So the number and the
+/// lengths of the frames do not depend on these bytes either.
 pub fn a_copy_is_sized_by_its_shape()
     ensures { (volume other : List Part) → shape_of volume ≡ shape_of other →
         map (map record_of) (frames_of (copy_of volume))

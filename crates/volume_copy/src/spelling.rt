@@ -1,4 +1,4 @@
-//! Spelling the frames of a copy, one after another. It takes no memory.
+//! Spells the frames of a copy, one after another. It takes no memory.
 ghost use Rattle.std.specs.Prelude.{◌≡◌, ◌≢◌, ◌≤◌, ◌+◌, ◌-◌, [], ◌∷◌, ◌++◌, ℕ, List, IfErr, IfNone, IfOk, IfSome, OnOk, length, take, vec_capacity, vec_len};
 ghost use Rattle.record_index.specs.Records.{spell_head};
 ghost use Rattle.volume_copy.specs.declared.entries.Entry.{Entry};
@@ -22,8 +22,9 @@ const MARKS: u8 = 2;
 
 const ERASE: u8 = 3;
 
-/// Appends the body of the next frame of a copy to the buffer, and returns the position after it. The blocks
-/// are read where the index has them.
+/// Appends the body of the frame that begins at `start` to `buffer`, and returns the position after that frame.
+/// `reader` reads the blocks from the places that `index` has for them. An entry must follow `start`, and `buffer` must
+/// have free capacity for 4,194,304 bytes. The error is the reader's; `buffer` may then have any bytes.
 pub fn spell_frame<R: ReadsBlocks>(
     start: Cursor,
     index: &Index,
@@ -53,7 +54,8 @@ pub fn spell_frame<R: ReadsBlocks>(
     Ok(cursor)
 }
 
-// The next entry of a copy, if it fits after these bytes of a frame.
+// The next entry of a copy. None at the end of the copy, or where the entry does not fit after the first `bytes` bytes
+// of a frame.
 fn fitting(cursor: Cursor, index: &Index, bytes: usize) -> Option<Ahead>
     requires { bytes ≤ FRAME_BODY }
     ensures next { IfSome result (λ ahead. entries_from index.now cursor.part cursor.at
@@ -90,7 +92,7 @@ fn put_entry<R: ReadsBlocks>(
     }
 }
 
-// Appends a block of this size, which lies at that place, to the buffer.
+// Reads the block of `size` bytes that lies at `place`, and appends it to the buffer.
 fn put_block<R: ReadsBlocks>(
     place: u64,
     size: u32,
@@ -111,7 +113,7 @@ fn put_block<R: ReadsBlocks>(
     read_behind(place, from, reader, buffer)
 }
 
-// Reads a block, which lies at that place, over all bytes after the first `from`.
+// Reads the block that lies at `place` over all bytes after the first `from`.
 fn read_behind<R: ReadsBlocks>(
     place: u64,
     from: usize,
@@ -151,7 +153,7 @@ fn head_of(item: Record) -> [u8; HEAD_BYTES]
     }
 }
 
-// The head of that kind.
+// The head of a record of this kind.
 fn head(kind: u8, part: PartNo, at: ObjNo, number: u32) -> [u8; HEAD_BYTES]
     ensures { result ≡ spell_head kind part at number }
 {

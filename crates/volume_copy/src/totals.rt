@@ -8,20 +8,20 @@ ghost use Rattle.volume_copy.specs.Inner.Packed.{packed_with};
 use crate::cursor::Cursor;
 use record_index::Index;
 
-/// The longest body of a copy's frame.
+/// The greatest length of the body of a copy's frame, in bytes.
 pub const FRAME_BODY: usize = 4_194_304;
 
 /// The size of a copy.
 #[derive(Clone, Copy, PartialEq, Eq, Debug)]
 pub struct Totals {
-    /// How many frames it has, at most 64,000,000.
+    /// How many frames the copy has, at most 64,000,000.
     pub frames: u32,
-    /// The bytes of its frames' bodies.
+    /// How many bytes the bodies of these frames have together.
     pub bytes: u64,
 }
 
 impl Totals {
-    /// The size of the copy of an index. No block is read.
+    /// The size of the copy of the volume that `index` describes. No block is read.
     pub fn of(index: &Index) -> Self
         ensures frames { result.frames ≡ length (frames_by entry_size (entries_in index.now)) }
         ensures bytes { result.bytes ≡ sum_by entry_size (entries_in index.now) }
@@ -52,7 +52,7 @@ pub(crate) struct Packed {
 }
 
 impl Packed {
-    // Nothing yet. The next record begins a frame.
+    // The totals of no record. The next record begins a frame.
     fn none() -> Self
         ensures frames { result.frames ≡ 0 }
         ensures bytes { result.bytes ≡ 0 }

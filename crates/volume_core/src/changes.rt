@@ -8,8 +8,8 @@ use thiserror::Error;
 use vtl_base::limits::{MAX_BLOCK, OBJECT_COST};
 use vtl_base::{Bytes, NoMemory, ObjNo, PartNo};
 
-/// What a command does to a partition. It cuts the partition after its first `at` objects and may append others, in one
-/// change.
+/// A change of one partition, as one command makes it. It cuts the partition after its first `at` objects and, in the
+/// same step, may append one block or a number of filemarks.
 #[derive(Drop)]
 pub enum Change {
     /// Cuts after the first `at` objects, and appends this block (SSC-4, WRITE).
@@ -31,25 +31,27 @@ pub enum Change {
     },
 }
 
-/// Why a change is refused. The first of these that holds is reported, and nothing has changed (own).
+/// Why a change is refused. The first of these causes that holds is reported, and nothing has changed (own).
 #[derive(Clone, Copy, PartialEq, Eq, Debug, Error)]
 pub enum Refusal {
     /// The volume has no such partition.
     #[error("no such partition")]
     NoPartition,
-    /// The partition has fewer objects than the change leaves.
+    /// The partition has fewer objects than the change's `at`.
     #[error("past the end of data")]
     PastEnd,
-    /// The objects would exceed the partition's capacity, or 16,000,000.
+    /// After the change, the partition's objects would take more bytes than its capacity, or there would be more than
+    /// 16,000,000 of them.
     #[error("no room in the partition")]
     NoRoom,
-    /// The block has no byte or more than 1,048,576, or there is no mark.
+    /// The block has no bytes or more than 1,048,576 bytes, or the number of filemarks is 0.
     #[error("the block is too long or empty, or there is no mark")]
     TooLong,
 }
 
 impl Change {
-    /// A copy of the change, with a copy of its block. It takes memory only for a block of more than 24 bytes.
+    /// Returns a copy of the change, with a copy of its block. It allocates memory, and may return `NoMemory`, only for
+    /// a block of more than 24 bytes.
     pub fn copy(&self, alloc: Global) -> Result<Change, NoMemory>
         ensures copy { IfOk result (λ copy. copy ≡ self.now) }
         ensures memory { OnErr result (HasLongBlock self.now) }
@@ -72,7 +74,7 @@ impl Change {
         }
     }
 
-    /// What it takes of a side as a frame of its own, in bytes (own).
+    /// How many bytes of a side (the bytes of one file) the change takes as a frame of its own (own).
     pub fn frame_size(&self) -> u64
         ensures { result ≡ frame_size self.now }
     {
@@ -82,7 +84,7 @@ impl Change {
         }
     }
 
-    /// The partition that it concerns (own).
+    /// The number of the partition that is changed (own).
     pub fn part(&self) -> PartNo
         ensures { result ≡ part_of self.now }
     {
@@ -92,7 +94,7 @@ impl Change {
         }
     }
 
-    /// How many objects stay (own).
+    /// How many objects of the partition stay: its first `at` objects (own).
     pub fn staying(&self) -> ObjNo
         ensures { result ≡ staying_of self.now }
     {
@@ -101,7 +103,7 @@ impl Change {
         }
     }
 
-    /// How many objects it adds (own).
+    /// How many objects the change adds (own).
     pub fn added(&self) -> u32
         ensures { result ≡ length (added_by self.now) }
     {
@@ -112,7 +114,7 @@ impl Change {
         }
     }
 
-    /// What the objects that it adds take of a partition, in bytes (own).
+    /// How many bytes of the partition's capacity the added objects take (own).
     pub fn cost(&self) -> u64
         ensures { result ≡ used_of (added_by self.now) }
     {
@@ -123,7 +125,8 @@ impl Change {
         }
     }
 
-    /// Whether its block has 1 to 1,048,576 bytes, and its marks are at least one (own).
+    /// Whether the block of a `Put` has 1 to 1,048,576 bytes, or a `Marks` has at least one filemark. Always true for
+    /// an `Erase` (own).
     pub fn is_well_formed(&self) -> bool
         ensures { result ≡ is_well_formed self.now }
     {

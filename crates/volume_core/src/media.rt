@@ -1,4 +1,4 @@
-//! What stands below a drive: a volume with its catalog, which accepts changes.
+//! The medium below a drive: a volume with its catalog, which accepts changes and stores them.
 ghost use Rattle.std.specs.Prelude.{◌≡◌, ℕ, Bool, ◌<◌, ◌≤◌, ◌↔◌, ◌++◌, [], List, IsTrue, true, false, Some, Err, OnOk, OnErr, IfErr, IfSome, length, vec_capacity};
 ghost use Rattle.vtl_base.specs.declared.limits.TheConstants.{MAX_BLOCK, MAX_CAPACITY, MAX_OBJECTS, MAX_PARTITIONS};
 ghost use Rattle.vtl_base.specs.Below.{Below, Advances};
@@ -21,20 +21,22 @@ pub enum MediumError {
     /// The change itself is refused, for this cause. Nothing has changed.
     #[error("refused")]
     Refused(Refusal),
-    /// Memory ran out. The side has room for the change that was asked for, if one was. The volume is as it was; what
-    /// was pending may have been stored.
+    /// Memory ran out. If the call was to accept a change, the side (the bytes of the medium's file) has room for that
+    /// change and for those that were pending. The volume is as it was, but changes that were pending may have been
+    /// stored.
     #[error("out of memory")]
     NoMemory,
-    /// The side has no room for what is pending and this change. Nothing has changed.
+    /// The side has no room for what is pending together with this change. Nothing has changed.
     #[error("side full")]
     SideFull,
-    /// The device failed in this call. The volume is as it was, and the medium has failed.
+    /// The device failed in this call. A medium that was awake has failed, and its volume is as it was. A parked medium
+    /// stays parked and has not failed; if it was never opened before, its side may now hold another volume, or none.
     #[error("device fault")]
     Device,
     /// The medium failed in an earlier call. Nothing has changed.
     #[error("medium failed")]
     Failed,
-    /// The side of a parked medium gives no volume. Nothing has changed.
+    /// The side of a parked medium holds no volume that can be read. The medium stays parked, and nothing has changed.
     #[error("unreadable")]
     Unreadable,
 }
@@ -51,9 +53,9 @@ pub struct NotAccepted {
 /// What a flusher's turn did.
 #[derive(Clone, Copy, PartialEq, Eq, Debug)]
 pub enum Turn {
-    /// Nothing was pending, or the medium has failed.
+    /// Nothing was pending, or the medium had failed before. Nothing has changed.
     Idle,
-    /// All changes that were pending were stored: this many.
+    /// All pending changes were stored: this many, at least 1.
     Stored(usize),
     /// The device failed in this turn. The volume is as it was, and the medium has failed.
     Device,
@@ -69,10 +71,10 @@ fn without_change(accepted: Result<(), NotAccepted>) -> Result<(), MediumError>
     }
 }
 
-/// The catalog of a volume: its partitions and its objects, without the bytes of blocks. Each call needs the medium
-/// awake.
+/// The catalog of a volume: its partitions and its objects, without the bytes of blocks. Each call needs the medium to
+/// be awake.
 pub trait Catalog {
-    /// What the medium holds.
+    /// The state of the medium, as a contract sees it.
     ghost state: { Self → MediumState };
 
     /// How many partitions there are, 1 to 4.
@@ -94,46 +96,49 @@ pub trait Catalog {
         ensures count { result ≡ count_of (volume_of (state self.now)) part }
         ensures bound { result ≤ MAX_OBJECTS };
 
-    /// The kind of the object with this number; None where there is none.
+    /// The kind of the object with number `at` in a partition: a block or a filemark. None where there is no such
+    /// object.
     fn kind_at(&self, part: PartNo, at: ObjNo) -> Option<Kind>
         requires { (state self.now).awake ≡ true }
         ensures { result ≡ kind_at (volume_of (state self.now)) part at };
 
-    /// What the first n objects of a partition take of its capacity, in bytes; all of them where
-    /// there are fewer.
+    /// How many bytes of a partition's capacity its first `n` objects take. If it has fewer objects, all of them are
+    /// counted.
     fn used(&self, part: PartNo, n: ObjNo) -> u64
         requires { (state self.now).awake ≡ true }
         ensures used { result ≡ used_up_to (volume_of (state self.now)) part n }
         ensures bound { result ≤ capacity_of (volume_of (state self.now)) part };
 
-    /// How many filemarks are among the first n objects of a partition; among all of them where
-    /// there are fewer.
+    /// How many filemarks are among the first `n` objects of a partition. Where it has fewer objects, all its filemarks
+    /// are counted.
     fn marks_upto(&self, part: PartNo, n: ObjNo) -> u32
         requires { (state self.now).awake ≡ true }
         ensures marks { result ≡ marks_upto (volume_of (state self.now)) part n }
         ensures bound { result ≤ MAX_OBJECTS };
 
-    /// The object number of a partition's filemark number k, counted from 0.
+    /// The object number of filemark `k` of a partition, whose first filemark is filemark 0. The partition must have
+    /// more than `k` filemarks.
     fn mark_at(&self, part: PartNo, k: u32) -> ObjNo
         requires awake { (state self.now).awake ≡ true }
         requires mark { k < mark_count (volume_of (state self.now)) part }
         ensures { IsMarkOf (volume_of (state self.now)) part k result };
 }
 
-/// A volume that accepts changes, and stores them at the latest when the caller asks for it. It is awake, or parked:
-/// closed, so that it may be moved. Each call except `wake` needs it awake.
+/// A volume that accepts changes. A change that is accepted and not stored yet is pending; it is stored at the latest
+/// when the caller asks for it. A medium is either awake or parked: closed, so that it may be moved. Each call except
+/// `wake` needs it to be awake.
 pub trait Medium: Catalog {
-    /// What a contract sees below it: the failures of its device, whether that keeps the promises of a disk (always so
-    /// in memory), whether it is at hand, so that calls that may need the device may be made, and which changes it
-    /// accepted from one value to another.
+    /// What a contract sees below the medium: how often its device has failed; whether the device keeps the promises of
+    /// a disk (in memory, always); whether the device is at hand; and which changes the medium accepted between one of
+    /// its values and a later one. A call that may need the device is made only while the device is at hand.
     ghost below: { Below Self Change };
 
-    /// Whether the medium accepts a change without its device, which then need not be at hand. The change's block has
-    /// this many bytes, 0 for a change with no block.
+    /// Whether the medium can answer a change without its device, which then need not be at hand. The number is the
+    /// length of the change's block in bytes, 0 for a change without a block.
     ghost alone: { Self → ℕ → Bool };
 
-    /// Carries a change out. The objects behind those that the change leaves are gone. A change that is not accepted is
-    /// returned.
+    /// Accepts a change, which cuts its partition after the objects that stay and then appends those that it adds. A
+    /// change that is not accepted is returned with the error.
     fn accept(&mut self, change: Change) -> Result<(), NotAccepted>
         requires awake { (Self.state self.old).awake ≡ true }
         requires hand { alone self.old (block_bytes change) ≡ false → below.at_hand self.old }
@@ -146,7 +151,8 @@ pub trait Medium: Catalog {
             (met_fault (accept_answer result)) self.new }
         ensures device { alone self.old (block_bytes change) ≡ true → met_fault (accept_answer result) ≡ false };
 
-    /// Puts a block behind the first `at` objects of a partition. What stood there is gone.
+    /// Cuts a partition after its first `at` objects and appends a block, as one change. The objects after the cut are
+    /// gone.
     fn put(&mut self, part: PartNo, at: ObjNo, block: Bytes) -> Result<(), MediumError>
         requires awake { (Self.state self.old).awake ≡ true }
         requires hand { alone self.old (length block) ≡ false → below.at_hand self.old }
@@ -161,7 +167,8 @@ pub trait Medium: Catalog {
         without_change(self.accept(Change::Put { part, at, block }))
     }
 
-    /// Puts this many marks behind the first `at` objects of a partition. What stood there is gone.
+    /// Cuts a partition after its first `at` objects and appends `count` filemarks, as one change. The objects after
+    /// the cut are gone.
     fn marks(&mut self, part: PartNo, at: ObjNo, count: u32) -> Result<(), MediumError>
         requires awake { (Self.state self.old).awake ≡ true }
         requires hand { alone self.old 0 ≡ false → below.at_hand self.old }
@@ -176,7 +183,7 @@ pub trait Medium: Catalog {
         without_change(self.accept(Change::Marks { part, at, count }))
     }
 
-    /// Erases what stands behind the first `at` objects of a partition.
+    /// Cuts a partition after its first `at` objects: all later objects are erased.
     fn erase(&mut self, part: PartNo, at: ObjNo) -> Result<(), MediumError>
         requires awake { (Self.state self.old).awake ≡ true }
         requires hand { alone self.old 0 ≡ false → below.at_hand self.old }
@@ -191,8 +198,9 @@ pub trait Medium: Catalog {
         without_change(self.accept(Change::Erase { part, at }))
     }
 
-    /// Reads the block with this object number into `into`, in place of what that held. Memory runs out only where the
-    /// capacity of `into` is less than the block has bytes. After an `Err` `into` may hold anything.
+    /// Reads the block with object number `at` of a partition into `into`, in place of what `into` held. The partition
+    /// must have an object with this number, and it must be a block. Memory runs out only where the capacity of `into`
+    /// is less than the length of the block. After an error `into` may hold any bytes.
     fn fetch(&mut self, part: PartNo, at: ObjNo, into: &mut Vec<u8>) -> Result<(), MediumError>
         requires awake { (Self.state self.old).awake ≡ true }
         requires hand { below.at_hand self.old }
@@ -207,7 +215,7 @@ pub trait Medium: Catalog {
         ensures stores { Stores (Self.state self.old) [] (Self.state self.new) }
         ensures advances { Advances below self.old [] (met_fault result) self.new };
 
-    /// Stores what is pending. It takes no memory.
+    /// Stores all pending changes. It needs no memory.
     fn settle(&mut self) -> Result<(), MediumError>
         requires awake { (Self.state self.old).awake ≡ true }
         requires hand { below.at_hand self.old }
@@ -215,7 +223,7 @@ pub trait Medium: Catalog {
         ensures stores { Stores (Self.state self.old) [] (Self.state self.new) }
         ensures advances { Advances below self.old [] (met_fault result) self.new };
 
-    /// Stores what is pending, in a flusher's turn. It takes no memory.
+    /// Takes a flusher's turn, which stores all pending changes. It needs no memory.
     fn flush_turn(&mut self) -> Turn
         requires awake { (Self.state self.old).awake ≡ true }
         requires hand { below.at_hand self.old }
@@ -223,8 +231,8 @@ pub trait Medium: Catalog {
         ensures stores { Stores (Self.state self.old) [] (Self.state self.new) }
         ensures advances { Advances below self.old [] (turn_met_fault result) self.new };
 
-    /// Closes the medium, once what is pending is stored. A medium that has failed drops what is pending. After a
-    /// device fault it is still awake, and has failed.
+    /// Stores all pending changes, and then closes the medium. A medium that has failed is closed too, and its pending
+    /// changes are dropped. If the device fails in this call, the medium is still awake, and has failed.
     fn park(&mut self) -> Result<(), MediumError>
         requires awake { (Self.state self.old).awake ≡ true }
         requires hand { below.at_hand self.old }
@@ -233,23 +241,25 @@ pub trait Medium: Catalog {
         ensures stores { OnErr result (Stores (Self.state self.old) [] (Self.state self.new)) }
         ensures advances { Advances below self.old [] (met_fault result) self.new };
 
-    /// Opens the medium. A medium that is awake stays as it is, and the result says whether it has failed.
+    /// Opens a parked medium; after an error it stays parked. A medium that is awake stays as it is, and the result is
+    /// the error `Failed` if it has failed, or else `Ok`. What the side of a parked medium holds after the call is
+    /// known only if its device keeps the promises of a disk.
     fn wake(&mut self) -> Result<(), MediumError>
         requires { below.at_hand self.old }
         ensures answer { Wakes (below.honest self.old) (Self.state self.old) result
             (Self.state self.new) }
         ensures advances { Advances below self.old [] (met_fault result) self.new };
 
-    /// Whether the side has room for what is pending and a change whose block has this many bytes, 0
-    /// for a change with no block. Where it has none, `accept` returns that the side is full, unless
-    /// it refuses the change or the medium has failed.
+    /// Whether the side has room for what is pending together with a change whose block has `bytes` bytes, 0 for a
+    /// change without a block. Where the result is false, `accept` returns `SideFull` for such a change, unless it
+    /// refuses the change or the medium has failed.
     fn has_room_for(&self, bytes: u32) -> bool
         requires { (Self.state self.now).awake ≡ true }
         ensures { IsTrue result
             ↔ HasRoomFor (Self.state self.now).room (Self.state self.now).pending bytes };
 
-    /// Whether it accepts a change without its device. The change's block has this many bytes, 0 for a change with no
-    /// block.
+    /// Whether the medium can answer a change without its device. The change's block has `bytes` bytes, 0 for a change
+    /// without a block.
     fn takes_alone(&self, bytes: u32) -> bool
         requires { (Self.state self.now).awake ≡ true }
         ensures { result ≡ alone self.now bytes };
@@ -259,23 +269,24 @@ pub trait Medium: Catalog {
         requires { (Self.state self.now).awake ≡ true }
         ensures { result ≡ length (Self.state self.now).pending };
 
-    /// Whether the device has failed since the medium was opened. Then no change is accepted and no block is read.
+    /// Whether the device has failed since the medium was opened. If it has, no change is accepted and no block is
+    /// read.
     fn has_failed(&self) -> bool
         requires { (Self.state self.now).awake ≡ true }
         ensures { result ≡ (Self.state self.now).failed };
 
-    /// A run without a call accepts nothing, and meets no fault.
+    /// Where no call is made, no change is accepted and the device does not fail.
     ghost advances_nowhere: { (medium : Self) → Advances below medium [] false medium };
 
     /// A medium that is awake was opened before.
     ghost awake_is_read: { (medium : Self) →
         (Self.state medium).awake ≡ true → (Self.state medium).unread ≡ false };
 
-    /// A run without a call stores nothing.
+    /// Where no call is made, nothing is stored.
     ghost stores_nowhere: { (medium : Self) →
         Stores (Self.state medium) [] (Self.state medium) };
 
-    /// Two runs, one after the other, accept the changes of the first and then those of the second.
+    /// Two runs of calls, one after the other, accept the changes of the first run, followed by those of the second.
     ghost moves_on: { (a b c : Self) (first second : List Change)
         → below.moves a first b → below.moves b second c → below.moves a (first ++ second) c };
 }

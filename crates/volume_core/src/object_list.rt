@@ -1,4 +1,4 @@
-//! The objects of a partition, with what they take up to each place.
+//! The objects of a partition, each with how many bytes the objects up to it take.
 ghost use Rattle.std.specs.Prelude.{◌≡◌, ◌+◌, ◌*◌, ◌≤◌, ◌<◌, ◌^◌, ◌++◌, ◌∷◌, [], IfErr, Some, OnOk, OnErr, vec_capacity, length, take, replicate, slice_get};
 ghost use Rattle.std.specs.Bool.{MatchBool};
 ghost use Rattle.std.specs.Option.{option_copied};
@@ -64,7 +64,7 @@ impl ObjectList {
         }
     }
 
-    // What the first n objects take, in bytes; all of them where there are fewer.
+    // How many bytes the first n objects take. Where there are fewer, all of them are counted.
     pub(crate) fn used(&self, n: usize) -> u64
         ensures { result ≡ used_of (take n self.now) }
     {
@@ -72,7 +72,7 @@ impl ObjectList {
         if n == 0 { 0 } else { self.costs[n - 1] }
     }
 
-    // Whether a mark stands at a place, or else a block.
+    // Whether the object at a place is a filemark; if not, it is a block.
     fn is_mark_at(&self, at: usize) -> bool
         requires { at < length self.now }
         ensures { MatchBool result (kind_in (slice_get self.now at) ≡ Some Kinds.Mark)
@@ -81,7 +81,7 @@ impl ObjectList {
         matches!(self.kind_at(at), Some(Kind::Mark))
     }
 
-    // How many marks are among the first n objects; among all of them where there are fewer.
+    // How many filemarks are among the first n objects. Where there are fewer objects, all filemarks are counted.
     #[tactic(auto, using(crate::proofs::MarkLemmas::mark_more, crate::proofs::MarkLemmas::block_more))]
     pub(crate) fn marks_upto(&self, n: usize) -> usize
         ensures marks { result ≡ marks_in (take n self.now) }
@@ -96,7 +96,7 @@ impl ObjectList {
         marks
     }
 
-    // The object number of the mark number k, counted from 0.
+    // The object number of filemark k; the first filemark is filemark 0.
     #[tactic(auto, using(crate::proofs::MarkLemmas::mark_more, crate::proofs::MarkLemmas::block_more))]
     pub(crate) fn mark_at(&self, k: usize) -> usize
         requires { k < marks_in self.now }

@@ -12,7 +12,7 @@ pub enum Object {
     Mark,
 }
 
-/// Which of the two an object is.
+/// The kind of an object: a block or a filemark.
 #[derive(Clone, Copy, PartialEq, Eq, Debug)]
 pub enum Kind {
     Block,
@@ -20,7 +20,7 @@ pub enum Kind {
 }
 
 impl Object {
-    /// What it takes of its partition's capacity, in bytes (own).
+    /// How many bytes of its partition's capacity the object takes (own).
     pub fn cost(&self) -> u64
         ensures { result ≡ cost_of self.now }
     {
@@ -30,7 +30,7 @@ impl Object {
         }
     }
 
-    /// Whether it is a block or a mark.
+    /// Whether the object is a block or a filemark.
     pub fn kind(&self) -> Kind
         ensures { result ≡ kind_of self.now }
     {

@@ -68,7 +68,7 @@ impl Partition {
         self.stock.block_at(at)
     }
 
-    // What the first n objects take.
+    // How many bytes the first n objects take. Where there are fewer, all of them are counted.
     pub(crate) fn used(&self, n: usize) -> u64
         ensures used { result ≡ used_of (take n self.now.objects) }
         ensures bound { result ≤ self.now.capacity }
@@ -84,7 +84,7 @@ impl Partition {
         self.stock.marks_upto(n) as u32
     }
 
-    // The object number of the mark number k, counted from 0.
+    // The object number of filemark k; the first filemark is filemark 0.
     pub(crate) fn mark_at(&self, k: usize) -> u32
         requires { k < marks_in self.now.objects }
         ensures mark { kind_in (slice_get self.now.objects result) ≡ Some Kinds.Mark }
@@ -93,7 +93,7 @@ impl Partition {
         self.stock.mark_at(k) as u32
     }
 
-    // Why a change that is meant for this partition is refused; None where it is not.
+    // Why a change of this partition would be refused; None where it would not.
     pub(crate) fn refusal(&self, change: &Change) -> Option<Refusal>
         ensures { result ≡ refusal_in (Some self.now) change.now }
     {
@@ -113,7 +113,7 @@ impl Partition {
         None
     }
 
-    // Carries a change out that is meant for this partition, or refuses it. An erase takes no memory.
+    // Carries out a change of this partition, or refuses it. An erase takes no memory.
     pub(crate) fn apply(&mut self, change: Change) -> Result<(), NotApplied>
         ensures answer { AppliesUnless (refusal_in (Some self.old) change) self.old
             (part_after self.old change) (apply_answer result) self.new }

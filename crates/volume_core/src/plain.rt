@@ -11,8 +11,8 @@ use std::alloc::Global;
 use std::marker::Model;
 use vtl_base::{NoMemory, ObjNo, PartNo};
 
-/// A cartridge in memory, which never fails and has nothing pending. A contract sees its volume, and whether it is
-/// awake.
+/// A cartridge in memory. It has no device that could fail, and nothing is ever pending. A contract sees its volume,
+/// and whether it is awake.
 #[derive(Drop)]
 pub struct PlainMedium {
     volume: Volume,
@@ -28,8 +28,8 @@ impl Model for PlainMedium {
 }
 
 impl PlainMedium {
-    /// An empty cartridge, awake, of partitions with these capacities in bytes. `are_capacities`
-    /// tests the condition.
+    /// Makes an empty cartridge, awake, with partitions of these capacities in bytes. They must be capacities that a
+    /// cartridge can have, which `are_capacities` tests. If memory runs out, `NoMemory` is returned.
     pub fn new(alloc: Global, capacities: &[u64]) -> Result<Self, NoMemory>
         requires { IsTrue (are_capacities capacities.now) }
         ensures { IfOk result (λ medium.

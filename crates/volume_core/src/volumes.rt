@@ -16,7 +16,7 @@ use thiserror::Error;
 use vtl_base::limits::{MAX_CAPACITY, MAX_PARTITIONS, MIN_CAPACITY};
 use vtl_base::{NoMemory, ObjNo, PartNo};
 
-/// Why a volume stays as it is.
+/// Why a volume did not carry out a change.
 #[derive(Clone, Copy, PartialEq, Eq, Debug, Error)]
 pub enum ApplyError {
     /// The change itself is refused, for this cause.
@@ -59,8 +59,8 @@ fn all_capacities(capacities: &[u64]) -> bool
     capacities.iter().all(|&bytes| is_capacity(bytes))
 }
 
-/// Whether a volume can have these capacities: 1 to 4, each of 4,096 to 1,099,511,627,776 bytes
-/// (own).
+/// Whether a volume can have partitions of these capacities: there are 1 to 4 of them, each of 4,096 to
+/// 1,099,511,627,776 bytes (own).
 pub fn are_capacities(capacities: &[u64]) -> bool
     ensures { result ≡ are_capacities capacities.now }
 {
@@ -69,8 +69,8 @@ pub fn are_capacities(capacities: &[u64]) -> bool
         && all_capacities(capacities)
 }
 
-/// Whether a partition of this capacity, of which this much is used, is in its last sixteenth
-/// (own, for early warning of SSC-4).
+/// Whether a partition of `capacity` bytes, of which `used` are taken, reaches into the last sixteenth of its capacity,
+/// rounded down to whole bytes (own, for early warning of SSC-4).
 pub fn is_in_early_zone(capacity: u64, used: u64) -> bool
     ensures { result ≡ is_in_early_zone capacity used }
 {
@@ -95,8 +95,8 @@ impl Model for Volume {
 }
 
 impl Volume {
-    /// A volume of empty partitions with these capacities in bytes. `are_capacities` tests the
-    /// condition.
+    /// Makes a volume of empty partitions with these capacities in bytes. They must be capacities that a volume can
+    /// have, which `are_capacities` tests. If memory runs out, `NoMemory` is returned.
     pub fn new(alloc: Global, capacities: &[u64]) -> Result<Self, NoMemory>
         requires { IsTrue (are_capacities capacities.now) }
         ensures { IfOk result (λ volume. volume ≡ empty_volume capacities.now) }
@@ -147,15 +147,16 @@ impl Volume {
         }
     }
 
-    /// The kind of the object with this number; None where there is none.
+    /// The kind of the object with number `at` in a partition: a block or a filemark. None where there is no such
+    /// object.
     pub fn kind_at(&self, part: PartNo, at: ObjNo) -> Option<Kind>
         ensures { result ≡ kind_at self.now part at }
     {
         self.partition(part)?.kind_at(at as usize)
     }
 
-    /// What the first n objects of a partition take of its capacity, in bytes; all of them where
-    /// there are fewer.
+    /// How many bytes of a partition's capacity its first `n` objects take. If it has fewer objects, all of them are
+    /// counted.
     pub fn used(&self, part: PartNo, n: ObjNo) -> u64
         ensures used { result ≡ used_up_to self.now part n }
         ensures bound { result ≤ capacity_of self.now part }
@@ -166,8 +167,8 @@ impl Volume {
         }
     }
 
-    /// How many marks are among the first n objects of a partition; among all of them where there are fewer. It goes
-    /// over these objects.
+    /// How many filemarks are among the first `n` objects of a partition. Where it has fewer objects, all its filemarks
+    /// are counted. The call walks over these objects.
     pub fn marks_upto(&self, part: PartNo, n: ObjNo) -> u32
         ensures marks { result ≡ marks_upto self.now part n }
         ensures bound { result ≤ MAX_OBJECTS }
@@ -178,8 +179,8 @@ impl Volume {
         }
     }
 
-    /// The object number of filemark k of a partition, counted from 0. The search goes over the objects up to that
-    /// filemark.
+    /// The object number of filemark `k` of a partition, whose first filemark is filemark 0. The partition must have
+    /// more than `k` filemarks. The search walks over the objects up to that filemark.
     pub fn mark_at(&self, part: PartNo, k: u32) -> ObjNo
         requires { k < mark_count self.now part }
         ensures { IsMarkOf self.now part k result }
@@ -190,7 +191,7 @@ impl Volume {
         }
     }
 
-    /// The bytes of the block with this object number; None where there is no block.
+    /// The bytes of the block with number `at` in a partition; None where there is no such object, or it is a filemark.
     pub fn block_at(&self, part: PartNo, at: ObjNo) -> Option<&[u8]>
         ensures block { option_copied result ≡ block_at self.now part at }
         ensures bound { IfSome result (λ block. length block.now ≤ MAX_BLOCK) }
@@ -198,7 +199,7 @@ impl Volume {
         self.partition(part)?.block_at(at as usize)
     }
 
-    /// Why a change is refused: the first cause that holds, None where there is none.
+    /// Why the volume would refuse a change: the first cause that holds. None where it would not refuse the change.
     pub fn refusal(&self, change: &Change) -> Option<Refusal>
         ensures { result ≡ refusal_of self.now change.now }
     {
@@ -208,9 +209,9 @@ impl Volume {
         }
     }
 
-    /// Carries a change out, or refuses it for the first cause that holds. It returns `NoMemory` only where no cause
-    /// holds, and never for an erase, which takes no memory. After an `Err`, which returns the change, nothing has
-    /// changed.
+    /// Carries out a change, or refuses it for the first cause that holds. The error is `NoMemory` only if no cause
+    /// holds, and never for an erase, which needs no memory. After an error nothing has changed, and the change is
+    /// returned with the error.
     pub fn apply(&mut self, change: Change) -> Result<(), NotApplied>
         ensures answer { Applies self.old change (apply_answer result) self.new }
         ensures returned { IfErr result (λ refused. refused.change ≡ change) }

@@ -7,7 +7,7 @@ use Rattle.record_index.specs.declared.records.Record.TheVariants.{Put, Marks, E
 use Rattle.record_index.specs.Records.{size_of, spell_all}
 use Rattle.volume_core.specs.declared.changes.Change.{Change}
 use Rattle.tape_disk.specs.Disk.{DiskState, IsDisk}
-use Rattle.side_pairs.specs.Copying.{GivesAll, IsCopyBody}
+use Rattle.cartridge_sides.specs.Copying.{GivesAll, IsCopyBody}
 use Rattle.volume_copy.specs.declared.entries.Entry.{Entry}
 use Rattle.volume_copy.specs.Entries.{entry_size}
 use Rattle.volume_copy.specs.FrameFacts.{first_is, frames_follow}

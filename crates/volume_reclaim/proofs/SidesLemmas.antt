@@ -15,12 +15,12 @@ use Rattle.gate_journal.specs.Heads.{Head}
 use Rattle.gate_journal.specs.Side.{OPEN}
 use Rattle.record_index.specs.Indexes.{Indexes, indexes_by}
 use Rattle.record_index.specs.Places.{PlacedPart}
-use Rattle.side_pairs.specs.declared.which.Which.{Which}
-use Rattle.side_pairs.specs.declared.which.Which.TheVariants.{First, Second}
-use Rattle.side_pairs.specs.Choosing.{FaultsOfOne}
-use Rattle.side_pairs.specs.Copying.{GivesAll, NotCopied}
-use Rattle.side_pairs.specs.Pairs.{begun}
-use Rattle.side_pairs.specs.Passes.{IsOpenSideOf, SidesStandFor, TakesOver, spell_copy}
+use Rattle.cartridge_sides.specs.declared.which.Which.{Which}
+use Rattle.cartridge_sides.specs.declared.which.Which.TheVariants.{First, Second}
+use Rattle.cartridge_sides.specs.Choosing.{FaultsOfOne}
+use Rattle.cartridge_sides.specs.Copying.{GivesAll, NotCopied}
+use Rattle.cartridge_sides.specs.Pairs.{begun}
+use Rattle.cartridge_sides.specs.Passes.{IsOpenSideOf, SidesStandFor, TakesOver, spell_copy}
 use Rattle.side_reclaim.specs.Ready.{GivesSide, GivesSurely, IsReady, StillGives, counting}
 use Rattle.side_reclaim.specs.Taking.{HasTaken, MayTake}
 use Rattle.volume_reclaim.specs.Reading.{LiesAtPlace, LiesOnDisk, OnlyRead, ReadUntilFault}

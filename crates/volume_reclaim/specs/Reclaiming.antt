@@ -10,9 +10,9 @@ use Rattle.gate_journal.specs.Side.{heading_of}
 use Rattle.record_index.specs.Indexes.{Indexes}
 use Rattle.record_index.specs.Places.{PlacedPart}
 use Rattle.record_index.specs.Records.{spell_all}
-use Rattle.side_pairs.specs.declared.which.Which.{Which}
-use Rattle.side_pairs.specs.declared.which.Which.TheVariants.{First, Second}
-use Rattle.side_pairs.specs.Passes.{IsOpenSideOf, copy_head, other, spell_copy}
+use Rattle.cartridge_sides.specs.declared.which.Which.{Which}
+use Rattle.cartridge_sides.specs.declared.which.Which.TheVariants.{First, Second}
+use Rattle.cartridge_sides.specs.Passes.{IsOpenSideOf, copy_head, other, spell_copy}
 use Rattle.side_reclaim.specs.Ready.{GivesSide, GivesSurely, counting, resting}
 use Rattle.volume_copy.specs.Copies.{copy_of}
 use Rattle.volume_copy.specs.Entries.{entries_in, entry_size}

@@ -1,4 +1,4 @@
-//! Copying a volume from the side that counts to the other one, which counts from then on.
+//! Copying the volume of a cartridge from the side that counts to the other one, which counts from then on.
 #![tactic(auto)]
 
 mod blocks;

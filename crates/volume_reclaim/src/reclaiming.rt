@@ -4,22 +4,22 @@ ghost use Rattle.volume_core.specs.Volume.{Part};
 ghost use Rattle.tape_disk.specs.TwoDisks.{AreHonest, EachOfTwo, KeepsDisks, TwoLeave, seen_of_two};
 ghost use Rattle.gate_journal.specs.Heads.{Head};
 ghost use Rattle.gate_journal.specs.Side.{IsHeading, heading_of};
-ghost use Rattle.side_pairs.specs.declared.copying.TheConstants.{COPY_BODY};
-ghost use Rattle.side_pairs.specs.Choosing.{FaultsOfOne};
+ghost use Rattle.cartridge_sides.specs.declared.copying.TheConstants.{COPY_BODY};
+ghost use Rattle.cartridge_sides.specs.Choosing.{FaultsOfOne};
 ghost use Rattle.side_reclaim.specs.Ready.{GivesSide, IsReady};
 ghost use Rattle.volume_reclaim.specs.Reclaiming.{GivesCopy, KeepsBesideCopy, MayReclaim, two_by};
 
 use crate::blocks::Blocks;
 use crate::source::Source;
+use cartridge_sides::Which;
 use gate_journal::{Copied, Header};
 use record_index::Index;
-use side_pairs::Which;
 use side_reclaim::{copy_over, make_ready};
 use tape_disk::Disk;
 use volume_copy::Cursor;
 use vtl_base::DevFault;
 
-/// Two disks after a reclaim, and whether it was done.
+/// The two disks after a reclaim, and its result: Ok, or the fault of one of the disks.
 #[derive(Drop)]
 pub struct Ended<D> {
     pub first: D,
@@ -27,10 +27,13 @@ pub struct Ended<D> {
     pub result: Result<(), DevFault>,
 }
 
-/// Copies the volume of an index from the side that counts to the other one, which counts from then on. At
-/// every moment, and after a fault of either disk, each pair of images stands for the same as before, or for
-/// the copy. At Ok the side that counted before is unchanged from place 10 on, and open, and nothing follows
-/// the copy. It takes no memory.
+/// Copies a cartridge's volume from `which`, the side that counts, to the other side, which counts from then on.
+/// `index` must have the places of the volume's blocks, `header` must be the heading of the side that counts, `copied`
+/// the next epoch and how many frames the copy has, and `buffer` must have room for 4,194,309 bytes. The rest holds
+/// where both disks are honest (keep the promises of a disk). At every moment, and after a fault of either disk, each
+/// pair of images that a crash may leave stands for the same head and frames as before, or for the copy. At Ok the
+/// side that counted before is still open, and is unchanged from byte 10 on; on the other side nothing follows the
+/// copy. Over any disks, the call allocates no memory.
 pub fn reclaim_volume<D: Disk>(
     which: Which,
     first: D,

@@ -2,8 +2,8 @@
 ghost use Rattle.std.specs.Prelude.{◌≡◌, ◌≤◌, ◌+◌, ℕ, List, length, OnOk, IfErr, vec_capacity, vec_len};
 
 use crate::blocks::Blocks;
+use cartridge_sides::GivesBodies;
 use record_index::Index;
-use side_pairs::GivesBodies;
 use tape_disk::Disk;
 use volume_copy::{Cursor, spell_frame};
 use vtl_base::DevFault;

@@ -1,12 +1,12 @@
-//! A virtual tape library: runs scripts of commands against drives, or serves frames of them, over cartridges in files
-//! or in memory.
+//! A virtual tape library, with its cartridges in files or in memory. It runs scripts of commands for tape drives, or
+//! serves frames with such commands. It also makes, checks and reclaims the files of cartridges.
 #![tactic(auto)]
 
 use answer_notes::{AnswerWriter, Answers};
 use std::env;
 use std::io::{self, BufReader, ErrorKind};
 use std::process::ExitCode;
-use vtl_files::faults::VtlFault;
+use vtl_faults::faults::VtlFault;
 use vtl_notes::noted_streams::NotingWriter;
 use vtl_notes::notes::Notes;
 use vtl_notes::noting::NotingReader;
@@ -32,7 +32,8 @@ fn words_of(rt: &HostRuntime) -> Result<Vec<String>, VtlFault> {
     }
 }
 
-// The word that the system does not give since it is no UTF-8, where an explanation is asked for.
+// The first word that is not UTF-8, if an explanation is asked for. Where there is such a word, the system gives no
+// words.
 fn unread_of(rt: &HostRuntime, words: &Result<Vec<String>, VtlFault>) -> Option<UnreadWord> {
     match words {
         Err(VtlFault::Words) => UnreadWord::find(rt, rt.alloc()),

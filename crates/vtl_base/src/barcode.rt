@@ -7,12 +7,12 @@ use crate::limits::MAX_BARCODE;
 use std::marker::Model;
 use thiserror::Error;
 
-/// The bytes are no barcode.
+/// The error of `Barcode::parse`: the bytes are not a barcode.
 #[derive(Clone, Copy, PartialEq, Eq, Debug, Error)]
 #[error("a barcode has 1 to 16 of A to Z and 0 to 9")]
 pub struct BadBarcode;
 
-/// The name of a cartridge: 1 to 16 bytes of `A` to `Z` and `0` to `9` (own). A contract sees these bytes.
+/// The name of a cartridge: 1 to 16 bytes, each `A` to `Z` or `0` to `9` (own). A contract sees these bytes.
 #[derive(Clone, Debug, Drop)]
 pub struct Barcode {
     symbols: [u8; MAX_BARCODE],
@@ -54,7 +54,8 @@ fn padded(bytes: &[u8]) -> [u8; MAX_BARCODE]
 }
 
 impl Barcode {
-    /// The barcode with these bytes, if they are valid.
+    /// Returns the barcode with these bytes, or `BadBarcode` if they are not 1 to 16 bytes, each `A` to `Z` or `0` to
+    /// `9`.
     pub fn parse(bytes: &[u8]) -> Result<Self, BadBarcode>
         ensures valid { IsOk result ↔ IsBarcode bytes.now }
         ensures value { IfOk result (λ barcode. barcode ≡ bytes.now) }
@@ -68,7 +69,7 @@ impl Barcode {
         })
     }
 
-    /// Its bytes.
+    /// The bytes of the barcode, 1 to 16.
     pub fn as_bytes(&self) -> &[u8]
         ensures bytes { result.now ≡ self.now }
         ensures valid { IsBarcode self.now }

@@ -8,11 +8,12 @@ use std::alloc::Global;
 use std::marker::Model;
 use std::mem;
 
-/// Up to this many bytes are stored in the value itself, and take no memory: a command block of any known
-/// length, sense data, the list of PERSISTENT RESERVE OUT, the data of READ POSITION (own).
+/// The most bytes that fit into a `Bytes` itself; a copy of so few allocates nothing. This is enough for a command
+/// block of any known length, sense data, the parameter list of PERSISTENT RESERVE OUT, and the data of READ POSITION
+/// (own).
 pub const INLINE_BYTES: usize = 24;
 
-/// Bytes, as a block, a command block or data. A contract sees them as a list, whatever their form in memory.
+/// Bytes, such as a block, a command block or data. A contract sees them as a list, whatever their form in memory.
 #[derive(Drop)]
 pub struct Bytes {
     buffer: SmallVec<u8, INLINE_BYTES>,
@@ -27,7 +28,7 @@ impl Model for Bytes {
 }
 
 impl Bytes {
-    /// No bytes, which takes no memory.
+    /// Makes an empty `Bytes`, without allocating.
     pub fn new(alloc: Global) -> Self
         ensures { result ≡ [] }
     {
@@ -36,7 +37,7 @@ impl Bytes {
         }
     }
 
-    /// The bytes of a `Vec`, which takes no memory.
+    /// Makes a `Bytes` of the bytes in `buffer`, without allocating.
     pub fn from_vec(buffer: Vec<u8>) -> Self
         ensures { result ≡ buffer.items }
     {
@@ -45,7 +46,8 @@ impl Bytes {
         }
     }
 
-    /// A copy of these bytes. A copy of at most 24 bytes takes no memory.
+    /// Makes a `Bytes` with a copy of `bytes`. A copy of at most 24 bytes allocates nothing; for a longer one,
+    /// `NoMemory` is returned if memory runs out.
     pub fn from_slice(alloc: Global, bytes: &[u8]) -> Result<Self, NoMemory>
         ensures copy { IfOk result (λ b. b ≡ bytes.now) }
         ensures few { length bytes.now ≤ INLINE_BYTES → IsOk result }
@@ -56,7 +58,7 @@ impl Bytes {
         }
     }
 
-    /// The bytes, for reading.
+    /// The bytes, as a slice.
     pub fn as_slice(&self) -> &[u8]
         ensures { result.now ≡ self.now }
     {
@@ -78,14 +80,14 @@ impl Bytes {
         self.buffer.is_empty()
     }
 
-    /// Cuts the bytes after the first `count`; all stay where there are fewer.
+    /// Keeps the first `count` bytes and removes the others. If there are no more than `count`, all of them stay.
     pub fn truncate(&mut self, count: usize)
         ensures { self.new ≡ take count self.old }
     {
         self.buffer.truncate(count);
     }
 
-    /// Takes the bytes out: none are left. It takes no memory, and copies at most 24 bytes.
+    /// Moves all bytes into the result, and leaves none here. It allocates nothing, and copies at most 24 bytes.
     pub fn take(&mut self) -> Self
         ensures taken { result ≡ self.old }
         ensures left { self.new ≡ [] }

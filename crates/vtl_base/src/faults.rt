@@ -1,4 +1,4 @@
-//! What may fail under any call: memory runs out, or a device fails.
+//! The two errors that may come from any layer below: memory runs out, or a device fails.
 use std::alloc::AllocError;
 use thiserror::Error;
 
@@ -17,6 +17,6 @@ impl From<AllocError> for NoMemory {
 #[derive(Clone, Copy, PartialEq, Eq, Debug, Error)]
 #[error("device fault {failures}")]
 pub struct DevFault {
-    /// How often the device has failed so far, with this failure. The number stops at 2^64 - 1.
+    /// How often the device has failed so far, including this failure. The number stops at 2^64 - 1.
     pub failures: u64,
 }

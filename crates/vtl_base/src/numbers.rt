@@ -12,7 +12,7 @@ pub type PartNo = u8;
 /// or not.
 pub type ObjNo = u32;
 
-/// The number of a host at every drive, its nexus, from 1 to 64 (own; SAM-5 has the word).
+/// The nexus of a host, which is its number at every drive: from 1 to 64 (own; the word is from SAM-5).
 #[derive(Clone, Copy, PartialEq, Eq, Debug)]
 pub struct Nexus {
     number: u8,
@@ -32,7 +32,7 @@ impl Model for Nexus {
 }
 
 impl Nexus {
-    /// The nexus with this number, if there is one.
+    /// The nexus with this number, if it is 1 to 64; None for any other number.
     pub fn new(number: u8) -> Option<Self>
         ensures valid { IsSome result ↔ ((1 ≤ number) × (number ≤ NEXUSES)) }
         ensures value { IfSome result (λ nexus. nexus ≡ number) }
@@ -44,7 +44,7 @@ impl Nexus {
         }
     }
 
-    /// Its number, from 1 to 64.
+    /// The number of the nexus, from 1 to 64.
     pub fn number(self) -> u8
         ensures value { result ≡ self }
         ensures range { (1 ≤ result) × (result ≤ NEXUSES) }
@@ -52,7 +52,7 @@ impl Nexus {
         self.number
     }
 
-    /// Its place in a table of all nexuses, from 0 to 63.
+    /// The index of the nexus in a table of all nexuses, from 0 to 63.
     pub fn place(self) -> usize
         ensures place { result ≡ self - 1 }
         ensures range { result < NEXUSES }
@@ -61,8 +61,8 @@ impl Nexus {
     }
 }
 
-/// The number of a drive, which is its element address as well, from 1 to 16 (own; SMC-3 has the
-/// word address).
+/// The number of a drive, which is also its element address: from 1 to 16 (own; the term element address is from
+/// SMC-3).
 #[derive(Clone, Copy, PartialEq, Eq, Debug)]
 pub struct DriveNo {
     number: u8,
@@ -82,7 +82,7 @@ impl Model for DriveNo {
 }
 
 impl DriveNo {
-    /// The drive with this number, if there is one.
+    /// The drive with this number, if it is 1 to 16; None for any other number.
     pub fn new(number: u8) -> Option<Self>
         ensures valid { IsSome result ↔ ((1 ≤ number) × (number ≤ DRIVES)) }
         ensures value { IfSome result (λ drive. drive ≡ number) }
@@ -94,7 +94,7 @@ impl DriveNo {
         }
     }
 
-    /// Its number, from 1 to 16.
+    /// The number of the drive, from 1 to 16.
     pub fn number(self) -> u8
         ensures value { result ≡ self }
         ensures range { (1 ≤ result) × (result ≤ DRIVES) }
@@ -102,7 +102,7 @@ impl DriveNo {
         self.number
     }
 
-    /// Its place in a table of all drives, from 0 to 15.
+    /// The index of the drive in a table of all drives, from 0 to 15.
     pub fn place(self) -> usize
         ensures place { result ≡ self - 1 }
         ensures range { result < DRIVES }
@@ -111,7 +111,7 @@ impl DriveNo {
     }
 }
 
-/// The element address of a slot, from 1001 to 1256 (own; SMC-3 has the word address).
+/// The element address of a slot, from 1001 to 1256 (own; the term element address is from SMC-3).
 #[derive(Clone, Copy, PartialEq, Eq, Debug)]
 pub struct SlotNo {
     address: u16,
@@ -131,7 +131,7 @@ impl Model for SlotNo {
 }
 
 impl SlotNo {
-    /// The slot with this element address, if there is one.
+    /// The slot with this element address, if it is 1001 to 1256; None for any other address.
     pub fn new(address: u32) -> Option<Self>
         ensures valid { IsSome result ↔ ((FIRST_SLOT ≤ address) × (address - FIRST_SLOT < SLOTS)) }
         ensures value { IfSome result (λ slot. slot ≡ address) }
@@ -144,7 +144,7 @@ impl SlotNo {
         }
     }
 
-    /// Its element address, from 1001 to 1256.
+    /// The element address of the slot, from 1001 to 1256.
     pub fn address(self) -> u16
         ensures value { result ≡ self }
         ensures range { (FIRST_SLOT ≤ result) × (result - FIRST_SLOT < SLOTS) }
@@ -152,7 +152,7 @@ impl SlotNo {
         self.address
     }
 
-    /// Its place in a table of all slots, from 0 to 255.
+    /// The index of the slot in a table of all slots, from 0 to 255.
     pub fn place(self) -> usize
         ensures place { result ≡ self - FIRST_SLOT }
         ensures range { result < SLOTS }

@@ -1,10 +1,10 @@
-//! Steps of a search, counted.
+//! A count of the steps of a search.
 ghost use Rattle.std.specs.Prelude.{◌≡◌, ◌≤◌};
 ghost use Rattle.vtl_base.specs.Steps.{ticked};
 
 use std::marker::Model;
 
-/// How many steps were taken. The number stops at 2^64 - 1. A contract sees the number.
+/// A count of the steps that a search took. It stops at 2^64 - 1. A contract sees this number.
 #[derive(Drop)]
 pub struct Steps {
     count: u64,
@@ -19,7 +19,7 @@ impl Model for Steps {
 }
 
 impl Steps {
-    /// No step yet.
+    /// A count of 0 steps.
     pub fn new() -> Self
         ensures { result ≡ 0 }
     {
@@ -34,7 +34,7 @@ impl Steps {
         self.count = self.count.saturating_add(1);
     }
 
-    /// How many steps there were.
+    /// How many steps were counted, at most 2^64 - 1.
     pub fn count(&self) -> u64
         ensures { result ≡ self.now }
     {

@@ -16,7 +16,7 @@ use vtl_base::limits::{MAX_CAPACITY, MAX_PARTITIONS, MIN_CAPACITY};
 
 const PARTITIONS: usize = MAX_PARTITIONS as usize;
 
-/// The capacities of a cartridge's partitions, in bytes: 1 to 4 of them, each of 4,096 to 1,099,511,627,776 (own). A
+/// The capacities of a cartridge's partitions, in bytes: 1 to 4 numbers, each from 4,096 to 1,099,511,627,776 (own). A
 /// contract sees them as a list.
 #[derive(Clone, Debug, Drop)]
 pub struct Capacities {
@@ -37,7 +37,7 @@ impl Model for Capacities {
 }
 
 impl Capacities {
-    /// The capacities, in the order of the partitions.
+    /// The capacities in bytes, in the order of the partitions.
     pub fn as_slice(&self) -> &[u64]
         ensures value { result.now ≡ self.now }
         ensures valid { AreCapacities self.now }
@@ -81,7 +81,7 @@ fn capacities_of(items: &[Value]) -> Option<Capacities>
     })
 }
 
-// The capacities of a cartridge.
+// The capacities of a cartridge, or the rule that their key or its value breaks.
 pub(crate) fn capacities_at(table: &Table) -> Result<Capacities, Rule>
     ensures ok { IfOk result (λ found.
         value_at Key.Capacities (table_view table.now) ≡ Some (array (items_of (map whole found)))) }

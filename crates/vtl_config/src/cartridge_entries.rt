@@ -122,7 +122,7 @@ fn found_cartridge<'a>(
     }
 }
 
-// The cartridges of these entries, in a library of these drives. The first entry that breaks a rule is reported.
+// The cartridges of these entries, in a library with these drives. The first entry that breaks a rule is reported.
 pub(crate) fn read_cartridges(
     alloc: Global,
     drives: &[DriveEntry],

@@ -18,7 +18,7 @@ fn is_second_of(name: &str, file: &str) -> bool
     }
 }
 
-// Whether the name is that of one of a cartridge's two files.
+// Whether the name is that of one of the two files of the cartridge whose first file has the name `file`.
 fn is_of_both(name: &str, file: &str) -> bool
     ensures { result ≡ is_of_both file.now name.now }
 {
@@ -33,7 +33,7 @@ fn any_is_drive_file(drives: &[DriveEntry], file: &str) -> bool
         .any(|drive| is_of_both(drive.reservations.as_str(), file))
 }
 
-// Whether one of the two is the file of a drive.
+// Whether one of a cartridge's two files, of which the first has the name `file`, is the file of one of these drives.
 pub(crate) fn meets_drive_files(drives: &[DriveEntry], file: &str) -> bool
     ensures { IsTrue result ↔ Meets (both_names file.now) (drive_files drives.now) }
 {
@@ -48,7 +48,8 @@ fn any_is_cartridge_file(cartridges: &[CartridgeEntry], file: &str) -> bool
         .any(|cartridge| is_of_both(cartridge.file.as_str(), file))
 }
 
-// Whether one of the two is the first file of a cartridge.
+// Whether one of the two files of the cartridge with the first file `file` is the first file of one of these
+// cartridges.
 pub(crate) fn meets_cartridge_files(cartridges: &[CartridgeEntry], file: &str) -> bool
     ensures { IsTrue result ↔ Meets (both_names file.now) (cartridge_files cartridges.now) }
 {
@@ -61,7 +62,8 @@ fn any_is_second_file(cartridges: &[CartridgeEntry], file: &str) -> bool
     cartridges.iter().any(|cartridge| is_of_both(cartridge.second_file.as_str(), file))
 }
 
-// Whether one of the two is the second file of a cartridge.
+// Whether one of the two files of the cartridge with the first file `file` is the second file of one of these
+// cartridges.
 pub(crate) fn meets_second_files(cartridges: &[CartridgeEntry], file: &str) -> bool
     ensures { IsTrue result ↔ Meets (both_names file.now) (second_files cartridges.now) }
 {

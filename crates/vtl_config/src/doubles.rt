@@ -1,4 +1,4 @@
-//! Whether an earlier entry has a value that may not occur twice.
+//! Whether an earlier entry has a value that no two entries may have.
 ghost use Rattle.std.specs.Prelude.{◌≡◌, ◌==◌, ◌↔◌, IsTrue};
 ghost use Rattle.std.specs.List.{Contains, list_any};
 ghost use Rattle.std.specs.Str.{bytes_eq};

@@ -8,16 +8,17 @@ use std::marker::Model;
 // What is added to the name of a cartridge's first file.
 pub(crate) const SECOND: &str = ".2";
 
-/// The name of a file, as a configuration has it (own). Only the reading of a configuration makes one, once for each
-/// file of an entry, and it is not copied. Whoever makes or opens the file uses the name up, for a `UsedName`. So code
-/// that gets a configuration can make or open each of its files at most once. A contract sees its bytes.
+/// The name of a file, as a configuration has it (own). A `FileName` is made only by `read_config`, once for each file
+/// of an entry, and it cannot be copied. Code that makes or opens the file uses the name up, and gets a `UsedName` for
+/// it. So code that gets a configuration can make or open each of its files at most once. A contract sees the bytes of
+/// the name.
 #[derive(Drop, Debug)]
 pub struct FileName {
     text: String,
 }
 
-/// The name of a file that was made or opened. The disk of the file is returned under this name. A contract sees its
-/// bytes.
+/// The name of a file that was made or opened. Whoever made or opened the file returns its disk together with this
+/// name. A contract sees the bytes of the name.
 #[derive(Drop, Debug)]
 pub struct UsedName {
     text: String,
@@ -47,14 +48,14 @@ impl FileName {
         FileName { text }
     }
 
-    /// The name, for comparing it.
+    /// The name as text, to compare it with others.
     pub fn as_str(&self) -> &str
         ensures { result.now ≡ self.now }
     {
         self.text.as_str()
     }
 
-    /// Uses the name up: its file is made or opened now.
+    /// Uses the name up, and returns the same name as a `UsedName`. Call this where the file is made or opened.
     pub fn use_up(self) -> UsedName
         ensures { result ≡ self }
     {
@@ -64,7 +65,7 @@ impl FileName {
 }
 
 impl UsedName {
-    /// The name, as the system is given it.
+    /// The name as text, for calls of the system.
     pub fn as_str(&self) -> &str
         ensures { result.now ≡ self.now }
     {
@@ -72,7 +73,8 @@ impl UsedName {
     }
 }
 
-/// The name of the second file of a cartridge, by that of its first: `.2` is added.
+/// Returns the name of a cartridge's second file: `file`, the name of its first one, with `.2` added. If memory runs
+/// out, an error is returned.
 pub fn second_file(alloc: Global, file: &str) -> Result<String, AllocError>
     ensures { IfOk result (λ name. string_bytes name ≡ second_name file.now) }
 {

@@ -14,7 +14,7 @@ pub enum Key {
     Drive,
     /// Of a cartridge: its barcode.
     Barcode,
-    /// Of a cartridge: the name of its file.
+    /// Of a cartridge: the name of its first file.
     File,
     /// Of a cartridge: the capacities of its partitions, in bytes.
     Capacities,
@@ -22,12 +22,12 @@ pub enum Key {
     Home,
     /// Of a drive: its number.
     Number,
-    /// Of a drive: the name of the file of its reservations.
+    /// Of a drive: the name of the file that keeps its reservations.
     Reservations,
 }
 
 impl Key {
-    /// The key as a text has it.
+    /// The name of the key, as a configuration spells it.
     pub fn name(self) -> &'static str
         ensures { result.now ≡ name_of self }
     {

@@ -1,4 +1,4 @@
-//! Reads a configuration.
+//! Reading a configuration.
 ghost use Rattle.std.specs.Prelude.{◌≡◌, Some, IfOk, IfErr, map};
 ghost use Rattle.toml.specs.View.{view, table_view};
 ghost use Rattle.vtl_config.specs.Keys.{top_keys};
@@ -27,7 +27,7 @@ fn refused(rule: Rule) -> ConfigError
     }
 }
 
-// The entries of a list, none where it is missing.
+// The entries of a list; none where the list is missing.
 fn entries_at<'a>(table: &'a Table, list: Key) -> Result<&'a [Value], ConfigError>
     requires { kind_of_key list ≡ entries }
     ensures ok { IfOk result (λ items. EntriesAt list (table_view table.now) (map view items.now)) }
@@ -68,9 +68,9 @@ fn read_table(alloc: Global, table: &Table) -> Result<Config, ConfigError>
     Ok(Config { cartridges, drives })
 }
 
-/// The configuration that a text says. Errors: `Refused` with the rule that the text breaks and its place, or
-/// `NoMemory`. Drives are read before cartridges; where several rules are broken, the first one that the reading meets
-/// is reported.
+/// Reads a configuration from `text`, the bytes of a TOML document. If the text breaks a rule, `Refused` is returned,
+/// with the rule and the place. Drives are read before cartridges; if several rules are broken, the first that is met
+/// is reported. If memory runs out, `NoMemory` is returned.
 pub fn read_config(alloc: Global, text: &[u8]) -> Result<Config, ConfigError>
     ensures ok { IfOk result (Says text.now) }
     ensures err { IfErr result (RefusesText text.now) }

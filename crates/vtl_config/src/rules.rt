@@ -3,18 +3,18 @@ use crate::keys::Key;
 use std::alloc::{AllocError, AllocFailed};
 use thiserror::Error;
 
-/// Where in a configuration a rule is broken. Entries are counted from 1 on, in the order of the text.
+/// Where in a configuration a rule is broken.
 #[derive(Clone, Copy, PartialEq, Eq, Debug)]
 pub enum Place {
     /// Outside all entries.
     Top,
-    /// In this drive's entry.
+    /// In the entry of a drive: the first one in the text is 1, whatever the drive's number.
     Drive(usize),
-    /// In this cartridge's entry.
+    /// In the entry of a cartridge: the first one in the text is 1.
     Cartridge(usize),
 }
 
-/// The rules of a configuration (own): each line is a refusal, and there is no other.
+/// A rule of a configuration, named by what breaks it (own). There are no other rules.
 #[derive(Clone, Copy, PartialEq, Eq, Debug)]
 pub enum Rule {
     /// The bytes are not UTF-8.
@@ -23,25 +23,26 @@ pub enum Rule {
     NotToml,
     /// An entry of a list is not a table.
     NotATable,
-    /// A key is not one that the place may have.
+    /// A table has a key that is not one of the keys allowed there.
     OtherKey,
-    /// The key is missing.
+    /// This key is missing.
     Missing(Key),
-    /// The value of the key is of another kind.
+    /// The value of this key is of the wrong kind, such as a number in the place of a text. A list of capacities is of
+    /// the wrong kind, too, where one of its items is not a whole number.
     OtherKind(Key),
-    /// The value of the key is outside its limits.
+    /// The value of this key is of the right kind, but outside the limits for this key.
     OutOfRange(Key),
-    /// An earlier entry has the same value of the key. A cartridge has two files: an earlier entry has a file with the
-    /// name of one of them.
+    /// An earlier entry has the same value for this key. For the key `File`: one of the cartridge's two files has the
+    /// same name as a file of an earlier entry, whether a drive's file or one of the two files of a cartridge.
     Double(Key),
-    /// The home is a drive that is not listed.
+    /// The home of a cartridge is the address of a drive that has no entry.
     NoSuchDrive,
 }
 
-/// Why a text gives no configuration.
+/// Why `read_config` returned no configuration.
 #[derive(Clone, Copy, PartialEq, Eq, Debug, Error)]
 pub enum ConfigError {
-    /// The text breaks a rule.
+    /// The text breaks `rule` at `place`.
     #[error("{place:?}: {rule:?}")]
     Refused { place: Place, rule: Rule },
     /// Memory ran out.

@@ -12,14 +12,14 @@ use crate::rules::Rule;
 use toml::{Table, Value};
 use vtl_base::{Barcode, DriveNo, SlotNo};
 
-// The value of a key.
+// The value of this key in a table; None where the table does not have the key.
 pub(crate) fn value_at<'a>(table: &'a Table, key: Key) -> Option<&'a Value>
     ensures { option_map (λ value. view value.now) result ≡ value_at key (table_view table.now) }
 {
     table.get(key.name())
 }
 
-// The text at a key.
+// The text at this key, or the rule that the key or its value breaks.
 pub(crate) fn text_at<'a>(table: &'a Table, key: Key) -> Result<&'a str, Rule>
     requires { kind_of_key key ≡ text }
     ensures ok { IfOk result (λ found. value_at key (table_view table.now) ≡ Some (string found.now)) }
@@ -40,7 +40,7 @@ fn natural_of(number: i64) -> Option<u64>
     u64::try_from(number).ok()
 }
 
-// The whole number at a key.
+// The whole number, from 0 on, at this key, or the rule that the key or its value breaks.
 fn number_at(table: &Table, key: Key) -> Result<u64, Rule>
     requires { kind_of_key key ≡ number }
     ensures ok { IfOk result (λ found. value_at key (table_view table.now) ≡ Some (whole found)) }
@@ -58,7 +58,7 @@ fn number_at(table: &Table, key: Key) -> Result<u64, Rule>
     }
 }
 
-// The barcode of a cartridge.
+// The barcode of a cartridge, or the rule that its key or its value breaks.
 pub(crate) fn barcode_at(table: &Table) -> Result<Barcode, Rule>
     ensures ok { IfOk result (λ found. value_at Key.Barcode (table_view table.now) ≡ Some (string found)) }
     ensures range { IfOk result IsBarcode }
@@ -71,7 +71,7 @@ pub(crate) fn barcode_at(table: &Table) -> Result<Barcode, Rule>
     }
 }
 
-// The number of a drive.
+// The number of a drive, or the rule that its key or its value breaks.
 pub(crate) fn drive_number_at(table: &Table) -> Result<DriveNo, Rule>
     ensures ok { IfOk result (λ found. value_at Key.Number (table_view table.now) ≡ Some (whole found)) }
     ensures range { IfOk result IsDriveNumber }
@@ -103,7 +103,7 @@ fn address_of(number: u64) -> Option<Address>
     SlotNo::new(number).map(Address::Slot)
 }
 
-// The home of a cartridge.
+// The home of a cartridge, or the rule that its key or its value breaks.
 pub(crate) fn home_at(table: &Table) -> Result<Address, Rule>
     ensures ok { IfOk result (λ found. value_at Key.Home (table_view table.now) ≡ Some (whole (address_of found))) }
     ensures range { IfOk result (λ found. IsAddress (address_of found)) }

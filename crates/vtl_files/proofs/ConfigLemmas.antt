@@ -5,7 +5,7 @@ use Rattle.std.specs.declared.io.Error.{Error}
 use Rattle.vtl_config.specs.Configs.{Says}
 use Rattle.vtl_config.specs.declared.entries.Config.{Config}
 use Rattle.vtl_files.specs.Configured.{IsNoConfig, ReadsConfig}
-use Rattle.vtl_files.specs.declared.faults.VtlFault.{VtlFault}
+use Rattle.vtl_faults.specs.declared.faults.VtlFault.{VtlFault}
 
 -- the text of a file was read, and a configuration looked for in it
 pub configured : (reads : List ℕ → Result (Vec ℕ Global) Error → Type 0) (name : List ℕ) (text : Vec ℕ Global)

@@ -5,8 +5,8 @@ use Rattle.std.proofs.KnownBytes.{Appends-kept, Appends-nil, Appends-trans}
 use Rattle.std.specs.Io.KnownBytes.{Appends}
 use Rattle.tape_disk.specs.Disk.{DiskState}
 use Rattle.vtl_files.specs.declared.creating.Fate.{Fate}
-use Rattle.vtl_files.specs.declared.faults.VtlFault.{VtlFault}
-use Rattle.vtl_files.specs.declared.faults.VtlFault.TheVariants.{Words, Config, Script, Frame, Device, NoMemory}
+use Rattle.vtl_faults.specs.declared.faults.VtlFault.{VtlFault}
+use Rattle.vtl_faults.specs.declared.faults.VtlFault.TheVariants.{Words, Config, Script, Frame, Device, NoMemory}
 use Rattle.vtl_files.specs.Creating.{FailsAt, IsMadeOrKept, IsNotMade, IsNotOut, MakeAnswers, SideFile, PrintsAll, PrintsFiles, PrintsSome, fate_line, label_of}
 
 module _ {D : Type 0} (state : D → DiskState) (made : MakeAnswers D) where

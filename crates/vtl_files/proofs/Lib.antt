@@ -1,7 +1,4 @@
-mod CheckLemmas
 mod ConfigLemmas
 mod CreatingLemmas
-mod OneTextLemmas
 mod ReclaimLemmas
-mod SideTextLemmas
 pub mod TakenLemmas

@@ -16,10 +16,10 @@ use Rattle.cartridge.specs.Disks.{NoneOfTwo}
 use Rattle.cartridge.specs.Reclaiming.{IsBrokenOff, IsUnplanned, IsUntouched, LeavesVolume, StaysSure, reclaimed_from}
 use Rattle.cartridge.specs.State.{ClosedCartridge}
 use Rattle.tape_buffer.specs.Reclaiming.{FailsToCopy, GiveOnly, RebasesContents, ReclaimsShelved}
-use Rattle.vtl_files.specs.declared.faults.VtlFault.{VtlFault}
-use Rattle.vtl_files.specs.declared.faults.VtlFault.TheVariants as faults
+use Rattle.vtl_faults.specs.declared.faults.VtlFault.{VtlFault}
+use Rattle.vtl_faults.specs.declared.faults.VtlFault.TheVariants as faults
 use Rattle.vtl_files.specs.Reclaims.{IsLine, IsReclaimed, RefusesUntouched, IsNotPrinted, Reclaims, RefusalText, PrintsCause, reclaimed_line}
-use Rattle.vtl_files.proofs.CheckLemmas.{fault_counted}
+use Rattle.check_lines.proofs.PairLemmas.{fault_counted}
 
 -- a disk that was not called
 same_keeps : {D : Type 0} (state : D → DiskState) (disk : D) → Keeps (state disk) (state disk)

@@ -10,12 +10,11 @@ use Rattle.file_disk.specs.declared.error.FileError.TheVariants.{Missing}
 use Rattle.cartridge.specs.Disks.{NoneOfTwo, OnlyOfTwo}
 use Rattle.vtl_config.specs.FileNames.{second_name}
 use Rattle.vtl_script.specs.Text.{AppendsPart}
-use Rattle.vtl_files.specs.declared.checking.Checked.{Checked}
-use Rattle.vtl_files.specs.declared.faults.Verdict.{Verdict}
-use Rattle.vtl_files.specs.declared.faults.Verdict.TheVariants.{Done, Refused}
-use Rattle.vtl_files.specs.declared.faults.VtlFault.{VtlFault}
-use Rattle.vtl_files.specs.declared.faults.VtlFault.TheVariants.{Device, NoMemory}
-use Rattle.vtl_files.specs.SideText.{IsNotShown, SideText}
+use Rattle.vtl_faults.specs.declared.faults.Verdict.{Verdict}
+use Rattle.vtl_faults.specs.declared.faults.Verdict.TheVariants.{Done, Refused}
+use Rattle.vtl_faults.specs.declared.faults.VtlFault.{VtlFault}
+use Rattle.vtl_faults.specs.declared.faults.VtlFault.TheVariants.{Device, NoMemory}
+use Rattle.check_lines.specs.SideText.{IsNotShown, SideText}
 
 -- what the lines of a side say: what it holds, or why it gives nothing (own)
 abbrev pub verdict_of : List ℕ → Verdict
@@ -32,14 +31,6 @@ pub record LooksAt {D : Type 0} (state : D → DiskState) (old new : TwoDisks D)
   pub text : IfOk lines (λ text. AreHonest state old → SideText (seen_of_two state old) text × OnlyOfTwo state old new)
   pub cause : IfErr lines (λ fault. IsNotShown state fault old new)
   pub any_moment : AreHonest state old → TwoLeave state old new (MayLeave state old)
-
--- two disks, the first one first (own)
-abbrev pub both : {D : Type 0} → D → D → TwoDisks D
-both first second = record { first = first; second = second }
-
--- the disks that lines come with (own)
-abbrev pub disks_checked : {D : Type 0} → Checked D → TwoDisks D
-disks_checked checked = record { first = checked.first; second = checked.second }
 
 -- the lines of a side were written, or a beginning of them, where the writer failed; where there are none, nothing was
 -- written (own)

@@ -7,9 +7,9 @@ use Rattle.vtl_config.specs.Configs.{RefusesText, Says}
 use Rattle.vtl_config.specs.declared.entries.Config.{Config}
 use Rattle.vtl_config.specs.declared.rules.ConfigError.{ConfigError}
 use Rattle.vtl_config.specs.declared.rules.ConfigError.TheVariants as errors
-use Rattle.vtl_files.specs.Faults.{fault_of_error}
-use Rattle.vtl_files.specs.declared.faults.VtlFault.{VtlFault}
-use Rattle.vtl_files.specs.declared.faults.VtlFault.TheVariants.{Words, Config as BadConfig, Script, Frame, Device, NoMemory}
+use Rattle.vtl_faults.specs.FromBelow.{fault_of_error}
+use Rattle.vtl_faults.specs.declared.faults.VtlFault.{VtlFault}
+use Rattle.vtl_faults.specs.declared.faults.VtlFault.TheVariants.{Words, Config as BadConfig, Script, Frame, Device, NoMemory}
 
 -- the text is refused, or memory ran out (own)
 abbrev pub IsNoConfig : List ℕ → VtlFault → Type 0

@@ -8,7 +8,7 @@ use Rattle.file_disk.specs.declared.error.FileError.TheVariants.{Exists}
 use Rattle.gate_journal.specs.Answers.{NoneFailed}
 use Rattle.tape_disk.specs.TwoDisks.{EachOfTwo, TwoDisks}
 use Rattle.gate_journal.specs.Side.{CLOSED, Heading, plain, spell}
-use Rattle.side_pairs.specs.declared.which.Which.TheVariants.{First}
+use Rattle.cartridge_sides.specs.declared.which.Which.TheVariants.{First}
 use Rattle.cartridge.specs.Contents.{Contents, GivesContents, contents_from, heading_with, plain_head}
 use Rattle.aptpl_store.specs.Contents.{GivesStates, heading_for}
 use Rattle.vtl_script.specs.Text.{AppendsPart}
@@ -17,8 +17,8 @@ use Rattle.vtl_config.specs.declared.entries.DriveEntry.{DriveEntry}
 use Rattle.vtl_config.specs.declared.entries.Config.{Config}
 use Rattle.vtl_files.specs.declared.creating.Fate.{Fate}
 use Rattle.vtl_files.specs.declared.creating.Fate.TheVariants.{Created, Kept}
-use Rattle.vtl_files.specs.declared.faults.VtlFault.{VtlFault}
-use Rattle.vtl_files.specs.declared.faults.VtlFault.TheVariants as Faults
+use Rattle.vtl_faults.specs.declared.faults.VtlFault.{VtlFault}
+use Rattle.vtl_faults.specs.declared.faults.VtlFault.TheVariants as Faults
 
 -- a file of a configuration: that of a cartridge, or that of a drive's reservations (own)
 pub data SideFile : Type 0 where

@@ -1,8 +1,8 @@
 -- Both files of a cartridge are opened (own).
 use Rattle.std.specs.Prelude.{◌≡◌, ◌⊎◌, ℕ, List, Result, Ok, Err}
 use Rattle.file_disk.specs.declared.error.FileError.{FileError}
-use Rattle.vtl_files.specs.declared.faults.VtlFault.{VtlFault}
-use Rattle.vtl_files.specs.declared.faults.VtlFault.TheVariants.{Device}
+use Rattle.vtl_faults.specs.declared.faults.VtlFault.{VtlFault}
+use Rattle.vtl_faults.specs.declared.faults.VtlFault.TheVariants.{Device}
 
 module _ {D : Type 0} (opens opens_second : List ℕ → Result D FileError → Type 0) where
   -- the disks that the openings of both files gave, under the names of the files (own)

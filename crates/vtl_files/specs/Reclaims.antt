@@ -19,11 +19,11 @@ use Rattle.vtl_config.specs.declared.entries.CartridgeEntry.{CartridgeEntry}
 use Rattle.vtl_config.specs.declared.entries.Config.{Config}
 use Rattle.vtl_script.specs.Text.{AppendsPart}
 use Rattle.vtl_files.specs.Opened.{AreNotOpened}
-use Rattle.vtl_files.specs.SideText.{bad_record_line, damaged_line, not_a_side_line}
-use Rattle.vtl_files.specs.declared.faults.Verdict.{Verdict}
-use Rattle.vtl_files.specs.declared.faults.Verdict.TheVariants.{Done, Refused}
-use Rattle.vtl_files.specs.declared.faults.VtlFault.{VtlFault}
-use Rattle.vtl_files.specs.declared.faults.VtlFault.TheVariants.{Words, Config as BadConfig, Script, Frame, Device, NoMemory}
+use Rattle.check_lines.specs.SideText.{bad_record_line, damaged_line, not_a_side_line}
+use Rattle.vtl_faults.specs.declared.faults.Verdict.{Verdict}
+use Rattle.vtl_faults.specs.declared.faults.Verdict.TheVariants.{Done, Refused}
+use Rattle.vtl_faults.specs.declared.faults.VtlFault.{VtlFault}
+use Rattle.vtl_faults.specs.declared.faults.VtlFault.TheVariants.{Words, Config as BadConfig, Script, Frame, Device, NoMemory}
 
 -- the line of a cartridge that was reclaimed: its name, and how often it was reclaimed so far (own)
 abbrev pub reclaimed_line : List ℕ → ℕ → List ℕ

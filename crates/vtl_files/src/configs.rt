@@ -1,15 +1,15 @@
-//! The configuration that a file says.
+//! Reads the configuration in a file.
 ghost use Rattle.std.specs.Prelude.{IfOk, IfErr};
 ghost use Rattle.vtl_config.specs.Configs.{Says};
 ghost use Rattle.vtl_files.specs.Configured.{IsNoConfig, ReadsConfig};
 
-use crate::faults::VtlFault;
 use crate::files::TextFiles;
 use std::alloc::Global;
 use vtl_config::{Config, ConfigError, read_config};
+use vtl_faults::faults::VtlFault;
 
-/// The configuration that a text says, as `read_config` reads it. A text that it refuses is a `Config`
-/// fault.
+/// Returns the configuration that a text spells, as `read_config` does. Errors: `Config` where the text is refused,
+/// `NoMemory` where memory runs out.
 pub fn config_of(alloc: Global, text: &[u8]) -> Result<Config, VtlFault>
     ensures ok { IfOk result (Says text.now) }
     ensures err { IfErr result (IsNoConfig text.now) }
@@ -21,8 +21,8 @@ pub fn config_of(alloc: Global, text: &[u8]) -> Result<Config, VtlFault>
     }
 }
 
-/// The configuration that the file of this name says. Errors: `Device` where the file can't be read, `Config` where its
-/// text is refused, `NoMemory` where memory runs out, in the read too.
+/// Returns the configuration in the file of this name. Errors: `Device` where the file cannot be read, `Config` where
+/// its text is refused, `NoMemory` where memory runs out, also while the file is read.
 pub fn config_in<F: TextFiles>(alloc: Global, files: &F, name: &str) -> Result<Config, VtlFault>
     ensures { ReadsConfig F.reads name.now result }
 {

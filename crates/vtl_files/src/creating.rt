@@ -1,10 +1,9 @@
-//! Making the missing files of a configuration.
+//! Makes the missing files of a configuration.
 ghost use Rattle.std.specs.Prelude.{◌≡◌, ◌++◌, ◌∷◌, [], IsTrue, IfOk, IfErr, OnOk, map, codes, decimal, string_bytes};
 ghost use Rattle.std.specs.Io.KnownBytes.{Appends};
 ghost use Rattle.volume_core.specs.Volume.{are_capacities};
 ghost use Rattle.vtl_files.specs.Creating.{CartridgeFile, IsMadeOrKept, IsNewFile, IsNotMade, IsNotOut, StoreFile, PrintsFiles, fate_line, fate_word, files_of, makes_of};
 
-use crate::faults::VtlFault;
 use crate::files::{MakeFiles, SecondFiles};
 use crate::writing::print_text;
 use aptpl_store::{AptplStore, StoreError, StoreRefused};
@@ -15,17 +14,18 @@ use std::io::Write;
 use tape_disk::Disk;
 use vtl_base::{Barcode, DriveNo};
 use vtl_config::{Capacities, CartridgeEntry, Config, DriveEntry, FileName, UsedName};
+use vtl_faults::faults::VtlFault;
 
 /// What `create` did with a file.
 #[derive(Clone, Copy, PartialEq, Eq, Debug)]
 pub enum Fate {
-    /// It was missing, and is made.
+    /// The file was missing, and was made.
     Created,
-    /// It was there, and was not touched.
+    /// Something had the file's name already, and was not touched.
     Kept,
 }
 
-// A disk over a new file of this name, or nothing where a file has the name.
+// Makes a file of this name, and returns its name and a disk over it; None where something has the name already.
 fn new_file<D, F: MakeFiles<D>>(
     files: &F,
     name: FileName,
@@ -40,7 +40,7 @@ fn new_file<D, F: MakeFiles<D>>(
     }
 }
 
-/// The capacities of a cartridge's partitions, which a volume can have.
+/// Returns the capacities of a cartridge's partitions: 1 to 4 of them, each of 4,096 to 1,099,511,627,776 bytes.
 pub fn slice_of(capacities: &Capacities) -> &[u64]
     ensures value { result.now ≡ capacities.now }
     ensures valid { IsTrue (are_capacities result.now) }
@@ -48,8 +48,8 @@ pub fn slice_of(capacities: &Capacities) -> &[u64]
     capacities.as_slice()
 }
 
-// Makes both files of a cartridge, where the first one is missing. Returns what became of the first one, and the
-// barcode. The second one is made with no bytes where it is missing, and else stays as it is.
+// Makes the first file of a cartridge, if it is missing, and returns what became of it, and the barcode. With the first
+// file the second one is made, with no bytes, if it is missing; else that stays as it is.
 fn create_cartridge<D: Disk + Drop, F: MakeFiles<D> + SecondFiles<D>>(
     alloc: Global,
     files: &F,
@@ -137,7 +137,7 @@ fn create_store<D: Disk + Drop, F: MakeFiles<D> + SecondFiles<D>>(
     }
 }
 
-// The word that reports it.
+// The word that reports what became of a file, with a space after it.
 fn word_of(fate: Fate) -> &'static str
     ensures { result.now ≡ fate_word fate }
 {
@@ -147,7 +147,7 @@ fn word_of(fate: Fate) -> &'static str
     }
 }
 
-// The line of the file with this label.
+// The line that reports what became of the file with this label.
 fn line_of(alloc: Global, fate: Fate, label: &[u8]) -> Result<Vec<u8>, AllocError>
     ensures { IfOk result (λ line. line.items ≡ fate_line label.now fate) }
 {
@@ -184,7 +184,7 @@ fn label_of(alloc: Global, number: DriveNo) -> Result<String, AllocError>
     format!(in alloc; "DRIVE{number}")
 }
 
-// Makes the missing file of a cartridge, and reports it.
+// Makes the files of a cartridge, if the first one is missing, and reports what became of that.
 fn make_cartridge<D: Disk + Drop, F: MakeFiles<D> + SecondFiles<D>, W: Write>(
     alloc: Global,
     files: &F,
@@ -220,7 +220,7 @@ fn make_cartridges<D: Disk + Drop, F: MakeFiles<D> + SecondFiles<D>, W: Write>(
     Ok(())
 }
 
-// Makes the missing file of a drive's reservations, and reports it.
+// Makes the file of a drive's reservations, if it is missing, and reports what became of it.
 fn make_store<D: Disk + Drop, F: MakeFiles<D> + SecondFiles<D>, W: Write>(
     alloc: Global,
     files: &F,
@@ -260,12 +260,13 @@ fn make_stores<D: Disk + Drop, F: MakeFiles<D> + SecondFiles<D>, W: Write>(
     Ok(())
 }
 
-/// Makes the files of a configuration that are missing, cartridges first, then the stores of drives, each in the order
-/// of the configuration. It writes a line for each: `created NAME`, or `kept NAME` where something has the file's name
-/// already, which is not touched. NAME is the barcode, or `DRIVE` and the number. With a cartridge's first file its
-/// second one is made, where that is missing; where the first one is there, the second is not looked for. It ends at
-/// the first fault, and the file that was being made is removed again, if the system can remove it. Errors: `Device`
-/// where a file or the writer fails, or `NoMemory`.
+/// Makes the missing files of a configuration: those of cartridges, then those of the reservations of drives, both in
+/// the order of the configuration. For each entry it writes a line to `writer`: `created NAME`, or `kept NAME` where
+/// something has the file's name already, which is not touched. NAME is the barcode of the cartridge, or `DRIVE` and
+/// the number of the drive. When the first file of a cartridge is made, its second file is made too, with no bytes, if
+/// it is missing. Where the first file is there already, the second is not looked for. The first fault ends the call.
+/// If the fault came while a file was being made, that file is removed, if the system can remove it; a second file is
+/// not removed. Errors: `Device` where a file or the writer fails, `NoMemory` where memory runs out.
 pub fn create_missing<D: Disk + Drop, F: MakeFiles<D> + SecondFiles<D>, W: Write>(
     alloc: Global,
     files: &F,

@@ -1,6 +1,6 @@
-//! The calls for files that the program makes, by the files' names. The traits say what a function may do with files:
-//! each order's function has just those that it needs. A file is made or opened for writing at most once, since its
-//! name is used up.
+//! The calls that the program makes for files, each of which is given by its name. The traits say what a function may
+//! do with files: the function of each order has only the traits that it needs. A file is made or opened for writing at
+//! most once, since that uses up its name, a `FileName`.
 ghost use Rattle.std.specs.Prelude.{◌≡◌, ℕ, List, [], Result, Ok, Vec};
 ghost use Rattle.std.specs.declared.alloc.Global.{Global};
 ghost use Rattle.std.specs.declared.io.Error.{Error};
@@ -11,17 +11,17 @@ use std::io;
 use tape_disk::Disk;
 use vtl_config::{FileName, UsedName};
 
-/// Files whose bytes are read.
+/// Files that are read whole, without a disk.
 pub trait TextFiles {
     // The answers that a call may have, by the name.
     ghost reads: { List ℕ → Result (Vec ℕ Global) Error → Type 0 };
 
-    /// The bytes of the file of this name.
+    /// Reads all bytes of the file of this name.
     fn read(&self, name: &str) -> io::Result<Vec<u8>>
         ensures { reads name.now result };
 }
 
-/// Files that are only read.
+/// Files that are opened only to be read.
 pub trait ReadFiles<D: Disk> {
     // The answers that a call may have, by the name.
     ghost opens_to_read: { List ℕ → Result D FileError → Type 0 };
@@ -29,15 +29,15 @@ pub trait ReadFiles<D: Disk> {
     // The disk that was returned for a name.
     ghost closes: { List ℕ → D → Type 0 };
 
-    /// A disk over the file of this name. Each of its calls that would change the file fails.
+    /// Opens the file of this name, and returns a disk over it. Each call of the disk that would change the file fails.
     fn open_to_read(&self, name: &str) -> Result<D, FileError>
         ensures { opens_to_read name.now result };
 
-    /// Takes a disk back, as it is.
+    /// Closes the file of this name, and takes `disk`, the disk over the file, as it is.
     fn close(&self, name: &str, disk: D)
         ensures { closes name.now disk };
 
-    /// A disk of no bytes, which stands for a file that is missing. Each of its calls that would change it fails.
+    /// Returns a disk with no bytes, which stands for a missing file. Each call that would change this disk fails.
     fn nothing(&self) -> D
         ensures { (D.state result).honest → (D.state result).seen ≡ [] };
 }
@@ -50,17 +50,18 @@ pub trait SecondFiles<D> {
     // The disk that was returned for a name: its file stays.
     ghost closes_second: { List ℕ → D → Type 0 };
 
-    /// A disk over the file of this name, which is made with no bytes where it is missing. The name is used up.
+    /// Opens the file of this name, or makes it with no bytes if it is missing, and returns a disk over it. The name is
+    /// used up.
     fn open_second(&self, name: FileName) -> (UsedName, Result<D, FileError>)
         ensures used { result.0 ≡ name }
         ensures answer { opens_second name result.1 };
 
-    /// Takes a disk back, as it is. Its file stays.
+    /// Closes the file of this name, and takes `disk`, the disk over the file, as it is. The file stays.
     fn close_second(&self, name: UsedName, disk: D)
         ensures { closes_second name disk };
 }
 
-/// Files that are changed.
+/// Files that are opened to be changed.
 pub trait ChangeFiles<D> {
     // The answers that a call may have, by the name.
     ghost opens: { List ℕ → Result D FileError → Type 0 };
@@ -68,25 +69,25 @@ pub trait ChangeFiles<D> {
     // The disk that was returned for a name.
     ghost returns_disk: { List ℕ → D → Type 0 };
 
-    /// A disk over the file of this name, which is used up.
+    /// Opens the file of this name, and returns a disk over it. The name is used up.
     fn open(&self, name: FileName) -> (UsedName, Result<D, FileError>)
         ensures used { result.0 ≡ name }
         ensures answer { opens name result.1 };
 
-    /// Takes a disk back, as it is.
+    /// Closes the file of this name, and takes `disk`, the disk over the file, as it is.
     fn return_disk(&self, name: UsedName, disk: D)
         ensures { returns_disk name disk };
 }
 
-/// Takes back the disks of a library that is no longer used: of an `L` that was run, or of an `S` that was not switched
-/// on.
+/// A receiver of the disks of a library that is no longer used: an `L` is a library that was switched on and used, an
+/// `S` one that was not switched on.
 pub trait TakesBack<L, S> {
     // The library that was taken back.
     ghost closes_all: { L → Type 0 };
 
     ghost gives_up: { S → Type 0 };
 
-    /// Takes back the disks of a library, as they are.
+    /// Takes back the disks of a library that was used, as they are.
     fn close_all(&self, library: L)
         ensures { closes_all library };
 
@@ -105,17 +106,18 @@ pub trait MakeFiles<D> {
 
     ghost takes_away: { List ℕ → D → Type 0 };
 
-    /// A disk over a new file of this name, which is used up; `Exists` where a file has the name, which is not
-    /// touched.
+    /// Makes a file of this name, and returns a disk over it. The name is used up. The error is `Exists` where
+    /// something has the name already, which is not touched.
     fn make(&self, name: FileName) -> (UsedName, Result<D, FileError>)
         ensures used { result.0 ≡ name }
         ensures answer { makes name result.1 };
 
-    /// Takes a disk back, as it is. Its file stays.
+    /// Closes the file of this name, which was made, and takes `disk`, the disk over the file, as it is. The file
+    /// stays.
     fn leave(&self, name: UsedName, disk: D)
         ensures { leaves name disk };
 
-    /// Takes back a disk that `make` returned, and removes its file, if the system can remove it.
+    /// Takes back a disk that `make` returned for this name, and removes the file, if the system can remove it.
     fn take_away(&self, name: UsedName, disk: D)
         requires { (made : D) × makes name (Ok made) }
         ensures { takes_away name disk };

@@ -1,13 +1,9 @@
-//! Files by their names: the calls for them, a configuration read, files made, checked and reclaimed, and the faults of
-//! all that.
+//! What the program does with files, by their names: it reads a configuration, and makes, checks and reclaims files.
 #![tactic(auto)]
 
-pub mod checking;
 pub mod configs;
 pub mod creating;
-pub mod faults;
 pub mod files;
-pub mod laws;
 pub mod opened;
 pub mod reclaiming;
 pub mod side_checks;

@@ -2,12 +2,13 @@
 ghost use Rattle.std.specs.Prelude.{IfOk, IfErr};
 ghost use Rattle.vtl_files.specs.Opened.{AreOpened, AreNotOpened};
 
-use crate::faults::VtlFault;
 use crate::files::{ChangeFiles, SecondFiles};
 use vtl_config::{FileName, UsedName};
+use vtl_faults::faults::VtlFault;
 
-/// Disks over both files of a cartridge, and the files' names; the second one is made with no bytes where it is
-/// missing. Where it is not opened, the first one's disk is returned.
+/// Opens both files of a cartridge, and returns the name of each with a disk over it, the first file first. The second
+/// file is made with no bytes if it is missing. The error is `Device` where one of the files is not opened. If this is
+/// the second file, the disk of the first is returned to `files`.
 pub fn opened_both<D, F: ChangeFiles<D> + SecondFiles<D>>(
     files: &F,
     file: FileName,

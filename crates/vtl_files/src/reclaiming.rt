@@ -1,14 +1,13 @@
-//! Reclaiming a cartridge of a configuration, and the line that reports it.
+//! Reclaims a cartridge of a configuration, and reports it by a line.
 ghost use Rattle.std.specs.Prelude.{◌≡◌, ◌≤◌, ◌+◌, ◌++◌, Some, Ok, bytes_eq, length, vec_capacity, vec_len};
-ghost use Rattle.vtl_files.specs.Checks.{both, disks_checked};
+ghost use Rattle.check_lines.specs.Disks.{both, disks_checked};
 ghost use Rattle.vtl_files.specs.Reclaims.{Reclaims, ReclaimsEntry, ReclaimsNamed, PrintsCause, PrintsReclaim, entry_with, reclaimed_line, verdict_shown};
 
-use crate::checking::{Checked, bad_record_text, damaged_text, line_text};
-use crate::faults::{Verdict, VtlFault};
 use crate::files::{ChangeFiles, SecondFiles};
 use crate::opened::opened_both;
 use crate::writing::print_text;
 use cartridge::{CartridgeError, NotReclaimed, ReclaimError, Shelved};
+use check_lines::checking::{Checked, bad_record_text, damaged_text, line_text};
 use itoa::Buffer;
 use std::alloc::Global;
 use std::io::Write;
@@ -16,12 +15,13 @@ use tape_buffer::reclaim;
 use tape_disk::Disk;
 use vtl_base::{Barcode, Bytes};
 use vtl_config::{CartridgeEntry, Config};
+use vtl_faults::faults::{Verdict, VtlFault};
 
 // The bytes that are reserved for the line of a reclaim. The longest line, of 16 bytes of barcode and the last epoch,
 // has 54.
 const LINE_ROOM: usize = 80;
 
-// Puts bytes behind what is in a text that has room for them.
+// Appends bytes to a text whose capacity is large enough for them.
 fn put(text: &mut Vec<u8>, bytes: &[u8])
     requires { vec_len text.old + length bytes.now ≤ vec_capacity text.old }
     ensures items { text.new.items ≡ text.old.items ++ bytes.now }
@@ -33,7 +33,7 @@ fn put(text: &mut Vec<u8>, bytes: &[u8])
     };
 }
 
-// The line of a cartridge that was reclaimed, in a text that has room for it. It takes no memory.
+// The line of a cartridge that was reclaimed, in `room`, whose capacity is large enough. It allocates nothing.
 fn reclaimed_text(room: Vec<u8>, barcode: &Barcode, epoch: u64) -> Bytes
     requires { LINE_ROOM ≤ vec_capacity room }
     ensures { result ≡ reclaimed_line barcode.now epoch }
@@ -49,7 +49,7 @@ fn reclaimed_text(room: Vec<u8>, barcode: &Barcode, epoch: u64) -> Bytes
     Bytes::from_vec(text)
 }
 
-// The line of a cartridge that was not reclaimed, for this cause.
+// The line of a cartridge that was not reclaimed for this cause; or the fault, where a device failed or memory ran out.
 fn refusal_text(alloc: Global, error: ReclaimError) -> Result<Bytes, VtlFault>
     ensures { PrintsCause error result }
 {
@@ -67,9 +67,10 @@ fn refusal_text(alloc: Global, error: ReclaimError) -> Result<Bytes, VtlFault>
     }
 }
 
-/// Reclaims the cartridge on two disks. Returns the line that says that it was reclaimed, or why it was not; `barcode`
-/// stands in that line. The memory of the line is taken first, so that a cartridge that was reclaimed has its line:
-/// where memory runs out, nothing was written. After an `Err` the disks give the volume that they gave before.
+/// Reclaims the cartridge on the disks `first` and `second`. Returns the disks with a line, which says that the
+/// cartridge `barcode` was reclaimed, or why it was not. The memory for the line is allocated first, so that no
+/// cartridge is reclaimed without its line. If memory runs out, nothing was written. A crash at any moment, also after
+/// an `Err`, leaves what a crash before the call might have left, or the same volume.
 pub fn reclaim_side<D: Disk>(alloc: Global, barcode: &Barcode, first: D, second: D) -> Checked<D>
     ensures { Reclaims D.state barcode.now (both first second) (disks_checked result) result.lines }
 {
@@ -83,7 +84,7 @@ pub fn reclaim_side<D: Disk>(alloc: Global, barcode: &Barcode, first: D, second:
     }
 }
 
-// Reclaims the cartridge of two disks, where there is room for its line.
+// Reclaims the cartridge on two disks. Its line is put into `room`.
 fn reclaim_with<D: Disk>(
     alloc: Global,
     room: Vec<u8>,
@@ -119,7 +120,7 @@ fn reclaim_with<D: Disk>(
     }
 }
 
-// Whether the line of a reclaim says that the cartridge was reclaimed, or why it was not.
+// `Done` where the line of a reclaim says that the cartridge was reclaimed, `Refused` where it says why it was not.
 fn verdict_of(lines: &[u8]) -> Verdict
     ensures { result ≡ verdict_shown lines.now }
 {
@@ -130,7 +131,7 @@ fn verdict_of(lines: &[u8]) -> Verdict
     }
 }
 
-// Writes the line of a reclaim, where there is one.
+// Writes the line of a reclaim, if there is one; else returns the fault.
 fn print_reclaim<W: Write>(
     lines: Result<Bytes, VtlFault>,
     writer: &mut W,
@@ -187,7 +188,7 @@ fn has_barcode(entry: &CartridgeEntry, barcode: &Barcode) -> bool
     entry.barcode.as_bytes() == barcode.as_bytes()
 }
 
-// The cartridge that has this barcode.
+// The first cartridge that has this barcode; None where none has it.
 fn entry_with(entries: Vec<CartridgeEntry>, barcode: &Barcode) -> Option<CartridgeEntry>
     ensures { result ≡ entry_with barcode.now entries.items }
 {
@@ -196,10 +197,12 @@ fn entry_with(entries: Vec<CartridgeEntry>, barcode: &Barcode) -> Option<Cartrid
         .find(|entry| has_barcode(entry, barcode))
 }
 
-/// Reclaims the cartridge of a configuration that has this barcode, and writes one line: `reclaimed BARCODE epoch E`.
-/// Where no side of it counts or one is refused, it is the line of `vtl check`; where there is no room or no epoch for
-/// the copy, `not reclaimed`. Returns `Done` where it was reclaimed, else `Refused`. Errors: `Words` where no cartridge
-/// has the barcode, `Device` or `NoMemory`. The second file is made with no bytes where it is missing.
+/// Reclaims the first cartridge with this barcode in a configuration, and writes one line to `writer`. The line is
+/// `reclaimed BARCODE epoch E`, where E is the epoch of the copy. Where no side of the cartridge counts, the line is
+/// `not a side`. Where the side that counts is damaged or has a bad frame, the line is that of `vtl check`. Where there
+/// is no room or no epoch for the copy, the line is `not reclaimed`. Returns `Done` where the cartridge was reclaimed,
+/// else `Refused`. Errors: `Words` where no cartridge has the barcode, `Device` where a file or the writer fails,
+/// `NoMemory` where memory runs out. The second file of the cartridge is made with no bytes if it is missing.
 pub fn reclaim_named<D: Disk, F: ChangeFiles<D> + SecondFiles<D>, W: Write>(
     alloc: Global,
     files: &F,

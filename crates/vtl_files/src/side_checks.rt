@@ -1,20 +1,20 @@
-//! Reporting what two files hold.
+//! Reports what two files hold.
 ghost use Rattle.std.specs.Prelude.{◌≡◌, ◌==◌, ◌||◌, List, ℕ, IfOk, IfErr, MatchOption, codes};
 ghost use Rattle.std.specs.List.{starts_with};
 ghost use Rattle.vtl_files.specs.Checks.{ChecksOrder, IsSecondRead, IsSecondUnread, PrintsLines, verdict_of};
 
-use crate::checking::{Checked, check_side};
-use crate::faults::{Verdict, VtlFault};
 use crate::files::ReadFiles;
 use crate::writing::print_text;
+use check_lines::checking::{Checked, check_side};
 use file_disk::FileError;
 use std::alloc::Global;
 use std::io::Write;
 use tape_disk::Disk;
 use vtl_base::Bytes;
 use vtl_config::second_file;
+use vtl_faults::faults::{Verdict, VtlFault};
 
-// Whether the lines of a side say what it holds, or why it holds nothing.
+// `Done` where the lines of a side say what it holds, `Refused` where they say why it gives nothing.
 fn verdict_of(lines: &[u8]) -> Verdict
     ensures { result ≡ verdict_of lines.now }
 {
@@ -25,9 +25,9 @@ fn verdict_of(lines: &[u8]) -> Verdict
     }
 }
 
-/// Writes the lines of a side. Returns `Done` where they say what it holds, `Refused` where they say why it gives
-/// nothing. The error is `Device` where the writer fails. Where `lines` is a fault, nothing is written, and that fault
-/// is returned.
+/// Writes the lines that `check_side` returned. Returns `Done` where they describe a cartridge or a store of
+/// reservations, `Refused` where they say why there is neither. The error is `Device` where the writer fails. Where
+/// `lines` is a fault, nothing is written, and that fault is returned.
 pub fn print_lines<W: Write>(
     lines: Result<Bytes, VtlFault>,
     writer: &mut W,
@@ -44,8 +44,8 @@ pub fn print_lines<W: Write>(
     }
 }
 
-// A disk for reading the second file of this name; one of no bytes where the file is missing, None where it was not
-// opened.
+// Opens the second file of this name to read it, and returns its disk. That has no bytes where the file is missing.
+// None where the file is there and is not opened.
 fn second_to_read<D: Disk, F: ReadFiles<D>>(files: &F, name: &str) -> Option<D>
     ensures { MatchOption result (IsSecondUnread D.state F.opens_to_read name.now)
         (IsSecondRead D.state F.opens_to_read name.now) }
@@ -57,9 +57,10 @@ fn second_to_read<D: Disk, F: ReadFiles<D>>(files: &F, name: &str) -> Option<D>
     }
 }
 
-/// Reports what the file of this name holds, together with the one whose name has `.2` added, which may be missing.
-/// Returns `Done` where it is a cartridge or a store, `Refused` where it is neither. No file is made or changed.
-/// Errors: `Device` where a file is not opened, a disk or the writer fails, or `NoMemory`.
+/// Writes the lines of `vtl check` for the file of this name and its second file. The second file has the same name
+/// with `.2` added, and may be missing. Returns `Done` where the files hold a cartridge or a store of reservations,
+/// `Refused` where the lines say why they hold neither. No file is made or changed. Errors: `Device` where a file is
+/// not opened, or a disk or the writer fails; `NoMemory` where memory runs out.
 pub fn check_named<D: Disk, F: ReadFiles<D>, W: Write>(
     alloc: Global,
     files: &F,

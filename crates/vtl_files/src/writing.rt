@@ -1,14 +1,14 @@
-//! Texts that are written whole, or up to where the writer fails.
+//! Writes texts: whole, or up to where the writer fails.
 ghost use Rattle.std.specs.Prelude.{◌≡◌, OnOk, OnErr, IfErr};
 ghost use Rattle.std.specs.Io.KnownBytes.{Appends};
 ghost use Rattle.vtl_script.specs.Text.{AppendsPart};
 
-use crate::faults::VtlFault;
 use std::io::Write;
+use vtl_faults::faults::VtlFault;
 use vtl_script::write_text;
 
-/// Writes a text and flushes it. Where that fails, the result is a `Device` fault, and a beginning of the text is
-/// written.
+/// Writes `text` to `writer`, and flushes it. Returns `Device` where the write or the flush fails; perhaps only a first
+/// part of the text is then written.
 pub fn print_text<W: Write>(writer: &mut W, text: &[u8]) -> Result<(), VtlFault>
     ensures ok { OnOk result (Appends (W.contents writer.old) (W.contents writer.new) text.now) }
     ensures err { OnErr result

@@ -13,8 +13,8 @@ struct Rung {
     waiting: bool,
 }
 
-/// A bell. A thread reads the count first, then checks for what it needs, and then waits for a ring after that count.
-/// So it misses no ring. Only one thread waits for a bell.
+/// A bell, for which one thread at a time waits. That thread first reads the count of rings, then looks for what it
+/// needs, and then waits until the count has changed. So it misses no ring.
 #[derive(Drop)]
 pub(crate) struct Bell {
     rung: Mutex<Rung>,
@@ -45,27 +45,27 @@ impl Bell {
         }
     }
 
-    /// Rings, which wakes the thread that waits.
+    /// Rings the bell, which wakes the thread that waits, if one does.
     pub(crate) fn ring<R: Wait>(&self, rt: &R) {
         self.strike(rt, None);
     }
 
-    /// Notes that nothing more comes, and wakes the thread that waits.
+    /// Closes the bell: notes that nothing more comes, and wakes the thread that waits, if one does.
     pub(crate) fn close<R: Wait>(&self, rt: &R) {
         self.strike(rt, Some(true));
     }
 
-    /// Notes that something may come again, and wakes the thread that waits.
+    /// Opens the bell again: notes that something may come, and wakes the thread that waits, if one does.
     pub(crate) fn reopen<R: Wait>(&self, rt: &R) {
         self.strike(rt, Some(false));
     }
 
-    /// How often the bell rang.
+    /// How often the bell was rung, closed or opened again, modulo 2^64.
     pub(crate) fn count<R: Wait>(&self, rt: &R) -> u64 {
         self.rung.lock(rt).count
     }
 
-    /// Waits until the bell has rung after this count.
+    /// Waits until the bell rings again (its count is no longer `count`).
     pub(crate) fn wait<R: Wait>(&self, rt: &R, count: u64) {
         let mut held = self.rung.lock(rt);
         held.waiting = true;
@@ -73,7 +73,8 @@ impl Bell {
         rung.waiting = false;
     }
 
-    /// Waits until the bell has rung after this count, or nothing more comes. Returns whether nothing more comes.
+    /// Waits until the bell rings again (its count is no longer `count`) or is closed. Returns true where it is closed:
+    /// nothing more comes.
     pub(crate) fn wait_for_more<R: Wait>(&self, rt: &R, count: u64) -> bool {
         let mut held = self.rung.lock(rt);
         held.waiting = true;
@@ -85,7 +86,8 @@ impl Bell {
     }
 }
 
-/// The bells of a host: for its commands, and for room for its answers.
+/// The bells of a host. `commands` rings when a command comes for it, and `room` when there is room for its next
+/// answer.
 #[derive(Drop)]
 pub(crate) struct HostBells {
     pub(crate) commands: Bell,
@@ -95,8 +97,9 @@ pub(crate) struct HostBells {
 // How many seconds a round waits until one more of its threads has begun.
 const BEGINNING: u64 = 1;
 
-/// The bells of all threads: of each host, by its place, of the reader and of the writer. Beside them: the places of
-/// the hosts that have an answer, in the order of the answers; how many threads have begun; and whether a write failed.
+/// The bells of all threads: of the hosts, each at its place (the host's number less 1), of the reader and of the
+/// writer. Also kept here are the places of the hosts that have an answer, in the order of the answers; how many
+/// threads have begun; and whether a write failed.
 #[derive(Drop)]
 pub(crate) struct Bells {
     hosts: Vec<HostBells>,
@@ -129,38 +132,39 @@ impl Bells {
         })
     }
 
-    /// The bells of the host at this place.
+    /// The bells of the host at `place`, or None where there is no such host.
     pub(crate) fn host(&self, place: usize) -> Option<&HostBells> {
         self.hosts.get(place)
     }
 
-    /// Rings the host at this place, since a command came for it.
+    /// Rings the host at `place`, since a command came for it.
     pub(crate) fn ring_command<R: Wait>(&self, rt: &R, place: usize) {
         if let Some(bells) = self.hosts.get(place) {
             bells.commands.ring(rt);
         }
     }
 
-    /// Notes that the host at this place has an answer, and rings the writer. There is room for one note of each host:
-    /// its ring holds one answer.
+    /// Notes that the host at `place` has an answer, and rings the writer. There is room for one note of each host,
+    /// since a host's ring holds one answer.
     pub(crate) fn ring_answer<R: Wait>(&self, rt: &R, place: usize) {
         let _ = self.made.lock(rt).push_back(place);
         self.writer.ring(rt);
     }
 
-    /// Takes the oldest note: the place of the host whose answer is next.
+    /// Takes the oldest note: the place of the host whose answer is next. None where there is no note.
     pub(crate) fn next_answer<R: Wait>(&self, rt: &R) -> Option<usize> {
         self.made.lock(rt).pop_front()
     }
 
-    /// Rings the host at this place, since there is room for an answer of it.
+    /// Rings the host at `place`, since there is room for its next answer.
     pub(crate) fn ring_room<R: Wait>(&self, rt: &R, place: usize) {
         if let Some(bells) = self.hosts.get(place) {
             bells.room.ring(rt);
         }
     }
 
-    /// Begins a round: something may come, no thread has begun, and no write failed.
+    /// Begins a round: notes that no write failed and that no thread has begun, and opens the bells of the writer and
+    /// of the hosts again.
     pub(crate) fn reopen<R: Wait>(&self, rt: &R) {
         self.stopped.store(false, Ordering::SeqCst);
         *self.begun.lock(rt) = 0;
@@ -177,8 +181,9 @@ impl Bells {
         self.one_begun.notify_all();
     }
 
-    /// Waits until the threads of all hosts and of the writer have begun, or until no more has begun for a second.
-    /// Returns whether all have begun. Work for which no thread can be made begins only once the others have ended.
+    /// Waits until the threads of all hosts and of the writer have begun, or until none has begun for a second. Returns
+    /// true where all have begun. Where no thread can be made for some of this work, that work begins only once the
+    /// other threads have ended.
     pub(crate) fn have_begun<R: Wait + Clock>(&self, rt: &R) -> bool {
         let all = self.hosts.len().saturating_add(1);
         let wait = Duration::from_secs(BEGINNING);
@@ -205,7 +210,7 @@ impl Bells {
         }
     }
 
-    /// Notes that a write failed: nothing more is to be read.
+    /// Notes that a write failed, so that nothing more is read, and rings the reader.
     pub(crate) fn stop<R: Wait>(&self, rt: &R) {
         self.stopped.store(true, Ordering::SeqCst);
         self.reader.ring(rt);

@@ -13,7 +13,8 @@ use std::alloc::{AllocError, Global};
 use vtl_base::limits::NEXUSES;
 use vtl_wire::{Answer, Request};
 
-/// The values of each host's thread, the other ends of each host's two rings, and the bells of all threads.
+/// What the threads of a round work with: for each host the values of its thread and the other ends of its two rings;
+/// and the bells of all threads.
 #[derive(Drop)]
 pub(crate) struct Ends<S: Host> {
     pub(crate) hosts: Vec<HostEnd<S>>,
@@ -22,7 +23,7 @@ pub(crate) struct Ends<S: Host> {
     pub(crate) bells: Bells,
 }
 
-/// Room for the values of the threads, with the rings of all hosts.
+/// Memory for the values of `Ends`, and the rings and bells of all hosts.
 #[derive(Drop)]
 pub(crate) struct Rooms<S: Host> {
     rings: Vec<Rings>,
@@ -32,7 +33,7 @@ pub(crate) struct Rooms<S: Host> {
     bells: Bells,
 }
 
-/// Makes room for all hosts.
+/// Allocates the memory for the values of all hosts, and makes their rings and bells.
 pub(crate) fn make_rooms<S: Host + Drop>(alloc: Global) -> Result<Rooms<S>, AllocError>
     ensures { IfOk result AreRooms }
 {
@@ -45,7 +46,7 @@ pub(crate) fn make_rooms<S: Host + Drop>(alloc: Global) -> Result<Rooms<S>, Allo
     })
 }
 
-// Adds a host with its rings. There is room for them.
+// Adds a host with its rings to the three lists, which have room for it.
 fn add_host<S: Host + Drop>(
     hosts: &mut Vec<HostEnd<S>>,
     requests: &mut Vec<Producer<Request>>,
@@ -75,7 +76,8 @@ fn add_host<S: Host + Drop>(
 }
 
 impl<S: Host + Drop> Ends<S> {
-    /// The values for the threads of these hosts. The call takes no memory.
+    /// Makes the values for the threads of the hosts with these servers, in the memory of `rooms`. The call allocates
+    /// no more memory.
     pub(crate) fn of(rooms: Rooms<S>, servers: Vec<S>) -> Ends<S>
         requires rooms { AreRooms rooms }
         requires servers { length servers.items ≡ NEXUSES }
@@ -101,7 +103,8 @@ impl<S: Host + Drop> Ends<S> {
         }
     }
 
-    /// The servers of the hosts. The call takes no memory.
+    /// Moves the servers of the hosts into `room`, in the order of the hosts, and returns them. The call allocates no
+    /// memory.
     pub(crate) fn into_servers(self, room: Vec<S>) -> Vec<S>
         requires { (room.items ≡ []) × (length self.hosts.items ≤ vec_capacity room) }
         ensures { result.items ≡ servers_of self.hosts.items }

@@ -11,8 +11,8 @@ use rtrb::{Consumer, Producer};
 use std::sync::Wait;
 use vtl_wire::{Answer, Request};
 
-/// The values of a host's thread: the server of the host, its requests, its answers, and whether a request was dropped
-/// because the host does not take it.
+/// What the thread of a host works with: the host's server, the ring of its requests, the ring of its answers, and
+/// whether a request was dropped because the server does not take it.
 #[derive(Drop)]
 pub(crate) struct HostEnd<S: Host> {
     pub(crate) server: S,
@@ -31,7 +31,7 @@ pub(crate) enum Turn {
     Stray,
 }
 
-// Answers the next request of the host at this place, if there is one.
+// Answers the next request of the host at `place`, if there is one.
 fn answer_next<S: Host, R: Wait>(
     rt: &R,
     bells: &Bells,
@@ -60,7 +60,8 @@ fn answer_next<S: Host, R: Wait>(
     Turn::Served
 }
 
-/// Answers the requests of the host at this place, in their order, until nothing more comes.
+/// Answers the requests of the host at `place` (the host's number less 1), in their order, until nothing more comes. It
+/// ends early at a request that the host's server does not take.
 pub(crate) fn answer_all<S: Host, R: Wait>(
     rt: &R,
     bells: &Bells,

@@ -1,4 +1,5 @@
-//! Several hosts over one pipe at the same time: the commands of each are carried out in a thread of its own.
+//! Serves several hosts over one pipe at the same time. The commands of each host are carried out in a thread of their
+//! own.
 #![tactic(auto)]
 
 mod bells;

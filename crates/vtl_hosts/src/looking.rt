@@ -31,8 +31,8 @@ fn both(one: bool, other: bool) -> bool
     one && other
 }
 
-/// Whether nothing is left in the rings of any host, and no request was dropped. Where every thread has done its work,
-/// that is true. The check stands here, so no contract has to say it of the threads.
+/// Returns true where nothing is left in the rings of any host, and no request was dropped. That is so where every
+/// thread has done its work. Since it is checked here, no contract has to say it of the threads.
 pub(crate) fn are_empty<S: Host>(
     hosts: &mut [HostEnd<S>],
     requests: &mut [Producer<Request>],

@@ -6,7 +6,7 @@ use crate::bells::Bell;
 use rtrb::{Producer, PushError};
 use std::sync::Wait;
 
-/// Pushes an item, once there is room. `bell` rings when there is more room.
+/// Pushes an item into `ring`; where the ring is full, waits for room first. `bell` rings when there is more room.
 pub(crate) fn push_waiting<T, R: Wait>(rt: &R, bell: &Bell, ring: &mut Producer<T>, item: T)
     ensures same { SameProducer ring.old ring.new }
     ensures sent { sent ring.new ≡ sent ring.old ++ item ∷ [] }

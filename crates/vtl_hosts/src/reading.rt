@@ -14,19 +14,19 @@ use std::sync::Wait;
 use std::time::Clock;
 use vtl_wire::{Request, RequestReader, WireFault};
 
-/// Why no more commands are read.
+/// Why no more commands are read in a round.
 #[derive(Drop)]
 pub(crate) enum Break {
     /// The input has ended.
     Ended,
-    /// No more is read in this round. Either a write failed; or not all threads have begun, and one command was read.
-    /// The next one is read after its answer.
+    /// A write failed; or not all threads had begun, and one command was read. The next command is then read in the
+    /// next round, once that command is answered.
     Again,
-    /// A move or an inventory came.
+    /// This request came, a move or an inventory.
     Next(Request),
 }
 
-// The place of a command's host.
+// The place of a command's host, which is the host's number less 1. None for a move and an inventory.
 fn place_of(request: &Request) -> Option<usize>
     ensures some { IfSome result (λ place. (host_in request.now ≡ place + 1) × (place < NEXUSES)) }
     ensures none { IfNone result (host_in request.now ≡ 0) }
@@ -37,7 +37,7 @@ fn place_of(request: &Request) -> Option<usize>
     }
 }
 
-// Reads a request. A command goes to its host, and the result is None.
+// Reads a request. Returns None where it is a command, which was sent to its host.
 fn read_next<G: Desk, I: Read, R: Wait>(
     rt: &R,
     desk: &G,
@@ -71,9 +71,9 @@ fn read_next<G: Desk, I: Read, R: Wait>(
     Ok(None)
 }
 
-/// Reads commands, and sends each to its host, up to the first request that is no command. Where a thread is missing it
-/// reads one command, for which the rings have room. So no thread waits for work that begins only after that thread has
-/// ended.
+/// Reads commands, and sends each to its host. It ends at a move, an inventory or the end of the input, after a failed
+/// write, or with an error. Where not all threads have begun, it reads one command, for which the rings have room. So
+/// no thread waits for work that begins only after that thread has ended.
 pub(crate) fn read_round<G: Desk, I: Read, R: Wait + Clock>(
     rt: &R,
     desk: &G,

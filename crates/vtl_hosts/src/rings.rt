@@ -8,8 +8,8 @@ use std::alloc::{AllocError, Global};
 use vtl_base::limits::NEXUSES;
 use vtl_wire::{Answer, Request};
 
-/// The two rings of a host, each with room for one item: a request that waits while another is carried out, and an
-/// answer that is not written yet. Nothing was sent into them.
+/// The two rings of a host, into which nothing was sent yet. Each has room for one item: the one for a request that
+/// waits while another is carried out, the other for an answer that is not written yet.
 #[derive(Drop)]
 pub(crate) struct Rings {
     pub(crate) requests: Producer<Request>,
@@ -35,7 +35,7 @@ fn new_rings(alloc: Global) -> Result<Rings, AllocError> {
     })
 }
 
-/// The rings of all hosts.
+/// Makes the rings of all hosts, two for each.
 pub(crate) fn make_rings(alloc: Global) -> Result<Vec<Rings>, AllocError>
     ensures { IfOk result (λ rings. length rings.items ≡ NEXUSES) }
 {

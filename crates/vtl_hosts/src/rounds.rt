@@ -1,5 +1,5 @@
-//! A round: reads commands, carries them out and answers them, all at the same time, up to a move, an inventory or the
-//! end.
+//! A round: commands are read, carried out and answered, all at the same time, up to a move, an inventory or the end of
+//! the input.
 ghost use Rattle.std.specs.Prelude.{◌≡◌, ◌&&◌, not, length, false, true, IfOk, IfErr};
 ghost use Rattle.vtl_base.specs.declared.limits.TheConstants.{NEXUSES};
 ghost use Rattle.vtl_wire.specs.Reads.{NotesFault};
@@ -24,7 +24,8 @@ use std::thread::Threads;
 use std::time::Clock;
 use vtl_wire::{Answer, Request, RequestReader, WireFault};
 
-/// The end of a round: why no more was read, and whether all commands were answered and all answers written.
+/// How a round ended. `read` says why no more was read. `whole` is true where all commands were answered and all
+/// answers written.
 #[derive(Drop)]
 pub(crate) struct Round {
     pub(crate) read: Result<Break, WireFault>,
@@ -173,8 +174,10 @@ fn is_whole(failed: bool, empty: bool) -> bool
     !failed && empty
 }
 
-/// Reads commands up to a move, an inventory, the end of the input or a frame that is refused. It answers the commands
-/// of each host in a thread of its own. All commands that were read are answered before the call returns.
+/// Serves a round. Reads commands up to a move, an inventory, the end of the input or a frame that is refused, and
+/// answers the commands of each host in a thread of its own. A failed read or write, memory that runs out, or a thread
+/// that can't be made ends the round earlier. Where the result is `whole`, all commands that were read are answered,
+/// and the answers are written.
 pub(crate) fn serve_round<
     S: Host + Send,
     G: Desk,

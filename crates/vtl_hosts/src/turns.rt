@@ -22,9 +22,9 @@ use vtl_wire::{Request, RequestReader, WireFault, write_if_fits};
 /// The servers of the hosts after the serving, and how the serving ended.
 #[derive(Drop)]
 pub struct Served<S> {
-    /// The servers of the hosts, each in its place.
+    /// The servers of the hosts, each at the place that is its host's number less 1.
     pub servers: Vec<S>,
-    /// Ok where the input was served to its end.
+    /// Ok where the input was served to its end; else the error that ended the serving.
     pub outcome: Result<(), WireFault>,
 }
 
@@ -45,7 +45,7 @@ fn serve_alone<G: Desk, W: Write>(
     write_if_fits(writer, &answer)
 }
 
-// Serves a round, and the move or the inventory behind it, if one came. Returns false where the input has ended.
+// Serves a round, and the move or the inventory after it, if one came. Returns false where the input has ended.
 fn serve_turn<S: Host + Send, G: Desk, R: Threads + Wait + Clock + Sync, I: Read, W: Write + Send>(
     rt: &R,
     alloc: Global,
@@ -107,12 +107,20 @@ fn serve_turns<S: Host + Send, G: Desk, R: Threads + Wait + Clock + Sync, I: Rea
     unreachable!()
 }
 
-/// Serves hosts over one pipe: reads requests up to the end of the input, or to the first frame that is refused, or
-/// until a write fails. The commands of each host are answered in their order, in a thread of its own. Of each host one
-/// command is carried out and one waits; with a third one the reader waits. A move or an inventory is served once all
-/// commands before it are answered, and before more is read. Each answer is written and flushed once it is made.
-/// However the serving ends, every request that was read and taken is answered. Where memory runs out before the first
-/// read, the servers are returned.
+/// Serves the 64 hosts over one pipe. `servers` has the server of each host, at the place that is the host's number
+/// less 1. Requests are read from `reader`, up to the end of the input or until the first error: a frame that is
+/// refused, a request that is not taken, a failed read or write, or memory that runs out.
+///
+/// The commands of each host are answered in their order, in a thread of their own. While one command of a host is
+/// carried out, one more may wait; when a third comes, the reading waits. A move or an inventory is served once all
+/// commands before it are answered, and before more is read. Each answer is written to `writer` and flushed once it is
+/// made.
+///
+/// Every command that was read and taken is answered, and the answer is written, unless the outcome is `WriteFault`.
+/// That error is returned where a write or a flush failed, where no frame can hold an answer, and where a host left a
+/// command without an answer. After a failed write the commands that were read are still carried out, but their answers
+/// are dropped. A move or an inventory for which memory runs out is not served. Where memory runs out before the first
+/// read, `Err` returns the servers, and nothing was read or written.
 pub fn serve_hosts<
     S: Host + Drop + Send,
     G: Desk,

@@ -18,7 +18,8 @@ fn write_unless<W: Write>(writer: &mut W, failed: bool, answer: &Answer) -> bool
     write_if_fits(writer, answer).is_err()
 }
 
-// Writes the next answer of a host, if there is one. After a failed write nothing more is written.
+// Writes the next answer of a host, if there is one; returns false where there is none. After a failed write nothing
+// more is written.
 fn write_next<W: Write, R: Wait>(
     rt: &R,
     bells: &Bells,
@@ -41,7 +42,7 @@ fn write_next<W: Write, R: Wait>(
     true
 }
 
-// Writes the oldest answer. Returns whether there was one.
+// Writes the oldest answer. Returns false where there is none.
 fn write_first<W: Write, R: Wait>(
     rt: &R,
     bells: &Bells,
@@ -61,7 +62,7 @@ fn write_first<W: Write, R: Wait>(
 }
 
 /// Takes the hosts' answers and writes them, in the order in which they were made, until nothing more comes. After a
-/// failed write the other answers are dropped. Returns whether a write failed.
+/// failed write the other answers are dropped. Returns true where a write failed.
 pub(crate) fn write_round<W: Write, R: Wait>(
     rt: &R,
     bells: &Bells,

@@ -1,12 +1,12 @@
-//! What a file that `check` or `reclaim` refuses holds: what stands where it is damaged, and what stands before that.
+//! Explains files that `check` or `reclaim` refuses: what stands where one is damaged, and what stands before that.
+use cartridge_sides::{Which, choose};
+use check_lines::checking::{Checked, check_side};
 use explanations::Explanation;
 use file_reasons::{DamageReason, Found};
-use side_pairs::{Which, choose};
 use std::alloc::{AllocError, Global};
 use std::cell::Cell;
 use tape_disk::{Disk, MemDisk};
 use vtl_base::limits::MAX_SIDE;
-use vtl_files::checking::{Checked, check_side};
 
 // The bytes of a file that is explained, at most.
 const MOST: u64 = 268_435_456;
@@ -18,8 +18,8 @@ struct Image {
     bytes: Vec<u8>,
 }
 
-/// The bytes of the two files of a check or a reclaim. A file is left out where there is no memory for it, where it
-/// cannot be read, or where it is longer than 268,435,456 bytes.
+/// The bytes of the two files of a check or a reclaim. A file is left out if memory runs out for it, if it cannot be
+/// read, or if it is longer than 268,435,456 bytes.
 #[derive(Drop)]
 pub struct Images {
     first: Cell<Option<Image>>,
@@ -27,7 +27,7 @@ pub struct Images {
 }
 
 impl Images {
-    /// No file yet.
+    /// Creates an `Images` without files.
     pub fn new() -> Self {
         Images {
             first: Cell::new(None),
@@ -35,7 +35,8 @@ impl Images {
         }
     }
 
-    /// Adds the bytes of a file that was checked, the first file before the second.
+    /// Reads the bytes of the file named `file` from `disk`, and adds them. The file was checked or was to be
+    /// reclaimed. The first file is added first, then the second.
     pub fn add<D: Disk>(&self, alloc: Global, file: &str, disk: &mut D) {
         let Some(image) = image_of(alloc, file, disk) else {
             return;
@@ -49,7 +50,8 @@ impl Images {
         }
     }
 
-    /// Adds the lines that say why the files give nothing, where the bytes of both are there.
+    /// Adds to `lines` why the two files are refused, if the bytes of both were added, and drops these bytes.
+    /// `is_reclaim` is true where the files were to be reclaimed, false where they were checked.
     pub fn add_to(
         &self,
         alloc: Global,
@@ -76,7 +78,7 @@ fn image_of<D: Disk>(alloc: Global, file: &str, disk: &mut D) -> Option<Image> {
     }
 }
 
-// The lines of `check` over files of these bytes.
+// The lines of `check` for files of these bytes; None where memory runs out.
 fn lines_over(alloc: Global, first: &[u8], second: &[u8]) -> Option<Vec<u8>> {
     let first = MemDisk::from_bytes(alloc, first).ok()?;
     let second = MemDisk::from_bytes(alloc, second).ok()?;
@@ -89,13 +91,14 @@ fn lines_over(alloc: Global, first: &[u8], second: &[u8]) -> Option<Vec<u8>> {
     Vec::from_slice(alloc, lines.as_slice()).ok()
 }
 
-// The place that a line names behind these words.
+// The number that a line has after these words; None where the line does not begin with them.
 fn place_behind(words: &[u8], line: &[u8]) -> Option<u64> {
     let digits = line.strip_prefix(words)?.strip_suffix(b"\n".as_slice())?;
     std::str::from_utf8(digits).ok()?.parse().ok()
 }
 
-// The bytes up to a place, and a closed gate behind them.
+// The bytes before a place, with a closed gate after them; None where the place is past the end, and where memory runs
+// out.
 fn cut_at(alloc: Global, bytes: &[u8], place: u64) -> Option<Vec<u8>> {
     let front = bytes.get(..place as usize)?;
     let mut cut = Vec::from_slice(alloc, front).ok()?;
@@ -120,7 +123,8 @@ fn found_at(bytes: &[u8], place: u64) -> Found {
     Found::of(gate, length, rest.len() as u64)
 }
 
-// Adds the lines of what stands before a damage, where that gives something.
+// Adds lines for what stands before a damage: the lines `before` of `check`, if they are those of a cartridge or a
+// store.
 fn add_before(alloc: Global, before: &[u8], lines: &mut Explanation) -> Result<(), AllocError> {
     if !before.starts_with(b"cartridge ") && !before.starts_with(b"reservations ") {
         return Ok(());
@@ -135,7 +139,8 @@ fn add_before(alloc: Global, before: &[u8], lines: &mut Explanation) -> Result<(
     Ok(())
 }
 
-// Whether the second file counts. Where none does, the first one is a store.
+// Whether the second file counts. False where neither does, since the first one is then a store; None where memory runs
+// out.
 fn is_second(alloc: Global, first: &[u8], second: &[u8]) -> Option<bool> {
     let mut first = MemDisk::from_bytes(alloc, first).ok()?;
     let mut second = MemDisk::from_bytes(alloc, second).ok()?;
@@ -145,7 +150,8 @@ fn is_second(alloc: Global, first: &[u8], second: &[u8]) -> Option<bool> {
     }
 }
 
-// What `check` says of the files without the bytes from a place on of the second one, or of the first.
+// The lines of `check` for the two files, of which the second one, if `is_second`, or else the first is cut at `place`;
+// None where memory runs out.
 fn before_of(
     alloc: Global,
     first: &[u8],

@@ -1,4 +1,4 @@
-//! What the calls for files and streams were answered, noted for an explanation; and the writes of a reclaim, reported.
+//! Notes what the calls for files and streams were answered, for an explanation, and reports the writes of a reclaim.
 #![tactic(auto)]
 
 mod images;

@@ -3,7 +3,8 @@ use file_reasons::Answer;
 use std::io::{self, ErrorKind, Write};
 use std::sync::Mutex;
 
-/// Why the first write to standard output failed. The thread that writes notes it, and another may ask for it.
+/// A note of the first failed call for standard output, and of why it failed. The thread that writes makes the note,
+/// and another thread may read it.
 #[derive(Drop)]
 pub struct OutputNote {
     is_on: bool,
@@ -11,7 +12,7 @@ pub struct OutputNote {
 }
 
 impl OutputNote {
-    /// No write failed yet. Where `is_on` is false, nothing is noted.
+    /// Creates an empty note. If `is_on` is false, nothing is ever noted.
     pub fn new(is_on: bool) -> OutputNote {
         OutputNote {
             is_on,
@@ -30,14 +31,16 @@ impl OutputNote {
         }
     }
 
-    /// Takes out the answer to the first write that failed.
+    /// Takes out the answer to the first call that failed. None where no call failed, where the answer was taken out
+    /// before, or while another thread uses the note.
     pub fn failed(&self) -> Option<Answer> {
         let mut held = self.answer.try_lock()?;
         held.take()
     }
 }
 
-/// A writer of standard output that passes each call on to the one below, and notes the first that fails.
+/// A writer for standard output that passes each call on to the writer below it, and notes the first call that fails.
+/// An interrupted call does not count as failed.
 #[derive(Drop)]
 pub struct NotingWriter<'a, W> {
     below: W,
@@ -45,7 +48,7 @@ pub struct NotingWriter<'a, W> {
 }
 
 impl<'a, W> NotingWriter<'a, W> {
-    /// A writer over `below`.
+    /// Creates a writer that passes its calls on to `below`, and notes the first failure in `note`.
     pub fn new(below: W, note: &'a OutputNote) -> Self {
         NotingWriter { below, note }
     }

@@ -1,4 +1,4 @@
-//! Notes of the answers to calls for files, for an explanation.
+//! Notes of what calls for files and streams were answered, for an explanation.
 use crate::images::Images;
 use crate::noted_streams::OutputNote;
 use crate::open_files::OpenFiles;
@@ -19,7 +19,8 @@ pub struct ConfigText {
     pub text: Vec<u8>,
 }
 
-/// Notes of the answers to calls for files and streams. A note for which memory runs out is left out.
+/// Notes of what calls for files and streams were answered, and of lines and frames that were refused. A note is left
+/// out if memory runs out for it.
 #[derive(Drop)]
 pub struct Notes {
     is_on: bool,
@@ -36,7 +37,7 @@ pub struct Notes {
 }
 
 impl Notes {
-    /// Notes with nothing in them. Where `is_on` is false, nothing is noted.
+    /// Creates a `Notes` without notes. If `is_on` is false, no file, answer or frame is ever noted.
     pub fn new(alloc: Global, is_on: bool) -> Notes {
         Notes {
             is_on,
@@ -53,17 +54,17 @@ impl Notes {
         }
     }
 
-    /// Whether anything is noted.
+    /// Whether files, answers and frames are noted: the `is_on` that `new` was given.
     pub fn is_on(&self) -> bool {
         self.is_on
     }
 
-    /// The files that were opened or read.
+    /// The notes of the files that were opened or read.
     pub fn files(&self) -> &OpenFiles {
         &self.files
     }
 
-    /// Notes the answer to reading a file.
+    /// Notes the answer to reading the file `file`, which holds a configuration: its text, or why it could not be read.
     pub fn read(&self, alloc: Global, file: &str, answer: &io::Result<Vec<u8>>) {
         if !self.is_on {
             return;
@@ -79,7 +80,7 @@ impl Notes {
         }
     }
 
-    /// Notes a call for a file or a stream that failed. Only the first one is noted.
+    /// Notes that a call for a file or a stream failed, and what it was answered. Only the first such call is noted.
     pub fn fail(&self, alloc: Global, source: Source, call: FileCall, answer: Answer) {
         if self.is_on {
             self.keep_failed(FileReason::new(alloc, source, call, answer));
@@ -94,8 +95,8 @@ impl Notes {
         self.failed.set(Some(kept));
     }
 
-    /// Notes the answer to opening or making a file. Where a file that was to be made is there already, that is no
-    /// fault.
+    /// Notes the answer to `call`, which opens or makes the file `file`, if the call failed. `Exists` is not noted: if
+    /// a file that was to be made is there already, that is not a failure.
     pub fn open<D>(
         &self,
         alloc: Global,
@@ -115,32 +116,35 @@ impl Notes {
         }
     }
 
-    /// Drops the note of the call that failed, which was no fault: a file may be missing there.
+    /// Drops the note that a file was not opened. This was not a failure, since the file may be missing.
     pub fn pass_over(&self) {
         self.is_refused.set(false);
         self.failed.set(None);
     }
 
-    /// Notes that the disk of this file was returned before the library was switched on, and none of its calls failed.
-    pub fn give_back(&self, alloc: Global, file: &str, number: u64) {
+    /// Notes that the disk of the file `file` was returned, unless `has_failed_for(number)` is true in `files`, where
+    /// `number` is the number of the file. While a library is switched on, such a disk is that of a store that is
+    /// refused, or of a cartridge whose second file is not opened.
+    pub fn note_returned(&self, alloc: Global, file: &str, number: u64) {
         if self.is_on && !self.files.has_failed_for(number) {
             self.returned.set(String::from_str(alloc, file).ok());
         }
     }
 
-    /// Notes the bytes of a file that was checked, as its disk is returned.
+    /// Reads the bytes of the file `file` from `disk`, which is being returned, and notes them. The file was checked or
+    /// was to be reclaimed.
     pub fn look<D: Disk>(&self, alloc: Global, file: &str, disk: &mut D) {
         if self.is_on {
             self.images.add(alloc, file, disk);
         }
     }
 
-    /// Notes how many bytes of the script were read.
+    /// Notes that `bytes` bytes of the script have been read so far.
     pub fn read_script(&self, bytes: u64) {
         self.script.set(Some(bytes));
     }
 
-    /// Takes out the text of a configuration that was read last.
+    /// Takes out the text of the configuration that was read last; None where no such text is noted.
     pub fn config(&self) -> Option<ConfigText> {
         self.config.take()
     }
@@ -155,12 +159,12 @@ impl Notes {
         self.refused.set(Some(reason));
     }
 
-    /// Takes out why a line of the script is refused.
+    /// Takes out why a line of the script is refused; None where no refused line is noted.
     pub fn refused(&self) -> Option<LineReason> {
         self.refused.take()
     }
 
-    /// Notes bytes of frames that were read.
+    /// Notes the next bytes of frames that were read.
     pub fn add_frames(&self, bytes: &[u8]) {
         if !self.is_on {
             return;
@@ -170,18 +174,20 @@ impl Notes {
         self.frames.set(frames);
     }
 
-    /// Why the frame that was read last is refused, where one was.
+    /// Returns why the frame that was read last is refused, as `FrameNotes::reason` does. The caller must know that
+    /// this frame is refused. None where no frame was read.
     pub fn frame(&self) -> Option<FrameReason> {
         let frames = self.frames.get();
         frames.reason()
     }
 
-    /// The note of the answers of standard output, for an explanation.
+    /// The note of the first call for standard output that failed.
     pub fn output(&self) -> &OutputNote {
         &self.output
     }
 
-    // The call for a stream that failed, or for a file that was to be read, opened or made.
+    // Takes out the first call that failed: for a file that was to be read, opened or made, or for a stream. None where
+    // none failed.
     fn failed(&self, alloc: Global) -> Option<FileReason> {
         match self.failed.take() {
             Some(reason) => Some(reason),
@@ -192,9 +198,9 @@ impl Notes {
         }
     }
 
-    /// Adds the lines of the call that failed, for a stream or for a file that was to be read, opened or made. Where
-    /// there is none, it adds those of each file's first call that failed while it was open. Returns whether a call
-    /// failed.
+    /// Adds the lines that explain the first call that failed for a stream, or for a file that was to be read, opened
+    /// or made. If no such call is noted, adds lines for each file for which a call failed while the file was open;
+    /// they explain the first such call. Returns true where lines were added.
     pub fn add_failed(&self, alloc: Global, lines: &mut Explanation) -> Result<bool, AllocError> {
         match self.failed(alloc) {
             Some(reason) => {
@@ -205,8 +211,9 @@ impl Notes {
         }
     }
 
-    /// Adds the lines of a file of reservations that was opened and returned, if one was, and none of its calls failed.
-    /// Returns whether one was.
+    /// Adds the lines of a file that was opened and then refused as a store of reservations, though none of its calls
+    /// failed. Returns true where lines were added. If some file could not be opened or made, that is the cause
+    /// instead: nothing is added, and false is returned.
     pub fn add_store(&self, alloc: Global, lines: &mut Explanation) -> Result<bool, AllocError> {
         match self.returned.take() {
             Some(file) if !self.is_refused.get() => {
@@ -217,7 +224,8 @@ impl Notes {
         }
     }
 
-    /// Adds the lines of two files that were checked or were to be reclaimed, and are refused.
+    /// Adds the lines that say why the two files of a check, or of a reclaim if `is_reclaim` is true, are refused. Adds
+    /// nothing unless the bytes of both files are noted.
     pub fn add_images(
         &self,
         alloc: Global,
@@ -227,7 +235,8 @@ impl Notes {
         self.images.add_to(alloc, is_reclaim, lines)
     }
 
-    /// Adds the lines of memory that ran out: while the script was read, or else with the file that was used last.
+    /// Adds the lines that say what memory ran out for: the script, if one was read, or else the file that was used
+    /// last.
     pub fn add_memory(&self, alloc: Global, lines: &mut Explanation) -> Result<(), AllocError> {
         match self.script.get() {
             Some(bytes) => MemoryReason::Script(bytes).add_to(alloc, lines),

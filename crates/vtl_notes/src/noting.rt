@@ -1,4 +1,4 @@
-//! A script's reader that notes the lines which are to be answered, and the first that is refused.
+//! A reader of standard input that notes the lines of a script, or the frames, that it reads.
 ghost use Rattle.std.specs.Prelude.{◌≡◌};
 
 use crate::notes::Notes;
@@ -11,7 +11,7 @@ use vtl_base::DriveNo;
 use vtl_base::limits::{LINE_BYTES, SCRIPT_BYTES};
 use vtl_config::read_config;
 
-// The drive of the built-in configuration.
+// The one drive of the built-in configuration.
 fn built_in() -> Drives {
     match DriveNo::new(1) {
         Some(drive) => Drives::none().with(drive),
@@ -19,7 +19,7 @@ fn built_in() -> Drives {
     }
 }
 
-// The drives of a configuration's text.
+// The drives of the configuration that a text spells; none where the text is refused or memory runs out.
 fn drives_in(alloc: Global, text: &[u8]) -> Drives {
     let mut drives = Drives::none();
     if let Ok(config) = read_config(alloc, text) {
@@ -30,7 +30,7 @@ fn drives_in(alloc: Global, text: &[u8]) -> Drives {
     drives
 }
 
-// The line without the carriage return at its end.
+// The line, without a carriage return at its end.
 fn without_return(line: &[u8]) -> &[u8] {
     match line {
         [front @ .., b'\r'] => front,
@@ -38,9 +38,10 @@ fn without_return(line: &[u8]) -> &[u8] {
     }
 }
 
-/// A reader that passes each call on to the reader below. It notes why a read failed. Of a script it also notes each
-/// line, why the first refused line is refused, and how many bytes were read; where no answers are explained, it notes
-/// the frames instead. Once memory runs out for a line, no further line is noted.
+/// A reader that passes each call on to the reader below it, and notes why a read failed. If the answers to a script
+/// are explained, it also notes each line of the script before the first refused one, why that one is refused, and how
+/// many bytes were read. Otherwise it notes the frames that were read. Once memory runs out for a line, no further line
+/// is noted.
 #[derive(Drop)]
 pub struct NotingReader<'a, I> {
     below: I,
@@ -55,7 +56,8 @@ pub struct NotingReader<'a, I> {
 }
 
 impl<'a, I> NotingReader<'a, I> {
-    /// A reader over `below`.
+    /// Creates a reader over `below`. If `answers` is on, the lines of the script are added to `answers`. All else is
+    /// noted in `notes`.
     pub fn new(below: I, alloc: Global, notes: &'a Notes, answers: &'a Answers) -> Self {
         NotingReader {
             below,
@@ -89,7 +91,8 @@ impl<'a, I> NotingReader<'a, I> {
         drives
     }
 
-    // Ends a line, at a line feed or with the text.
+    // Ends a line: at the end of the script, if `is_last`, and else at a line feed. Notes why the line is refused, or
+    // adds it to those that are to be answered.
     fn end_line(&mut self, is_last: bool)
         ensures { self.new.below ≡ self.old.below }
     {
@@ -127,7 +130,8 @@ impl<'a, I> NotingReader<'a, I> {
             .fail(self.alloc, Source::Input, FileCall::Read, answer);
     }
 
-    // Counts bytes that were read. A script that is too long is not noted any further; frames may be of any length.
+    // Counts bytes of a script that were read. A script that is too long is noted as a failure. Frames are not counted:
+    // they may be of any length.
     fn count(&mut self, count: usize)
         ensures { self.new.below ≡ self.old.below }
     {
@@ -141,7 +145,7 @@ impl<'a, I> NotingReader<'a, I> {
         }
     }
 
-    // Notes bytes that were read, or that the text has ended. Bytes of frames are no lines.
+    // Notes bytes that were read; if there are none, the script has ended. Bytes of frames are not noted as lines.
     fn note(&mut self, bytes: &[u8])
         ensures { self.new.below ≡ self.old.below }
     {

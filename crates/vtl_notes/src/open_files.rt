@@ -1,4 +1,4 @@
-//! Notes of the files that were opened, and of their calls that failed, for an explanation. Threads share it.
+//! Notes of the files that were opened, and of their calls that failed, for an explanation. Threads share these notes.
 use explanations::Explanation;
 use file_disk::{FailedCall, FileDisk, SystemCall};
 use file_reasons::{FileReason, MemoryReason};
@@ -19,8 +19,8 @@ struct OpenFile {
     failed: Option<FailedCall>,
 }
 
-/// Files that were opened or read, in order, each with the first of its calls that failed. Where memory runs out for a
-/// file it is left out.
+/// The files that were opened or read, in order, each with the first of its calls that failed. A file is left out if
+/// memory runs out for it, or if another thread uses the notes at that moment.
 #[derive(Drop)]
 pub struct OpenFiles {
     is_on: bool,
@@ -32,7 +32,7 @@ pub struct OpenFiles {
 }
 
 impl OpenFiles {
-    /// No file yet. Where `is_on` is false, none is ever noted.
+    /// Creates an `OpenFiles` without files. If `is_on` is false, no file is ever noted.
     pub fn new(alloc: Global, is_on: bool) -> Self {
         OpenFiles {
             is_on,
@@ -42,7 +42,8 @@ impl OpenFiles {
         }
     }
 
-    /// Notes that a file of this name is opened or read. Returns its number, 0 where it is left out.
+    /// Notes that a file of this name is opened or read. Returns the number of the file, from 1 on, or 0 where it is
+    /// left out.
     pub fn enter(&self, alloc: Global, name: &str) -> u64 {
         if !self.is_on {
             return 0;
@@ -61,19 +62,21 @@ impl OpenFiles {
         number
     }
 
-    /// Notes that the file with this number was used last. 0 is no file.
+    /// Notes that the file with this number was used last. The number 0, of a file that is left out, changes nothing.
     pub fn used(&self, number: u64) {
         if number > 0 {
             self.last.store(number, Ordering::SeqCst);
         }
     }
 
-    /// Whether a call failed, also for a file that is left out.
+    /// Whether a call failed for any file, also for one that is left out.
     pub fn has_failed(&self) -> bool {
         self.has_failed.load(Ordering::SeqCst)
     }
 
-    /// Whether a call for the file with this number failed; for a file that is left out, whether any call failed.
+    /// Whether a call failed for the file with this number. If this is not known, whether a call failed for any file:
+    /// if the number is 0, that of a file that is left out, if no file has the number, or while another thread uses the
+    /// notes.
     pub fn has_failed_for(&self, number: u64) -> bool {
         if number == 0 {
             return self.has_failed();
@@ -87,7 +90,8 @@ impl OpenFiles {
         }
     }
 
-    /// Notes that a call for the file of this number failed.
+    /// Notes `failed`, a failed call for the file with this number. For each file only the first such call is noted. If
+    /// the number is 0, that of a file that is left out, only the fact that a call failed is noted.
     pub fn fail(&self, number: u64, failed: FailedCall) {
         self.has_failed.store(true, Ordering::SeqCst);
         if number == 0 {
@@ -105,7 +109,8 @@ impl OpenFiles {
         }
     }
 
-    /// Adds the lines of each file with a call that failed. Returns whether there is one.
+    /// Adds the lines of each file for which a call failed. Returns true where there is such a file. While another
+    /// thread uses the notes, it adds nothing and returns false.
     pub fn add_failed(&self, alloc: Global, lines: &mut Explanation) -> Result<bool, AllocError> {
         let Some(files) = self.files.try_lock() else {
             return Ok(false);
@@ -121,7 +126,8 @@ impl OpenFiles {
         Ok(is_one)
     }
 
-    /// Adds the lines of memory that ran out, with the file that was used last.
+    /// Adds the lines that say that memory ran out for the file that was used last. Adds nothing where no file was
+    /// used, or while another thread uses the notes.
     pub fn add_last(&self, alloc: Global, lines: &mut Explanation) -> Result<(), AllocError> {
         let last = self.last.load(Ordering::SeqCst);
         let Some(files) = self.files.try_lock() else {
@@ -140,7 +146,7 @@ impl OpenFiles {
     }
 }
 
-/// A disk that says which of the calls below it failed last.
+/// A disk that can say which of its calls to the system failed last.
 pub trait SaysFailed {
     /// The call that failed last; `None` where none failed.
     fn failed(&self) -> Option<FailedCall>;
@@ -152,19 +158,21 @@ impl SaysFailed for FileDisk {
     }
 }
 
-/// A disk that passes each call on to the disk below, and notes the first that fails, with what the system answered.
+/// A disk that passes each call on to the disk below it, and notes the first call that fails, with what the system
+/// answered.
 #[derive(Drop)]
 pub struct NotedDisk<'a, D> {
     /// The disk below.
     pub disk: D,
-    /// The number of its file.
+    /// The number of the disk's file in `files`; 0 if the file is left out.
     pub number: u64,
     /// Where failed calls are noted.
     pub files: &'a OpenFiles,
 }
 
 impl<'a, D: SaysFailed> NotedDisk<'a, D> {
-    // Notes a call that failed. The system gave no answer where it did not say how long the file is.
+    // Notes a call that failed. If no call of the system failed, the system did not say how long the file is; that is
+    // noted then.
     fn fail(&self) {
         let failed = match self.disk.failed() {
             Some(failed) => failed,

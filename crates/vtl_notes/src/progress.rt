@@ -1,4 +1,4 @@
-//! How much a reclaim has written: a line on standard error for each GiB, where that is a terminal.
+//! Reports how much a reclaim has written: a line on standard error for each GiB, if standard error is a terminal.
 ghost use Rattle.std.specs.Prelude.{◌≡◌, IfOk};
 ghost use Rattle.vtl_notes.specs.Progress.{full_gib, gib_line};
 
@@ -7,12 +7,13 @@ use arrayvec::ArrayString;
 use std::fmt::{self, Write as _};
 use std::io::{IsTerminal, Write};
 use std::sync::atomic::{AtomicU64, Ordering};
-use vtl_files::faults::VtlFault;
+use vtl_faults::faults::VtlFault;
 
 // The bytes of a GiB.
 const GIB: u64 = 1_073_741_824;
 
-/// How many GiB are full, where a count that goes from `before` to `after` fills another one.
+/// Returns how many GiB (1,073,741,824 bytes each) are full once `after` bytes are written, if fewer were full at
+/// `before` bytes; else None.
 pub fn full_gib(before: u64, after: u64) -> Option<u64>
     ensures { result ≡ full_gib before after }
 {
@@ -24,7 +25,8 @@ pub fn full_gib(before: u64, after: u64) -> Option<u64>
     }
 }
 
-/// The line for this many GiB, with its line feed. There is room for each: the longest has 33 bytes.
+/// Returns the line that reports `full` GiB as written, with its line feed. Each line fits into the 64 bytes of the
+/// result: the longest line has 33 bytes.
 pub fn gib_line(full: u64) -> Result<ArrayString<64>, fmt::Error>
     ensures { IfOk result (λ text. text.bytes ≡ gib_line full) }
 {
@@ -33,7 +35,8 @@ pub fn gib_line(full: u64) -> Result<ArrayString<64>, fmt::Error>
     Ok(text)
 }
 
-/// Whether the words of a command line begin an order to reclaim. The first word is the program's name.
+/// Whether `words`, those of a command line, ask for a reclaim: whether the second word is `reclaim`. The first word is
+/// the program's name.
 pub fn ask_to_reclaim(words: &[String]) -> bool {
     match words.get(1) {
         Some(word) => word.as_str() == "reclaim",
@@ -41,7 +44,7 @@ pub fn ask_to_reclaim(words: &[String]) -> bool {
     }
 }
 
-/// The lines of a reclaim on standard error. A line that cannot be written is left out.
+/// The lines on standard error that report how much a reclaim has written. An error while a line is written is ignored.
 #[derive(Drop)]
 pub struct GibLines<'a> {
     rt: &'a HostRuntime,
@@ -50,8 +53,8 @@ pub struct GibLines<'a> {
 }
 
 impl<'a> GibLines<'a> {
-    /// The lines of a reclaim, where standard error is a terminal and the words ask for a reclaim; else none are
-    /// written.
+    /// Creates the lines of a reclaim. They are written only if standard error is a terminal and `words`, those of the
+    /// command line, ask for a reclaim.
     pub fn new(rt: &'a HostRuntime, words: &Result<Vec<String>, VtlFault>) -> GibLines<'a> {
         let is_reclaim = match words {
             Ok(words) => ask_to_reclaim(words.as_slice()),

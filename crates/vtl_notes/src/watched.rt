@@ -2,18 +2,18 @@
 use tape_disk::Disk;
 use vtl_base::DevFault;
 
-/// Where writes are reported.
+/// A receiver of reports on writes.
 pub trait Progress {
     /// Reports that this many bytes were written.
     fn written(&self, bytes: u64);
 }
 
-/// A disk that passes each call on to the disk below, and reports each write that did not fail.
+/// A disk that passes each call on to the disk below it, and reports each write that did not fail.
 #[derive(Drop)]
 pub struct Watched<'a, D, P> {
     /// The disk below.
     pub disk: D,
-    /// Where its writes are reported.
+    /// Where the writes to the disk are reported.
     pub progress: &'a P,
 }
 

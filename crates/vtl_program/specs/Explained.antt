@@ -7,8 +7,8 @@ use Rattle.vtl_script.specs.Text.{AppendsPart}
 use Rattle.vtl_words.specs.Explaining.{asks_to_explain}
 use Rattle.vtl_program.specs.Files.{FileAnswers}
 use Rattle.vtl_program.specs.Orders.{RunsProgram}
-use Rattle.vtl_program.specs.declared.programs.Ended.{Ended}
-use Rattle.vtl_files.specs.declared.faults.VtlFault.{VtlFault}
+use Rattle.vtl_faults.specs.declared.endings.Ended.{Ended}
+use Rattle.vtl_faults.specs.declared.faults.VtlFault.{VtlFault}
 
 -- the words that the system gave ask for an explanation; words that it did not give do not (own)
 abbrev pub asks : Result (List (List ℕ)) VtlFault → Bool

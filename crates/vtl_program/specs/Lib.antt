@@ -1,5 +1,3 @@
 pub mod Explained
-pub mod Faults
 pub mod Files
 pub mod Orders
-pub mod Program

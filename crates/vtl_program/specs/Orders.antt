@@ -10,20 +10,20 @@ use Rattle.vtl_config.specs.declared.entries.Config.{Config}
 use Rattle.vtl_words.specs.Orders.{Asked, Asks, RefusesWords, check, create, reclaim, run, serve, texts_of}
 use Rattle.vtl_words.specs.declared.orders.WordsError.{WordsError}
 use Rattle.vtl_words.specs.declared.orders.WordsError.TheVariants.{Help, Refused, NoMemory}
-use Rattle.vtl_program.specs.declared.programs.Ended.{Ended}
-use Rattle.vtl_files.specs.declared.faults.Verdict.{Verdict}
-use Rattle.vtl_files.specs.declared.faults.Verdict.TheVariants.{Done}
-use Rattle.vtl_files.specs.declared.faults.VtlFault.{VtlFault}
-use Rattle.vtl_files.specs.declared.faults.VtlFault.TheVariants as Faults
+use Rattle.vtl_faults.specs.declared.endings.Ended.{Ended}
+use Rattle.vtl_faults.specs.declared.faults.Verdict.{Verdict}
+use Rattle.vtl_faults.specs.declared.faults.Verdict.TheVariants.{Done}
+use Rattle.vtl_faults.specs.declared.faults.VtlFault.{VtlFault}
+use Rattle.vtl_faults.specs.declared.faults.VtlFault.TheVariants as Faults
 use Rattle.vtl_files.specs.Checks.{ChecksOrder}
 use Rattle.vtl_files.specs.Creating.{MakeAnswers, PrintsFiles, files_of, makes_of}
 use Rattle.vtl_program.specs.Files.{FileAnswers}
 use Rattle.vtl_files.specs.Configured.{ReadsConfig}
-use Rattle.vtl_program.specs.Program.{EndsProgram}
-use Rattle.vtl_runs.specs.Running.{IsIdle, RunsOrder}
+use Rattle.vtl_faults.specs.Endings.{EndsProgram}
+use Rattle.vtl_power_on.specs.Running.{IsIdle, RunsOrder}
 use Rattle.vtl_files.specs.Reclaims.{ReclaimsNamed}
-use Rattle.vtl_runs.specs.Serving.{ServesOrder}
-use Rattle.vtl_runs.specs.Sides.{file_sides}
+use Rattle.vtl_power_on.specs.Serving.{ServesOrder}
+use Rattle.vtl_power_on.specs.Sides.{file_sides}
 
 module _ {D : Type 0} (state : D → DiskState) where
   module _ (made : MakeAnswers D) where

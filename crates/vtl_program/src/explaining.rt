@@ -1,4 +1,4 @@
-//! Why something was refused, on standard error behind the one line.
+//! Explains on standard error, after the one line of a fault, why something was refused or failed.
 ghost use Rattle.std.specs.Prelude.{◌≡◌, ◌&&◌, Result, Ok, Err, map};
 ghost use Rattle.vtl_words.specs.Orders.{texts_of};
 ghost use Rattle.vtl_program.specs.Explained.{Explains, RunsExplained, asks};
@@ -6,7 +6,6 @@ ghost use Rattle.vtl_program.specs.Files.{answers_of};
 ghost use Rattle.vtl_program.specs.Orders.{given_words};
 
 use crate::orders::run;
-use crate::programs::Ended;
 use bays::Held;
 use config_reasons::reason_of;
 use explanations::Explanation;
@@ -18,14 +17,15 @@ use std::time::Clock;
 use tape_disk::Disk;
 use vtl_base::Barcode;
 use vtl_config::{Config, ConfigError, read_config};
-use vtl_files::faults::VtlFault;
+use vtl_faults::endings::Ended;
+use vtl_faults::faults::VtlFault;
 use vtl_files::files::{ChangeFiles, MakeFiles, ReadFiles, SecondFiles, TakesBack, TextFiles};
 use vtl_notes::notes::Notes;
-use vtl_runs::starting::NotStarted;
+use vtl_power_on::starting::NotStarted;
 use vtl_script::write_text;
 use vtl_words::{Order, WordsReason, asks_to_explain, read_words};
 
-/// Whether the words that the system gave ask for an explanation.
+/// Whether the words of the command line ask for an explanation. False where `words` is a fault.
 pub fn asks(words: &Result<Vec<String>, VtlFault>) -> bool
     ensures { result ≡ asks (given_words words.now) }
 {
@@ -35,7 +35,8 @@ pub fn asks(words: &Result<Vec<String>, VtlFault>) -> bool
     }
 }
 
-/// Whether the words ask for an explanation of a script's lines. Where frames are served there are no such lines.
+/// Whether the lines of a script are to be explained. True where the words ask for an explanation, and are not an order
+/// to serve frames.
 pub fn asks_of_lines(alloc: Global, words: &Result<Vec<String>, VtlFault>) -> bool {
     match words {
         Ok(words) if asks_to_explain(words.as_slice()) => {
@@ -60,7 +61,7 @@ enum Doubt {
     Frames,
 }
 
-// What an explanation of an order has to be looked for in.
+// Where the explanation of an order is looked for, besides the notes.
 fn doubt_in(alloc: Global, words: &[String]) -> Doubt {
     match read_words(alloc, words) {
         Ok(order) => match order {
@@ -82,7 +83,7 @@ fn doubt_in(alloc: Global, words: &[String]) -> Doubt {
     }
 }
 
-// What an explanation has to be looked for in, where one is asked for.
+// Where an explanation is looked for, besides the notes, if one is asked for.
 fn doubt_of(alloc: Global, asked: bool, words: &Result<Vec<String>, VtlFault>) -> Doubt {
     let words = match words {
         Ok(words) if asked => words.as_slice(),
@@ -167,8 +168,8 @@ fn add_frame(alloc: Global, notes: &Notes, lines: &mut Explanation) -> Result<()
     }
 }
 
-// Adds the lines of what failed: of a file of reservations that was opened and is refused, or else of calls. A call for
-// another file may have failed before, as a cartridge was loaded, which ends no run.
+// Adds the lines of what failed: of a store's file that was opened and is refused, or else of calls that failed. A call
+// for another file may have failed before that, as a cartridge was loaded; this does not end a run.
 fn add_failed(
     alloc: Global,
     notes: &Notes,
@@ -185,7 +186,7 @@ fn add_failed(
     Ok(())
 }
 
-// The lines for a status.
+// The lines that explain why the program ends with this status.
 fn lines_for(
     alloc: Global,
     status: u8,
@@ -205,8 +206,8 @@ fn lines_for(
     Ok(lines)
 }
 
-// Writes the lines for a status, where they are asked for. Lines that cannot be written, or for which memory runs out,
-// are left out.
+// Writes the lines for a status, if they are asked for. If memory runs out, nothing is written; if a write fails, a
+// beginning of them may be.
 fn explain<E: Write>(
     asked: bool,
     alloc: Global,
@@ -227,15 +228,17 @@ fn explain<E: Write>(
     let _ = write_text(errors, lines.as_str().as_bytes());
 }
 
-// Whether lines stand behind the one line: they were asked for, and that line was written where there is one.
+// Whether lines follow the line of a fault: they were asked for, and that line was written, if there is one.
 fn is_wanted(asked: bool, reported: bool) -> bool
     ensures { result ≡ (asked && reported) }
 {
     asked && reported
 }
 
-/// Runs the program, as `run` does. Behind the line of a fault it writes the lines that explain the fault, if the words
-/// ask for them and that line was written. Before these lines the program has done all else, and its status is decided.
+/// Runs the program, as `run` does, and then writes the lines that explain its fault, or what it refused, to `errors`.
+/// The lines are written only if the words ask for them. They follow the line that reports the fault, if there is one,
+/// and are left out if that line could not be written, or if memory runs out for them. They change neither what the
+/// program does nor its status.
 pub fn run_explained<
     D: Disk + Drop + Send,
     F: TextFiles

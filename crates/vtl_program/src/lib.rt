@@ -2,7 +2,5 @@
 #![tactic(auto)]
 
 pub mod explaining;
-pub mod lines;
 pub mod orders;
-pub mod programs;
 pub mod system_files;

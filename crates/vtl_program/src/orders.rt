@@ -4,7 +4,6 @@ ghost use Rattle.vtl_files.specs.Creating.{makes_of};
 ghost use Rattle.vtl_program.specs.Files.{answers_of};
 ghost use Rattle.vtl_program.specs.Orders.{AnswersWords, CreatesOrder, DoesOrder, Obeys, ReclaimsOrder, RunsProgram, given_words};
 
-use crate::programs::{Ended, end};
 use bays::Held;
 use std::alloc::Global;
 use std::io::{Read, Write};
@@ -13,19 +12,20 @@ use std::thread::Threads;
 use std::time::Clock;
 use tape_disk::Disk;
 use vtl_base::Barcode;
+use vtl_faults::endings::{Ended, end};
+use vtl_faults::faults::{Verdict, VtlFault};
 use vtl_files::configs::config_in;
 use vtl_files::creating::create_missing;
-use vtl_files::faults::{Verdict, VtlFault};
 use vtl_files::files::{ChangeFiles, MakeFiles, ReadFiles, SecondFiles, TakesBack, TextFiles};
 use vtl_files::reclaiming::reclaim_named;
 use vtl_files::side_checks::check_named;
 use vtl_files::writing::print_text;
-use vtl_runs::running::run_order;
-use vtl_runs::serving::serve_order;
-use vtl_runs::starting::NotStarted;
+use vtl_power_on::running::run_order;
+use vtl_power_on::serving::serve_order;
+use vtl_power_on::starting::NotStarted;
 use vtl_words::{Order, WordsError, read_words};
 
-// Makes the missing files of the configuration that a file says.
+// Makes the missing files of the configuration in the file `name`.
 fn create_order<D: Disk + Drop, F: TextFiles + MakeFiles<D> + SecondFiles<D>, W: Write>(
     alloc: Global,
     files: &F,
@@ -40,7 +40,7 @@ fn create_order<D: Disk + Drop, F: TextFiles + MakeFiles<D> + SecondFiles<D>, W:
     create_missing::<D, F, W>(alloc, files, config, writer)
 }
 
-// Reclaims the cartridge that has this barcode, of the configuration that a file says.
+// Reclaims the cartridge that has this barcode in the configuration in the file `name`.
 fn reclaim_order<D: Disk + Drop, F: TextFiles + ChangeFiles<D> + SecondFiles<D>, W: Write>(
     alloc: Global,
     files: &F,
@@ -102,7 +102,7 @@ fn do_order<
     Ok(Verdict::Done)
 }
 
-// Answers words that give no order.
+// Answers words that give no order: writes the help that they ask for, or returns the fault.
 fn answer_words<W: Write>(error: WordsError, writer: &mut W) -> Result<Verdict, VtlFault>
     ensures { AnswersWords error (W.contents writer.old) (W.contents writer.new) result }
 {
@@ -116,7 +116,9 @@ fn answer_words<W: Write>(error: WordsError, writer: &mut W) -> Result<Verdict, 
     }
 }
 
-/// Does what the words of a command line ask for, over these files. The first word is the program's name.
+/// Does what the words of a command line ask for, with these files. The first word is the program's name. Scripts and
+/// frames are read from `reader`; answers, reports and help are written to `writer`. Returns `Done` or `Refused`, or
+/// the fault that ended the order.
 pub fn obey<
     D: Disk + Drop + Send,
     F: TextFiles
@@ -149,8 +151,9 @@ pub fn obey<
     }
 }
 
-/// The program over its files and its three streams: it does what its words ask for, and reports a fault by one line on
-/// the third stream and by its status. Where the system gave no words, their fault is reported.
+/// Runs the program with its files and its three streams: does what its words ask for, as `obey` does, and reports a
+/// fault by one line on `errors` and by its status. If the system provided no words, `words` is the fault that kept
+/// them from the program, and this fault is reported.
 pub fn run<
     D: Disk + Drop + Send,
     F: TextFiles

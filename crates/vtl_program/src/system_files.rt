@@ -1,4 +1,4 @@
-//! The files of the operating system, whose calls are noted.
+//! The files of the operating system. The calls for them are noted.
 ghost use Rattle.std.specs.Prelude.{◌≡◌};
 
 use bays::Held;
@@ -11,9 +11,9 @@ use vtl_notes::notes::Notes;
 use vtl_notes::open_files::NotedDisk;
 use vtl_notes::progress::GibLines;
 use vtl_notes::watched::Watched;
-use vtl_runs::starting::NotStarted;
+use vtl_power_on::starting::NotStarted;
 
-/// The files of the operating system. No contract of its calls says what they hold, so any answer is possible.
+/// The files of the operating system. No contract restricts what a call for a file returns, so any answer is possible.
 #[derive(Clone, Copy)]
 pub struct SystemFiles<'a> {
     /// The runtime, through which the system is called.
@@ -24,11 +24,12 @@ pub struct SystemFiles<'a> {
     pub notes: &'a Notes,
 }
 
-/// A disk over a file of the operating system, whose writes are reported, and the first call that fails is noted.
+/// A disk over a file of the operating system. Its writes are reported, and the first of its calls that fails is noted.
 pub type SystemDisk<'a> = Watched<'a, NotedDisk<'a, FileDisk>, GibLines<'a>>;
 
 impl<'a> SystemFiles<'a> {
-    // The disk of the file of this number, whose writes are reported.
+    // A disk over `disk`, for the file with this number. Its writes are reported, and its first call that fails is
+    // noted.
     fn watched(&self, number: u64, disk: FileDisk) -> SystemDisk<'a>
         ensures { result.disk.disk ≡ disk }
     {
@@ -42,12 +43,13 @@ impl<'a> SystemFiles<'a> {
         }
     }
 
-    // Notes that a file of this name is opened, made or read, and returns its number.
+    // Notes that a file of this name is opened, made or read, and returns its number, or 0 where it is left out.
     fn enter(&self, name: &str) -> u64 {
         self.notes.files().enter(self.rt.alloc(), name)
     }
 
-    // The disk of the file of this name and number, if there is one. Notes what was answered.
+    // Notes what a call that opens or makes a file was answered, and returns its disk, wrapped by `watched`, or the
+    // error.
     fn answer(
         &self,
         name: &str,
@@ -130,7 +132,8 @@ impl<'a> ChangeFiles<SystemDisk<'a>> for SystemFiles<'a> {
 
     fn return_disk(&self, name: UsedName, mut disk: SystemDisk<'a>) {
         let number = disk.disk.number;
-        self.notes.give_back(self.rt.alloc(), name.as_str(), number);
+        self.notes
+            .note_returned(self.rt.alloc(), name.as_str(), number);
         self.notes.look(self.rt.alloc(), name.as_str(), &mut disk);
         drop(disk);
     }
@@ -169,7 +172,7 @@ impl<'a> MakeFiles<SystemDisk<'a>> for SystemFiles<'a> {
         drop(disk);
     }
 
-    // The disk has the lock, until the file is gone.
+    // The disk holds the lock of the file until the file is removed.
     fn take_away(&self, name: UsedName, disk: SystemDisk<'a>) {
         let _ = fs::remove_file(self.rt, name.as_str());
         drop(disk);

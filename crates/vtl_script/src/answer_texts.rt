@@ -12,7 +12,7 @@ use std::alloc::{AllocError, Global};
 use std::io::Write;
 use std::marker::Model;
 
-/// How many bytes one write has at most.
+/// The greatest number of bytes in one write.
 pub const WRITE_CHUNK: usize = 65_536;
 
 /// Text that is not written yet: the first `filled` bytes of `buffer`. A contract sees it as a list.
@@ -43,7 +43,7 @@ fn put_bytes(buffer: &mut Vec<u8>, filled: usize, bytes: &[u8])
     buffer[filled..end].copy_from_slice(bytes);
 }
 
-// Puts the digits of these bytes after the bytes that fill a buffer.
+// Puts these bytes, as hex digits, after the bytes that fill a buffer.
 fn put_digits(buffer: &mut Vec<u8>, filled: usize, bytes: &[u8])
     requires { filled + 2 * length bytes.now ≤ vec_len buffer.old }
     ensures added { take (filled + 2 * length bytes.now) buffer.new.items
@@ -55,7 +55,7 @@ fn put_digits(buffer: &mut Vec<u8>, filled: usize, bytes: &[u8])
 }
 
 impl AnswerText {
-    /// No text yet. All memory that it ever uses is taken here.
+    /// An empty text. All memory that the text ever uses is allocated here.
     pub fn new(alloc: Global) -> Result<Self, AllocError>
         ensures { IfOk result (λ text. text ≡ []) }
     {
@@ -64,7 +64,8 @@ impl AnswerText {
         Ok(AnswerText { buffer, filled: 0 })
     }
 
-    /// Writes all of it. Where a write fails, a beginning of it is written.
+    /// Writes all of the text to `writer`, after which the text is empty. Where a write fails, a beginning of the text
+    /// was written.
     pub fn write_out<W: Write>(&mut self, writer: &mut W) -> Result<(), ScriptFault>
         ensures ok { OnOk result (Appends (W.contents writer.old) (W.contents writer.new) self.old) }
         ensures empty { OnOk result (self.new ≡ []) }
@@ -76,7 +77,7 @@ impl AnswerText {
         Ok(())
     }
 
-    // Writes all of it where there is no room for `count` more bytes.
+    // Writes all of the text where there is no room for `count` more bytes.
     fn make_room<W: Write>(&mut self, writer: &mut W, count: usize) -> Result<(), ScriptFault>
         requires { count ≤ WRITE_CHUNK }
         ensures ok { OnOk result (Adds (W.contents writer.old) self.old [] (W.contents writer.new) self.new) }
@@ -90,7 +91,8 @@ impl AnswerText {
         self.write_out(writer)
     }
 
-    /// Adds these bytes. What was held may be written first; where that fails, a beginning of it is written.
+    /// Adds these bytes, at most 65,536, to the text. Where there is no room for them, the text so far is first written
+    /// to `writer`; where that fails, a beginning of the text was written.
     pub fn add<W: Write>(&mut self, writer: &mut W, bytes: &[u8]) -> Result<(), ScriptFault>
         requires { length bytes.now ≤ WRITE_CHUNK }
         ensures ok { OnOk result (Adds (W.contents writer.old) self.old bytes.now (W.contents writer.new) self.new) }
@@ -104,7 +106,7 @@ impl AnswerText {
         Ok(())
     }
 
-    /// Adds the digits of these bytes, in the same way.
+    /// Adds these bytes, at most 32,768, to the text as hex digits, two for each byte, in the same way as `add`.
     pub fn add_digits<W: Write>(&mut self, writer: &mut W, bytes: &[u8]) -> Result<(), ScriptFault>
         requires { 2 * length bytes.now ≤ WRITE_CHUNK }
         ensures ok { OnOk result (Adds (W.contents writer.old) self.old (encode_lower bytes.now)

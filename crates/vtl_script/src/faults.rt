@@ -6,13 +6,14 @@ use vtl_base::NoMemory;
 /// Why a script is not run to its end.
 #[derive(Clone, Copy, PartialEq, Eq, Debug, Error)]
 pub enum ScriptFault {
-    /// A line has none of the forms of a line. Lines are counted from 1 on.
+    /// The line with this number, counted from 1, is refused: it has none of the forms of a line, it has more than
+    /// 2,200,000 bytes, or its drive is not configured.
     #[error("line {line} refused")]
     BadLine { line: u64 },
-    /// A read failed, or the script is past its limits of bytes or reads.
+    /// A read failed, or the script exceeds its limit of bytes or of reads.
     #[error("read fault")]
     ReadFault,
-    /// A write failed.
+    /// A write or a flush of the replies failed.
     #[error("write fault")]
     WriteFault,
     /// Memory ran out.

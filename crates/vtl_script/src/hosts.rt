@@ -19,8 +19,8 @@ fn are_sorted_by_host(lines: &[Line]) -> bool
     true
 }
 
-/// Puts the commands of a phase in the order of their turns: by rising host, each host's in their order. Where they are
-/// in that order already, memory does not run out.
+/// Sorts the commands of a phase into the order in which they are run: by rising host, and those of one host in their
+/// present order. Where the commands are sorted already, memory does not run out.
 pub fn sort_by_host(lines: &mut Vec<Line>) -> Result<(), AllocError>
     requires { list_all has_host lines.old.items ≡ true }
     ensures order { OnOk result (lines.new.items ≡ by_host lines.old.items) }

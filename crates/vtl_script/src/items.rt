@@ -29,7 +29,7 @@ impl Model for Commands {
 }
 
 impl Commands {
-    /// The commands of a `Vec`, which takes no memory.
+    /// Makes the commands of a phase out of a `Vec`. The call allocates no memory.
     pub fn from_vec(lines: Vec<Line>) -> Self
         ensures { result ≡ lines.items }
     {
@@ -43,7 +43,7 @@ impl Commands {
         self.lines.as_slice()
     }
 
-    /// The commands, each of whose data may be taken.
+    /// The commands, for taking the data out of each.
     pub fn as_mut_slice(&mut self) -> &mut [Line]
         ensures { result.now ≡ self.old }
     {
@@ -54,14 +54,15 @@ impl Commands {
 /// A part of a script that is run as one step.
 #[derive(Drop)]
 pub enum Item {
-    /// The commands of a phase, in the order of their turns.
+    /// The commands of a phase, in the order in which they are run: by rising host, and those of one host in the order
+    /// of their lines.
     Phase(Commands),
-    /// Moves the cartridge at one element address to another one. The addresses are as the line gives them, at most
-    /// 99999 each.
+    /// A move of the cartridge at one element address to another address. The addresses are as the line states them, at
+    /// most 99,999 each.
     Move { from: u32, to: u32 },
 }
 
-/// The next phase, the move that ended it, if one did, and whether the text has ended with them.
+/// The next phase, the move that ended it (None where no move did), and whether the text has ended with them.
 #[derive(Drop)]
 pub struct NextItems {
     pub phase: Item,
@@ -69,8 +70,9 @@ pub struct NextItems {
     pub is_last: bool,
 }
 
-/// Reads a phase and the move that ends it, or up to the first line of them that is refused. Where the bytes that came
-/// show its end, the reader is not called.
+/// Reads a phase, and the move that ends it, if one does. The first line that is refused is reported as `BadLine`, and
+/// the reading ends with it. Where the bytes already read show the end of the phase, or a line that is refused, the
+/// reader is not called.
 pub fn read_items<P: Runner, R: Read>(
     alloc: Global,
     runner: &P,

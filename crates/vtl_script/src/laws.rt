@@ -1,8 +1,8 @@
 //! Laws of scripts.
 ghost use Rattle.vtl_script.specs.InOrder.{OneHostInOrder, NoMoveIsRun};
 
-/// The commands of one host are run line by line, however they are parted into phases, and no move is
-/// run that no line asks for.
+/// Where all commands of a script are from one host, and no line is refused, they are run in the order of their lines,
+/// however the lines are split into phases. Where no line asks for a move, no move is run.
 pub fn one_host_runs_in_order()
     ensures order { OneHostInOrder }
     ensures moves { NoMoveIsRun }

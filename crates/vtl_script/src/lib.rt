@@ -1,4 +1,4 @@
-//! Scripts: read line by line, run item by item by any `Runner`, and answered.
+//! Scripts: read line by line, run by any `Runner` item by item (a phase of commands, or a move), and answered.
 #![tactic(auto)]
 
 mod answer_texts;

@@ -1,4 +1,4 @@
-//! How far a script was read: its bytes come in chunks, within limits, and are taken up line by line.
+//! How far a script was read. Its bytes are read in chunks, within limits, and taken up line by line.
 ghost use Rattle.std.specs.Prelude.{◌≡◌, ◌<◌, ◌≤◌, ◌+◌, ◌==◌, ◌++◌, ◌⊎◌, [], ℕ, length, take, drop, vec_len, position, Some, None, Ok, true, false, IsOk, IfOk, IfErr, OnOk, OnErr};
 ghost use Rattle.std.specs.Io.KnownBytes.{Consumes, IsAtEnd};
 ghost use Rattle.vtl_script.specs.Inner.Reading.{unbegun, bytes_read, shows_end, Comes, LineEnds};
@@ -12,7 +12,8 @@ use std::io::Read;
 use std::marker::Model;
 use vtl_base::limits::{LINE_BYTES, SCRIPT_BYTES, SCRIPT_READS};
 
-/// The bytes of a script that were read, from the first line on that was not taken up.
+/// The bytes of a script that were read, from the first line on that was not yet taken up; and how many bytes, reads
+/// and lines there were so far.
 #[derive(Drop)]
 pub struct LineReader {
     buffer: ReadBuffer,
@@ -21,14 +22,14 @@ pub struct LineReader {
     lines: u64,
 }
 
-/// Where the first line ends.
+/// Where the first line that was not yet taken up ends.
 #[derive(Drop)]
 pub enum Found {
     /// At the line feed after this many bytes.
     Line(usize),
-    /// At the end of the text.
+    /// At the end of the text, without a line feed.
     Last,
-    /// Not within the limit of a line.
+    /// Not within the limit of a line, 2,200,000 bytes.
     TooLong,
 }
 
@@ -104,7 +105,9 @@ impl LineReader {
         }
     }
 
-    /// Brings the first line into the buffer. Where the bytes that came show its end, the reader is not called.
+    /// Reads until it is known where the first line that was not yet taken up ends, and returns that. Where the bytes
+    /// already read show it, the reader is not called. Fails with `ReadFault` where a read fails, or the script exceeds
+    /// its limit of bytes or of reads; and with `NoMemory` where memory runs out.
     pub fn find<R: Read>(&mut self, reader: &mut R) -> Result<Found, ScriptFault>
         ensures comes { OnOk result
             (Comes (R.remaining reader.old) self.old (R.remaining reader.new) self.new) }
@@ -132,7 +135,7 @@ impl LineReader {
         }
     }
 
-    /// The first bytes of the first line.
+    /// The first `count` of the bytes that were read and not yet taken up.
     pub fn front(&self, count: usize) -> &[u8]
         requires { count ≤ length self.now.unread }
         ensures { result.now ≡ take count self.now.unread }
@@ -140,7 +143,7 @@ impl LineReader {
         &self.buffer.as_slice()[..count]
     }
 
-    /// All bytes that were not taken up: those of a longest line and one more at most.
+    /// All bytes that were read and not yet taken up: at most 2,200,001, one more than the longest line has.
     pub fn unread(&self) -> &[u8]
         ensures bytes { result.now ≡ self.now.unread }
         ensures most { length self.now.unread ≤ LINE_BYTES + 1 }
@@ -149,7 +152,7 @@ impl LineReader {
         self.buffer.as_slice()
     }
 
-    /// How many lines were taken up.
+    /// How many lines were taken up so far.
     pub fn lines(&self) -> u64
         ensures lines { result ≡ self.now.lines }
         ensures limit { result + length self.now.unread ≤ SCRIPT_BYTES }
@@ -157,14 +160,15 @@ impl LineReader {
         self.lines
     }
 
-    /// How many reads were made.
+    /// How many reads were made so far.
     pub fn reads(&self) -> u64
         ensures { result ≡ self.now.reads }
     {
         self.reads
     }
 
-    /// Takes up the first line, which has `count` bytes before its line feed.
+    /// Takes up the first line, which has `count` bytes before its line feed. The reader no longer holds these bytes
+    /// and the line feed.
     pub fn take_up(&mut self, count: usize)
         requires { count < length self.old.unread }
         ensures line { self.new ≡ record self.old {

@@ -22,15 +22,16 @@ pub struct Line {
 /// What a line of a script says.
 #[derive(Drop)]
 pub enum ParsedLine {
-    /// Nothing: it has no field, or is a remark.
+    /// The line says nothing: it has no field, or is a remark.
     Nothing,
-    /// The phase ends.
+    /// The line ends a phase and says nothing else: its only field is `--`.
     PhaseEnd,
     /// A command.
     Command(Line),
-    /// Moves the cartridge at one element address to another one. The phase ends before it.
+    /// A move of the cartridge at one element address to another address. The phase ends before the move.
     Move { from: u32, to: u32 },
-    /// The text has none of the forms of a line.
+    /// The line is refused: it has none of the forms of a line, it has more than 2,200,000 bytes, or its drive is not
+    /// configured.
     Refused,
 }
 
@@ -173,7 +174,7 @@ fn command<P: Runner>(
     }))
 }
 
-// What the fields of a line say, the first of them apart.
+// What a line says that is neither a remark nor a move. `first` is its first field, and `rest` has the others.
 fn parse_command<P: Runner>(
     alloc: Global,
     runner: &P,
@@ -199,7 +200,7 @@ fn parse_command<P: Runner>(
     }
 }
 
-// The move between the addresses of these fields.
+// The move between the two addresses in these fields, those after `move`.
 fn parse_move(rest: &[u8]) -> ParsedLine
     ensures { result ≡ parse_move (line_fields rest.now) }
 {
@@ -218,7 +219,8 @@ fn parse_move(rest: &[u8]) -> ParsedLine
     }
 }
 
-/// What a line says. It is given without its line feed and without a carriage return before that.
+/// Returns what a line says; `runner` says which drives are configured. `line` comes without its line feed, and without
+/// the carriage return before that, if there is one. An error is returned where memory runs out.
 pub fn parse<P: Runner>(alloc: Global, runner: &P, line: &[u8]) -> Result<ParsedLine, NoMemory>
     ensures { IfOk result (λ parsed.
         parsed ≡ parse_fields (P.is_configured runner.now) (line_fields line.now)) }

@@ -22,8 +22,8 @@ pub struct NextLine {
     pub is_last: bool,
 }
 
-/// The commands of a phase in the order of their lines, the move that ended it, if one did, and
-/// whether the text has ended with it.
+/// The commands of a phase in the order of their lines, the move that ended the phase (None where no move did), and
+/// whether the text has ended with the phase.
 #[derive(Drop)]
 pub struct PhaseLines {
     pub lines: Vec<Line>,
@@ -41,7 +41,7 @@ fn without_return(line: &[u8]) -> &[u8]
     }
 }
 
-// What a line says that has `count` bytes before its line feed, given those that count.
+// What a line says that has `count` bytes before its line feed. `line` has those of them that are parsed.
 fn parsed_line<P: Runner>(
     alloc: Global,
     runner: &P,
@@ -57,7 +57,8 @@ fn parsed_line<P: Runner>(
     parse(alloc, runner, line)
 }
 
-// A line that is refused ends the reading.
+// What the next line says. Where that line is refused, its number `line` is returned as an error, which ends the
+// reading.
 fn accepted(parsed: ParsedLine, is_last: bool, line: u64) -> Result<NextLine, ScriptFault>
     ensures { ReportsRefused parsed is_last line result }
 {
@@ -124,7 +125,7 @@ fn move_in(parsed: &ParsedLine) -> Option<Item>
     }
 }
 
-// Adds the command of a line. Returns whether the phase ends with it.
+// Adds the command of a line, if it has one. Returns true where the line ends the phase.
 fn gather(lines: &mut Vec<Line>, parsed: ParsedLine) -> Result<bool, ScriptFault>
     ensures ends { IfOk result (λ is_end. is_end ≡ is_phase_end parsed) }
     ensures lines { OnOk result
@@ -141,8 +142,9 @@ fn gather(lines: &mut Vec<Line>, parsed: ParsedLine) -> Result<bool, ScriptFault
     }
 }
 
-/// Reads a phase: the commands up to its end, with the move that ends it, or up to the first line
-/// that is refused. Where the bytes that came show its end, the reader is not called.
+/// Reads a phase: the commands up to its end, and the move that ends it, if one does. The first line that is refused is
+/// reported as `BadLine`, and the reading ends with it. Where the bytes already read show the end of the phase, or a
+/// line that is refused, the reader is not called.
 pub fn read_phase<P: Runner, R: Read>(
     alloc: Global,
     runner: &P,

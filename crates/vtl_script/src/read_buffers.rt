@@ -1,4 +1,4 @@
-//! The bytes of a script that came and were not taken up, in a buffer that is cleared once, when it grows.
+//! The bytes of a script that were read and not yet taken up, in a buffer that is filled with zeros only as it grows.
 ghost use Rattle.std.specs.Prelude.{◌≡◌, ◌<◌, ◌≤◌, ◌+◌, ◌-◌, ◌⊎◌, [], length, take, drop, vec_len, Some, Ok, IfErr, OnOk};
 ghost use Rattle.std.specs.Io.KnownBytes.{Consumes, IsAtEnd};
 ghost use Rattle.vtl_base.specs.declared.limits.TheConstants.{LINE_BYTES};
@@ -18,8 +18,8 @@ const FIRST_BYTES: usize = 65_536;
 // The bytes of a buffer behind a line that has: a longest line, and the byte that ends it or is one too many.
 const MOST_BYTES: usize = LINE_BYTES + 1;
 
-/// Bytes that came and were not taken up: those of `buffer` from `start` up to `filled`. A contract sees them as a
-/// list.
+/// Bytes that were read and not yet taken up: those of `buffer` from index `start` to before index `filled`. A contract
+/// sees them as a list.
 #[derive(Drop)]
 pub struct ReadBuffer {
     buffer: Vec<u8>,
@@ -55,7 +55,8 @@ fn read_once<R: Read>(reader: &mut R, slice: &mut [u8]) -> Result<Option<usize>,
     }
 }
 
-// Makes one read into a slice, after the bytes that fill it.
+// Makes one read into `buffer`, after its first `filled` bytes. Returns how many bytes came, or None where the read was
+// interrupted.
 fn read_behind<R: Read>(
     reader: &mut R,
     buffer: &mut [u8],
@@ -82,7 +83,7 @@ fn count(outcome: &Result<Option<usize>, ScriptFault>) -> usize
     }
 }
 
-// Moves `count` bytes from this place on to the front, where as many bytes stand before them.
+// Moves the `count` bytes from `start` on to the front. At least as many bytes must stand before them.
 fn move_down(bytes: &mut [u8], start: usize, count: usize)
     requires before { count ≤ start }
     requires within { start + count ≤ length bytes.old }
@@ -93,8 +94,8 @@ fn move_down(bytes: &mut [u8], start: usize, count: usize)
     front[..count].copy_from_slice(&behind[..count]);
 }
 
-// Moves the bytes from `start` up to `filled` to the front, where as many stand before them or there is no room behind
-// them; there those before them are moved too. Returns where they begin then.
+// Moves the bytes from `start` up to `filled` to the front, if at least as many bytes stand before them, or if there is
+// no room after them. In the second case those before them are moved too. Returns where the bytes begin then.
 fn close_up(buffer: &mut Vec<u8>, start: usize, filled: usize) -> usize
     requires start { start ≤ filled }
     requires filled { filled ≤ vec_len buffer.old }
@@ -114,7 +115,7 @@ fn close_up(buffer: &mut Vec<u8>, start: usize, filled: usize) -> usize
     start
 }
 
-// Makes a full buffer longer.
+// Makes a buffer longer, if all of it is filled.
 fn make_room(buffer: &mut Vec<u8>, filled: usize) -> Result<(), AllocError>
     requires filled { filled ≤ vec_len buffer.old }
     requires most { vec_len buffer.old ≤ MOST_BYTES }
@@ -132,7 +133,7 @@ fn make_room(buffer: &mut Vec<u8>, filled: usize) -> Result<(), AllocError>
 }
 
 impl ReadBuffer {
-    /// No bytes, which takes no memory.
+    /// A buffer with no bytes. The call allocates no memory.
     pub fn new(alloc: Global) -> Self
         ensures { result ≡ [] }
     {
@@ -143,7 +144,7 @@ impl ReadBuffer {
         }
     }
 
-    /// The bytes.
+    /// The bytes that were read and not yet taken up, at most 2,200,001.
     pub fn as_slice(&self) -> &[u8]
         ensures bytes { result.now ≡ self.now }
         ensures most { length self.now ≤ MOST_BYTES }
@@ -151,7 +152,7 @@ impl ReadBuffer {
         &self.buffer[self.start..self.filled]
     }
 
-    /// Takes up the first `count` bytes.
+    /// Takes up the first `count` bytes, so that the buffer no longer holds them.
     pub fn pass(&mut self, count: usize)
         requires { count ≤ length self.old }
         ensures { self.new ≡ drop count self.old }
@@ -159,16 +160,20 @@ impl ReadBuffer {
         self.start += count;
     }
 
-    /// Takes up all bytes.
+    /// Takes up all bytes, so that the buffer holds none.
     pub fn clear(&mut self)
         ensures { self.new ≡ [] }
     {
         self.start = self.filled;
     }
 
-    /// Makes one read, for as many bytes as there is room for. Returns how many came, or None where it was interrupted.
-    /// The bytes move only where others stood before them, and as the buffer grows. So a caller that reads only where
-    /// no line is whole moves each byte once at most, and those of a line that outgrows the first buffer once more.
+    /// Makes one read, for as many bytes as there is room for. Returns how many bytes came, 0 at the end of the text,
+    /// or None where the read was interrupted. Fails with `ReadFault` where the read fails; and with `NoMemory`, before
+    /// anything is read, where memory runs out.
+    ///
+    /// The bytes that the buffer holds are moved only where other bytes were before them, and as the buffer grows. So a
+    /// caller that reads only while no whole line is held moves each byte once at most. The bytes of a line that
+    /// outgrows the first buffer, of 65,536 bytes, are moved once more.
     pub fn read<R: Read>(&mut self, reader: &mut R) -> Result<Option<usize>, ScriptFault>
         requires { length self.old ≤ LINE_BYTES }
         ensures brings { BringsBytes (R.remaining reader.old) self.old

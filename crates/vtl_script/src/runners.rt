@@ -16,19 +16,20 @@ pub trait Runner {
     /// Whether there is a drive with this number.
     ghost is_configured: { Self → ℕ → Bool };
 
-    /// A runner with the first value may give these replies to these items, one after another, and then has the last
-    /// value.
+    /// Relates a runner before it ran some items to the runner after it: from the first state, it may give these
+    /// replies to these items, one after another, and then is in the last state.
     ghost answers: { Self → List Item → List Reply → Self → Type 0 };
 
-    /// The runner may run items. What it holds may require that, as a closure that it calls does.
+    /// What must hold of a runner before it runs an item: for instance the precondition of a closure that it calls.
     ghost is_ready: { Self → Type 0 };
 
     /// Whether this drive is configured.
     fn configured(&self, drive: DriveNo) -> bool
         ensures { result ≡ is_configured self.now drive };
 
-    /// Runs an item: a reply for each command of a phase, in order, and one for a move. Where memory runs out, only the
-    /// first commands were run, and a move was run or not. The data of each command may be taken (`Bytes::take`).
+    /// Runs an item, and returns the replies: one for each command of a phase, in order, or one for a move. Where
+    /// memory runs out, only some of the commands were run, from the first on: none, a few or all. A move was either
+    /// run or not. The data of each command may be taken out of `item` (`Bytes::take`).
     fn run(&mut self, alloc: Global, item: &mut Item) -> Result<Vec<Reply>, NoMemory>
         requires item { IsRunnable (is_configured self.old) item.old }
         requires ready { is_ready self.old }
@@ -40,7 +41,7 @@ pub trait Runner {
     /// A run of no items gives no replies, and leaves the runner as it is.
     ghost answers_none: { (runner : Self) → answers runner [] [] runner };
 
-    /// So does a phase with no commands.
+    /// A phase with no commands gives no replies either, and leaves the runner as it is.
     ghost answers_empty: { (runner : Self) → answers runner (Phase [] ∷ []) [] runner };
 
     /// Two runs, one after the other, answer the items of the first and then those of the second.

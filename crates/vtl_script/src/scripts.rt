@@ -36,7 +36,7 @@ fn run_item<P: Runner, W: Write>(
     print_replies(text, writer, replies.as_slice())
 }
 
-// Runs a phase and writes its replies, and then the move behind it, if there is one.
+// Runs a phase and writes its replies, and then does the same with the move after it, if there is one.
 fn run_items<P: Runner, W: Write>(
     alloc: Global,
     runner: &mut P,
@@ -94,9 +94,9 @@ fn run_next<P: Runner, R: Read, W: Write>(
     Ok(!is_last)
 }
 
-/// Reads a script, runs it item by item and writes the replies, and nothing else. No byte is read
-/// between the line that ends a phase and the flush of its replies; where a move ends it, that line
-/// was read, and no byte behind it until the replies of the move were flushed too.
+/// Reads a script from `reader`, runs it item by item with `runner`, and writes the replies to `writer`, and nothing
+/// else. After the read that brings the end of a phase, the reader is not called again until the replies of the phase
+/// are flushed. Where a move ends the phase, the replies of the move are flushed before that too.
 pub fn run_script<P: Runner, R: Read, W: Write>(
     alloc: Global,
     runner: &mut P,

@@ -14,8 +14,8 @@ use std::io::Write;
 // How many bytes one step spells in digits at most.
 const DIGITS_PIECE: usize = 4_096;
 
-/// Writes a text. Where a write fails, the result is a `WriteFault`, and a beginning of the text is written. An
-/// interrupted write is made again. Nothing is flushed.
+/// Writes a text to `writer`. Where a write fails, the result is a `WriteFault`, and a beginning of the text was
+/// written. An interrupted write is made again. Nothing is flushed.
 pub fn write_text<W: Write>(writer: &mut W, text: &[u8]) -> Result<(), ScriptFault>
     ensures ok { OnOk result (Appends (W.contents writer.old) (W.contents writer.new) text.now) }
     ensures err { OnErr result
@@ -37,7 +37,7 @@ pub fn write_text<W: Write>(writer: &mut W, text: &[u8]) -> Result<(), ScriptFau
     Err(ScriptFault::WriteFault)
 }
 
-// Adds the digits of these bytes.
+// Adds these bytes as hex digits.
 fn add_digits<W: Write>(
     text: &mut AnswerText,
     writer: &mut W,
@@ -121,7 +121,9 @@ fn add_reply<W: Write>(
     text.add(writer, b"\n")
 }
 
-/// Writes the lines of replies, in order, and flushes them. Where a write fails, a beginning of their text is written.
+/// Writes the lines of `replies`, in order, to `writer`, and flushes it. `text` is the buffer for the lines: it must be
+/// empty, and is empty again at Ok. Where a write or the flush fails, a beginning of the lines was written, perhaps all
+/// of them.
 pub fn print_replies<W: Write>(
     text: &mut AnswerText,
     writer: &mut W,

@@ -1,4 +1,4 @@
-//! The desk, which serves moves and inventories over a library that threads share.
+//! The desk, which serves moves and inventories in a library that threads share.
 ghost use Rattle.std.specs.Prelude.{◌≡◌, ◌<◌, ◌+◌, ◌++◌, ◌∷◌, [], true, IfOk, OnOk, flat_map, map};
 ghost use Rattle.std.specs.List.{range_with_len};
 ghost use Rattle.vtl_base.specs.declared.limits.TheConstants.{DRIVES, FIRST_SLOT, SLOTS};
@@ -18,7 +18,8 @@ use vtl_base::{DriveNo, NoMemory};
 use vtl_hosts::Desk;
 use vtl_wire::{Answer, Entries, Entry, Request};
 
-/// The desk of a library. A contract sees which drives there are, and where each cartridge is.
+/// The desk of a library: it serves moves and inventories, the requests that belong to no host. A contract sees which
+/// drives there are, and where each cartridge is.
 #[derive(Drop)]
 pub struct LibraryDesk<'a, D: Disk, B: Parties + Rings, H: Parties, R> {
     rt: &'a R,
@@ -104,7 +105,7 @@ fn inventory_of<D: Disk + Drop, B: Parties + Rings, H: Parties>(
 }
 
 impl<'a, D: Disk + Drop, B: Parties + Rings, H: Parties, R> LibraryDesk<'a, D, B, H, R> {
-    /// The desk of a library whose cartridges are where these labels say.
+    /// The desk of this library, whose cartridges are where `labels` says.
     pub fn new(
         rt: &'a R,
         library: &'a Library<D, B, H>,

@@ -5,14 +5,16 @@ ghost use Rattle.vtl_serve.specs.Labels.{barcode_at, carried};
 use std::marker::Model;
 use vtl_base::Barcode;
 
-/// A cartridge's barcode, and the element address where it is.
+/// A label: the barcode of a cartridge, and the element address where the cartridge is.
 #[derive(Drop)]
 pub struct Label {
+    /// The element address where the cartridge is.
     pub address: u32,
+    /// The barcode of the cartridge.
     pub barcode: Barcode,
 }
 
-/// The labels of all cartridges. A contract sees them as a list.
+/// The labels of all cartridges of a library. A contract sees them as a list.
 #[derive(Drop)]
 pub struct Labels {
     labels: Vec<Label>,
@@ -37,14 +39,14 @@ fn same_barcode(barcode: &Barcode) -> Barcode
     }
 }
 
-// The address of a cartridge after the cartridges at `from` were moved to `to`.
+// The address of what was at `address`, once all at `from` was moved to `to`.
 fn address_after(address: u32, from: u32, to: u32) -> u32
     ensures { result ≡ (if nat_eq address from then to else address) }
 {
     if address == from { to } else { address }
 }
 
-// The barcode of the first of these labels at an address.
+// The barcode of the first of these labels at this address; None where no label is there.
 fn barcode_among(labels: &[Label], address: u32) -> Option<Barcode>
     ensures { result ≡ barcode_at labels.now address }
 {
@@ -66,21 +68,21 @@ fn carry_among(labels: &mut [Label], from: u32, to: u32)
 }
 
 impl Labels {
-    /// The labels of a `Vec`, which takes no memory.
+    /// The labels in this `Vec`. The call allocates no memory.
     pub fn from_vec(labels: Vec<Label>) -> Labels
         ensures { result ≡ labels.items }
     {
         Labels { labels }
     }
 
-    /// The barcode of the cartridge that is at an element address, if one is.
+    /// The barcode of the cartridge at this element address; None where no cartridge is there.
     pub fn barcode_at(&self, address: u32) -> Option<Barcode>
         ensures { result ≡ barcode_at self.now address }
     {
         barcode_among(self.labels.as_slice(), address)
     }
 
-    /// Notes that the cartridge at `from` was moved to `to`.
+    /// Notes that the cartridge that was at the element address `from` is now at `to`.
     pub fn carry(&mut self, from: u32, to: u32)
         ensures { self.new ≡ carried from to self.old }
     {

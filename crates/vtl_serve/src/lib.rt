@@ -1,4 +1,4 @@
-//! Serves drives and hosts: requests come as frames, and answers go as frames.
+//! Serves drives and hosts: requests are read as frames, and answers are written as frames.
 #![tactic(auto)]
 
 pub mod desks;

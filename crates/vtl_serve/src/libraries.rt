@@ -1,4 +1,4 @@
-//! Serves all hosts of a library at the same time, over one pipe.
+//! Serves all hosts of a library at the same time, by one input and one output.
 ghost use Rattle.std.specs.Prelude.{◌≡◌, ◌≤◌, [], IfOk, IfErr, length, All, vec_capacity};
 ghost use Rattle.std.specs.List.{range_with_len};
 ghost use Rattle.vtl_base.specs.declared.limits.TheConstants.{DRIVES, NEXUSES};
@@ -15,7 +15,7 @@ use crate::desks::LibraryDesk;
 use crate::labels::Labels;
 use crate::one_host::OneHost;
 use bays::{Bay, Parked};
-use changer::Slots;
+use element_slots::Slots;
 use ledgers::{Parties, Seat};
 use library::{Finished, Gate, Library, NotOpened, RingRow, Rings, beside_flushers};
 use std::alloc::Global;
@@ -32,12 +32,12 @@ use vtl_base::limits::NEXUSES;
 use vtl_hosts::{Served, serve_hosts};
 use vtl_wire::WireFault;
 
-/// What is left of a library whose hosts were served.
+/// What remains of a library after its hosts were served.
 #[derive(Drop)]
 pub struct ServedLibrary<D: Disk> {
-    /// Slots, drives and counts.
+    /// The slots and drives, and how the library ended.
     pub finished: Finished<D>,
-    /// How the serving ended.
+    /// Ok where the input was served to its end; otherwise the fault that ended the serving.
     pub outcome: Result<(), WireFault>,
 }
 
@@ -48,7 +48,7 @@ struct ServedFor<H: Parties> {
     outcome: Result<(), WireFault>,
 }
 
-// The hosts of these seats, for which there is room.
+// The hosts that have these seats, in `room`.
 fn hosts_of<'a, D: Disk + Drop, B: Parties + Rings, H: Parties, R>(
     rt: &'a R,
     library: &'a Library<D, B, H>,
@@ -65,7 +65,7 @@ fn hosts_of<'a, D: Disk + Drop, B: Parties + Rings, H: Parties, R>(
     hosts
 }
 
-// The seats of these hosts, for which there is room.
+// The seats of these hosts, in `room`.
 fn seats_in<'a, D: Disk + Drop, B: Parties + Rings, H: Parties, R>(
     room: Vec<Seat<H>>,
     hosts: Vec<OneHost<'a, D, B, H, R>>,
@@ -80,7 +80,7 @@ fn seats_in<'a, D: Disk + Drop, B: Parties + Rings, H: Parties, R>(
     seats
 }
 
-// Serves all hosts, and then has every flusher end.
+// Serves all hosts, and then closes the library, so that every flusher ends.
 fn serve_and_close<
     'a,
     D: Disk + Drop + Send,
@@ -115,7 +115,7 @@ fn serve_and_close<
     served
 }
 
-// Serves all hosts with a flusher of each drive beside them.
+// Serves all hosts while each drive has a flusher beside them.
 fn serve_beside<
     'a,
     D: Disk + Drop + Send,
@@ -215,11 +215,12 @@ fn serve_opened<
     }
 }
 
-/// Serves the hosts with the numbers 1 to 64 over one pipe. The library has these drives, each in the place of its
-/// number, and these slots. Its cartridges are where the labels say. Each host's commands are carried out in a thread
-/// of its own, and each drive has a flusher beside them. At the end all threads are joined, and every buffer is written
-/// out. Where memory runs out before the library is opened, everything but the rings is returned, and nothing is read
-/// or written.
+/// Opens a library, serves its hosts, which have the numbers 1 to 64, and ends it. `bays` has one entry for each drive
+/// number, from 1 to 16: the drive, or None where no drive has that number. `labels` says where the cartridges are. The
+/// requests of all hosts are read from `reader`, and all answers are written to `writer`. Each host's commands are
+/// carried out in a thread of its own. Beside these threads each drive has a flusher, which asks `gate` before each of
+/// its turns. At the end all threads are joined, and every buffer is written out. If memory runs out before the library
+/// is open, drives, slots and ledgers are returned, and nothing is read or written.
 pub fn serve_library<
     D: Disk + Drop + Send,
     B: Parties + Rings + Send + Sync,

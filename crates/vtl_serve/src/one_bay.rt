@@ -1,4 +1,4 @@
-//! A drive that one thread holds, and serves.
+//! A drive that one thread holds and serves.
 ghost use Rattle.std.specs.Prelude.{◌≡◌, OnOk};
 ghost use Rattle.vtl_wire.specs.Serving.{ServesInput};
 ghost use Rattle.vtl_serve.specs.OneBay.{AnswersOf, BayAnswers, is_for};
@@ -30,14 +30,14 @@ impl<D: Disk> Model for OneBay<D> {
 }
 
 impl<D: Disk> OneBay<D> {
-    /// A drive that requests name by this number.
+    /// The drive `bay`, which requests name by `number`.
     pub fn new(number: DriveNo, bay: Bay<D>) -> OneBay<D>
         ensures { result ≡ record { number = number; bay = bay } }
     {
         OneBay { number, bay }
     }
 
-    /// The drive.
+    /// Returns the drive.
     pub fn into_bay(self) -> Bay<D>
         ensures { result ≡ self.bay }
     {
@@ -76,10 +76,11 @@ impl<D: Disk> Server for OneBay<D> {
     }
 }
 
-/// Serves a drive: reads commands up to the end of the input, or to the first frame that is refused. It carries each
-/// out and writes its answer before it reads the next. It refuses a command to another drive, a move and an inventory.
-/// At Ok exactly the frames of these replies are written, in order: those that the drive's machine gives to the
-/// commands that were read. Memory runs out only for the data of a command, before that command is carried out.
+/// Serves a drive: reads commands from `reader`, up to the end of the input or to the first frame that is refused. Each
+/// command is carried out, and its answer is written to `writer`, before the next one is read. A command to another
+/// drive is refused, and so are a move and an inventory. At Ok the frames that were written are exactly those of the
+/// drive's replies to the commands that were read, in order. Memory can run out only for the data of a command, before
+/// that command is carried out.
 pub fn serve_bay<D: Disk + Drop, R: Read, W: Write>(
     alloc: Global,
     served: &mut OneBay<D>,

@@ -1,4 +1,4 @@
-//! One host of a library that threads share, which is served.
+//! Serving one host of a library that threads share.
 ghost use Rattle.std.specs.Prelude.{◌≡◌, true, OnOk};
 ghost use Rattle.vtl_wire.specs.Serving.{ServesInput};
 ghost use Rattle.vtl_serve.specs.OneHost.{AnswersHost, HostAnswers, is_from};
@@ -14,7 +14,7 @@ use vtl_base::NoMemory;
 use vtl_hosts::Host;
 use vtl_wire::{Answer, Request, Server, WireFault, serve_requests};
 
-/// A host's seat at a library that threads share. A contract sees which drives there are, and the seat.
+/// A host to be served: its seat at a library that threads share. A contract sees the seat, and which drives there are.
 #[derive(Drop)]
 pub struct OneHost<'a, D: Disk, B: Parties + Rings, H: Parties, R> {
     rt: &'a R,
@@ -31,14 +31,14 @@ impl<'a, D: Disk, B: Parties + Rings, H: Parties, R> Model for OneHost<'a, D, B,
 }
 
 impl<'a, D: Disk + Drop, B: Parties + Rings, H: Parties, R> OneHost<'a, D, B, H, R> {
-    /// The host of this seat.
+    /// The host that has this seat at `library`.
     pub fn new(rt: &'a R, library: &'a Library<D, B, H>, seat: Seat<H>) -> OneHost<'a, D, B, H, R>
         ensures { result ≡ record { drives = library.now; seat = seat } }
     {
         OneHost { rt, library, seat }
     }
 
-    /// The seat.
+    /// Returns the host's seat.
     pub fn into_seat(self) -> Seat<H>
         ensures { result ≡ self.entry.seat }
     {
@@ -59,7 +59,7 @@ impl<'a, D: Disk + Drop, B: Parties + Rings, H: Parties, R: Wait> OneHost<'a, D,
         }
     }
 
-    // Answers a command of the host. A written block takes the data without copying.
+    // Answers a command of the host. A block that is written takes the data without a copy.
     fn answer_command(&mut self, request: Request) -> Answer
         requires { is_from self.old.drives self.old.seat.nexus request ≡ true }
         ensures { AnswersHost D.state self.old request result self.new }
@@ -114,9 +114,10 @@ impl<'a, D: Disk + Drop, B: Parties + Rings, H: Parties, R: Wait> Host for OneHo
     }
 }
 
-/// Serves one host of a library: reads its commands up to the end of the input, or to the first frame that is refused.
-/// It carries each out and writes its answer before it reads the next. It refuses a command of another host or to a
-/// drive that is not configured, a move and an inventory. Other threads may serve other hosts meanwhile.
+/// Serves one host of a library: reads its commands from `reader`, up to the end of the input or to the first frame
+/// that is refused. Each command is carried out, and its answer written to `writer`, before the next one is read. A
+/// command of another host or to a drive that is not configured is refused, and so are a move and an inventory. Other
+/// threads may serve other hosts meanwhile.
 pub fn serve_host<'a, D: Disk + Drop, B: Parties + Rings, H: Parties, R: Wait, I: Read, O: Write>(
     alloc: Global,
     served: &mut OneHost<'a, D, B, H, R>,

@@ -1,4 +1,4 @@
--- What tests tell.
+-- What the answers of tests say.
 use Rattle.std.proofs.Common.{◌≡◌, ◌≢◌, ℕ, List, Bool, true, false, not, nat_eq, Option, None, Some, IfNone, refl, sym, ◌∙◌}
 use Rattle.std.specs.Cmp.Lexicographic.{other_text, pointwise}
 

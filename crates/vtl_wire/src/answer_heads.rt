@@ -57,7 +57,8 @@ fn reply_status(header: Header) -> Option<Status>
     None
 }
 
-// The reply of a header that goes to this host, or answers a move.
+// What this header says of its reply, which goes to `host`, or answers a move where `host` is None. The result is None
+// where no reply has this header.
 fn reply_head(header: Header, host: Option<Nexus>) -> Option<AnswerHead>
     requires { GoesToHost header.kind header.host host }
     ensures found { IfSome result (HeadSays header) }

@@ -25,7 +25,8 @@ struct Front {
     sense: Option<Sense>,
 }
 
-// The sense data that these bytes spell; no bytes spell no sense data. None where the bytes spell neither.
+// The sense data that these bytes spell, or that there are none where there is no byte. None where the bytes spell no
+// sense data.
 fn front_in(bytes: &[u8]) -> Option<Front>
     ensures found { IfSome result (λ front. IfSome front.sense IsSense × (bytes.now ≡ sense_front front.sense)) }
     ensures none { IfNone result
@@ -56,7 +57,7 @@ fn answer_with(head: ReplyHead, front: Front, bytes: Bytes) -> Answer
     }
 }
 
-// Reads the answer to a command or a move, behind its header. It checks the sense data before it takes memory.
+// Reads the answer to a command or a move, after its header. It checks the sense data before it takes memory.
 pub(crate) fn find_reply<R: Read>(
     memory: &Memory,
     reads: &mut Reads,
@@ -85,7 +86,7 @@ pub(crate) fn find_reply<R: Read>(
     }
 }
 
-// Reads the answer to an inventory, behind its header. It takes the memory for all entries before it reads the first.
+// Reads the answer to an inventory, after its header. It takes the memory for all entries before it reads the first.
 pub(crate) fn find_inventory<R: Read>(
     memory: &Memory,
     reads: &mut Reads,

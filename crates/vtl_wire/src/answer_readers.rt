@@ -1,4 +1,4 @@
-//! Answers, read from an input frame by frame: the front end's half.
+//! Answers, read from an input frame by frame: the front end's part.
 ghost use Rattle.std.specs.Prelude.{◌≡◌, ℕ, false, IfOk, IfErr, IfSome, Err, OnErr};
 ghost use Rattle.vtl_wire.specs.AnswerReads.{MissesAnswer, MissesAnswers, ReadsAnswer};
 ghost use Rattle.vtl_wire.specs.Answers.{IsAnswerRefusedAt, SpellsAnswers};
@@ -16,8 +16,8 @@ use std::alloc::Global;
 use std::io::Read;
 use std::marker::Model;
 
-/// A reader of answers, which counts them. The count stops at its greatest value. A contract sees the number of answers
-/// that were read, and whether a read failed.
+/// A reader of answers, which counts them. The count stops at `u64::MAX`. A contract sees the count, and whether a read
+/// of the input failed.
 #[derive(Drop)]
 pub struct AnswerReader {
     frames: u64,
@@ -57,7 +57,7 @@ fn find_answer<R: Read>(
 }
 
 impl AnswerReader {
-    /// A reader that has read nothing. `alloc` gives the memory for the data of answers.
+    /// A reader that has read nothing. `alloc` provides the memory for the data of answers.
     pub fn new(alloc: Global) -> Self
         ensures frames { result.frames ≡ 0 }
         ensures failed { result.failed ≡ false }
@@ -76,17 +76,17 @@ impl AnswerReader {
         self.frames
     }
 
-    /// Whether a read failed. If so, the last call returned a `ReadFault`.
+    /// Whether a read of the input failed, so that a call returned `ReadFault`.
     pub fn has_failed(&self) -> bool
         ensures { result ≡ self.now.failed }
     {
         self.reads.have_failed()
     }
 
-    /// The next answer, or None where the input has ended. No byte after the answer is read, however the input is cut
-    /// into reads. Memory can run out only for the data of an answer, once its header and its sense data were read and
-    /// may stand there. After an `Err` the input stands inside a frame, or after refused bytes, so no other answer can
-    /// be read.
+    /// Reads the next answer, or returns None at the end of the input. No byte after the answer is read, however many
+    /// bytes the input could return at once. Memory can run out only for more than 24 bytes of data, or for the entries
+    /// of an inventory, and only after a header and sense data were read that an answer can begin with. After an `Err`
+    /// the input may be inside a frame, or after refused bytes, so nothing more should be read from it.
     pub fn next<R: Read>(&mut self, reader: &mut R) -> Result<Option<Answer>, WireFault>
         ensures ok { IfOk result (ReadsAnswer (R.remaining reader.old) (R.remaining reader.new)) }
         ensures count { IfOk result (λ found. self.new.frames ≡ count_after self.old.frames found) }
@@ -108,8 +108,10 @@ impl AnswerReader {
     }
 }
 
-/// All answers of an input, up to its end, or the number of the first frame that is refused. The result is what the
-/// grammar gives, however the input is cut into reads.
+/// Reads all answers of an input, up to its end, and returns them in order. If a frame is refused, the error is
+/// `BadFrame` with the frame's number, counted from 1. The answers and that number are as the frame format defines
+/// them, however many bytes each read returns. A failed read, or memory that runs out, ends the reading with an error
+/// too.
 pub fn read_answers<R: Read>(alloc: Global, reader: &mut R) -> Result<Vec<Answer>, WireFault>
     ensures ok { IfOk result (λ answers.
         IfSome (R.remaining reader.old) (λ bytes. SpellsAnswers bytes answers.items)) }

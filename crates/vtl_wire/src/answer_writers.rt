@@ -76,7 +76,7 @@ fn write_reply<W: Write>(writer: &mut W, header: Header, reply: &Reply) -> Resul
     }
 }
 
-// These bytes, with spaces behind them up to 16 bytes.
+// These bytes, with spaces after them up to 16 bytes.
 fn with_spaces(symbols: &[u8]) -> [u8; MAX_BARCODE]
     requires { length symbols.now ≤ MAX_BARCODE }
     ensures { result ≡ symbols.now ++ replicate (MAX_BARCODE - length symbols.now) 32 }
@@ -86,7 +86,7 @@ fn with_spaces(symbols: &[u8]) -> [u8; MAX_BARCODE]
     bytes
 }
 
-// The first 16 of these bytes and spaces.
+// These bytes, at most 16, padded with spaces to 16.
 fn padded(symbols: &[u8]) -> [u8; MAX_BARCODE]
     requires { length symbols.now ≤ MAX_BARCODE }
     ensures { result ≡ take MAX_BARCODE (symbols.now ++ replicate MAX_BARCODE 32) }
@@ -161,9 +161,9 @@ fn write_whole<W: Write>(writer: &mut W, answer: &Answer) -> Result<(), WireFaul
     }
 }
 
-/// Writes the frame of an answer, and flushes it. Where a write or the flush fails, the result is a `WriteFault`, and a
-/// beginning of the frame is written. An interrupted write is made again. The call takes no memory.
-/// `Answer::fits_frame` tests the condition.
+/// Writes the frame of `answer`, which must fit a frame (`Answer::fits_frame` tests that), and flushes the writer. If a
+/// write or the flush fails, `WriteFault` is returned, and a first part of the frame, from nothing to all of it, was
+/// written. An interrupted write is made again. The call allocates no memory.
 pub fn write_answer<W: Write>(writer: &mut W, answer: &Answer) -> Result<(), WireFault>
     requires { FitsAnswer answer.now }
     ensures ok { OnOk result (Appends (W.contents writer.old) (W.contents writer.new) (spell_answer answer.now)) }

@@ -7,7 +7,7 @@ use scsi_sense::{Reply, Status};
 use std::marker::Model;
 use vtl_base::{Barcode, Nexus};
 
-/// An element address, and the barcode of the cartridge that is there, if one is.
+/// An element address, with the barcode of the cartridge there, or None if there is none.
 #[derive(Drop)]
 pub struct Entry {
     pub address: u32,
@@ -30,7 +30,7 @@ impl Model for Entries {
 }
 
 impl Entries {
-    /// The entries of a `Vec`, which takes no memory.
+    /// The entries of an inventory, from a `Vec`. The call allocates no memory.
     pub fn from_vec(entries: Vec<Entry>) -> Self
         ensures { result ≡ entries.items }
     {
@@ -48,7 +48,7 @@ impl Entries {
 /// An answer to a front end, with the tag of its request.
 #[derive(Drop)]
 pub enum Answer {
-    /// The answer to a command: its host, and the reply.
+    /// The answer to a command: the host that sent the command, and the reply.
     Command { host: Nexus, reply: Reply, tag: u32 },
     /// The answer to a move.
     Move { reply: Reply, tag: u32 },
@@ -65,8 +65,8 @@ fn holds_reply(reply: &Reply) -> bool
 }
 
 impl Answer {
-    /// Whether a frame can hold the answer: it has at most 1,100,000 bytes of data, and sense data only with CHECK
-    /// CONDITION.
+    /// Whether a frame can hold the answer. A reply fits if it has at most 1,100,000 bytes of data, and if it has no
+    /// sense data unless its status is CHECK CONDITION. An inventory fits if it has at most 55,000 entries.
     pub fn fits_frame(&self) -> bool
         ensures { IsTrue result ↔ FitsAnswer self.now }
     {

@@ -12,7 +12,7 @@ use crate::frames::ENTRY_BYTES;
 use byteorder::{BigEndian, ByteOrder};
 use vtl_base::Barcode;
 
-// How many bytes stand before the first space.
+// How many bytes stand before the first space: all of them where there is none.
 fn before_space(bytes: &[u8]) -> usize
     ensures within { result ≤ length bytes.now }
     ensures before { (i : ℕ) → i < result → get_or bytes.now i 0 ≢ 32 }
@@ -26,7 +26,8 @@ fn before_space(bytes: &[u8]) -> usize
     bytes.len()
 }
 
-// The only barcode that may have these bytes, or none.
+// The barcode that these bytes spell, or None where they spell an empty place. Whether they spell either is not
+// checked.
 fn barcode_like(bytes: &[u8]) -> Option<Barcode>
     ensures like { (barcode : Option (List ℕ)) → IfSome barcode IsBarcode → bytes.now ≡ spell_barcode barcode
         → result ≡ barcode }
@@ -38,7 +39,7 @@ fn barcode_like(bytes: &[u8]) -> Option<Barcode>
     }
 }
 
-// The only entry that may have these bytes.
+// The entry that these bytes spell, if they spell one: that is not checked.
 fn entry_like(bytes: &[u8]) -> Entry
     requires { length bytes.now ≡ ENTRY_BYTES }
     ensures like { (entry : Entry) → IsEntry entry → bytes.now ≡ spell_entry entry → result ≡ entry }

@@ -1,22 +1,23 @@
-//! Why no frame is read or written.
+//! The errors of reading and writing frames.
 use std::alloc::{AllocError, AllocFailed};
 use thiserror::Error;
 use vtl_base::NoMemory;
 
-/// Why no frame is read or written.
+/// Why a frame was not read, or not written whole.
 #[derive(Clone, Copy, PartialEq, Eq, Debug, Error)]
 pub enum WireFault {
-    /// The next bytes are no frame that may stand there, or the input ends inside a frame. Frames are counted from 1
-    /// on.
+    /// The frame with the number `frame`, counted from 1 on, is refused: its bytes are not a frame that is allowed
+    /// there, the input ends inside it, or the server does not take its request.
     #[error("frame {frame} refused")]
     BadFrame { frame: u64 },
     /// A read failed.
     #[error("read fault")]
     ReadFault,
-    /// A write failed.
+    /// A write or a flush failed, or no frame can hold the answer. `vtl_hosts` returns it also where a command was left
+    /// without an answer.
     #[error("write fault")]
     WriteFault,
-    /// Memory ran out.
+    /// Memory ran out, or 2^64 - 1 frames were read.
     #[error("out of memory")]
     NoMemory,
 }

@@ -13,15 +13,16 @@ use byteorder::{BigEndian, ByteOrder};
 pub struct Header {
     /// The kind of the request, or of the answer.
     pub kind: FrameKind,
-    /// The host, 0 where there is none.
+    /// The number of the host, or 0 where the frame names no host.
     pub host: u8,
-    /// The drive of a request, 0 where there is none, or the status of an answer.
+    /// In a request, the number of the drive, or 0 where the request names no drive; in an answer, the status.
     pub detail: u8,
-    /// How many bytes stand before the data: of a command block, of two element addresses, or of sense data.
+    /// How many bytes come between the header and the data: those of a command block, of two element addresses or of
+    /// sense data.
     pub front: u8,
-    /// How many bytes of data stand after them.
+    /// How many bytes of data the frame has.
     pub payload: u32,
-    /// The tag of the request.
+    /// The tag of the request, which its answer repeats.
     pub tag: u32,
 }
 
@@ -64,7 +65,8 @@ impl Header {
     }
 }
 
-// The header whose fields have these bytes, each at its place.
+// The header whose fields these bytes have, each at its place. None where they have no kind of a frame, or one of the
+// last four bytes is not 00h.
 fn header_at(bytes: &[u8]) -> Option<Header>
     requires { length bytes.now ≡ HEADER_BYTES }
     ensures { result ≡ header_at bytes.now }

@@ -3,8 +3,8 @@ ghost use Rattle.std.specs.Prelude.{◌≡◌, ◌↔◌, IsTrue};
 
 use std::io::ErrorKind;
 
-/// Whether a read or a write was interrupted, so that it is made again. A call that would block or timed out was not
-/// interrupted.
+/// Whether an error of this kind says that a read or a write was interrupted, so that the call is made again. A call
+/// that would block, or that timed out, was not interrupted.
 pub(crate) fn is_interrupted(kind: ErrorKind) -> bool
     ensures { IsTrue result ↔ (kind ≡ ErrorKind.Interrupted) }
 {

@@ -1,4 +1,5 @@
-//! The frames by which a front end speaks to a library: requests and answers, read and written.
+//! The frames by which a front end, a program that sends the commands of hosts, speaks to a library: requests and
+//! answers, read and written.
 #![tactic(auto)]
 
 mod answer_heads;

@@ -13,7 +13,7 @@ use crate::reads::Reads;
 use std::io::Read;
 use vtl_base::Bytes;
 
-/// What stands after a header: a command block, two element addresses or sense data; and data.
+/// What follows a header: first a command block, two element addresses or sense data, and then the data.
 #[derive(Drop)]
 pub(crate) struct Parts {
     pub(crate) front: Bytes,

@@ -1,4 +1,4 @@
-//! Reading a given number of bytes, however they come.
+//! Reads a given number of bytes, in however many pieces they come.
 ghost use Rattle.std.specs.Prelude.{◌≡◌, ℕ, ◌<◌, ◌≤◌, ◌+◌, length, take, drop, true, Ok, IfOk, IfErr, OnErr};
 ghost use Rattle.std.specs.Io.KnownBytes.{Consumes, IsAtEnd};
 ghost use Rattle.vtl_base.specs.declared.bytes.TheConstants.{INLINE_BYTES};
@@ -26,7 +26,7 @@ pub(crate) enum Found<T> {
     Refused,
 }
 
-// Reads into a slice, after the bytes that fill it.
+// Makes a read into a slice after its first `filled` bytes, which stay as they are. Returns how many bytes came.
 fn read_behind<R: Read>(
     reads: &mut Reads,
     reader: &mut R,
@@ -75,7 +75,7 @@ pub(crate) fn fill<R: Read>(
     Ok(filled)
 }
 
-// Fills a slice. Returns false where the input ended before.
+// Fills a slice. Returns false where the input ended before the slice was full.
 pub(crate) fn fill_whole<R: Read>(
     reads: &mut Reads,
     reader: &mut R,
@@ -91,7 +91,7 @@ pub(crate) fn fill_whole<R: Read>(
     Ok(count == slice.len())
 }
 
-// Reads at most 24 bytes. They take no memory.
+// Reads `count` bytes, at most 24. They take no memory. None where the input ends before.
 pub(crate) fn read_few<R: Read>(
     memory: &Memory,
     reads: &mut Reads,
@@ -114,7 +114,7 @@ pub(crate) fn read_few<R: Read>(
 }
 
 // Reads the data that a header counts, where they are more than 24 bytes. The memory for all of them is taken before
-// the first is read.
+// the first is read. None where the input ends before.
 fn read_many<R: Read>(
     memory: &Memory,
     reads: &mut Reads,

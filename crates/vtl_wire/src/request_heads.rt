@@ -42,7 +42,7 @@ fn command_head(header: Header) -> Option<RequestHead>
     Some(RequestHead::Command { host, drive, tag })
 }
 
-// Whether there is no host, no drive and no data, and `front` bytes stand before the data.
+// Whether the header names no host and no drive, and counts `front` bytes and no data after it.
 fn is_plain(header: Header, front: usize) -> bool
     ensures { result ≡ is_plain header front }
 {

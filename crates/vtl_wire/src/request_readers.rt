@@ -16,8 +16,8 @@ use std::alloc::Global;
 use std::io::Read;
 use std::marker::Model;
 
-/// A reader of requests, which counts them. The count stops at its greatest value. A contract sees the number of
-/// requests that were read, and whether a read failed.
+/// A reader of requests, which counts them. The count stops at `u64::MAX`. A contract sees the count, and whether a
+/// read of the input failed.
 #[derive(Drop)]
 pub struct RequestReader {
     frames: u64,
@@ -59,7 +59,7 @@ fn find_request<R: Read>(
 }
 
 impl RequestReader {
-    /// A reader that has read nothing. `alloc` gives the memory for the data of requests.
+    /// A reader that has read nothing. `alloc` provides the memory for the data of requests.
     pub fn new(alloc: Global) -> Self
         ensures frames { result.frames ≡ 0 }
         ensures failed { result.failed ≡ false }
@@ -78,17 +78,17 @@ impl RequestReader {
         self.frames
     }
 
-    /// Whether a read failed. If so, the last call returned a `ReadFault`.
+    /// Whether a read of the input failed, so that a call returned `ReadFault`.
     pub fn has_failed(&self) -> bool
         ensures { result ≡ self.now.failed }
     {
         self.reads.have_failed()
     }
 
-    /// The next request, or None where the input has ended. No byte after the request is read, however the input is cut
-    /// into reads. Memory is taken only for the data of a request, once its header and its command block were read and
-    /// may stand there. After an `Err` the input stands inside a frame, or after a refused header, so no other request
-    /// can be read.
+    /// Reads the next request, or returns None at the end of the input. No byte after the request is read, however many
+    /// bytes the input could return at once. Memory is allocated only for more than 24 bytes of data, and only after a
+    /// header and a command block were read that a request can begin with. After an `Err` the input may be inside a
+    /// frame, or after a refused header, so nothing more should be read from it.
     pub fn next<R: Read>(&mut self, reader: &mut R) -> Result<Option<Request>, WireFault>
         ensures ok { IfOk result (ReadsRequest (R.remaining reader.old) (R.remaining reader.new)) }
         ensures count { IfOk result (λ found. self.new.frames ≡ count_after self.old.frames found) }
@@ -110,8 +110,10 @@ impl RequestReader {
     }
 }
 
-/// All requests of an input, up to its end, or the number of the first frame that is refused. The result is what the
-/// grammar gives, however the input is cut into reads.
+/// Reads all requests of an input, up to its end, and returns them in order. If a frame is refused, the error is
+/// `BadFrame` with the frame's number, counted from 1. The requests and that number are as the frame format defines
+/// them, however many bytes each read returns. A failed read, or memory that runs out, ends the reading with an error
+/// too.
 pub fn read_requests<R: Read>(alloc: Global, reader: &mut R) -> Result<Vec<Request>, WireFault>
     ensures ok { IfOk result (λ requests.
         IfSome (R.remaining reader.old) (λ bytes. SpellsRequests bytes requests.items)) }

@@ -1,4 +1,4 @@
-//! Requests, written frame by frame: the front end's half.
+//! Requests, written frame by frame: the front end's part.
 ghost use Rattle.std.specs.Prelude.{◌≡◌, ◌++◌, IfErr, OnOk, OnErr};
 ghost use Rattle.std.specs.Int.{to_be_bytes, w32};
 ghost use Rattle.std.specs.Io.KnownBytes.{Appends};
@@ -81,9 +81,9 @@ fn write_request_whole<W: Write>(writer: &mut W, request: &Request) -> Result<()
     }
 }
 
-/// Writes the frame of a request, and flushes it. Where a write or the flush fails, the result is a `WriteFault`, and a
-/// beginning of the frame is written. An interrupted write is made again. The call takes no memory.
-/// `Request::fits_frame` tests the condition.
+/// Writes the frame of `request`, which must fit a frame (`Request::fits_frame` tests that), and flushes the writer. If
+/// a write or the flush fails, `WriteFault` is returned, and a first part of the frame, from nothing to all of it, was
+/// written. An interrupted write is made again. The call allocates no memory.
 pub fn write_request<W: Write>(writer: &mut W, request: &Request) -> Result<(), WireFault>
     requires { FitsRequest request.now }
     ensures ok { OnOk result (Appends (W.contents writer.old) (W.contents writer.new) (spell_request request.now)) }

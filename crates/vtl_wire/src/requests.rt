@@ -8,7 +8,8 @@ use vtl_base::{Bytes, DriveNo, Nexus};
 /// A request of a front end. Its tag may be any number. The answer has the same tag.
 #[derive(Drop)]
 pub enum Request {
-    /// A host sends a drive a command block of at most 16 bytes, and with it at most 1,100,000 bytes of data.
+    /// A command from a host to a drive: a command block of at most 16 bytes, and with it at most 1,100,000 bytes of
+    /// data.
     Command {
         host: Nexus,
         drive: DriveNo,
@@ -16,7 +17,8 @@ pub enum Request {
         sent: Bytes,
         tag: u32,
     },
-    /// Moves the cartridge at one element address to another one. The two addresses may be any numbers.
+    /// Moves the cartridge at the element address `from` to the element address `to`. Both addresses may be any
+    /// numbers.
     Move {
         from: u32,
         to: u32,
@@ -29,7 +31,8 @@ pub enum Request {
 }
 
 impl Request {
-    /// Whether a frame can hold the request: a command block of at most 16 bytes, and at most 1,100,000 bytes of data.
+    /// Whether a frame can hold the request. A command fits if its command block has at most 16 bytes and its data at
+    /// most 1,100,000 bytes. A move or an inventory always fits.
     pub fn fits_frame(&self) -> bool
         ensures { IsTrue result ↔ FitsRequest self.now }
     {

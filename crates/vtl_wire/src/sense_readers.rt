@@ -28,7 +28,8 @@ fn key_with(number: u8) -> Option<SenseKey>
     }
 }
 
-// The only sense data that may have these bytes, by the places of its fields.
+// The sense data that these bytes spell, if they spell sense data: that is not checked. None where no sense key has
+// their number.
 fn sense_like(bytes: &[u8]) -> Option<Sense>
     requires { length bytes.now ≡ SENSE_BYTES }
     ensures like { result ≡ sense_like bytes.now }
@@ -52,8 +53,8 @@ fn sense_like(bytes: &[u8]) -> Option<Sense>
     })
 }
 
-/// The sense data that these bytes spell, 18 bytes in fixed format, if they spell sense data. It reads what
-/// `Sense::bytes` writes.
+/// Reads `bytes` as sense data in fixed format (18 bytes), as `Sense::bytes` writes them. Returns None if they are not
+/// exactly the bytes of some sense data.
 pub fn read_sense(bytes: &[u8]) -> Option<Sense>
     ensures found { IfSome result (λ sense. IsSense sense × (bytes.now ≡ sense_bytes sense)) }
     ensures none { IfNone result ((sense : Sense) → IsSense sense → bytes.now ≡ sense_bytes sense → ⊥) }

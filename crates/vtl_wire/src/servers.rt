@@ -8,12 +8,12 @@ use crate::requests::Request;
 use std::alloc::Global;
 use vtl_base::NoMemory;
 
-/// A server of requests, one after another.
+/// A server, which answers requests one after another.
 pub trait Server {
     /// Whether the server takes a request.
     ghost is_taken: { Self → Request → Bool };
 
-    /// A server with the first value may give this answer to this request, and then has the last value.
+    /// A server in the first state may give this answer to this request, and is then in the last state.
     ghost answers: { Self → Request → Answer → Self → Type 0 };
 
     /// A cause for memory to run out while a request is served. Where it never runs out, this is an empty type.
@@ -23,7 +23,8 @@ pub trait Server {
     fn takes(&self, request: &Request) -> bool
         ensures { result ≡ is_taken self.now request.now };
 
-    /// Serves a request that the server takes. After an `Err` nothing was done.
+    /// Serves a request that the server takes, and returns the answer. If memory runs out, an error is returned, and
+    /// nothing was done.
     fn serve(&mut self, alloc: Global, request: Request) -> Result<Answer, NoMemory>
         requires { is_taken self.old request ≡ true }
         ensures ok { IfOk result (λ answer. answers self.old request answer self.new) }

@@ -16,7 +16,7 @@ use crate::servers::Server;
 use std::alloc::Global;
 use std::io::{Read, Write};
 
-/// Writes the frame of an answer, as `write_answer` does, where a frame holds it. Otherwise it returns `WriteFault`,
+/// Writes the frame of an answer as `write_answer` does, if a frame can hold it. If none can, `WriteFault` is returned
 /// and nothing is written.
 pub fn write_if_fits<W: Write>(writer: &mut W, answer: &Answer) -> Result<(), WireFault>
     ensures ok { OnOk result (Appends (W.contents writer.old) (W.contents writer.new) (spell_answer answer.now)) }
@@ -72,8 +72,9 @@ fn serve_next<S: Server, R: Read, W: Write>(
     Ok(true)
 }
 
-/// Reads requests up to the end of the input, or to the first frame that is refused. Each request is served, and its
-/// answer is written, before the next is read. Nothing else is written.
+/// Reads requests up to the end of the input. Each request is served, and its answer is written, before the next is
+/// read. Nothing else is written. The first error ends the serving and is returned: a frame that is refused, a request
+/// that the server does not take (`BadFrame` too), a failed read or write, or memory that runs out.
 pub fn serve_requests<S: Server, R: Read, W: Write>(
     alloc: Global,
     server: &mut S,

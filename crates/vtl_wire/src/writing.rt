@@ -31,7 +31,7 @@ pub(crate) fn write_bytes<W: Write>(writer: &mut W, bytes: &[u8]) -> Result<(), 
     Err(WireFault::WriteFault)
 }
 
-// Writes these bytes, and then the others.
+// Writes `first`, and then `second`.
 pub(crate) fn write_both<W: Write>(
     writer: &mut W,
     first: &[u8],
@@ -46,7 +46,7 @@ pub(crate) fn write_both<W: Write>(
     write_bytes(writer, second)
 }
 
-// Writes a header, and the bytes that it counts.
+// Writes a header, then `front`, then `payload`.
 pub(crate) fn write_frame<W: Write>(
     writer: &mut W,
     header: Header,

@@ -11,7 +11,7 @@ use std::alloc::{AllocError, Global};
 const ABOUT: &str =
     "A virtual tape library: runs scripts of drive commands over cartridges in files";
 
-/// The version of the program: the one place that names it.
+/// The version of the program. It is written nowhere else.
 pub const VERSION: &str = "0.1.0";
 
 const AFTER_HELP: &str = "\
@@ -128,7 +128,7 @@ fn barcode_word<'a>(alloc: Global) -> Arg<'a>
     barcode.value_name("BARCODE").help(BARCODE_HELP)
 }
 
-// A command of this name, with nothing yet.
+// A command with this name, described by `about`, that has no arguments yet.
 fn named<'a>(alloc: Global, name: &'a str, about: &'a str) -> Command<'a>
     ensures app { app_of result ≡ new_app name.entry.now }
     ensures local { (out-Command result).has_globals ≡ false }
@@ -136,7 +136,7 @@ fn named<'a>(alloc: Global, name: &'a str, about: &'a str) -> Command<'a>
     Command::new(alloc, name).about(about)
 }
 
-// The command with one argument more, which is not global.
+// Adds an argument, which is not global, to a command.
 fn with<'a>(command: Command<'a>, arg: Arg<'a>) -> Result<Command<'a>, AllocError>
     requires arg { arg.global ≡ false }
     requires local { (out-Command command).has_globals ≡ false }
@@ -147,7 +147,7 @@ fn with<'a>(command: Command<'a>, arg: Arg<'a>) -> Result<Command<'a>, AllocErro
     Ok(added)
 }
 
-// The command with one word more.
+// Adds the subcommand `word` to a command.
 fn with_word<'a>(command: Command<'a>, word: Command<'a>) -> Result<Command<'a>, AllocError>
     requires command { (out-Command command).has_globals ≡ false }
     requires word { (out-Command word).has_globals ≡ false }
@@ -158,7 +158,7 @@ fn with_word<'a>(command: Command<'a>, word: Command<'a>) -> Result<Command<'a>,
     Ok(added)
 }
 
-// A command of this name that opens a library.
+// A command with this name, described by `about`, that opens a library.
 fn library_command<'a>(
     alloc: Global,
     name: &'a str,
@@ -218,7 +218,7 @@ fn reclaim_command<'a>(alloc: Global) -> Result<Command<'a>, AllocError>
     Ok(whole)
 }
 
-// `vtl` before its words.
+// `vtl` without its subcommands.
 fn program<'a>(alloc: Global) -> Command<'a>
     ensures app { app_of result ≡ on_top line.needs_a_word (new_app (codes "vtl")) }
     ensures local { (out-Command result).has_globals ≡ false }
@@ -230,7 +230,7 @@ fn program<'a>(alloc: Global) -> Command<'a>
         .disable_help_subcommand(true)
 }
 
-/// The command line of the program.
+/// Returns the command line of the program: `vtl` with its five subcommands, the arguments of each, and the help.
 pub(crate) fn vtl_command<'a>(alloc: Global) -> Result<Command<'a>, AllocError>
     ensures { IfOk result (λ r. app_of r ≡ line.vtl_command) }
 {

@@ -1,10 +1,11 @@
-//! Whether command words ask for an explanation, and why they are refused.
+//! Whether command words ask for an explanation.
 ghost use Rattle.std.specs.Prelude.{◌≡◌};
 ghost use Rattle.vtl_words.specs.Explaining.{asks_to_explain};
 ghost use Rattle.vtl_words.specs.Orders.{texts_of};
 
-/// Whether words ask for an explanation of what is refused: after the first, which is the program's name, one is
-/// `--explain`, and none before it is `--`. This holds of words that are refused, too.
+/// Returns whether the words of a command line ask for an explanation of what is refused, that is, whether one of them
+/// is `--explain` and none before it is `--`. The first word, the program's name, is not looked at. Words that are
+/// refused may ask for an explanation, too.
 pub fn asks_to_explain(words: &[String]) -> bool
     ensures { result ≡ asks_to_explain (texts_of words.now) }
 {

@@ -1,4 +1,4 @@
-//! The command words of the program.
+//! The words of the program's command line: what they ask for, and why they are refused.
 #![tactic(auto)]
 
 mod commands;

@@ -3,29 +3,30 @@ use std::alloc::{AllocError, AllocFailed};
 use thiserror::Error;
 use vtl_base::Barcode;
 
-/// What the program is to do.
+/// An order: what the words of a command line ask the program to do.
 #[derive(Debug, Drop)]
 pub enum Order {
-    /// Runs a script over the library of a configuration, or over the built-in one. With `memory` its
-    /// cartridges and stores are in memory.
+    /// Runs a script over the library of the configuration in the file `config`, or, where that is None, over the
+    /// built-in library. If `memory` is true, the cartridges and the stores of reservations are made anew in memory.
+    /// The built-in library is always in memory.
     Run {
         memory: bool,
         config: Option<String>,
     },
-    /// Serves frames over such a library.
+    /// Serves frames over a library, which `memory` and `config` choose as for `Run`.
     Serve {
         memory: bool,
         config: Option<String>,
     },
-    /// Makes the files of a configuration that are missing.
+    /// Makes the missing files of the configuration in the file `config`.
     Create {
         config: String,
     },
-    /// Says what a file holds.
+    /// Reports what the file named `file` holds.
     Check {
         file: String,
     },
-    /// Reclaims the cartridge of a configuration that has this barcode.
+    /// Reclaims the cartridge that has this barcode in the configuration in the file `config`.
     Reclaim {
         config: String,
         barcode: Barcode,
@@ -35,10 +36,10 @@ pub enum Order {
 /// Why command words give no order.
 #[derive(Debug, Drop, Error)]
 pub enum WordsError {
-    /// The words ask for help or for the version: its text.
+    /// The words ask for help or for the version. This is the text to be printed.
     #[error("{0}")]
     Help(String),
-    /// The words are refused.
+    /// The words are refused: by the parser, or because the word given as a barcode is not a barcode.
     #[error("command line refused")]
     Refused,
     /// Memory ran out.

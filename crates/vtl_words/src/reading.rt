@@ -17,7 +17,7 @@ use clap::error::ErrorKind;
 use std::alloc::Global;
 use vtl_base::{Barcode, NoMemory};
 
-// The fault that stands for an error of the parser.
+// The error of this crate for an error of the parser.
 fn parser_error(alloc: Global, error: &clap::Error) -> WordsError
     ensures { IsReportedAs (kind_of error.now) result }
 {
@@ -73,7 +73,8 @@ fn copied(alloc: Global, value: Option<&str>) -> Result<Option<String>, NoMemory
     }
 }
 
-// Which library is to be opened: whether it is in memory, and by which configuration.
+// Which library is to be opened: whether it is in memory, and the name of the file with its configuration, if one is
+// given.
 fn library_in(alloc: Global, matches: &ArgMatches<'_>) -> Result<(bool, Option<String>), NoMemory>
     ensures { IfOk result (λ library.
         (library.0 ≡ is_set (first_of (codes "memory") (rows_of (found_of matches.now))))
@@ -193,8 +194,8 @@ pub(crate) fn order_in(alloc: Global, matches: &ArgMatches<'_>) -> Result<Order,
     }
 }
 
-/// The order that the words of a command line give. The first word is the program's name. Errors: `Help` with its text,
-/// `Refused`, or `NoMemory`.
+/// Returns the order that the words of a command line give. The first word is the program's name. Errors: `Help` where
+/// the words ask for help or for the version, `Refused` where the words are refused, `NoMemory` where memory runs out.
 pub fn read_words(alloc: Global, words: &[String]) -> Result<Order, WordsError>
     ensures ok { IfOk result (λ order. Asks (texts_of words.now) (asked_of order)) }
     ensures err { IfErr result (RefusesWords (texts_of words.now)) }

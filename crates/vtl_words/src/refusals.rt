@@ -14,13 +14,15 @@ use vtl_base::limits::MAX_BARCODE;
 /// Why command words are refused.
 #[derive(Debug, Drop)]
 pub enum WordsReason {
-    /// The parser refuses them. Its text names the word that is wrong or missing, and the usage of the command.
+    /// The parser refuses the words. This is the parser's text, which names the word that is wrong or missing and has
+    /// the usage of the command.
     Parser(String),
-    /// This word is no barcode.
+    /// This word was given as a barcode, but is not one.
     Barcode(String),
 }
 
-// What the parser says of words that give no matches.
+// The parser's text where it refuses these words or answers a request for help; None where it does neither, and where
+// memory runs out.
 fn parser_text(alloc: Global, words: &[String]) -> Option<String> {
     let command = vtl_command(alloc).ok()?;
     match command.try_get_matches_from(words) {
@@ -39,7 +41,7 @@ fn help_words(alloc: Global, words: &[String]) -> Result<Vec<String>, AllocError
     Ok(asking)
 }
 
-// The line of a text that has a usage.
+// The first line of a text that begins with `Usage: `; None where there is none.
 fn usage_in(text: &str) -> Option<&str> {
     for line in text.split('\n') {
         if line.starts_with("Usage: ") {
@@ -49,21 +51,23 @@ fn usage_in(text: &str) -> Option<&str> {
     None
 }
 
-// The usage of the command that these words name, as its help has it.
+// The usage of the command that these words name, as its help has it. None where the help has none, and where memory
+// runs out.
 pub(crate) fn usage_of(alloc: Global, words: &[String]) -> Option<String> {
     let asking = help_words(alloc, words).ok()?;
     let help = parser_text(alloc, asking.as_slice())?;
     String::from_str(alloc, usage_in(help.as_str())?).ok()
 }
 
-// The parser's text with the usage of the command.
+// The parser's text with the usage of the command after its first paragraph.
 fn with_usage(alloc: Global, text: &str, words: &[String]) -> Option<String> {
     let usage = usage_of(alloc, words)?;
     let (what, rest) = text.split_once("\n\n")?;
     format!(in alloc; "{what}\n\n{usage}\n\n{rest}").ok()
 }
 
-// Why the parser refuses the words, as it says. Of an option without its value it says no usage.
+// Why the parser refuses the words, in its own text. Where that has no usage, since an option has no value, the usage
+// of the command is added.
 fn parser_reason(alloc: Global, words: &[String]) -> Option<WordsReason> {
     let text = parser_text(alloc, words)?;
     if usage_in(text.as_str()).is_some() {
@@ -73,7 +77,7 @@ fn parser_reason(alloc: Global, words: &[String]) -> Option<WordsReason> {
     Some(WordsReason::Parser(whole))
 }
 
-// The word that stands for a barcode.
+// The word that is given as a barcode; None where there is none.
 fn barcode_word<'a>(matches: &ArgMatches<'a>) -> Option<&'a str> {
     match matches.subcommand() {
         Some(found) => value_of(found.1, "barcode"),
@@ -81,7 +85,7 @@ fn barcode_word<'a>(matches: &ArgMatches<'a>) -> Option<&'a str> {
     }
 }
 
-// Why words that the parser takes give no order.
+// Why words give no order though the parser accepts them; None where they give one, and where memory runs out.
 fn form_reason(alloc: Global, matches: &ArgMatches<'_>) -> Option<WordsReason>
     ensures { IfSome result (λ _. IsNoOrder (order_from (subcommand_rows_of matches.now))) }
 {
@@ -95,8 +99,8 @@ fn form_reason(alloc: Global, matches: &ArgMatches<'_>) -> Option<WordsReason>
 }
 
 impl WordsReason {
-    /// Why these words are refused. None where they are not refused, where they ask for help or for the version, and
-    /// where memory runs out. The words are parsed a second time.
+    /// Returns why these words are refused. None where they are not refused, where they ask for help or for the
+    /// version, and where memory runs out. The words are parsed anew.
     pub fn of(alloc: Global, words: &[String]) -> Option<WordsReason>
         ensures { IfSome result (λ _. AreRefused (texts_of words.now)) }
     {
@@ -109,8 +113,9 @@ impl WordsReason {
         }
     }
 
-    /// Adds lines: what is refused, what is allowed, what to do. Where memory runs out, only the first of them may be
-    /// there.
+    /// Adds the lines of this reason to `lines`. For `Parser` they are the lines of the parser's text that are not
+    /// empty; for `Barcode` they say what is refused, what is allowed, and what to do. If memory runs out, only the
+    /// first few of these lines, or none, are added.
     pub fn add_to(&self, alloc: Global, lines: &mut Explanation) -> Result<(), AllocError> {
         match self {
             WordsReason::Parser(text) => add_parser(alloc, text.as_str(), lines),

@@ -1,4 +1,4 @@
-//! A word of the command line that is no UTF-8, which the system does not give among the words.
+//! Finds a word of the command line that is not UTF-8. Where there is one, the program gets no words at all.
 use crate::refusals::usage_of;
 use explanations::Explanation;
 use std::alloc::{AllocError, Global};
@@ -8,12 +8,12 @@ use std::io::Write;
 // The bytes of a word that is looked at, at most.
 const WORD_BYTES: usize = 4_096;
 
-/// The first word of a command line that is no UTF-8.
+/// The first word of a command line that is not UTF-8, for an explanation.
 #[derive(Debug, Drop)]
 pub struct UnreadWord {
-    /// Its place behind the program's name, counted from 1 on.
+    /// The place of the word after the program's name, counted from 1.
     pub place: usize,
-    /// The word, in which each byte that is no ASCII character is a question mark.
+    /// The word, with a question mark in place of each byte that is not an ASCII character.
     pub word: String,
     /// The usage of the command that the words name.
     pub usage: String,
@@ -33,7 +33,7 @@ fn asks<R: Env>(rt: &R) -> bool {
     false
 }
 
-// The bytes of a word as they can be shown.
+// A word as it is shown: with a question mark in place of each byte that is no ASCII character.
 fn shown(alloc: Global, bytes: &[u8]) -> Result<String, AllocError> {
     let mut word = String::new(alloc);
     for byte in bytes {
@@ -42,7 +42,8 @@ fn shown(alloc: Global, bytes: &[u8]) -> Result<String, AllocError> {
     Ok(word)
 }
 
-// The first word that is no UTF-8, with its place.
+// The first word after the program's name that is not UTF-8, with its place; None where there is none, and where memory
+// runs out.
 fn first_unread<R: Env>(rt: &R, alloc: Global) -> Option<(usize, String)> {
     for place in 1..usize::MAX {
         let mut bytes = [0; WORD_BYTES];
@@ -57,7 +58,7 @@ fn first_unread<R: Env>(rt: &R, alloc: Global) -> Option<(usize, String)> {
     None
 }
 
-// A word as it is, where it is UTF-8.
+// The word at this place; None where it is missing, too long, or not UTF-8, and where memory runs out.
 fn text_at<R: Env>(rt: &R, alloc: Global, place: usize) -> Option<String> {
     let mut bytes = [0; WORD_BYTES];
     let count = rt.arg(place, &mut bytes).ok()?;
@@ -65,7 +66,7 @@ fn text_at<R: Env>(rt: &R, alloc: Global, place: usize) -> Option<String> {
     String::from_str(alloc, word).ok()
 }
 
-// The program's name and the word behind it, as far as they are UTF-8.
+// The program's name and the word after it. `vtl` stands for a name that is not UTF-8; such a word is left out.
 fn command_words<R: Env>(rt: &R, alloc: Global) -> Result<Vec<String>, AllocError> {
     let mut words = Vec::new(alloc);
     match text_at(rt, alloc, 0) {
@@ -79,8 +80,9 @@ fn command_words<R: Env>(rt: &R, alloc: Global) -> Result<Vec<String>, AllocErro
 }
 
 impl UnreadWord {
-    /// The first word that is no UTF-8, where the words ask for an explanation. None where there is no such word, and
-    /// where memory runs out. Words of more than 4,096 bytes are passed over.
+    /// Returns the first word after the program's name that is not UTF-8, if the words ask for an explanation. None
+    /// where they do not, where there is no such word, and where memory runs out. Words of more than 4,096 bytes are
+    /// passed over.
     pub fn find<R: Env>(rt: &R, alloc: Global) -> Option<UnreadWord> {
         if !asks(rt) {
             return None;
@@ -94,11 +96,11 @@ impl UnreadWord {
         })
     }
 
-    /// Adds three lines: which word is refused, the usage of the command, and what to do. Where memory runs out, only
-    /// the first of them may be there.
+    /// Adds three lines to `lines`: which word is refused, the usage of the command, and what to do. If memory runs
+    /// out, only the first few of these lines, or none, are added.
     pub fn add_to(&self, alloc: Global, lines: &mut Explanation) -> Result<(), AllocError> {
         let (place, word) = (self.place, &self.word);
-        let refused = format!(in alloc; "refused: word {place}, {word}, is no UTF-8")?;
+        let refused = format!(in alloc; "refused: word {place}, {word}, is not UTF-8")?;
         lines.add(alloc, refused.as_str())?;
         lines.add(alloc, self.usage.as_str())?;
         lines.add(
@@ -107,7 +109,8 @@ impl UnreadWord {
         )
     }
 
-    /// Writes these lines. Where memory runs out, or where they cannot be written, they are left out.
+    /// Writes the lines of `add_to` to `errors`. If memory runs out, nothing is written; if a write fails, only a
+    /// beginning of the lines may be written.
     pub fn explain<E: Write>(&self, alloc: Global, errors: &mut E) {
         let mut lines = Explanation::new(alloc);
         if self.add_to(alloc, &mut lines).is_ok() {

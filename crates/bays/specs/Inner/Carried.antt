@@ -5,7 +5,7 @@ use Rattle.scsi_sense.specs.declared.replies.Reply.{Reply}
 use Rattle.scsi_sense.specs.Replies.{check_with, conflict}
 use Rattle.scsi_sense.specs.Senses.{destination_full, invalid_element_address, source_empty}
 use Rattle.drive_core.specs.State.{medium_in}
-use Rattle.changer.specs.Slots.{held_at, is_slot}
+use Rattle.element_slots.specs.Slots.{held_at, is_slot}
 use Rattle.tape_buffer.specs.State.{BufferState}
 use Rattle.bays.specs.Elements.{BayState, HeldState}
 use Rattle.bays.specs.Inner.Going.{IsAwakeAt}

@@ -1,4 +1,4 @@
-//! A cartridge, through a stop.
+//! What a stop leaves of a cartridge.
 ghost use Rattle.bays.specs.Cartridges.{StopsKeepChanges};
 ghost use Rattle.bays.specs.Journeys.{KeepsWhatIsSafe, StopsKeepWhatIsMoved};
 
@@ -7,9 +7,9 @@ use pr_core::Keeper;
 use tape_buffer::Cataloged;
 use tape_disk::Disk;
 
-/// After an acknowledged synchronizing command, any commands and turns follow. A stop at any moment of these,
-/// inside a call too, leaves the cartridge as a first part of its accepted changes makes it. That part has
-/// every change that was accepted up to that command.
+/// A drive with a cartridge over two honest disks acknowledges a synchronizing command; then any commands and flusher's
+/// turns follow. A stop at any moment of these, even inside a call, leaves the cartridge with the first changes that it
+/// accepted, among them all that were accepted up to the acknowledgement.
 pub fn a_stop_keeps_acknowledged_changes<D: Disk, K: Keeper>()
     ensures { StopsKeepChanges D.state K.kept K.below }
 {
@@ -17,10 +17,11 @@ pub fn a_stop_keeps_acknowledged_changes<D: Disk, K: Keeper>()
     steps_keep_cores::<Cataloged<D>>();
 }
 
-/// The same for a cartridge that is moved. After an acknowledged synchronizing command any commands, turns, moves and
-/// write-outs follow, of this drive and of others. A stop at any moment of these leaves the cartridge, wherever it is,
-/// as a first part of its accepted changes makes it. That part has every change that was accepted up to that command.
-/// The same holds from any moment at which all that a known cartridge had accepted is safe.
+/// The law `a_stop_keeps_acknowledged_changes` for a cartridge that is moved. After an acknowledged synchronizing
+/// command any commands, turns, moves and write-outs follow, of this drive and of others. A stop at any moment of these
+/// leaves the cartridge, wherever it then is, with the first changes that it accepted, among them all that were
+/// accepted up to the acknowledgement. The same holds from any moment at which all changes that a cartridge over two
+/// honest disks had accepted are safe.
 pub fn a_stop_keeps_acknowledged_changes_of_what_is_moved<D: Disk>()
     ensures acknowledged { StopsKeepWhatIsMoved D.state }
     ensures safe { KeepsWhatIsSafe D.state }

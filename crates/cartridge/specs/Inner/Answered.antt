@@ -12,10 +12,10 @@ use Rattle.volume_core.specs.Volume.{AllApply, Part, after, changed, empty_volum
 use Rattle.tape_disk.specs.TwoDisks.{Images}
 use Rattle.gate_journal.specs.Heads.{Head, base_of}
 use Rattle.gate_journal.specs.Side.{frame}
-use Rattle.side_pairs.specs.declared.which.Which.{Which}
-use Rattle.side_pairs.specs.declared.which.Which.TheVariants.{First, Second}
-use Rattle.side_pairs.specs.Pairs.{IsOfCartridge, PairStandsFor, SideCounts, gate_behind}
-use Rattle.side_pairs.specs.Inner.Decided.{decided as decided_pair}
+use Rattle.cartridge_sides.specs.declared.which.Which.{Which}
+use Rattle.cartridge_sides.specs.declared.which.Which.TheVariants.{First, Second}
+use Rattle.cartridge_sides.specs.Pairs.{IsOfCartridge, PairStandsFor, SideCounts, gate_behind}
+use Rattle.cartridge_sides.specs.Inner.Decided.{decided as decided_pair}
 use Rattle.record_index.specs.Records.{IsRecord, spell_all}
 use Rattle.record_index.specs.Inner.Decided.{never_both, same_list}
 use Rattle.record_index.specs.Inner.Decided.{decided as decided_list}

@@ -3,8 +3,8 @@ use Rattle.std.specs.Prelude.{◌≡◌, ◌⊎◌, ℕ, List, [], length, Bool,
 use Rattle.volume_core.specs.declared.changes.Change.{Change}
 use Rattle.tape_disk.specs.Disk.{DiskState, Each}
 use Rattle.gate_journal.specs.Side.{Front, Heading, StandsFor}
-use Rattle.side_pairs.specs.declared.which.Which.{Which}
-use Rattle.side_pairs.specs.Roles.{MayCountBeside}
+use Rattle.cartridge_sides.specs.declared.which.Which.{Which}
+use Rattle.cartridge_sides.specs.Roles.{MayCountBeside}
 use Rattle.record_index.specs.Places.{PlacedPart}
 use Rattle.record_index.specs.Indexes.{Indexes}
 use Rattle.cartridge.specs.Contents.{Contents, IsContents, bodies_of, volume_made, with_frames}

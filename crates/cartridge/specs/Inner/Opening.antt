@@ -2,8 +2,8 @@
 use Rattle.std.specs.Prelude.{List, ℕ, Result, Ok, Err}
 use Rattle.tape_disk.specs.TwoDisks.{Images, TwoDisks}
 use Rattle.gate_journal.specs.Heads.{Head}
-use Rattle.side_pairs.specs.declared.which.Which.{Which}
-use Rattle.side_pairs.specs.Pairs.{SideCounts}
+use Rattle.cartridge_sides.specs.declared.which.Which.{Which}
+use Rattle.cartridge_sides.specs.Pairs.{SideCounts}
 use Rattle.cartridge.specs.declared.opening.Unopened.{Unopened}
 use Rattle.cartridge.specs.State.{OpenCartridge}
 

@@ -10,8 +10,8 @@ use Rattle.volume_core.specs.Stores.{after_append}
 use Rattle.tape_disk.specs.TwoDisks.{Images}
 use Rattle.gate_journal.specs.Heads.{Head}
 use Rattle.gate_journal.specs.Side.{frame}
-use Rattle.side_pairs.specs.Pairs.{gate_behind}
-use Rattle.side_pairs.specs.Inner.Decided.{one_place, one_thing, sound}
+use Rattle.cartridge_sides.specs.Pairs.{gate_behind}
+use Rattle.cartridge_sides.specs.Inner.Decided.{one_place, one_thing, sound}
 use Rattle.record_index.specs.Records.{IsRecord, spell_all}
 use Rattle.record_index.specs.Inner.Decided.{same_list}
 use Rattle.cartridge.specs.Contents.{AreGood, Contents, GivesContents, IsBadFrame, IsBadFrameAt, IsContents, IsDamagedPairAt, IsNoCartridge, bodies_of, changes_of}

@@ -16,9 +16,9 @@ use volume_core::Medium;
 use vtl_base::{Bytes, Nexus};
 
 impl<M: Medium, K: Keeper> Drive<M, K> {
-    /// Answers a command as `execute_lent` does, if its work needs no disk. The disk of the medium need not be at hand.
-    /// Where the work needs the disk, the result is None, and nothing has changed: the data are still there.
-    /// `execute_lent` answers once the disk is at hand.
+    /// Answers a command as `execute_lent` does, if its work does not need the disk of the medium. That disk need not
+    /// be at hand. Where the work needs the disk, the result is None, nothing has changed, and `sent` still holds the
+    /// data. `execute_lent` can answer such a command once the disk is at hand.
     pub fn execute_alone(&mut self, nexus: Nexus, cdb: &[u8], sent: &mut Bytes) -> Option<Reply>
         ensures step { AnswersAlone M.state K.kept M.alone M.below K.below
             self.old (asked nexus cdb.now sent.old) result self.new sent.new }
@@ -34,7 +34,8 @@ impl<M: Medium, K: Keeper> Drive<M, K> {
         Some(self.answer_lent(nexus, judged, sent))
     }
 
-    // Whether what was judged so needs the disk.
+    // Whether a command needs the disk of the medium, by the result of its checks. A command that does not pass them
+    // needs none.
     fn needs_disk(&self, judged: Result<Command, Denial>) -> bool
         ensures { result ≡ needs_disk_as (alone_in M.alone self.now.bay) self.now.buffered judged }
     {
@@ -66,7 +67,8 @@ impl<M: Medium, K: Keeper> Drive<M, K> {
         }
     }
 
-    // Whether the medium that is loaded takes a change whose block has this many bytes without the disk.
+    // Whether a medium is loaded that takes a change without its disk. The change's block has `bytes` bytes, 0 for a
+    // change without a block.
     fn takes_alone(&self, bytes: u32) -> bool
         ensures { result ≡ alone_in M.alone self.now.bay bytes }
     {

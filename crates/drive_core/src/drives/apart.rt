@@ -1,4 +1,4 @@
-//! Takes a drive apart, and puts it together.
+//! Splits a drive into what is in it and the rest, and joins the two.
 ghost use Rattle.std.specs.Prelude.{◌≡◌, true};
 ghost use Rattle.drive_core.specs.State.{IsBayPositioned};
 ghost use Rattle.drive_core.specs.Apart.{drive_with, rest_of_drive};
@@ -12,7 +12,7 @@ use std::alloc::Global;
 use std::marker::Model;
 use volume_core::Medium;
 
-/// The rest of a drive: all except what is in it.
+/// The rest of a drive: all of the drive except what is in it, its `Bay`.
 #[derive(Drop)]
 pub struct Rest<K: Keeper> {
     alloc: Global,
@@ -42,7 +42,7 @@ impl<K: Keeper> Model for Rest<K> {
 }
 
 impl<K: Keeper> Rest<K> {
-    /// Establishes a deferred error, as a flusher's turn does in which the device fails.
+    /// Establishes a deferred error, as a flusher's turn does when the device fails.
     pub fn defer(&mut self)
         ensures { self.new ≡ record self.old { deferred = true } }
     {
@@ -58,7 +58,7 @@ impl<K: Keeper> Rest<K> {
 }
 
 impl<M: Medium, K: Keeper> Drive<M, K> {
-    /// Takes a drive apart into what is in it, and the rest.
+    /// Splits a drive into what is in it and the rest.
     pub fn take_apart(self) -> (Bay<M>, Rest<K>)
         ensures bay { result.0 ≡ self.bay }
         ensures rest { result.1 ≡ rest_of_drive self }
@@ -88,8 +88,8 @@ impl<M: Medium, K: Keeper> Drive<M, K> {
         (bay, rest)
     }
 
-    /// Puts a drive together from what is in it, and the rest. The position has to be on a loaded medium; a medium that
-    /// is not loaded has to be parked.
+    /// Makes a drive of `bay`, which is what is in it, and of `rest`. If a medium is loaded, the position in `rest`
+    /// must be on that medium; a medium that is not loaded must be parked.
     pub fn assemble(bay: Bay<M>, rest: Rest<K>) -> Self
         requires { IsBayPositioned M.state bay rest.position }
         ensures { result ≡ drive_with bay rest }

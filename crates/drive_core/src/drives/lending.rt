@@ -24,8 +24,8 @@ use volume_core::Medium;
 use vtl_base::{Bytes, Nexus};
 
 impl<M: Medium, K: Keeper> Drive<M, K> {
-    /// Answers a command, as `execute` does. The command's data are lent: a written block takes them without copying;
-    /// else the caller still has them.
+    /// Answers a command, as `execute` does. The data in `sent` are lent: a block that is written takes them without
+    /// copying, and `sent` is then empty; else `sent` still holds them.
     pub fn execute_lent(&mut self, nexus: Nexus, cdb: &[u8], sent: &mut Bytes) -> Reply
         requires hand { request_needs_disk M.state K.kept M.alone self.old (asked nexus cdb.now sent.old) ≡ true
             → IsAtHand M.below.at_hand self.old.bay }
@@ -41,7 +41,7 @@ impl<M: Medium, K: Keeper> Drive<M, K> {
         self.answer_lent(nexus, judged, sent)
     }
 
-    /// Answers a command, given the result of its checks.
+    /// Answers a command whose checks had the result `judged`.
     pub(super) fn answer_lent(
         &mut self,
         nexus: Nexus,
@@ -67,7 +67,7 @@ impl<M: Medium, K: Keeper> Drive<M, K> {
         }
     }
 
-    // Carries a command out. A WRITE alone takes its data.
+    // Carries out a command. Only a WRITE takes the data in `sent`.
     fn perform_lent(
         &mut self,
         nexus: Nexus,

@@ -1,4 +1,4 @@
-//! LOAD UNLOAD, and a cartridge that goes out of the drive.
+//! LOAD UNLOAD, and parking a medium that is taken out of the drive.
 ghost use Rattle.std.specs.Prelude.{◌≡◌, true, false};
 ghost use Rattle.drive_core.specs.State.{IsAtHand, machine_of, medium_in};
 ghost use Rattle.drive_core.specs.LoadUnload.{LoadsIn, LoadUnloadWork, UnloadsInto, unloaded};
@@ -20,7 +20,7 @@ use volume_core::{Medium, MediumError};
 use vtl_base::{Bytes, Nexus};
 
 impl<M: Medium, K: Keeper> Drive<M, K> {
-    /// Loads or unloads what is in the drive (SSC-4, LOAD UNLOAD).
+    /// Loads the medium in the drive if `load` is true, else unloads it (SSC-4, LOAD UNLOAD).
     pub(super) fn load_unload(&mut self, nexus: Nexus, load: bool) -> Result<Reply, Fault>
         requires hand { IsAtHand M.below.at_hand self.old.bay }
         ensures { Takes M.state M.below K.kept K.below
@@ -62,7 +62,7 @@ impl<M: Medium, K: Keeper> Drive<M, K> {
         }
     }
 
-    // LOAD: a loaded medium goes to its start; one that is not loaded is opened.
+    // LOAD: the position goes to the start of a loaded medium; a medium that is not loaded is opened.
     fn load_here(&mut self, nexus: Nexus) -> Result<Reply, Fault>
         requires hand { IsAtHand M.below.at_hand self.old.bay }
         ensures { Takes M.state M.below K.kept K.below
@@ -96,7 +96,8 @@ impl<M: Medium, K: Keeper> Drive<M, K> {
     }
 }
 
-/// Parks a loaded medium, once what is pending is stored. With a fault the medium is returned.
+/// Stores what is pending, and then parks a loaded medium and returns it. If the device fails, the error returns the
+/// medium, which is still awake and has failed.
 pub(super) fn park<M: Medium>(medium: M) -> Result<M, M>
     requires awake { (M.state medium).awake ≡ true }
     requires hand { M.below.at_hand medium }
@@ -110,7 +111,7 @@ pub(super) fn park<M: Medium>(medium: M) -> Result<M, M>
     }
 }
 
-// A parked medium is opened, or stays parked.
+// Opens a parked medium. If that fails, the medium is returned with the error, and is still parked.
 fn wake<M: Medium>(medium: M) -> Result<M, (M, MediumError)>
     requires parked { (M.state medium).awake ≡ false }
     requires hand { M.below.at_hand medium }

@@ -1,4 +1,4 @@
-//! Looks at a drive. No look changes it.
+//! Calls that look at a drive. None of them changes it.
 ghost use Rattle.std.specs.Prelude.{◌≡◌, ◌↔◌, IsTrue, is_some, option_copied};
 ghost use Rattle.drive_core.specs.declared.bays.Bay.TheVariants as Bays;
 ghost use Rattle.drive_core.specs.State.{has_failed_in, medium_in, IsBayPositioned};
@@ -9,7 +9,7 @@ use pr_core::Keeper;
 use volume_core::Medium;
 
 impl<M: Medium, K: Keeper> Drive<M, K> {
-    /// Whether there is no cartridge in it, loaded or not.
+    /// Whether the drive is empty: no cartridge is in it, loaded or not.
     pub fn is_empty(&self) -> bool
         ensures { IsTrue result ↔ (self.now.bay ≡ Bays.Empty) }
     {
@@ -19,8 +19,8 @@ impl<M: Medium, K: Keeper> Drive<M, K> {
         }
     }
 
-    /// The medium in it, for tests. A loaded one is awake, and the position is on it; one that is
-    /// not loaded is parked.
+    /// The medium in the drive, for tests; None where the drive is empty. A loaded medium is awake, and the position is
+    /// on it. A medium that is not loaded is parked.
     pub fn medium(&self) -> Option<&M>
         ensures medium { option_copied result ≡ medium_in self.now.bay }
         ensures on { IsBayPositioned M.state self.now.bay self.now.position }
@@ -31,7 +31,7 @@ impl<M: Medium, K: Keeper> Drive<M, K> {
         }
     }
 
-    /// The keeper of its reservations, for tests.
+    /// The keeper of the drive's reservations, for tests.
     pub fn keeper(&self) -> &K
         ensures { result.now ≡ self.now.keeper }
     {
@@ -45,15 +45,16 @@ impl<M: Medium, K: Keeper> Drive<M, K> {
         self.reservations.is_held()
     }
 
-    /// How many changes were accepted since the drive was switched on, by all media that were in it. At
-    /// 18,446,744,073,709,551,615 the count stays.
+    /// How many changes were accepted since the drive was switched on, by all media that were in it. The count stops at
+    /// 18,446,744,073,709,551,615.
     pub fn accepted(&self) -> u64
         ensures { result ≡ self.now.accepted }
     {
         self.accepted
     }
 
-    /// Whether the loaded medium has failed. Then nothing more of it is stored until it is unloaded and loaded.
+    /// Whether the loaded medium has failed; false where none is loaded. On a medium that has failed nothing more is
+    /// stored until it is unloaded and loaded again.
     pub fn has_failed(&self) -> bool
         ensures { result ≡ has_failed_in M.state self.now.bay }
     {

@@ -50,7 +50,8 @@ impl<M: Medium, K: Keeper> Drive<M, K> {
         }
     }
 
-    /// Gives the mode, cut to the room that the host has (SPC-4, MODE SENSE).
+    /// Returns the mode data, cut to the `room` bytes that the host has for them. Where `bare` is true, they have no
+    /// block descriptor (SPC-4, MODE SENSE).
     pub(super) fn mode_sense(&mut self, bare: bool, room: u8) -> Result<Reply, Fault>
         ensures { Takes M.state M.below K.kept K.below
             (ModeSenseWork bare room (machine_of M.state K.kept self.old))
@@ -60,7 +61,7 @@ impl<M: Medium, K: Keeper> Drive<M, K> {
     }
 }
 
-// The mode, with a block descriptor or without one.
+// Returns the mode data, cut to `room` bytes. Where `bare` is true, they have no block descriptor.
 fn give_mode(alloc: Global, buffered: bool, bare: bool, room: u8) -> Result<Reply, Fault>
     ensures { Gives (cut_to room (mode_data buffered bare)) result }
 {

@@ -23,7 +23,7 @@ use volume_core::Medium;
 use vtl_base::Nexus;
 
 impl<M: Medium, K: Keeper> Drive<M, K> {
-    /// Carries a command out.
+    /// Carries out a command that has passed all checks.
     pub(super) fn perform(
         &mut self,
         nexus: Nexus,
@@ -70,7 +70,7 @@ impl<M: Medium, K: Keeper> Drive<M, K> {
         )
     }
 
-    // The work of a command that needs none.
+    // The work of a command that does not need a medium.
     fn on_drive(&mut self, nexus: Nexus, command: Command, sent: &[u8]) -> Result<Reply, Fault>
         requires hand { needs_disk (alone_in M.alone self.old.bay) self.old.buffered command ≡ true
             → IsAtHand M.below.at_hand self.old.bay }
@@ -112,7 +112,7 @@ impl<M: Medium, K: Keeper> Drive<M, K> {
         Ok(reply)
     }
 
-    // A condition that was reported to a nexus, if any, is cleared.
+    // Clears the condition that was reported to a nexus, if there was one.
     fn clear_due(&mut self, nexus: Nexus, due: Option<Condition>)
         ensures { self.new ≡ once_reported due nexus self.old }
     {
@@ -122,7 +122,7 @@ impl<M: Medium, K: Keeper> Drive<M, K> {
     }
 }
 
-// The sense data of a condition that may be there.
+// The sense data of a condition; where there is none, those that report nothing.
 fn sense_due(due: Option<Condition>) -> Sense
     ensures { result ≡ sense_due due }
 {

@@ -1,4 +1,4 @@
-//! Persistent reservations: what is read of them, and what an order makes of them.
+//! Persistent reservations: reading them, and carrying out orders that change them.
 ghost use Rattle.std.specs.Prelude.{◌≡◌, false};
 ghost use Rattle.scsi_wire.specs.Answers.{cut_to};
 ghost use Rattle.drive_core.specs.State.{machine_of};
@@ -19,8 +19,8 @@ use volume_core::Medium;
 use vtl_base::{Bytes, Nexus};
 
 impl<M: Medium, K: Keeper> Drive<M, K> {
-    /// Gives the keys or the reservation, cut to the room that the host has (SPC-4, PERSISTENT
-    /// RESERVE IN).
+    /// Returns the keys or the reservation, as `action` asks, cut to the `room` bytes that the host has for them
+    /// (SPC-4, PERSISTENT RESERVE IN).
     pub(super) fn reserve_in(&mut self, action: PrRead, room: u16) -> Result<Reply, Fault>
         ensures { Takes M.state M.below K.kept K.below
             (ReserveInWork action room (machine_of M.state K.kept self.old))
@@ -50,7 +50,7 @@ impl<M: Medium, K: Keeper> Drive<M, K> {
         self.carry_order(nexus, &order)
     }
 
-    // Carries an order out, and saves what it leaves, where that is due.
+    // Carries out an order. What it leaves of the reservations is saved first, where a save is due.
     fn carry_order(&mut self, nexus: Nexus, order: &PrOut) -> Result<Reply, Fault>
         requires { (K.kept self.old.keeper).failed ≡ false }
         ensures { Takes M.state M.below K.kept K.below
@@ -66,8 +66,8 @@ impl<M: Medium, K: Keeper> Drive<M, K> {
         Ok(self.install(reservations, &established, answer))
     }
 
-    // An order stands: these are the reservations now, and these unit attention conditions are
-    // established, each for its nexus.
+    // Puts an order into effect: `reservations` are the drive's reservations from now on, and the unit attention
+    // conditions in `established` are established, each for its nexus.
     fn install(
         &mut self,
         reservations: Reservations,
@@ -83,7 +83,7 @@ impl<M: Medium, K: Keeper> Drive<M, K> {
     }
 }
 
-// What is read of these reservations, cut to the room that the host has. Of 24 bytes at most it takes no memory.
+// Returns the keys or the reservation, as `action` asks, cut to `room` bytes. Data of at most 24 bytes take no memory.
 fn read(
     alloc: Global,
     reservations: &Reservations,
@@ -99,7 +99,7 @@ fn read(
     Ok(Reply::good(data))
 }
 
-// The reply to an order that was answered so. It takes no memory.
+// The reply to an order that had this outcome. The call takes no memory.
 fn order_reply(alloc: Global, answer: PrAnswer) -> Reply
     ensures { result ≡ order_reply answer }
 {

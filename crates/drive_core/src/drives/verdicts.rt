@@ -18,7 +18,7 @@ use volume_core::{Catalog, Medium};
 use vtl_base::Nexus;
 
 impl<M: Medium, K: Keeper> Drive<M, K> {
-    /// The command of a request, or the first check that it does not pass.
+    /// Checks a request. Returns its command, or why it is not carried out: the first check that it does not pass.
     pub(super) fn verdict(&self, nexus: Nexus, cdb: &[u8], sent: &[u8]) -> Result<Command, Denial>
         ensures verdict { result ≡ verdict (machine_of M.state K.kept self.now)
             (asked nexus cdb.now sent.now) }
@@ -34,7 +34,8 @@ impl<M: Medium, K: Keeper> Drive<M, K> {
         self.fields_verdict(opcode, cdb, sent)
     }
 
-    /// The condition that is reported to a nexus next: the deferred error, or its first unit attention.
+    /// The condition that is reported to a nexus next: the deferred error, else the first unit attention condition of
+    /// the nexus. None where there is neither.
     pub(super) fn condition_due(&self, nexus: Nexus) -> Option<Condition>
         ensures { result ≡ condition_due (machine_of M.state K.kept self.now) nexus }
     {
@@ -45,7 +46,8 @@ impl<M: Medium, K: Keeper> Drive<M, K> {
         Some(Condition::UnitAttention(attention))
     }
 
-    // Conditions, reservation and medium, except for an exempt command.
+    // Checks conditions, reservation and medium, in this order. Returns the first of them that keeps the command from
+    // being carried out; None where none does, and for an exempt command.
     fn state_denial(&self, nexus: Nexus, opcode: Opcode) -> Option<Denial>
         ensures { result ≡ state_denial (machine_of M.state K.kept self.now) nexus opcode }
     {
@@ -61,7 +63,8 @@ impl<M: Medium, K: Keeper> Drive<M, K> {
         self.need_denial(opcode)
     }
 
-    // A command that needs a medium finds one that is loaded and has not failed.
+    // Checks that a command that needs a medium finds one that is loaded and has not failed. Returns None where the
+    // command passes.
     fn need_denial(&self, opcode: Opcode) -> Option<Denial>
         ensures { result ≡ need_denial (machine_of M.state K.kept self.now) opcode }
     {
@@ -78,7 +81,8 @@ impl<M: Medium, K: Keeper> Drive<M, K> {
         }
     }
 
-    // The block's length and fields, and the count of bytes that were sent.
+    // Checks the length of the command block, its fields, and the count of bytes that were sent. Returns the command
+    // where it passes.
     fn fields_verdict(&self, opcode: Opcode, cdb: &[u8], sent: &[u8]) -> Result<Command, Denial>
         ensures verdict { result ≡ fields_verdict (machine_of M.state K.kept self.now) sent.now
             (command_of opcode cdb.now) }
@@ -94,7 +98,8 @@ impl<M: Medium, K: Keeper> Drive<M, K> {
         Ok(command)
     }
 
-    // An answer that does not wait needs the buffered mode, and a partition is one of the volume's.
+    // Whether the drive can do what the fields ask: an immediate answer needs the buffered mode, and the partition of a
+    // LOCATE must be one of the volume's.
     fn suits(&self, command: Command) -> bool
         ensures { result ≡ suits (machine_of M.state K.kept self.now) command }
     {

@@ -1,7 +1,7 @@
 -- What a crash may leave while a frame is written, in bytes.
-use Rattle.std.specs.Prelude.{◌≡◌, ◌⊎◌, ℕ, List, [], ◌∷◌, ◌++◌, length}
+use Rattle.std.specs.Prelude.{◌≡◌, ◌⊎◌, ◌+◌, ℕ, List, [], ◌∷◌, ◌++◌, length}
 use Rattle.std.specs.Int.{to_be_bytes, w32}
-use Rattle.tape_disk.specs.Disk.{Smeared}
+use Rattle.tape_disk.specs.Disk.{DiskState, Smeared, overwritten}
 use Rattle.gate_journal.specs.Side.{CLOSED, OPEN}
 
 -- one of these images, and any bytes in a range of it (own)
@@ -27,3 +27,11 @@ Opened front bytes image = (rest : List ℕ) × (image ≡ front ++ OPEN ∷ byt
 -- what is written after the gate: a length, a body, and the next gate, closed (own)
 abbrev pub tail_of : List ℕ → List ℕ
 tail_of body = to_be_bytes w32 (length body) ++ body ++ CLOSED ∷ []
+
+-- Of these bytes, which begin at place `from` of the disk, the first ones were written, and over an honest disk reads
+-- return them; the others are gathered, and begin at place `at` (own).
+pub record Gathers (from at : ℕ) (bytes gathered : List ℕ) (old new : DiskState) : Type 0 where
+  pub written : List ℕ
+  pub all : bytes ≡ written ++ gathered
+  pub at_is : at ≡ from + length written
+  pub seen : old.honest → new.seen ≡ overwritten from written old.seen

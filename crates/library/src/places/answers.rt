@@ -14,7 +14,7 @@ use aptpl_store::AptplStore;
 use drive_laws::replies_show_changes;
 use ledgers::{Parties, PartyShare, Seat, Tally};
 use scsi_sense::Reply;
-use split_bay::{Back, Front, Rings, execute_both, replies_show_changes_alone, tell};
+use split_bay::{Back, Front, Rings, execute_both, replies_show_changes_alone, report_fault};
 use std::sync::{Mutex, Wait};
 use tape_buffer::Cataloged;
 use tape_disk::Disk;
@@ -112,14 +112,15 @@ fn report_to_hosts<D: Disk + Drop, B: Rings>(
     ensures reports { ReportsBoth D.state (is_unreported D.state front back) front back result.0 result.1 }
     ensures count { result.0.drive.accepted ≡ front.drive.accepted }
 {
-    tell(front, back)
+    report_fault(front, back)
 }
 
 impl<D: Disk + Drop, B: Parties + Rings> FrontPlace<D, B> {
-    /// Answers a command of a seat's host, if it needs no disk, and enters the change that the drive accepted with it,
-    /// if any, in both ledgers. The command's data are lent: a written block takes them without copying. Where the
-    /// command needs the disk's half too, the result is None, and nothing has changed. Where 2^64 - 1 changes were
-    /// accepted or entered before, the call waits forever.
+    /// Answers a command of the host that has `seat`, with the hosts' half of the drive alone. `cdb` is the command
+    /// block, and `sent` are the data that came with it. Returns None if the command needs the disk's half too; then
+    /// nothing has changed. If the drive accepts a change, it is entered in both ledgers (`tally`), and takes over the
+    /// data of `sent` without a copy. The call waits forever if the drive had already accepted 2^64 - 1 changes, or if
+    /// a change is to be entered in the ledgers and they already have that many.
     pub fn execute_alone<H: Parties, R: Wait>(
         &mut self,
         rt: &R,
@@ -137,7 +138,8 @@ impl<D: Disk + Drop, B: Parties + Rings> FrontPlace<D, B> {
         }
     }
 
-    /// The same with both halves, whatever the command needs.
+    /// Answers a command as `execute_alone` does, but always with both halves, so there is always a reply. `back` has
+    /// to be the disk's half of this drive; otherwise the call waits forever.
     pub fn execute_both<H: Parties, R: Wait>(
         &mut self,
         back: &mut BackPlace<D, B>,
@@ -164,8 +166,9 @@ impl<D: Disk + Drop, B: Parties + Rings> FrontPlace<D, B> {
         reply
     }
 
-    /// Reports a fault of the disk's half to hosts, if there is one that was not reported.
-    pub fn tell<R: Wait>(&mut self, back: &mut BackPlace<D, B>, rt: &R)
+    /// Reports a fault of the disk's half to the hosts, if there is one that was not reported yet. `back` has to be the
+    /// disk's half of this drive; otherwise the call waits forever.
+    pub fn report_fault<R: Wait>(&mut self, back: &mut BackPlace<D, B>, rt: &R)
         ensures { ReportsHeld D.state self.old back.old self.new back.new }
     {
         let Some(hosts) = self.half.take() else {
@@ -180,7 +183,9 @@ impl<D: Disk + Drop, B: Parties + Rings> FrontPlace<D, B> {
         back.half = Some(disks);
     }
 
-    /// Lets the hosts' half send again as much as the buffer takes: puts the halves together, and parts them.
+    /// Joins the halves and splits them again. After that the hosts' half may again send as many changes as may be
+    /// pending; if memory runs out, it may send none until the halves are split again. `back` has to be the disk's half
+    /// of this drive; otherwise the call waits forever.
     pub fn renew<R: Wait>(&mut self, back: &mut BackPlace<D, B>, rt: &R)
         ensures { (bay : BayState D) × HoldsBoth D.state self.old back.old bay bay self.new back.new }
     {

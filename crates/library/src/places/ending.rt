@@ -1,4 +1,4 @@
-//! The end of a drive: its halves are put together, and it takes a turn.
+//! The end of a drive: its halves are joined, and it takes a last turn.
 ghost use Rattle.std.specs.Prelude.{◌≡◌, Some, OnErr, OnOk};
 ghost use Rattle.bays.specs.Finish.{HasFailedAt, IsWrittenAt};
 ghost use Rattle.library.specs.Halves.{EndsHeld};
@@ -18,12 +18,14 @@ pub struct EndedPlace<D: Disk, B: Parties + Rings> {
     pub bay: Bay<D>,
     /// Its share of the ledger of drives.
     pub share: PartyShare<B>,
-    /// Whether all that the drive accepted is written out.
+    /// Ok where the loaded medium, if there is one, has stored all that it accepted; an error where it has failed.
     pub written: Result<(), Unwritten>,
 }
 
 impl<D: Disk + Drop, B: Parties + Rings> FrontPlace<D, B> {
-    /// The drive after a turn, with its share, and whether all is written out. It takes no memory.
+    /// Joins the two halves of a drive, and takes a turn, which stores what is pending. Returns the drive with its
+    /// share, and whether the loaded medium has stored all that it accepted. `back` has to be the disk's half of this
+    /// drive; otherwise the call waits forever. The call allocates no memory.
     pub fn end<R: Wait>(self, back: BackPlace<D, B>, rt: &R) -> EndedPlace<D, B>
         ensures left { EndsHeld D.state self back result.bay }
         ensures share { result.share ≡ result.bay.accepted }

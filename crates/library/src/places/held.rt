@@ -10,15 +10,15 @@ use split_bay::{Back, Ends, Front, Rings, join, part};
 use std::sync::Wait;
 use tape_disk::Disk;
 
-// The invariant of a drive, in one fact.
+// The invariant of a drive as one fact, for the proof alone.
 pub(super) fn known_drive<D: Disk>(bay: &Bay<D>)
     ensures { KeepsDrive D.state bay.now }
 {
     bay.known();
 }
 
-// Checks that these are the two halves of one drive. A library keeps the halves of a drive together. If they were not,
-// the call would wait forever.
+// Checks that these are the two halves of one drive. A library keeps the halves of a drive together; if they were not
+// those of one drive, the call would wait forever.
 pub(super) fn fit<D: Disk, B: Rings, R: Wait>(rt: &R, front: &Front<D, B>, back: &Back<D, B>)
     ensures { AreEnds (end_of front.now) back.now.number back.now.received }
 {
@@ -28,7 +28,7 @@ pub(super) fn fit<D: Disk, B: Rings, R: Wait>(rt: &R, front: &Front<D, B>, back:
     }
 }
 
-// Takes both halves out of their places, and puts them together.
+// Takes both halves out of their places, and joins them.
 pub(super) fn join_held<D: Disk, B: Rings, R: Wait>(
     rt: &R,
     front: &mut Option<Front<D, B>>,
@@ -48,7 +48,7 @@ pub(super) fn join_held<D: Disk, B: Rings, R: Wait>(
     join(hosts, disks)
 }
 
-// Parts a drive, and puts both halves into their places.
+// Splits a drive, and puts both halves into their places.
 pub(super) fn part_held<D: Disk + Drop, B: Rings>(
     bay: Bay<D>,
     ends: Ends<B>,

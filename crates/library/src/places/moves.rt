@@ -1,4 +1,4 @@
-//! Moves of cartridges between two places, each of which may be a locked drive.
+//! Moves of cartridges between two element addresses, each of which may be that of a locked drive.
 ghost use Rattle.std.specs.Prelude.{◌≡◌, ◌≢◌, Option, None, Some, IfSome, is_some};
 ghost use Rattle.bays.specs.Elements.{BayState};
 ghost use Rattle.bays.specs.Lent.{IsDriveAddress, KeepsCount};
@@ -10,7 +10,7 @@ use super::held::{join_held, known_drive, part_held};
 use super::{BackPlace, FrontPlace};
 use crate::inventories::known_slots;
 use bays::{Bay, Parked, move_lent};
-use changer::Slots;
+use element_slots::Slots;
 use ledgers::Parties;
 use scsi_sense::Reply;
 use split_bay::Rings;
@@ -34,7 +34,8 @@ fn known_at<D: Disk>(bay: &Option<Bay<D>>)
     }
 }
 
-// A move between two places. A drive that is both is the source alone.
+// Moves a cartridge from the element address `from` to `to`. `source` and `destination` are the drives there, or None
+// where there is no drive. A drive at both addresses is passed as the source alone.
 fn move_known<D: Disk + Drop>(
     alloc: Global,
     slots: &mut Slots<Parked<D>>,
@@ -74,7 +75,7 @@ fn move_known<D: Disk + Drop>(
     reply
 }
 
-// The same where the destination may be a locked drive.
+// As `move_known`, where the destination may be a locked drive.
 fn move_to<D: Disk + Drop, B: Parties + Rings, R: Wait>(
     source: &mut Option<Bay<D>>,
     destination: Option<LockedBay<'_, D, B>>,
@@ -104,7 +105,9 @@ fn move_to<D: Disk + Drop, B: Parties + Rings, R: Wait>(
     }
 }
 
-/// A move between two places, each of which may be a locked drive. A drive that is both is the source alone.
+/// Moves a cartridge from the element address `from` to `to`, and returns the reply to that. `source` and `destination`
+/// are the drives there, with their locks held, or None where there is no drive. A drive at both addresses is passed as
+/// the source alone.
 pub(crate) fn move_locked<D: Disk + Drop, B: Parties + Rings, R: Wait>(
     source: Option<LockedBay<'_, D, B>>,
     destination: Option<LockedBay<'_, D, B>>,
@@ -135,7 +138,7 @@ pub(crate) fn move_locked<D: Disk + Drop, B: Parties + Rings, R: Wait>(
 }
 
 impl<D: Disk + Drop, B: Parties + Rings> FrontPlace<D, B> {
-    // A move out of this drive, whose disk's half is `back`.
+    // Moves a cartridge out of this drive, whose disk's half is `back`, as `move_locked` does.
     fn move_out<R: Wait>(
         &mut self,
         back: &mut BackPlace<D, B>,
@@ -161,7 +164,8 @@ impl<D: Disk + Drop, B: Parties + Rings> FrontPlace<D, B> {
         reply
     }
 
-    // A move into this drive, whose disk's half is `back`. A drive at the source is put together.
+    // Moves a cartridge into this drive, whose disk's half is `back`, as `move_locked` does. The halves of a drive at
+    // the source are joined already.
     fn move_in<R: Wait>(
         &mut self,
         back: &mut BackPlace<D, B>,

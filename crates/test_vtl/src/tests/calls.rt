@@ -9,8 +9,8 @@ use std::test::Fail;
 use std::thread::Threads;
 use std::time::Clock;
 use test_assertions::{assert_equal, assert_holds};
+use vtl_faults::endings::Ended;
 use vtl_program::orders::run;
-use vtl_program::programs::Ended;
 use vtl_words::{WordsError, read_words};
 
 const DEVICE: &str = "vtl: device fault\n";

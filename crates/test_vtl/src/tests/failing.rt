@@ -13,11 +13,11 @@ use tape_disk::{MemDisk, OnceDisk};
 use test_assertions::assert_equal;
 use volume_core::are_capacities;
 use vtl_config::{CartridgeEntry, Config, DriveEntry, read_config};
-use vtl_files::faults::VtlFault;
+use vtl_faults::faults::VtlFault;
 use vtl_files::files::TakesBack;
-use vtl_runs::running::run_started;
-use vtl_runs::sides::{DriveStore, Sides};
-use vtl_runs::starting::{NotStarted, Starting, start};
+use vtl_power_on::running::run_started;
+use vtl_power_on::sides::{DriveStore, Sides};
+use vtl_power_on::starting::{NotStarted, Starting, start};
 
 // New sides in memory, whose cartridges fail at the call after this many.
 #[derive(Clone, Copy)]

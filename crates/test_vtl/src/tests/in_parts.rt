@@ -3,9 +3,9 @@ use super::streams::{BadCall, BadWriter, PartWriter};
 use std::io::ErrorKind;
 use std::process::Abort;
 use test_assertions::assert_equal;
-use vtl_files::faults::VtlFault;
+use vtl_faults::endings::{Ended, end};
+use vtl_faults::faults::VtlFault;
 use vtl_files::writing::print_text;
-use vtl_program::programs::{Ended, end};
 
 // How many bytes a writer takes at once and the results of its first calls; what is then out of `abcdef`, and
 // whether that is all.

@@ -10,7 +10,7 @@ use std::test::Fail;
 use std::thread::Threads;
 use std::time::Clock;
 use test_assertions::assert_equal;
-use vtl_program::programs::Ended;
+use vtl_faults::endings::Ended;
 
 // The words, the script, and what its first reads return; the status, the one line, and the lines behind it.
 #[derive(Clone, Copy)]

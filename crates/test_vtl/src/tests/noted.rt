@@ -11,12 +11,12 @@ use std::test::Fail;
 use std::thread::Threads;
 use std::time::Clock;
 use test_assertions::assert_equal;
-use vtl_files::faults::VtlFault;
+use vtl_faults::endings::Ended;
+use vtl_faults::faults::VtlFault;
 use vtl_notes::noted_streams::NotingWriter;
 use vtl_notes::notes::Notes;
 use vtl_notes::noting::NotingReader;
 use vtl_program::explaining::{asks, asks_of_lines, run_explained};
-use vtl_program::programs::Ended;
 
 type Errors<'a> = &'a [Option<ErrorKind>];
 

@@ -161,7 +161,7 @@ fn a_refused_store_is_reported_by_its_own_calls(rt: HostRuntime) -> Result<(), F
         );
         let bad = if failed == "a" { first } else { second };
         let _ = used(notes.files(), bad, failing(alloc, 3, Some(SYNC))?);
-        notes.give_back(alloc, "b", second);
+        notes.note_returned(alloc, "b", second);
         let mut lines = Explanation::new(alloc);
         assert_equal!(rt; notes.add_store(alloc, &mut lines)?, is_reported; failed);
         let begin = "refused: what is in the file b\n";

@@ -7,7 +7,7 @@ use std::io::{self, ErrorKind};
 use tape_disk::{MemDisk, OnceDisk};
 use vtl_config::{FileName, UsedName};
 use vtl_files::files::{ChangeFiles, MakeFiles, ReadFiles, SecondFiles, TakesBack, TextFiles};
-use vtl_runs::starting::NotStarted;
+use vtl_power_on::starting::NotStarted;
 
 /// An opening that failed.
 pub const DEVICE_ERROR: FileError = FileError::Device(FailedCall {

@@ -8,11 +8,11 @@ use std::test::Fail;
 use std::thread::Threads;
 use std::time::Clock;
 use test_assertions::{assert_equal, assert_holds};
-use vtl_files::faults::{Verdict, VtlFault};
-use vtl_program::programs::{Ended, end, fault_line};
-use vtl_runs::running::run_started;
-use vtl_runs::sides::NewSides;
-use vtl_runs::starting::built_in;
+use vtl_faults::endings::{Ended, end, fault_line};
+use vtl_faults::faults::{Verdict, VtlFault};
+use vtl_power_on::running::run_started;
+use vtl_power_on::sides::NewSides;
+use vtl_power_on::starting::built_in;
 use vtl_script::ScriptFault;
 
 // What a run of the program wrote on both streams, and how it ended.

@@ -15,7 +15,7 @@ const THREE: &str = "read c;open t;second t.2;open u;second u.2;open 1;back 1;gi
 const FOUR: &str = "read c;open t;second t.2;open u;second u.2;open 1;open 2;back 2;give up;";
 
 // Stores whose first and second call fails, and stores that are refused.
-static HANDED_BACK: &'static [Row<'static>] = &[
+static REFUSED: &'static [Row<'static>] = &[
     (Failing::Disk("1", 0), NOTED, THREE, "", FAILED),
     (Failing::Disk("2", 1), NOTED, FOUR, "", FAILED),
     (Failing::Side("1", DAMAGED), NOTED, THREE, "", FAILED),
@@ -26,6 +26,6 @@ static HANDED_BACK: &'static [Row<'static>] = &[
 ];
 
 #[test]
-fn a_refused_side_is_given_back_as_it_was(rt: HostRuntime) -> Result<(), Fail> {
-    assert_rows(&rt, rt.alloc(), HANDED_BACK)
+fn a_refused_side_is_returned_unchanged(rt: HostRuntime) -> Result<(), Fail> {
+    assert_rows(&rt, rt.alloc(), REFUSED)
 }

@@ -8,12 +8,12 @@ use std::test::Fail;
 use std::thread::Threads;
 use std::time::Clock;
 use test_assertions::{assert_equal, assert_holds};
-use vtl_files::faults::{Verdict, VtlFault};
-use vtl_program::programs::{Ended, end};
-use vtl_runs::labels::built_in_labels;
-use vtl_runs::serving::serve_started;
-use vtl_runs::sides::NewSides;
-use vtl_runs::starting::built_in;
+use vtl_faults::endings::{Ended, end};
+use vtl_faults::faults::{Verdict, VtlFault};
+use vtl_power_on::labels::built_in_labels;
+use vtl_power_on::serving::serve_started;
+use vtl_power_on::sides::NewSides;
+use vtl_power_on::starting::built_in;
 
 // TEST UNIT READY of host 1 to drive 1 with tags 7 and 8, and the same for drive 2, which is not configured.
 const READY: &[u8] = b"\x01\x01\x01\x06\0\0\0\0\0\0\0\x07\0\0\0\0\0\0\0\0\0\0";

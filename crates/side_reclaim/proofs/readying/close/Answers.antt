@@ -1,8 +1,8 @@
 use Rattle.std.proofs.Common.{sym, subst}
 use Rattle.std.proofs.lemmas.Result.{on_ok_weaker}
 use Rattle.tape_disk.specs.TwoDisks.{TwoDisks, TwoLeave}
-use Rattle.side_pairs.specs.declared.which.Which.{Which}
-use Rattle.side_pairs.specs.declared.which.Which.TheVariants.{First, Second}
+use Rattle.cartridge_sides.specs.declared.which.Which.{Which}
+use Rattle.cartridge_sides.specs.declared.which.Which.TheVariants.{First, Second}
 use Rattle.side_reclaim.specs.Ready.{GivesSide, GivesSurely, IsReady, StillGives}
 use Rattle.side_reclaim.proofs.ReadyLemmas.{closed_first, closed_second, first_runs, second_runs, sure_first, sure_second}
 use Rattle.side_reclaim.proofs.readying.close.Goals as goal

@@ -1,5 +1,5 @@
 use Rattle.std.proofs.lemmas.Result.{on_ok_weaker}
-use Rattle.side_pairs.specs.Passes.{IsPrepared}
+use Rattle.cartridge_sides.specs.Passes.{IsPrepared}
 use Rattle.std.proofs.Common.{sym, subst}
 use Rattle.side_reclaim.proofs.ReadyLemmas.{first_runs, paired, sure_first}
 use Rattle.side_reclaim.proofs.readying.pair.Goals as goal

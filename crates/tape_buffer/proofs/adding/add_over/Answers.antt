@@ -1,8 +1,9 @@
 use Rattle.std.proofs.Common.{ap, arith}
 use Rattle.cartridge.specs.Contents.{volume_made}
 use Rattle.volume_core.specs.Volume.{after, capacity_of, count_of}
-use Rattle.tape_buffer.proofs.AddingLemmas.{apply_more, inside_of, pending_more}
-use Rattle.tape_buffer.proofs.VolumeLemmas.{stays_so}
+use Rattle.tape_buffer.proofs.AddingLemmas.{apply_more, pending_more}
+use Rattle.waiting_changes.proofs.ChangeLemmas.{inside_of}
+use Rattle.waiting_changes.proofs.VolumeLemmas.{stays_so}
 use Rattle.tape_buffer.proofs.adding.add_over.Goals as goal
 
 pub reserve_over-requires-clause-part : goal.reserve_over-requires-clause-part

@@ -6,7 +6,7 @@ use Rattle.volume_core.specs.declared.media.MediumError.TheVariants as Media
 use Rattle.volume_core.specs.Medium.{WakesFrom, met_fault}
 use Rattle.tape_disk.specs.TwoDisks.{AreHonest, seen_of_two}
 use Rattle.gate_journal.specs.State.{room_behind}
-use Rattle.side_pairs.specs.Pairs.{gate_behind}
+use Rattle.cartridge_sides.specs.Pairs.{gate_behind}
 use Rattle.cartridge.specs.declared.error.CartridgeError.TheVariants as Cartridges
 use Rattle.cartridge.specs.Contents.{bodies_of}
 use Rattle.cartridge.specs.State.{ClosedCartridge, OpenCartridge}
@@ -66,7 +66,7 @@ returns-in-Err-catalog_for-clause-err g c =
     × WakesFrom (AreHonest disk old.disks) false (closed_state disk old) (Err Media.NoMemory) (closed_state disk s)
     × Advances (buffer_below disk) (closed_buffer old) [] (met_fault (Err Media.NoMemory)) (closed_buffer s)
     × LeavesAlone disk (closed_buffer old) (closed_buffer s)
-    × LeavesEachAlone disk (closed_buffer old) (closed_buffer s)) (sym (c.give_back-shelved.ensures ∙ told.ok.3))
+    × LeavesEachAlone disk (closed_buffer old) (closed_buffer s)) (sym (c.into_shelved-shelved.ensures ∙ told.ok.3))
     (stays.0, stays.1, stays.2, told.any_moment, told.each)
 
 pub returns-in-Err-clause-err : goal.returns-in-Err-clause-err

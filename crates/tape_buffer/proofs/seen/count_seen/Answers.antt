@@ -2,7 +2,7 @@ use Rattle.std.proofs.Common.{◌≡◌, ◌+◌, arith}
 use Rattle.volume_core.specs.Volume.{after, count_of}
 use Rattle.cartridge.specs.Contents.{volume_made}
 use Rattle.tape_buffer.proofs.SeenLemmas.{count_shown}
-use Rattle.tape_buffer.proofs.VolumeLemmas.{stays_so}
+use Rattle.waiting_changes.proofs.VolumeLemmas.{stays_so}
 use Rattle.tape_buffer.proofs.seen.count_seen.Goals as goal
 
 pub returns-clause-count : goal.returns-clause-count

@@ -3,7 +3,7 @@ use Rattle.volume_core.specs.Volume.{after, marks_upto}
 use Rattle.record_index.specs.Places.{outline}
 use Rattle.cartridge.specs.Contents.{volume_made}
 use Rattle.tape_buffer.proofs.SeenLemmas.{marks_shown, no_more_marks}
-use Rattle.tape_buffer.proofs.VolumeLemmas.{stays_so}
+use Rattle.waiting_changes.proofs.VolumeLemmas.{stays_so}
 use Rattle.tape_buffer.proofs.seen.marks_seen.Goals as goal
 
 pub returns-clause-marks : goal.returns-clause-marks

@@ -1,8 +1,8 @@
 use Rattle.std.proofs.Common.{◌∙◌, ap, arith, inl, inr, sym, ℕ}
 use Rattle.volume_core.specs.Volume.{after, used_up_to}
 use Rattle.cartridge.specs.Contents.{volume_made}
-use Rattle.tape_buffer.proofs.RefusalLemmas.{no_partition, no_room, past_end, too_long, unrefused}
-use Rattle.tape_buffer.proofs.VolumeLemmas.{stays_so}
+use Rattle.waiting_changes.proofs.RefusalLemmas.{no_partition, no_room, past_end, too_long, unrefused}
+use Rattle.waiting_changes.proofs.VolumeLemmas.{stays_so}
 use Rattle.tape_buffer.proofs.seen.refusal_seen.Goals as goal
 use Rattle.tape_buffer.proofs.seen.refusal_seen.Goals.{then-added-staying-via-then-added-staying, then-added-staying-via-else-added-staying+then-cost-left}
 

@@ -11,10 +11,10 @@ use Rattle.tape_disk.specs.Disk.{DiskState, IsDisk}
 use Rattle.tape_disk.specs.Moments.{LeavesOnly}
 use Rattle.tape_disk.specs.TwoDisks.{AreHonest, EachOfTwo, TwoLeave}
 use Rattle.gate_journal.specs.Crash.{Unwritten}
-use Rattle.side_pairs.specs.declared.which.Which.{Which}
+use Rattle.cartridge_sides.specs.declared.which.Which.{Which}
 use Rattle.gate_journal.specs.Heads.{Head}
-use Rattle.side_pairs.specs.Copying.{GivesAll, NotCopied}
-use Rattle.side_pairs.specs.Passes.{SidesStandFor, TakesOver}
+use Rattle.cartridge_sides.specs.Copying.{GivesAll, NotCopied}
+use Rattle.cartridge_sides.specs.Passes.{SidesStandFor, TakesOver}
 use Rattle.side_reclaim.specs.Ready.{GivesSide, IsReady}
 use Rattle.side_reclaim.specs.Taking.{HasTaken, WithOrWithoutCopy}
 use Rattle.volume_copy.specs.declared.entries.Entry.{Entry}

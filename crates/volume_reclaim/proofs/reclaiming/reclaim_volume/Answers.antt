@@ -1,8 +1,8 @@
 use Rattle.std.proofs.Common.{◌≡◌, ◌⊎◌, inl, subst, sym}
 use Rattle.std.specs.Prelude.{OnOk}
 use Rattle.tape_disk.specs.TwoDisks.{AreHonest, EachOfTwo, Images, TwoDisks, TwoLeave, seen_of_two, two_in_sequence, two_weakened}
-use Rattle.side_pairs.specs.declared.which.Which.{Which}
-use Rattle.side_pairs.specs.declared.which.Which.TheVariants.{First, Second}
+use Rattle.cartridge_sides.specs.declared.which.Which.{Which}
+use Rattle.cartridge_sides.specs.declared.which.Which.TheVariants.{First, Second}
 use Rattle.side_reclaim.specs.Ready.{GivesSide, IsReady}
 use Rattle.volume_reclaim.specs.Reclaiming.{GivesCopy, KeepsBesideCopy, MayReclaim, two_by}
 use Rattle.volume_reclaim.proofs.SidesLemmas.{old_side_since, may_still}

@@ -1,7 +1,7 @@
 use Rattle.std.proofs.Common.{◌≡◌, ◌∙◌, [], List, ℕ, ap, sym, subst}
-use Rattle.side_pairs.specs.declared.which.Which.TheVariants.{First}
+use Rattle.cartridge_sides.specs.declared.which.Which.TheVariants.{First}
 use Rattle.cartridge.specs.Contents.{Contents, GivesContents, contents_from, heading_with, plain_head}
-use Rattle.vtl_files.specs.Checks.{both}
+use Rattle.check_lines.specs.Disks.{both}
 use Rattle.vtl_files.specs.Creating.{HasNewPair, new_bytes, new_contents}
 use Rattle.vtl_files.proofs.creating.create_cartridge.Goals as goal
 

@@ -1,5 +1,5 @@
 use Rattle.std.proofs.Common.{inl}
-use Rattle.vtl_files.specs.Checks.{both, disks_checked}
+use Rattle.check_lines.specs.Disks.{both, disks_checked}
 use Rattle.vtl_files.proofs.reclaiming.reclaim_files.Goals as goal
 
 pub returns-in-Ok : goal.returns-in-Ok

@@ -1,4 +1,4 @@
-use Rattle.vtl_files.specs.Checks.{both}
+use Rattle.check_lines.specs.Disks.{both}
 use Rattle.vtl_files.proofs.ReclaimLemmas.{none_shown}
 use Rattle.vtl_files.proofs.reclaiming.reclaim_side.Goals as goal
 

@@ -1,7 +1,7 @@
 use Rattle.std.proofs.Common.{sym, Ok}
-use Rattle.vtl_files.specs.Checks.{both}
+use Rattle.check_lines.specs.Disks.{both}
 use Rattle.vtl_files.specs.Reclaims.{Reclaims}
-use Rattle.vtl_files.proofs.CheckLemmas.{moved}
+use Rattle.check_lines.proofs.PairLemmas.{moved}
 use Rattle.vtl_files.proofs.ReclaimLemmas.{done_shown, refused_shown}
 use Rattle.vtl_files.proofs.reclaiming.reclaim_with.Goals as goal
 

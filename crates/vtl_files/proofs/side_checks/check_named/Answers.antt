@@ -1,6 +1,7 @@
 use Rattle.std.proofs.Common.{◌≡◌, ◌∙◌, List, ℕ, inl, subst}
 use Rattle.vtl_config.specs.FileNames.{second_name}
-use Rattle.vtl_files.specs.Checks.{IsSecondRead, both, disks_checked}
+use Rattle.check_lines.specs.Disks.{both, disks_checked}
+use Rattle.vtl_files.specs.Checks.{IsSecondRead}
 use Rattle.vtl_files.proofs.side_checks.check_named.Goals as goal
 
 pub returns : goal.returns

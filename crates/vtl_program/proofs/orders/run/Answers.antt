@@ -1,5 +1,5 @@
 use Rattle.std.proofs.Common.{refl}
-use Rattle.vtl_runs.proofs.IdleLemmas.{keeps_same}
+use Rattle.vtl_power_on.proofs.IdleLemmas.{keeps_same}
 use Rattle.vtl_program.proofs.orders.run.Goals as goal
 use Rattle.vtl_program.proofs.orders.run.Goals.{in-Ok, in-Err}
 

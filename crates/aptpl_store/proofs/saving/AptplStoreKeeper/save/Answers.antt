@@ -9,7 +9,10 @@ append_frame-requires g c =
     let state = c.args.reservations.now in
     let body = c.fill_body.new.frame.body in
     let spelled = spells_given c.fill_body.ensures.body c.state.ensures.state c.fill_body.ensures.savable in
-    let is = is_body state body spelled.1 spelled.0 in (is.0, omega (arith, is.1))
+    let is = is_body state body spelled.1 spelled.0 in (
+      (is.0, omega (arith, is.1)),
+      omega (arith, is.1, c.self.invariant.0.body, c.fill_body.ensures.room),
+    )
 
 pub invariant_of-self : goal.invariant_of-self
 invariant_of-self g c =

@@ -1,5 +1,5 @@
 use Rattle.std.proofs.Common.{◌≡◌, ap, subst, None, Some}
-use Rattle.changer.specs.Slots.{Puts, refusal_of_placing}
+use Rattle.element_slots.specs.Slots.{Puts, refusal_of_placing}
 use Rattle.bays.specs.Elements.{HeldState}
 use Rattle.bays.proofs.BayLemmas.{if_err, on_ok, with_slots}
 use Rattle.bays.proofs.held.Held.place.Goals as goal

@@ -1,7 +1,7 @@
 use Rattle.std.proofs.Common.{None, inl, true, sym, subst, ap, ◌∙◌}
 use Rattle.tape_disk.specs.TwoDisks.{EachOfTwo}
 use Rattle.gate_journal.specs.Side.{Front, Heading, IsHeading, heading_of}
-use Rattle.side_pairs.specs.declared.which.Which.TheVariants.{First}
+use Rattle.cartridge_sides.specs.declared.which.Which.TheVariants.{First}
 use Rattle.cartridge.specs.Contents.{GivesContents, IsContents}
 use Rattle.cartridge.specs.Notes.{Notes, noted_as}
 use Rattle.cartridge.specs.State.{ClosedCartridge}

@@ -1,11 +1,16 @@
 use Rattle.std.proofs.Common.{◌≡◌, inl, ℕ, List, [], ◌∷◌, length, false, ap, sym, subst, ◌∙◌, arith}
 use Rattle.tape_disk.specs.TwoDisks.{TwoLeave, two_rest_still}
 use Rattle.gate_journal.specs.Answers.{IsFault}
-use Rattle.record_index.specs.Records.{spell_all}
+use Rattle.std.specs.Prelude.{map}
+use Rattle.gate_journal.specs.Followed.{followed}
+use Rattle.gate_journal.specs.Spelled.{SpelledBody}
+use Rattle.gate_journal.specs.State.{room_behind}
+use Rattle.record_index.specs.Records.{spell_all, spell_change}
 use Rattle.cartridge.specs.Contents.{ShowsContents}
 use Rattle.cartridge.specs.Disks.{disks_by}
 use Rattle.cartridge.specs.Notes.{noted_as}
 use Rattle.cartridge.proofs.DisksLemmas.{fault_by, none_by}
+use Rattle.cartridge.proofs.RecordLemmas.{parts_spell}
 use Rattle.cartridge.proofs.ShownLemmas.{sure_now}
 use Rattle.cartridge.proofs.StoreLemmas.{all_records, broken_answer, broken_open, broken_own, broken_stores, counted_more, last_fits, last_sized, lies_before, room_made, shown_moments, stored_answer, stored_open, stored_own, stored_stores, stored_sure}
 use Rattle.cartridge.proofs.StoringLemmas.{grown_entries, lacks_shown, same_open, same_own, same_stores, same_view, some_body}
@@ -68,8 +73,8 @@ returns-in_default-clause-answer g c =
       };
     })
 
-pub fill_body-requires-clause-records : goal.fill_body-requires-clause-records
-fill_body-requires-clause-records g c =
+pub of-parts-requires-clause-records : goal.of-parts-requires-clause-records
+of-parts-requires-clause-records g c =
     let old = c.self.inside in
     let mid = c.make_room.new in
     let made = c.make_room.ensures in
@@ -80,10 +85,20 @@ fill_body-requires-clause-records g c =
 pub append_frame-requires : goal.append_frame-requires
 append_frame-requires g c =
     let changes = c.args.changes.now in
-    let body = c.fill_body.new.frame.body in
-    let body_is : body ≡ spell_all changes = c.fill_body.ensures.body in (
-      omega (arith, ap (λ (l : List ℕ). length l) body_is, some_body changes c.requires.some),
-      omega (arith, ap (λ (l : List ℕ). length l) body_is, c.requires.short),
+    let body = followed c.clear.new.self.body (map spell_change c.of-parts.result) in
+    let body_is : body ≡ spell_all changes =
+    parts_spell c.clear.new.self _ c.of-parts.result c.args.changes.now c.clear.ensures c.of-parts.ensures in (
+      (
+        omega (arith, ap (λ (l : List ℕ). length l) body_is, some_body changes c.requires.some),
+        omega (arith, ap (λ (l : List ℕ). length l) body_is, c.requires.short),
+      ),
+      omega (
+        arith,
+        ap (λ (l : List ℕ). length l) body_is,
+        c.size_of_body-size.ensures,
+        c.in-Ok.ensures.ok.0,
+        ap (λ (f : SpelledBody). f.room) c.clear.ensures,
+      ),
     )
 
 pub place_frame-requires-clause-records : goal.place_frame-requires-clause-records
@@ -110,8 +125,9 @@ place_frame-requires-clause-counted g c =
     let mid = c.make_room.new in
     let made = c.make_room.ensures in
     let apply = rw (← c.self.view_is) at c.requires.apply in
-    let body = c.fill_body.new.frame.body in
-    let body_is : body ≡ spell_all c.args.changes.now = c.fill_body.ensures.body in
+    let body = followed c.clear.new.self.body (map spell_change c.of-parts.result) in
+    let body_is : body ≡ spell_all c.args.changes.now =
+    parts_spell c.clear.new.self _ c.of-parts.result c.args.changes.now c.clear.ensures c.of-parts.ensures in
     counted_more old.journal mid.journal made.side old.index mid.index made.grown made.few old.noted.notes
     c.self.invariant.0 c.args.changes.now apply c.append_frame.new.self body body_is
     c.in-Ok-append_frame.ensures.answer.0
@@ -122,8 +138,9 @@ place_frame-requires-clause-sized g c =
     let mid = c.make_room.new in
     let made = c.make_room.ensures in
     let apply = rw (← c.self.view_is) at c.requires.apply in
-    let body = c.fill_body.new.frame.body in
-    let body_is : body ≡ spell_all c.args.changes.now = c.fill_body.ensures.body in
+    let body = followed c.clear.new.self.body (map spell_change c.of-parts.result) in
+    let body_is : body ≡ spell_all c.args.changes.now =
+    parts_spell c.clear.new.self _ c.of-parts.result c.args.changes.now c.clear.ensures c.of-parts.ensures in
     last_sized old.journal mid.journal made.side old.index mid.index made.grown made.few old.noted.notes
     c.self.invariant.0 c.args.changes.now apply c.append_frame.new.self body body_is
     c.in-Ok-append_frame.ensures.answer.0
@@ -134,8 +151,9 @@ place_frame-requires-clause-fits g c =
     let mid = c.make_room.new in
     let made = c.make_room.ensures in
     let apply = rw (← c.self.view_is) at c.requires.apply in
-    let body = c.fill_body.new.frame.body in
-    let body_is : body ≡ spell_all c.args.changes.now = c.fill_body.ensures.body in
+    let body = followed c.clear.new.self.body (map spell_change c.of-parts.result) in
+    let body_is : body ≡ spell_all c.args.changes.now =
+    parts_spell c.clear.new.self _ c.of-parts.result c.args.changes.now c.clear.ensures c.of-parts.ensures in
     last_fits old.journal mid.journal made.side old.index mid.index made.grown made.few old.noted.notes
     c.self.invariant.0 c.args.changes.now apply c.append_frame.new.self body body_is
     c.in-Ok-append_frame.ensures.answer.0
@@ -146,8 +164,9 @@ place_frame-requires-clause-lies g c =
     let mid = c.make_room.new in
     let made = c.make_room.ensures in
     let apply = rw (← c.self.view_is) at c.requires.apply in
-    let body = c.fill_body.new.frame.body in
-    let body_is : body ≡ spell_all c.args.changes.now = c.fill_body.ensures.body in
+    let body = followed c.clear.new.self.body (map spell_change c.of-parts.result) in
+    let body_is : body ≡ spell_all c.args.changes.now =
+    parts_spell c.clear.new.self _ c.of-parts.result c.args.changes.now c.clear.ensures c.of-parts.ensures in
     lies_before old.journal mid.journal made.side old.index mid.index made.grown made.few old.noted.notes
     c.self.invariant.0 c.args.changes.now apply c.append_frame.new.self body body_is
     c.in-Ok-append_frame.ensures.answer.0
@@ -158,8 +177,9 @@ invariant_of-self-in-Ok-append_frame g c =
     let mid = c.make_room.new in
     let made = c.make_room.ensures in
     let apply = rw (← c.self.view_is) at c.requires.apply in
-    let body = c.fill_body.new.frame.body in
-    let body_is : body ≡ spell_all c.args.changes.now = c.fill_body.ensures.body in
+    let body = followed c.clear.new.self.body (map spell_change c.of-parts.result) in
+    let body_is : body ≡ spell_all c.args.changes.now =
+    parts_spell c.clear.new.self _ c.of-parts.result c.args.changes.now c.clear.ensures c.of-parts.ensures in
     let said = c.in-Ok-append_frame.ensures in (
       stored_open old.journal mid.journal made.side old.index mid.index made.grown made.few old.noted.notes
           c.self.invariant.0 c.args.changes.now apply c.append_frame.new.self body body_is said.answer.0
@@ -182,8 +202,9 @@ invariant_of-self-in-Err-Device g c =
     let mid = c.make_room.new in
     let made = c.make_room.ensures in
     let apply = rw (← c.self.view_is) at c.requires.apply in
-    let body = c.fill_body.new.frame.body in
-    let body_is : body ≡ spell_all c.args.changes.now = c.fill_body.ensures.body in
+    let body = followed c.clear.new.self.body (map spell_change c.of-parts.result) in
+    let body_is : body ≡ spell_all c.args.changes.now =
+    parts_spell c.clear.new.self _ c.of-parts.result c.args.changes.now c.clear.ensures c.of-parts.ensures in
     let said = c.in-Err-Device.ensures in
     let answer = rw c.in-Err-Device.field-0-is at said.answer in (
       broken_open old.journal mid.journal made.side old.index mid.index made.grown made.few old.noted.notes
@@ -208,14 +229,15 @@ returns-in-Ok-append_frame-clause-answer g c =
     let mid = c.make_room.new in
     let made = c.make_room.ensures in
     let apply = rw (← c.self.view_is) at c.requires.apply in
-    let body = c.fill_body.new.frame.body in
-    let body_is : body ≡ spell_all c.args.changes.now = c.fill_body.ensures.body in
+    let body = followed c.clear.new.self.body (map spell_change c.of-parts.result) in
+    let body_is : body ≡ spell_all c.args.changes.now =
+    parts_spell c.clear.new.self _ c.of-parts.result c.args.changes.now c.clear.ensures c.of-parts.ensures in
     let said = c.in-Ok-append_frame.ensures in (
       stored_answer old.journal mid.journal made.side old.index mid.index made.grown made.few old.noted.notes
           c.self.invariant.0 c.args.changes.now apply c.append_frame.new.self body body_is
           said.answer.0 c.with_frame.result.notes c.with_frame.ensures
           c.append_frame.ensures.front old.which old.spare c.place_frame.new.index _ _
-          (omega (arith, made.body, c.fill_body.ensures.room, c.append_frame.ensures.frame.0))
+          (omega (arith, made.body, ap (λ (f : SpelledBody). f.room) c.clear.ensures, c.append_frame.ensures.frame.0))
           c.place_frame.ensures.reserved,
       none_by g.D.Disk.state old.which old.journal.disk old.spare c.append_frame.new.self.disk
           (said.answer.1 ∙ ap (λ d. (g.D.Disk.state d).failures) made.side.disk),
@@ -228,8 +250,9 @@ returns-in-Ok-append_frame-clause-sure g c =
     let mid = c.make_room.new in
     let made = c.make_room.ensures in
     let apply = rw (← c.self.view_is) at c.requires.apply in
-    let body = c.fill_body.new.frame.body in
-    let body_is : body ≡ spell_all c.args.changes.now = c.fill_body.ensures.body in
+    let body = followed c.clear.new.self.body (map spell_change c.of-parts.result) in
+    let body_is : body ≡ spell_all c.args.changes.now =
+    parts_spell c.clear.new.self _ c.of-parts.result c.args.changes.now c.clear.ensures c.of-parts.ensures in
     let said = c.in-Ok-append_frame.ensures in
     stored_sure old.journal mid.journal made.side old.index mid.index made.grown made.few old.noted.notes
     c.self.invariant.0 c.args.changes.now apply c.append_frame.new.self body body_is
@@ -244,8 +267,9 @@ returns-in-Ok-append_frame-clause-any_moment g c =
     let mid = c.make_room.new in
     let made = c.make_room.ensures in
     let apply = rw (← c.self.view_is) at c.requires.apply in
-    let body = c.fill_body.new.frame.body in
-    let body_is : body ≡ spell_all c.args.changes.now = c.fill_body.ensures.body in
+    let body = followed c.clear.new.self.body (map spell_change c.of-parts.result) in
+    let body_is : body ≡ spell_all c.args.changes.now =
+    parts_spell c.clear.new.self _ c.of-parts.result c.args.changes.now c.clear.ensures c.of-parts.ensures in
     shown_moments old.journal mid.journal made.side old.index mid.index made.grown made.few old.noted.notes
     c.self.invariant.0 c.args.changes.now apply c.append_frame.new.self body body_is old.which old.spare
     c.self.invariant.1 g.D.Disk.state c.self.invariant.2 c.in-Ok-append_frame.ensures.any_moment)
@@ -257,8 +281,9 @@ returns-in-Err-Device-clause-any_moment g c =
     let mid = c.make_room.new in
     let made = c.make_room.ensures in
     let apply = rw (← c.self.view_is) at c.requires.apply in
-    let body = c.fill_body.new.frame.body in
-    let body_is : body ≡ spell_all c.args.changes.now = c.fill_body.ensures.body in
+    let body = followed c.clear.new.self.body (map spell_change c.of-parts.result) in
+    let body_is : body ≡ spell_all c.args.changes.now =
+    parts_spell c.clear.new.self _ c.of-parts.result c.args.changes.now c.clear.ensures c.of-parts.ensures in
     shown_moments old.journal mid.journal made.side old.index mid.index made.grown made.few old.noted.notes
     c.self.invariant.0 c.args.changes.now apply c.append_frame.new.self body body_is old.which old.spare
     c.self.invariant.1 g.D.Disk.state c.self.invariant.2 c.in-Err-Device.ensures.any_moment)
@@ -270,17 +295,35 @@ returns-in-Err-Device-clause-answer g c =
     let mid = c.make_room.new in
     let made = c.make_room.ensures in
     let apply = rw (← c.self.view_is) at c.requires.apply in
-    let body = c.fill_body.new.frame.body in
-    let body_is : body ≡ spell_all c.args.changes.now = c.fill_body.ensures.body in
+    let body = followed c.clear.new.self.body (map spell_change c.of-parts.result) in
+    let body_is : body ≡ spell_all c.args.changes.now =
+    parts_spell c.clear.new.self _ c.of-parts.result c.args.changes.now c.clear.ensures c.of-parts.ensures in
     let said = c.in-Err-Device.ensures in
     let answer = rw c.in-Err-Device.field-0-is at said.answer in (
       broken_answer old.journal mid.journal made.side old.index mid.index made.grown made.few old.noted.notes
           c.self.invariant.0 c.args.changes.now apply c.append_frame.new.self body body_is
           answer.0 c.with_torn.result.notes c.with_torn.ensures c.append_frame.ensures.front
           old.which old.spare _ _
-          (omega (arith, made.body, c.fill_body.ensures.room, c.append_frame.ensures.frame.0)),
+          (omega (arith, made.body, ap (λ (f : SpelledBody). f.room) c.clear.ensures, c.append_frame.ensures.frame.0)),
       fault_by g.D.Disk.state old.which old.journal.disk old.spare c.append_frame.new.self.disk
           c.in-Err-Device.fault
           (subst (λ d. IsFault c.in-Err-Device.fault (g.D.Disk.state d) (g.D.Disk.state c.append_frame.new.self.disk))
           made.side.disk answer.1),
+    ))
+
+pub unreachable-requires-in-Err-SideFull : goal.unreachable-requires-in-Err-SideFull
+unreachable-requires-in-Err-SideFull g c =
+    let body = followed c.clear.new.self.body (map spell_change c.of-parts.result) in
+    let body_is : body ≡ spell_all c.args.changes.now =
+    parts_spell c.clear.new.self _ c.of-parts.result c.args.changes.now c.clear.ensures c.of-parts.ensures in
+    let answer = rw c.in-Err-SideFull.field-0-is at c.in-Err-SideFull.ensures.answer in
+    absurd (omega (
+      arith,
+      answer.1,
+      ap (λ (l : List ℕ). length l) body_is,
+      c.size_of_body-size.ensures,
+      c.if-from-room.false,
+      c.from.ensures,
+      c.room.ensures,
+      ap (λ (e : ℕ). room_behind e) c.make_room.ensures.side.end,
     ))

@@ -1,12 +1,73 @@
-use Rattle.std.proofs.Common.{◌∙◌}
+use Rattle.std.proofs.Common.{◌≡◌, ℕ, ◌++◌, ◌∷◌, List, [], length, drop, ◌∙◌, ap, arith, length-append}
+use Rattle.std.specs.Int.{to_be_bytes, w32}
+use Rattle.gate_journal.specs.Followed.{followed}
+use Rattle.gate_journal.specs.Side.{CLOSED}
+use Rattle.gate_journal.specs.Spelled.{SpelledBody}
+use Rattle.gate_journal.specs.Inner.Writing.{tail_of}
+use Rattle.gate_journal.proofs.FollowedLemmas.{followed_behind}
 use Rattle.gate_journal.proofs.frame.Frame.write_behind.Goals as goal
+
+pub write_frame-written-requires-clause-room : goal.write_frame-written-requires-clause-room
+write_frame-written-requires-clause-room g c =
+    let parts = g.P.BodyParts.parts c.args.parts.now in
+    let body = drop 4 c.self.inside.bytes.items in
+    let size = to_be_bytes w32 c.size_with-size.result in
+    omega (
+      arith,
+      c.requires.body.0,
+      c.requires.fits,
+      ap (λ (s : SpelledBody). length (followed s.body parts)) c.self.view_is,
+      ap (λ (s : SpelledBody). s.room) c.self.view_is,
+      ap (λ (l : List ℕ). length (followed l parts)) c.put_size.ensures.bytes,
+      ap (λ (l : List ℕ). length l) (followed_behind size body parts),
+      length-append size (followed body parts),
+      c.put_size.ensures.room,
+    )
+
+pub write_frame-written-requires-clause-bound : goal.write_frame-written-requires-clause-bound
+write_frame-written-requires-clause-bound g c =
+    let parts = g.P.BodyParts.parts c.args.parts.now in
+    let body = drop 4 c.self.inside.bytes.items in
+    let size = to_be_bytes w32 c.size_with-size.result in
+    omega (
+      arith,
+      c.requires.room,
+      ap (λ (s : SpelledBody). length (followed s.body parts)) c.self.view_is,
+      ap (λ (l : List ℕ). length (followed l parts)) c.put_size.ensures.bytes,
+      ap (λ (l : List ℕ). length l) (followed_behind size body parts),
+      length-append size (followed body parts),
+    )
 
 pub returns-clause-any_moment : goal.returns-clause-any_moment
 returns-clause-any_moment g c =
-    rw (← c.self.view_is) (λ h.
-    rw (c.deref.ensures.value ∙ c.close.ensures.bytes) at (c.write_frame-written.ensures.any_moment h))
+    let parts = g.P.BodyParts.parts c.args.parts.now in
+    let body = drop 4 c.self.inside.bytes.items in
+    let sized : c.size_with-size.result ≡ length (followed body parts) =
+    omega (
+      arith,
+      c.size_with-size.ensures,
+      ap (λ (s : SpelledBody). length (followed s.body parts)) c.self.view_is,
+    ) in
+    let tail_is : followed c.put_size.new.bytes.items parts ++ CLOSED ∷ [] ≡ tail_of (followed body parts) =
+    ap (λ (l : List ℕ). l ++ CLOSED ∷ [])
+    (ap (λ (l : List ℕ). followed l parts) c.put_size.ensures.bytes
+    ∙ followed_behind (to_be_bytes w32 c.size_with-size.result) body parts)
+    ∙ ap (λ (n : ℕ). to_be_bytes w32 n ++ followed body parts ++ CLOSED ∷ []) sized in
+    rw (← c.self.view_is) (λ h. rw tail_is at (c.write_frame-written.ensures.any_moment h))
 
 pub returns-clause-opened : goal.returns-clause-opened
 returns-clause-opened g c =
-    rw (← c.self.view_is) (λ h.
-    rw (c.deref.ensures.value ∙ c.close.ensures.bytes) at (c.write_frame-written.ensures.opened h))
+    let parts = g.P.BodyParts.parts c.args.parts.now in
+    let body = drop 4 c.self.inside.bytes.items in
+    let sized : c.size_with-size.result ≡ length (followed body parts) =
+    omega (
+      arith,
+      c.size_with-size.ensures,
+      ap (λ (s : SpelledBody). length (followed s.body parts)) c.self.view_is,
+    ) in
+    let tail_is : followed c.put_size.new.bytes.items parts ++ CLOSED ∷ [] ≡ tail_of (followed body parts) =
+    ap (λ (l : List ℕ). l ++ CLOSED ∷ [])
+    (ap (λ (l : List ℕ). followed l parts) c.put_size.ensures.bytes
+    ∙ followed_behind (to_be_bytes w32 c.size_with-size.result) body parts)
+    ∙ ap (λ (n : ℕ). to_be_bytes w32 n ++ followed body parts ++ CLOSED ∷ []) sized in
+    rw (← c.self.view_is) (λ h. rw tail_is at (c.write_frame-written.ensures.opened h))

@@ -1,4 +1,4 @@
-use Rattle.vtl_runs.specs.Fresh.{if_started_fresh}
+use Rattle.vtl_power_on.specs.Fresh.{if_started_fresh}
 use Rattle.test_vtl.proofs.tests.failing.run_over.Goals as goal
 
 pub run_started-requires-after_bounds : goal.run_started-requires-after_bounds

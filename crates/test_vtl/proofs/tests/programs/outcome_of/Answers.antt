@@ -1,9 +1,9 @@
 use Rattle.std.proofs.Common.{◌≡◌}
-use Rattle.vtl_runs.specs.Starting.{built_in_barcode, built_in_capacities}
-use Rattle.vtl_runs.specs.Sides.{memory_state}
-use Rattle.vtl_files.specs.declared.faults.VtlFault.{VtlFault}
-use Rattle.vtl_files.specs.declared.faults.VtlFault.TheVariants as Faults
-use Rattle.vtl_runs.specs.Fresh.{if_built_in_fresh}
+use Rattle.vtl_power_on.specs.Starting.{built_in_barcode, built_in_capacities}
+use Rattle.vtl_power_on.specs.Sides.{memory_state}
+use Rattle.vtl_faults.specs.declared.faults.VtlFault.{VtlFault}
+use Rattle.vtl_faults.specs.declared.faults.VtlFault.TheVariants as Faults
+use Rattle.vtl_power_on.specs.Fresh.{if_built_in_fresh}
 use Rattle.test_vtl.proofs.tests.programs.outcome_of.Goals.{then-has_drive, else-has_drive}
 use Rattle.test_vtl.proofs.tests.programs.outcome_of.Goals as goal
 

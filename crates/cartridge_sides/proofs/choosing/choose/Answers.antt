@@ -1,0 +1,32 @@
+use Rattle.cartridge_sides.proofs.RunLemmas.{counted_since, moments_then, still}
+use Rattle.cartridge_sides.proofs.choosing.choose.Goals as goal
+
+pub returns-in_err-make_sure-clause-second : goal.returns-in_err-make_sure-clause-second
+returns-in_err-make_sure-clause-second g c = λ h.
+    let old = g.D.Disk.state c.args.second.now in
+    still old old.may_leave (g.met.D.Disk.is_disk c.args.second.now h) (λ image left. left)
+
+pub returns-clause-answer : goal.returns-clause-answer
+returns-clause-answer g c =
+    counted_since (g.D.Disk.state c.args.first.now) (g.D.Disk.state c.make_sure.new.disk)
+    (g.D.Disk.state c.choose_read.new.first) (g.D.Disk.state c.args.second.now) (g.D.Disk.state c.make_sure-2.new.disk)
+    (g.D.Disk.state c.choose_read.new.second)
+    c.in_ok-make_sure.ensures.passes.none_failed c.in_ok-make_sure-2.ensures.passes.none_failed
+    c.make_sure.ensures.passes.stays_honest c.make_sure-2.ensures.passes.stays_honest
+    c.in_ok-make_sure.ensures.sure c.in_ok-make_sure-2.ensures.sure
+    c.choose_read.ensures.unwritten.0 c.choose_read.ensures.unwritten.1
+    c.choose_read.result c.choose_read.ensures.answer
+
+pub returns-clause-first : goal.returns-clause-first
+returns-clause-first g c = λ h.
+    let later = c.make_sure.ensures.passes.stays_honest h in
+    moments_then (g.D.Disk.state c.args.first.now) (g.D.Disk.state c.make_sure.new.disk)
+    (g.D.Disk.state c.choose_read.new.first) (g.met.D.Disk.is_disk c.make_sure.new.disk later)
+    (c.make_sure.ensures.any_moment h) (c.choose_read.ensures.unwritten.0 later)
+
+pub returns-clause-second : goal.returns-clause-second
+returns-clause-second g c = λ h.
+    let later = c.make_sure-2.ensures.passes.stays_honest h in
+    moments_then (g.D.Disk.state c.args.second.now) (g.D.Disk.state c.make_sure-2.new.disk)
+    (g.D.Disk.state c.choose_read.new.second) (g.met.D.Disk.is_disk c.make_sure-2.new.disk later)
+    (c.make_sure-2.ensures.any_moment h) (c.choose_read.ensures.unwritten.1 later)

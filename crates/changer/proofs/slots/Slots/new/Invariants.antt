@@ -1,6 +1,0 @@
-use Rattle.std.proofs.Common.{◌≡◌, None, replicate}
-use Rattle.changer.proofs.slots.Slots.new.Given as goal
-
--- the places so far are empty
-abbrev pub invariant-loop : goal.invariant-loop
-invariant-loop g l = l.places.items ≡ replicate l.counter None

@@ -1,0 +1,4 @@
+mod CheckLemmas
+mod OneTextLemmas
+pub mod PairLemmas
+mod SideTextLemmas

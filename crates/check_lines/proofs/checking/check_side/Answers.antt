@@ -1,0 +1,68 @@
+use Rattle.std.proofs.Common.{sym, subst, IfOk}
+use Rattle.tape_disk.specs.TwoDisks.{AreHonest, KeepsDisks, MayLeave, TwoLeave, seen_of_two}
+use Rattle.cartridge.specs.declared.error.CartridgeError.{CartridgeError}
+use Rattle.cartridge.specs.declared.error.CartridgeError.TheVariants.{NotOurs}
+use Rattle.cartridge.specs.Answers.{IsNotOpened}
+use Rattle.cartridge.specs.Disks.{OnlyOfTwo}
+use Rattle.check_lines.specs.Disks.{both, disks_checked}
+use Rattle.check_lines.specs.SideText.{SideText}
+use Rattle.check_lines.proofs.CheckLemmas.{PrintsRefusal, moments_again, refusal_shown, shown_again}
+use Rattle.check_lines.proofs.PairLemmas.{moved}
+use Rattle.check_lines.proofs.checking.check_side.Goals as goal
+use Rattle.check_lines.proofs.checking.check_side.Goals.{in-Damaged, in-BadRecord, in-Device, in-NoMemory}
+
+pub returns-in-NotOurs-clause-text : goal.returns-in-NotOurs-clause-text
+returns-in-NotOurs-clause-text g c =
+    let state = g.D.Disk.state in
+    let old = both c.args.first c.args.second in
+    let mid = both c.into_disks-first-in-Err.result.0 c.into_disks-first-in-Err.result.1 in
+    let given = c.of.result.disks in
+    let left = c.in-Err.refused.shelved.disks in
+    let from = sym c.of.ensures.disks in
+    let keeps =
+    moved (KeepsDisks state) old given mid left from c.into_disks-first-in-Err.ensures c.in-Err.ensures.disks in
+    let why =
+    moved (IsNotOpened state NotOurs) old given mid left from c.into_disks-first-in-Err.ensures
+    (subst (λ (error : CartridgeError). IsNotOpened state error given left) c.in-NotOurs.is c.in-Err.ensures.refused) in
+    shown_again state old mid (disks_checked c.check_store.result) why keeps g.met.D.Disk.is_disk
+    c.check_store.ensures.rests c.check_store.result.lines c.check_store.ensures.text
+
+pub returns-in-NotOurs-clause-any_moment : goal.returns-in-NotOurs-clause-any_moment
+returns-in-NotOurs-clause-any_moment g c = λ honest.
+    let state = g.D.Disk.state in
+    let old = both c.args.first c.args.second in
+    let mid = both c.into_disks-first-in-Err.result.0 c.into_disks-first-in-Err.result.1 in
+    let given = c.of.result.disks in
+    let left = c.in-Err.refused.shelved.disks in
+    let from = sym c.of.ensures.disks in
+    let keeps =
+    moved (KeepsDisks state) old given mid left from c.into_disks-first-in-Err.ensures c.in-Err.ensures.disks in
+    let why =
+    moved (IsNotOpened state NotOurs) old given mid left from c.into_disks-first-in-Err.ensures
+    (subst (λ (error : CartridgeError). IsNotOpened state error given left) c.in-NotOurs.is c.in-Err.ensures.refused) in
+    let opened =
+    moved (λ a b. AreHonest state a → TwoLeave state a b (MayLeave state a)) old given mid left from
+    c.into_disks-first-in-Err.ensures c.in-Err.ensures.any_moment in
+    moments_again state old mid (disks_checked c.check_store.result) why keeps g.met.D.Disk.is_disk
+    c.check_store.ensures.rests honest (opened honest)
+    (c.check_store.ensures.any_moment (keeps.0.stays_honest honest.0))
+
+pub returns-after-error-clause-text : goal.returns-after-error-clause-text
+returns-after-error-clause-text g c =
+    let state = g.D.Disk.state in
+    let printed : PrintsRefusal c.in-Err.refused.error c.match-error.lines =
+    elim c.match-error.branch [
+      | in-Damaged w ↦ rw (w.in-Damaged.is, w.lines-is) w.damaged_text-lines.ensures.ok
+      | in-BadRecord w ↦ rw (w.in-BadRecord.is, w.lines-is) w.bad_record_text-lines.ensures.ok
+      | in-Device w ↦ rw w.in-Device.is w.lines-is
+      | in-NoMemory w ↦ rw w.in-NoMemory.is w.lines-is
+    ] in
+    let given = c.of.result.disks in
+    let left = c.in-Err.refused.shelved.disks in
+    moved
+    (λ a b. IfOk c.match-error.lines
+    (λ text. AreHonest state a → SideText (seen_of_two state a) text × OnlyOfTwo state a b))
+    (both c.args.first c.args.second) given
+    (both c.into_disks-first-in-Err.result.0 c.into_disks-first-in-Err.result.1) left (sym c.of.ensures.disks)
+    c.into_disks-first-in-Err.ensures
+    (refusal_shown state given left c.in-Err.refused.error c.match-error.lines c.in-Err.ensures.refused printed)

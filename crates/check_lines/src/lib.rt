@@ -1,0 +1,5 @@
+//! The lines that `vtl check` prints of two files.
+#![tactic(auto)]
+
+pub mod checking;
+pub mod laws;

@@ -1,0 +1,51 @@
+//! The parts of a body that stand elsewhere in memory while a frame is written.
+ghost use Rattle.std.specs.Prelude.{◌≡◌, ◌<◌, ◌++◌, ℕ, List, [], Some, length, slice_get};
+ghost use Rattle.gate_journal.specs.Followed.{followed};
+
+/// How many bytes the head of a part has.
+pub const PART_HEAD: usize = 10;
+
+/// The last parts of a body, one after another. Each part is a head of ten bytes and the bytes after the head. Where
+/// the bytes after the head are 16,384 or more, `append_frame` writes them from where they are in memory, and does not
+/// copy them.
+pub trait BodyParts {
+    // The bytes of each part.
+    ghost parts: { Self → List (List ℕ) };
+
+    /// How many parts there are.
+    fn count(&self) -> usize
+        ensures { result ≡ length (parts self.now) };
+
+    /// How many bytes all parts have together.
+    fn size(&self) -> usize
+        ensures { result ≡ length (followed [] (parts self.now)) };
+
+    /// The head of part `number`, which is the part's first ten bytes, and the bytes after the head. Parts are counted
+    /// from 0; `number` must be less than `count()`.
+    fn part(&self, number: usize) -> ([u8; PART_HEAD], &[u8])
+        requires { number < length (parts self.now) }
+        ensures { slice_get (parts self.now) number ≡ Some (result.0 ++ result.1.now) };
+}
+
+/// The parts of a body that is whole in its `Frame`: there are none.
+#[derive(Drop)]
+pub struct NoParts;
+
+impl BodyParts for NoParts {
+    ghost use Rattle.std.specs.Prelude.{[]};
+
+    ghost parts = { λ _. [] };
+
+    fn count(&self) -> usize {
+        0
+    }
+
+    fn size(&self) -> usize {
+        0
+    }
+
+    fn part(&self, number: usize) -> ([u8; PART_HEAD], &[u8]) {
+        let _ = number;
+        unreachable!()
+    }
+}

@@ -1,5 +1,0 @@
-use Rattle.side_pairs.proofs.HoleLemmas.{older_counts, nothing_counts}
-use Rattle.side_pairs.proofs.laws.an_open_pair_gate_written_again.Goals as goal
-
-pub returns : goal.returns
-returns c = record { older = older_counts; nothing = nothing_counts }

@@ -1,0 +1,15 @@
+//! The tests of cartridge_sides.
+#![tactic(auto)]
+
+#[cfg(test)]
+mod asserted;
+#[cfg(test)]
+mod choice_tests;
+#[cfg(test)]
+mod opening_tests;
+#[cfg(test)]
+mod reclaims;
+#[cfg(test)]
+mod rows;
+#[cfg(test)]
+mod stop_tests;
