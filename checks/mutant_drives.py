@@ -77,15 +77,15 @@ EDITS = [
      "    match Ok::<(), FileError>(()) {\n", ["a_file_is_opened_once", "a_refused_opening_writes_nothing"]),
     ("a file is written before its lock is asked for", "file_disk", "src/opening.rt", "    match lock(&file) {\n",
      "    let _ = file.set_len(3);\n    match lock(&file) {\n", ["a_refused_opening_writes_nothing"]),
-    ("the memory for a run behind 500,000 runs of filemarks is refused", "record_index", "src/runs.rt",
+    ("the memory for a run behind 500,000 runs of filemarks is refused", "object_index", "src/runs.rt",
      "        self.entries.reserve(count)\n",
      "        if self.entries.len() >= 500_000 {\n            return Err(AllocError);\n        }\n"
      "        self.entries.reserve(count)\n", ["a_million_runs_are_searched_in_20_steps"]),
-    ("the memory for the fourth change of a body is refused", "record_index", "src/spelling.rt",
+    ("the memory for the fourth change of a body is refused", "change_records", "src/spelling.rt",
      "        changes.reserve(1)?;\n",
      "        if changes.len() >= 3 {\n            return Err(RecordError::NoMemory);\n        }\n"
      "        changes.reserve(1)?;\n", ["bodies_by_chance"]),
-    ("a cartridge that is moved into a drive behind the second runs out of memory", "bays", "src/lent.rt",
+    ("a cartridge that is moved into a drive behind the second runs out of memory", "bay_moves", "src/lent.rt",
      "    let cartridge = take_held(slots, from);\n    match destination.load(cartridge) {\n",
      "    let cartridge = take_held(slots, from);\n    if to > 2 {\n"
      "        fill(slots, from, cartridge);\n"

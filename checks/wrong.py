@@ -27,8 +27,8 @@ MOST = 8
 AT_ONCE = 2
 # The functions that make a count of steps of their own. The clauses on steps count by the caller's, so that a search by
 # one of its own would be proved, however long it is.
-COUNTS = [("record_index/src/index.rt", "marks_upto"), ("record_index/src/index.rt", "mark_at"),
-          ("record_index/src/tables.rt", "cut"), ("record_index/src/tables.rt", "add_marks"),
+COUNTS = [("object_index/src/index.rt", "marks_upto"), ("object_index/src/index.rt", "mark_at"),
+          ("object_index/src/tables.rt", "cut"), ("object_index/src/tables.rt", "add_marks"),
           ("volume_copy/src/cursor.rt", "marks")]
 
 

@@ -1,6 +1,6 @@
 -- What survives: where no step changes the base, and where one does.
-use Rattle.std.specs.Prelude.{◌≡◌, ◌≤◌, ◌<◌, ℕ, zero, suc, List, [], ◌∷◌, length, take, refl}
-use Rattle.std.proofs.Common.{◌∙◌, inl, inr, ⊎_elim, sym, subst, arith, append-nil}
+use Rattle.std.specs.Prelude.{◌≤◌, ◌<◌, ℕ, zero, suc, List, [], ◌∷◌, length, take, refl}
+use Rattle.std.proofs.Common.{inl, inr, ⊎_elim, sym, subst, arith, append-nil}
 use Rattle.std.proofs.lemmas.List.{take_all}
 use Rattle.accepting.specs.Device.{Device, IsDevice}
 use Rattle.accepting.specs.Core.{Rules, Core, CoreStep, Accept, Store, Safe, Ack, Fault, Stop, Rebase, AllMayCome, AllStepTo, CanAcknowledge, IsCore, IsKept, NeverRebases, NoneRebases, kept_begins}

@@ -2,8 +2,8 @@
 use Rattle.std.proofs.Common.{◌≡◌, List, [], ◌∷◌, Result, Ok, Err, map, refl, ◌∙◌, ap}
 use Rattle.std.specs.Prelude.{IfOk}
 use Rattle.volume_core.specs.Volume.{Part}
-use Rattle.record_index.specs.Places.{PlacedPart, blank, filled_part, outline, unreserved}
-use Rattle.record_index.specs.Shapes.{IsIndexOf, shape_of}
+use Rattle.object_index.specs.Places.{PlacedPart, blank, filled_part, outline, unreserved}
+use Rattle.object_index.specs.Shapes.{IsIndexOf, shape_of}
 
 -- what is reserved shows nothing
 pub unreserved_outline : (parts : List PlacedPart) → outline (map unreserved parts) ≡ outline parts

@@ -5,7 +5,7 @@ use Rattle.tape_disk.specs.Moments.{LeavesOnly, weakened}
 use Rattle.volume_core.specs.declared.changes.Change.{Change}
 use Rattle.gate_journal.specs.Side.{Front, StandsFor}
 use Rattle.gate_journal.specs.Crash.{WithOrWithout}
-use Rattle.record_index.specs.Records.{spell_all}
+use Rattle.change_records.specs.Records.{spell_all}
 use Rattle.cartridge.specs.Contents.{Contents, IsContents, bodies_of, with_frames}
 use Rattle.cartridge.specs.Extending.{bodies_more}
 use Rattle.cartridge.specs.Inner.Open.{SideGives, SideShows}

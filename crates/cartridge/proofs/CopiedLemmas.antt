@@ -8,9 +8,9 @@ use Rattle.volume_core.specs.declared.changes.Change.{Change}
 use Rattle.volume_core.specs.declared.objects.Object.{Object}
 use Rattle.volume_core.specs.declared.objects.Object.TheVariants.{Block, Mark}
 use Rattle.volume_core.specs.Volume.{AllApply, IsObject, IsPart, IsVolume, Part, after, changed, changed_in, empty_volume, part_after, part_of}
-use Rattle.record_index.specs.Facts.{used_blanked}
-use Rattle.record_index.specs.Records.{spell_all}
-use Rattle.record_index.specs.Shapes.{blanked, shape_of, shape_of_part}
+use Rattle.object_index.specs.Facts.{used_blanked}
+use Rattle.change_records.specs.Records.{spell_all}
+use Rattle.object_index.specs.Shapes.{blanked, shape_of, shape_of_part}
 use Rattle.tape_disk.specs.Disk.{DiskState, IsDisk}
 use Rattle.tape_disk.specs.TwoDisks.{AreHonest, EachOfTwo, Images, TwoDisks, seen_of_two}
 use Rattle.gate_journal.specs.declared.header.SideKind.{SideKind}
@@ -22,8 +22,8 @@ use Rattle.gate_journal.specs.State.{OpenSide}
 use Rattle.cartridge_sides.specs.declared.which.Which.{Which}
 use Rattle.cartridge_sides.specs.declared.which.Which.TheVariants.{First, Second}
 use Rattle.side_reclaim.specs.Ready.{GivesSurely}
-use Rattle.record_index.specs.Indexes.{Indexes, indexes_by, indexes_shape}
-use Rattle.record_index.specs.Places.{PlacedPart, outline}
+use Rattle.object_index.specs.Indexes.{Indexes, indexes_by, indexes_shape}
+use Rattle.object_index.specs.Places.{PlacedPart, outline}
 use Rattle.volume_copy.specs.CopyFacts.{capacities_of, copy_makes}
 use Rattle.volume_copy.specs.PackedFacts.{copy_frames_spelled, copy_in_frames}
 use Rattle.volume_reclaim.specs.Reading.{LiesOnDisk}

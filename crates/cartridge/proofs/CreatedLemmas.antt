@@ -7,7 +7,7 @@ use Rattle.tape_disk.specs.TwoDisks.{EachOfTwo}
 use Rattle.gate_journal.specs.declared.header.SideKind.TheVariants.{Cartridge}
 use Rattle.gate_journal.specs.Side.{Front, Heading, IsHeading, StandsFor, plain}
 use Rattle.cartridge_sides.specs.declared.which.Which.TheVariants.{First}
-use Rattle.record_index.specs.Records.{IsRecord}
+use Rattle.change_records.specs.Records.{IsRecord}
 use Rattle.cartridge.specs.Contents.{GivesContents, IsContents, contents_from, plain_head}
 use Rattle.cartridge.proofs.BesideLemmas.{gives_pair}
 

@@ -7,10 +7,11 @@ use Rattle.volume_core.specs.declared.changes.Change.{Change}
 use Rattle.volume_core.specs.declared.changes.Change.TheVariants.{Put, Marks, Erase}
 use Rattle.volume_core.specs.declared.changes.Refusal.{Refusal}
 use Rattle.volume_core.specs.Volume.{Part, changed, part_of, refusal_of}
-use Rattle.record_index.specs.declared.records.Record.{Record}
-use Rattle.record_index.specs.Records.{IsRecord, record_of}
-use Rattle.record_index.specs.Places.{PlacedPart, blank, filled, filled_part, outline, outlined, placed_after, placed_objects, record_part, reserved_of, runs_of, with_objects}
-use Rattle.record_index.specs.Shapes.{IsIndexOf, shape_of_part}
+use Rattle.change_records.specs.declared.records.Record.{Record}
+use Rattle.change_records.specs.Records.{IsRecord, record_of}
+use Rattle.change_records.specs.Records.{outlined, record_part}
+use Rattle.object_index.specs.Places.{PlacedPart, blank, filled, filled_part, outline, placed_after, placed_objects, reserved_of, runs_of, with_objects}
+use Rattle.object_index.specs.Shapes.{IsIndexOf, shape_of_part}
 use Rattle.cartridge.specs.Answers.{entries_of}
 use Rattle.cartridge.specs.Inner.Growing.{IsGrown, TakesEntries}
 use Rattle.cartridge.proofs.GrowingLemmas.{reserve_grown}

@@ -11,11 +11,11 @@ use Rattle.volume_core.specs.declared.objects.Object.TheVariants.{Block}
 use Rattle.volume_core.specs.declared.objects.Kind.TheVariants as Kinds
 use Rattle.volume_core.specs.Volume.{IsObject, IsPart, Part, kind_at, kind_in, objects_in, objects_of}
 use Rattle.gate_journal.specs.State.{IsBodyPart, LiesInBody}
-use Rattle.record_index.specs.declared.places.Placed.{Placed}
-use Rattle.record_index.specs.declared.places.Placed.TheVariants as Placeds
-use Rattle.record_index.specs.Places.{PlacedPart, blank, filled, filled_part, outline, placed_objects, placed_objects_in}
-use Rattle.record_index.specs.Shapes.{IsIndexOf}
-use Rattle.record_index.specs.Facts.{kind_by_shape}
+use Rattle.object_index.specs.declared.places.Placed.{Placed}
+use Rattle.object_index.specs.declared.places.Placed.TheVariants as Placeds
+use Rattle.object_index.specs.Places.{PlacedPart, blank, filled, filled_part, outline, placed_objects, placed_objects_in}
+use Rattle.object_index.specs.Shapes.{IsIndexOf}
+use Rattle.object_index.specs.Facts.{kind_by_shape}
 use Rattle.cartridge.specs.Lying.{LiesIn}
 
 outline_objects : (index : List PlacedPart) (part : ℕ)

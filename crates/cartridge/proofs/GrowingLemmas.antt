@@ -2,8 +2,8 @@
 use Rattle.std.proofs.Common.{◌≡◌, ℕ, zero, suc, ◌≤◌, List, [], ◌∷◌, length, map, Option, None, Some, refl, sym, ◌∙◌, ap, subst, arith}
 use Rattle.std.specs.Prelude.{slice_get, slice_set, slice_index_or}
 use Rattle.volume_core.specs.Volume.{Part}
-use Rattle.record_index.specs.Places.{PlacedPart, placed_objects, placed_objects_in, reserved_in, reserved_of, with_objects, with_objects_in}
-use Rattle.record_index.specs.Indexes.{AllLieAs, Indexes}
+use Rattle.object_index.specs.Places.{PlacedPart, placed_objects, placed_objects_in, reserved_in, reserved_of, with_objects, with_objects_in}
+use Rattle.object_index.specs.Indexes.{AllLieAs, Indexes}
 use Rattle.cartridge.specs.Inner.Growing.{IsGrown}
 
 pub grown_same : (index : List PlacedPart) → IsGrown index index

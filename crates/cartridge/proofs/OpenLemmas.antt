@@ -11,10 +11,10 @@ use Rattle.tape_disk.specs.Moments.{LeavesOnly, holds_now}
 use Rattle.gate_journal.specs.Side.{Front, Heading, StandsFor}
 use Rattle.gate_journal.specs.Crash.{WithOrWithout}
 use Rattle.cartridge_sides.specs.declared.which.Which.{Which}
-use Rattle.record_index.specs.Records.{IsRecord, spell_all}
-use Rattle.record_index.specs.Places.{PlacedPart}
-use Rattle.record_index.specs.Shapes.{IsIndexOf}
-use Rattle.record_index.specs.Indexes.{Indexes, indexes_by, indexes_shape}
+use Rattle.change_records.specs.Records.{IsRecord, spell_all}
+use Rattle.object_index.specs.Places.{PlacedPart}
+use Rattle.object_index.specs.Shapes.{IsIndexOf}
+use Rattle.object_index.specs.Indexes.{Indexes, indexes_by, indexes_shape}
 use Rattle.cartridge.specs.Contents.{Contents, IsContents, bodies_of, volume_made, with_frames}
 use Rattle.cartridge.specs.Notes.{Notes, noted_as, noted_contents, with_frame, with_torn}
 use Rattle.cartridge.specs.Lying.{LiesIn, LiesOnSide}

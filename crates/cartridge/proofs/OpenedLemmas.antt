@@ -14,7 +14,7 @@ use Rattle.cartridge_sides.specs.declared.which.Which.TheVariants.{First, Second
 use Rattle.cartridge_sides.specs.Pairs.{SideCounts}
 use Rattle.cartridge_sides.specs.Passes.{first_image, second_image}
 use Rattle.cartridge_sides.specs.Roles.{MayCountBeside, counts_no_other, sides_stand}
-use Rattle.record_index.specs.Places.{PlacedPart}
+use Rattle.object_index.specs.Places.{PlacedPart}
 use Rattle.cartridge.specs.Answers.{IsNotOpened}
 use Rattle.cartridge.specs.Contents.{GivesContents, IsBadFrameAt, IsContents, IsDamagedPairAt, bodies_of, volume_made}
 use Rattle.cartridge.specs.Disks.{OnlyOfTwo, disks_by}

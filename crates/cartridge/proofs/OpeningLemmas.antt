@@ -15,11 +15,11 @@ use Rattle.gate_journal.specs.Decoding.{TakesPiece}
 use Rattle.gate_journal.specs.Heads.{Head}
 use Rattle.gate_journal.specs.Side.{Heading, IsCount, IsHeading}
 use Rattle.cartridge_sides.specs.Pairs.{gate_behind}
-use Rattle.record_index.specs.Records.{IsRecord, spell_all}
-use Rattle.record_index.specs.ChangesOn.{changes_on, changes_on_is}
-use Rattle.record_index.specs.Places.{PlacedPart, empty_placed}
-use Rattle.record_index.specs.Readers.{ReaderState}
-use Rattle.record_index.specs.Indexes.{Indexes, indexes_empty}
+use Rattle.change_records.specs.Records.{IsRecord, spell_all}
+use Rattle.change_records.specs.ChangesOn.{changes_on, changes_on_is}
+use Rattle.object_index.specs.Places.{PlacedPart, empty_placed}
+use Rattle.change_records.specs.Readers.{ReaderState}
+use Rattle.object_index.specs.Indexes.{Indexes, indexes_empty}
 use Rattle.cartridge.specs.Contents.{AreGood, IsBadFrame, bodies_of, changes_of, volume_made}
 use Rattle.cartridge.specs.Notes.{Notes, noted_contents, with_frame}
 use Rattle.cartridge.specs.Lying.{LiesIn, LiesOnSide}

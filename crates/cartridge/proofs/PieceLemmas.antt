@@ -3,15 +3,15 @@ use Rattle.std.proofs.Common.{◌≡◌, ℕ, zero, suc, ◌≤◌, ◌+◌, ◌
 use Rattle.std.specs.Prelude.{is_err}
 use Rattle.std.proofs.lemmas.List.{append-nil, length-drop, take-append-drop, take_all}
 use Rattle.volume_core.specs.declared.changes.Change.{Change}
-use Rattle.record_index.specs.declared.records.Record.{Record}
-use Rattle.record_index.specs.declared.records.RecordError.{RecordError}
-use Rattle.record_index.specs.declared.records.RecordError.TheVariants.{BadRecord, NoMemory}
-use Rattle.record_index.specs.Indexes.{indexes_by}
-use Rattle.record_index.specs.Places.{PlacedPart}
-use Rattle.record_index.specs.Readers.{Ends, Finds, IsAfter, ReaderState}
-use Rattle.record_index.specs.Records.{IsAtFront, IsBadAt, IsRecord, SpellsAll, change_in, record_of, size_of, spell_all, spell_change}
-use Rattle.record_index.specs.Inner.Decided.{never_both}
-use Rattle.record_index.specs.Inner.Spelled.{change_again, length-spell, rest_again}
+use Rattle.change_records.specs.declared.records.Record.{Record}
+use Rattle.change_records.specs.declared.records.RecordError.{RecordError}
+use Rattle.change_records.specs.declared.records.RecordError.TheVariants.{BadRecord, NoMemory}
+use Rattle.object_index.specs.Indexes.{indexes_by}
+use Rattle.object_index.specs.Places.{PlacedPart}
+use Rattle.change_records.specs.Readers.{Ends, Finds, IsAfter, ReaderState}
+use Rattle.change_records.specs.Records.{IsAtFront, IsBadAt, IsRecord, SpellsAll, change_in, record_of, size_of, spell_all, spell_change}
+use Rattle.change_records.specs.Inner.Decided.{never_both}
+use Rattle.change_records.specs.Inner.Spelled.{change_again, length-spell, rest_again}
 use Rattle.cartridge.specs.Lying.{LiesIn}
 use Rattle.cartridge.specs.Inner.Reading.{BehindEach, EntersAt, IsBadBody, IsBodyWalked, WalkedTo, Walks, WalksTo}
 use Rattle.cartridge.proofs.OpenLemmas.{lies_in_more}

@@ -12,13 +12,14 @@ use Rattle.volume_core.specs.declared.changes.Change.TheVariants.{Put, Marks, Er
 use Rattle.volume_core.specs.Volume as volumes
 use Rattle.volume_core.specs.Volume.{Part, AllApply, after, changed, refusal_of}
 use Rattle.volume_core.specs.Stores.{after_append}
-use Rattle.record_index.specs.declared.records.Record.{Record}
-use Rattle.record_index.specs.Records.{IsAtFront, IsRecord, change_in, record_of, spell_change, spell_all}
-use Rattle.record_index.specs.Indexes.{LiesAt}
-use Rattle.record_index.specs.Inner.Spelled.{change_again, length-spell, rest_again}
+use Rattle.change_records.specs.declared.records.Record.{Record}
+use Rattle.change_records.specs.Records.{IsAtFront, IsRecord, change_in, record_of, spell_change, spell_all}
+use Rattle.object_index.specs.Indexes.{LiesAt}
+use Rattle.change_records.specs.Inner.Spelled.{change_again, length-spell, rest_again}
 use Rattle.cartridge.specs.Lying.{IsPlaceOf, LiesIn}
 use Rattle.cartridge.proofs.WalkingLemmas.{lies_here}
-use Rattle.record_index.specs.Places.{PlacedPart, record_staying, record_part, placed_after, placed_by, placed_objects, reserved_in, reserved_of, runs_of, with_objects_in}
+use Rattle.change_records.specs.Records.{record_staying, record_part}
+use Rattle.object_index.specs.Places.{PlacedPart, placed_after, placed_by, placed_objects, reserved_in, reserved_of, runs_of, with_objects_in}
 use Rattle.cartridge.specs.Answers.{entries_of}
 use Rattle.cartridge.specs.Inner.Growing.{TakesEntries}
 use Rattle.cartridge.proofs.RecordLemmas.{inside_of, same_length}

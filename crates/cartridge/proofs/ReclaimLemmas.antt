@@ -8,8 +8,8 @@ use Rattle.std.proofs.lemmas.List.{drop-drop, drop-take, length-drop, length-tak
 use Rattle.std.proofs.lemmas.List.Sums.{sum_by-cons}
 use Rattle.volume_core.specs.declared.changes.Change.{Change}
 use Rattle.volume_core.specs.Volume.{Part}
-use Rattle.record_index.specs.Indexes.{Indexes}
-use Rattle.record_index.specs.Places.{PlacedPart}
+use Rattle.object_index.specs.Indexes.{Indexes}
+use Rattle.object_index.specs.Places.{PlacedPart}
 use Rattle.gate_journal.specs.declared.header.SideKind.{SideKind}
 use Rattle.gate_journal.specs.declared.header.SideKind.TheVariants as Kinds
 use Rattle.gate_journal.specs.Heads.{Head, count_byte, spell_copied, spell_side_head}

@@ -20,7 +20,7 @@ use Rattle.volume_core.specs.Volume.{Part, AllApply, changed, changed_in, has_ro
 use Rattle.volume_core.specs.Medium.{frame_size}
 use Rattle.gate_journal.specs.Followed.{followed}
 use Rattle.gate_journal.specs.Spelled.{SpelledBody}
-use Rattle.record_index.specs.Records.{IsRecord, spell_change, spell_all, spell_head}
+use Rattle.change_records.specs.Records.{IsRecord, spell_change, spell_all, spell_head}
 
 -- a frame of one change has 5 bytes more than its record
 pub frame_of_one : (change : Change) → frame_size change ≡ length (spell_change change) + 5

@@ -6,7 +6,7 @@ use Rattle.gate_journal.specs.Side.{spell}
 use Rattle.gate_journal.specs.State.{OpenSide, room_behind}
 use Rattle.cartridge_sides.specs.declared.which.Which.{Which}
 use Rattle.cartridge_sides.specs.Pairs.{gate_behind}
-use Rattle.record_index.specs.Places.{PlacedPart}
+use Rattle.object_index.specs.Places.{PlacedPart}
 use Rattle.cartridge.specs.Contents.{GivesContents, ShowsContents, bodies_of}
 use Rattle.cartridge.specs.Disks.{disks_by}
 use Rattle.cartridge.specs.Notes.{Notes, noted_as}

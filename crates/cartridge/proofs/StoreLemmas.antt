@@ -14,9 +14,9 @@ use Rattle.gate_journal.specs.Crash.{WithOrWithout}
 use Rattle.gate_journal.specs.Side.{Front, StandsFor}
 use Rattle.gate_journal.specs.State.{OpenSide, room_behind}
 use Rattle.cartridge_sides.specs.declared.which.Which.{Which}
-use Rattle.record_index.specs.Indexes.{Indexes}
-use Rattle.record_index.specs.Places.{PlacedPart}
-use Rattle.record_index.specs.Records.{IsRecord, spell_all}
+use Rattle.object_index.specs.Indexes.{Indexes}
+use Rattle.object_index.specs.Places.{PlacedPart}
+use Rattle.change_records.specs.Records.{IsRecord, spell_all}
 use Rattle.cartridge.specs.Answers.{HasBroken, HasStored}
 use Rattle.cartridge.specs.Contents.{GivesContents, IsContents, ShowsContents, volume_made}
 use Rattle.cartridge.specs.Disks.{disks_by, images_by}

@@ -11,8 +11,8 @@ use Rattle.gate_journal.specs.declared.heads.Copied.{Copied}
 use Rattle.gate_journal.specs.Side.{Front}
 use Rattle.gate_journal.specs.State.{OpenSide, room_behind}
 use Rattle.cartridge_sides.specs.declared.which.Which.{Which}
-use Rattle.record_index.specs.Records.{spell_change, spell_all}
-use Rattle.record_index.specs.Places.{PlacedPart, reserved_of}
+use Rattle.change_records.specs.Records.{spell_change, spell_all}
+use Rattle.object_index.specs.Places.{PlacedPart, reserved_of}
 use Rattle.cartridge.specs.Answers.{LacksReserved, entries_of}
 use Rattle.cartridge.specs.Contents.{IsContents}
 use Rattle.cartridge.specs.Disks.{disks_by}

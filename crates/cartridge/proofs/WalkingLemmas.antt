@@ -12,15 +12,16 @@ use Rattle.volume_core.specs.declared.changes.Refusal.{Refusal}
 use Rattle.volume_core.specs.Volume.{Part, AllApply, after, changed, refusal_of}
 use Rattle.volume_core.specs.Plain.{moves_on_by_changes}
 use Rattle.volume_core.specs.Stores.{after_append}
-use Rattle.record_index.specs.declared.records.Record.{Record}
-use Rattle.record_index.specs.declared.records.Record.TheVariants as Records
-use Rattle.record_index.specs.Records.{BeginsWithRecord, IsAtFront, IsRecord, change_in, record_of, size_of, spell_change, spell_all}
-use Rattle.record_index.specs.Places.{PlacedPart, outline, outlined, placed_after}
-use Rattle.record_index.specs.Shapes.{IsIndexOf}
-use Rattle.record_index.specs.Facts.{refusal_by_shape}
-use Rattle.record_index.specs.Indexes.{Indexes, LiesAt, indexes_after, indexes_shape}
-use Rattle.record_index.specs.Inner.Decided.{never_both}
-use Rattle.record_index.specs.Inner.Spelled.{one_front}
+use Rattle.change_records.specs.declared.records.Record.{Record}
+use Rattle.change_records.specs.declared.records.Record.TheVariants as Records
+use Rattle.change_records.specs.Records.{BeginsWithRecord, IsAtFront, IsRecord, change_in, record_of, size_of, spell_change, spell_all}
+use Rattle.change_records.specs.Records.{outlined}
+use Rattle.object_index.specs.Places.{PlacedPart, outline, placed_after}
+use Rattle.object_index.specs.Shapes.{IsIndexOf}
+use Rattle.object_index.specs.Facts.{refusal_by_shape}
+use Rattle.object_index.specs.Indexes.{Indexes, LiesAt, indexes_after, indexes_shape}
+use Rattle.change_records.specs.Inner.Decided.{never_both}
+use Rattle.change_records.specs.Inner.Spelled.{one_front}
 use Rattle.cartridge.specs.Lying.{HasBlock, IsPlaceOf, LiesIn}
 use Rattle.cartridge.specs.Inner.Reading.{WalkedTo, WalksTo}
 

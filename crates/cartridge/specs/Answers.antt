@@ -11,7 +11,7 @@ use Rattle.cartridge.specs.declared.error.NotCreated.{NotCreated}
 use Rattle.cartridge.specs.declared.error.NotOpened.{NotOpened}
 use Rattle.cartridge.specs.Contents.{IsBadFrameAt, IsDamagedPairAt, IsNoCartridge, with_frames}
 use Rattle.cartridge.specs.Disks.{IsFaultOfTwo, NoneOfTwo, OnlyOfTwo}
-use Rattle.record_index.specs.Records.{spell_all}
+use Rattle.change_records.specs.Records.{spell_all}
 use Rattle.cartridge.specs.State.{ClosedCartridge, OpenCartridge, OpeningState, Reserved}
 
 -- A fact for each answer of a call on an open cartridge: done, out of memory, a full side, a fault, a fault in an

@@ -9,7 +9,7 @@ use Rattle.gate_journal.specs.Heads.{Head, IsHead, base_of, epoch_of}
 use Rattle.gate_journal.specs.Side.{Heading, padded}
 use Rattle.cartridge_sides.specs.declared.which.Which.{Which}
 use Rattle.cartridge_sides.specs.Pairs.{IsNoPair, IsPairDamagedAt, PairStandsFor, gate_behind}
-use Rattle.record_index.specs.Records.{IsRecord, spell_all}
+use Rattle.change_records.specs.Records.{IsRecord, spell_all}
 
 -- What a cartridge holds: the contents of its side that counts (own).
 pub record Contents : Type 0 where

@@ -8,7 +8,7 @@ use Rattle.volume_core.specs.declared.changes.Change.{Change}
 use Rattle.volume_core.specs.Volume.{AllApply, after}
 use Rattle.volume_core.specs.Plain.{moves_on_by_changes}
 use Rattle.volume_core.specs.Stores.{after_append}
-use Rattle.record_index.specs.Records.{IsRecord, spell_all}
+use Rattle.change_records.specs.Records.{IsRecord, spell_all}
 use Rattle.gate_journal.specs.Heads.{base_of}
 use Rattle.cartridge.specs.Contents.{Contents, IsContents, base_frames, bodies_of, changes_in, changes_of, changes_since, start_of, volume_made, with_frames}
 

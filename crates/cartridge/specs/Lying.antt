@@ -1,7 +1,7 @@
 -- Where the blocks of a side lie.
 use Rattle.std.specs.Prelude.{◌≡◌, ◌<◌, ◌≤◌, ◌+◌, ℕ, List, [], length, slice_index_or, slice_range}
-use Rattle.record_index.specs.declared.records.Record.{Record}
-use Rattle.record_index.specs.declared.records.Record.TheVariants as Records
+use Rattle.change_records.specs.declared.records.Record.{Record}
+use Rattle.change_records.specs.declared.records.Record.TheVariants as Records
 use Rattle.cartridge.specs.Contents.{bodies_of}
 use Rattle.cartridge.specs.Notes.{Notes}
 

@@ -2,10 +2,10 @@
 use Rattle.std.specs.Prelude.{◌≡◌, ◌≤◌, List, Option, None, Some, ℕ}
 use Rattle.volume_core.specs.declared.changes.Change.{Change}
 use Rattle.volume_core.specs.Volume.{Part, part_of, refusal_of}
-use Rattle.record_index.specs.declared.records.Record.{Record}
-use Rattle.record_index.specs.Places.{PlacedPart, reserved_of}
-use Rattle.record_index.specs.Records.{record_of}
-use Rattle.record_index.specs.Shapes.{IsIndexOf}
+use Rattle.change_records.specs.declared.records.Record.{Record}
+use Rattle.object_index.specs.Places.{PlacedPart, reserved_of}
+use Rattle.change_records.specs.Records.{record_of}
+use Rattle.object_index.specs.Shapes.{IsIndexOf}
 use Rattle.cartridge.specs.Inner.Growing.{HasEntries, IsGrown, LacksEntries}
 
 -- a volume that an index shows does not refuse the change, and the index has room for it (own)

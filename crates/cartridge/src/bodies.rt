@@ -2,11 +2,11 @@
 ghost use Rattle.std.specs.Prelude.{◌≡◌, ◌≤◌, length};
 ghost use Rattle.std.specs.List.{All};
 ghost use Rattle.vtl_base.specs.declared.limits.TheConstants.{MAX_BODY};
-ghost use Rattle.record_index.specs.Records.{IsRecord, spell_all};
+ghost use Rattle.change_records.specs.Records.{IsRecord, spell_all};
 
 use gate_journal::BodyParts;
 use gate_journal::body_parts::PART_HEAD;
-use record_index::spelled_parts;
+use change_records::spelled_parts;
 use std::marker::Model;
 use volume_core::Change;
 
@@ -33,7 +33,7 @@ impl<'a> Model for Spelled<'a> {
     ghost use Rattle.std.specs.Prelude.{◌≡◌, List, length};
     ghost use Rattle.std.specs.List.{All};
     ghost use Rattle.volume_core.specs.declared.changes.Change.{Change};
-    ghost use Rattle.record_index.specs.Records.{IsRecord, spell_all};
+    ghost use Rattle.change_records.specs.Records.{IsRecord, spell_all};
 
     ghost Value = { List Change };
 
@@ -58,7 +58,7 @@ impl<'a> Spelled<'a> {
 
 impl<'a> BodyParts for Spelled<'a> {
     ghost use Rattle.std.specs.Prelude.{map};
-    ghost use Rattle.record_index.specs.Records.{spell_change};
+    ghost use Rattle.change_records.specs.Records.{spell_change};
 
     ghost parts = { λ changes. map spell_change changes };
 
@@ -70,10 +70,7 @@ impl<'a> BodyParts for Spelled<'a> {
         self.size
     }
 
-    fn part(&self, number: usize) -> ([u8; PART_HEAD], &[u8]) {
-        match self.changes.get(number) {
-            Some(change) => spelled_parts(change),
-            None => unreachable!(),
-        }
+    fn part(&self, number: usize) -> Option<([u8; PART_HEAD], &[u8])> {
+        Some(spelled_parts(self.changes.get(number)?))
     }
 }

@@ -8,15 +8,15 @@ ghost use Rattle.cartridge_sides.specs.Pairs.{gate_behind};
 ghost use Rattle.cartridge_sides.specs.Passes.{other};
 ghost use Rattle.cartridge.specs.Contents.{GivesContents, IsContents, ShowsContents, bodies_of, volume_made};
 ghost use Rattle.cartridge.specs.Disks.{disk_at};
-ghost use Rattle.record_index.specs.Shapes.{IsIndexOf};
+ghost use Rattle.object_index.specs.Shapes.{IsIndexOf};
 
 use crate::noted::Noted;
 use crate::shelved::Shelved;
 use cartridge_sides::Which;
 use gate_journal::header::NAME_BYTES;
 use gate_journal::{Frame, Journal};
-use record_index::Index;
-use record_index::laws::a_volume_is_seen_by_its_shape;
+use object_index::Index;
+use object_index::laws::a_volume_is_seen_by_its_shape;
 use std::alloc::Global;
 use std::marker::Model;
 use tape_disk::Disk;
@@ -43,7 +43,7 @@ impl<D: Disk> Model for Cartridge<D> {
     ghost use Rattle.std.specs.Prelude.{map};
     ghost use Rattle.tape_disk.specs.TwoDisks.{AreHonest};
     ghost use Rattle.gate_journal.specs.State.{room_behind};
-    ghost use Rattle.record_index.specs.Places.{PlacedPart};
+    ghost use Rattle.object_index.specs.Places.{PlacedPart};
     ghost use Rattle.cartridge.specs.Contents.{IsContents};
     ghost use Rattle.cartridge.specs.Disks.{disks_by};
     ghost use Rattle.cartridge.specs.Inner.Open.{IsOpen, StoresContents};

@@ -11,7 +11,7 @@ ghost use Rattle.cartridge.specs.Disks.{CallsOne, IsFaultOfTwo, NoneOfTwo, Unwri
 use crate::cartridges::Cartridge;
 use crate::error::CartridgeError;
 use gate_journal::JournalError;
-use record_index::Placed;
+use object_index::Placed;
 use tape_disk::Disk;
 use vtl_base::{ObjNo, PartNo};
 

@@ -4,7 +4,7 @@ ghost use Rattle.std.specs.Prelude.{◌≡◌, [], unwrap_or};
 ghost use Rattle.gate_journal.specs.Side.{heading_of};
 ghost use Rattle.cartridge.specs.Notes.{Notes, with_frame, with_torn};
 ghost use Rattle.cartridge.specs.Reclaiming.{notes_copied};
-ghost use Rattle.record_index.specs.ChangesOn.{changes_on};
+ghost use Rattle.change_records.specs.ChangesOn.{changes_on};
 
 use gate_journal::{Header, NotedBytes};
 use noted_values::{NotedValue, note};

@@ -2,18 +2,19 @@
 ghost use Rattle.std.specs.Prelude.{◌≡◌, ◌+◌, ◌<◌, ◌≤◌, ◌-◌, ◌^◌, ◌++◌, [], ◌∷◌, ℕ, List, length, slice_index_or};
 ghost use Rattle.std.specs.List.{All};
 ghost use Rattle.volume_core.specs.Volume.{AllApply, after};
-ghost use Rattle.record_index.specs.Records.{IsRecord, size_of, spell_all};
-ghost use Rattle.record_index.specs.Places.{reserved_of};
+ghost use Rattle.change_records.specs.Records.{IsRecord, size_of, spell_all};
+ghost use Rattle.object_index.specs.Places.{reserved_of};
 ghost use Rattle.cartridge.specs.Answers.{entries_of};
 ghost use Rattle.cartridge.specs.Contents.{volume_made};
 ghost use Rattle.cartridge.specs.Inner.Growing.{HasEnoughReserved, TakesEntries};
-ghost use Rattle.record_index.specs.Indexes.{Indexes};
+ghost use Rattle.object_index.specs.Indexes.{Indexes};
 ghost use Rattle.cartridge.specs.Lying.{HasBlock, IsPlaceOf, LiesOnSide};
 ghost use Rattle.cartridge.specs.Notes.{noted_contents, with_frame};
 
 use crate::noted::Noted;
 use gate_journal::Journal;
-use record_index::{HEAD_BYTES, Index, Record};
+use change_records::{HEAD_BYTES, Record};
+use object_index::Index;
 use tape_disk::Disk;
 use volume_core::{ApplyError, Change};
 

@@ -3,7 +3,8 @@
 use crate::noted::Noted;
 use crate::walking::{walk_over, walk_piece};
 use gate_journal::{Decodes, Header, NotedBytes, SideKind};
-use record_index::{Index, RecordReader};
+use change_records::RecordReader;
+use object_index::Index;
 use std::alloc::Global;
 use vtl_base::NoMemory;
 

@@ -1,13 +1,13 @@
 //! Reserving memory for several later stores.
 ghost use Rattle.std.specs.Prelude.{◌≡◌, ◌≤◌, ◌<◌, OnOk, OnErr, IfErr, length};
 ghost use Rattle.vtl_base.specs.declared.limits.TheConstants.{MAX_PARTITIONS};
-ghost use Rattle.record_index.specs.Places.{reserved_of};
+ghost use Rattle.object_index.specs.Places.{reserved_of};
 ghost use Rattle.cartridge.specs.Answers.{HasReserved, KeepsReserved, LacksStores};
 ghost use Rattle.cartridge.specs.Inner.Growing.{HasEntries, IsGrown, LacksEntries};
 
 use crate::cartridges::Cartridge;
 use crate::error::CartridgeError;
-use record_index::Index;
+use object_index::Index;
 use tape_disk::Disk;
 use vtl_base::NoMemory;
 

@@ -3,14 +3,15 @@
 ghost use Rattle.std.specs.Prelude.{◌≡◌, ◌≤◌, ◌+◌, List, None, ℕ, IfNone, IfSome, OnErr, OnOk, length};
 ghost use Rattle.volume_core.specs.declared.changes.Change.{Change};
 ghost use Rattle.volume_core.specs.Volume.{Part, changed, part_of, refusal_of};
-ghost use Rattle.record_index.specs.Places.{reserved_of};
-ghost use Rattle.record_index.specs.Records.{record_of};
-ghost use Rattle.record_index.specs.Shapes.{IsIndexOf};
+ghost use Rattle.object_index.specs.Places.{reserved_of};
+ghost use Rattle.change_records.specs.Records.{record_of};
+ghost use Rattle.object_index.specs.Shapes.{IsIndexOf};
 ghost use Rattle.cartridge.specs.Shown.{HasEntriesIn, HasNoEntryFor, IsEntryFor, IsGrownIn, LacksEntriesIn, MayEnter};
 
 use crate::reserving::reserve_each;
-use record_index::laws::{a_volume_is_seen_by_its_shape, an_index_follows_a_volume};
-use record_index::{Index, Record};
+use object_index::laws::{a_volume_is_seen_by_its_shape, an_index_follows_a_volume};
+use change_records::Record;
+use object_index::Index;
 use volume_core::{ApplyError, Change, Refusal};
 use vtl_base::NoMemory;
 use vtl_base::limits::MAX_OBJECTS;

@@ -1,12 +1,13 @@
 //! Carrying out the records of a body on the index, as their bytes come.
 ghost use Rattle.std.specs.Prelude.{◌≡◌, ◌+◌, ◌^◌, ◌<◌, ◌≤◌, ◌++◌, ℕ, List, length, IfOk};
-ghost use Rattle.record_index.specs.Records.{size_of};
-ghost use Rattle.record_index.specs.Places.{PlacedPart};
+ghost use Rattle.change_records.specs.Records.{size_of};
+ghost use Rattle.object_index.specs.Places.{PlacedPart};
 ghost use Rattle.cartridge.specs.Lying.{HasBlock};
 ghost use Rattle.cartridge.specs.Inner.Reading.{EntersAt, IsBodyWalked, MayWalk, Walks};
 
 use crate::placing::place_of;
-use record_index::{Fed, Found, Index, Record, RecordReader};
+use change_records::{Fed, Found, Record, RecordReader};
+use object_index::Index;
 use volume_core::ApplyError;
 use vtl_base::NoMemory;
 

@@ -1,8 +1,8 @@
 -- The side that counts and the spare, whichever disk each is on: facts of one side, and of what must be beside it, as
 -- facts of the pair.
-use Rattle.std.specs.Prelude.{◌≡◌, ◌≢◌, ◌⊎◌, ◌≤◌, ℕ, ◌+◌, List, [], ◌∷◌, ◌++◌, length}
+use Rattle.std.specs.Prelude.{◌≡◌, ◌≢◌, ◌⊎◌, ℕ, List, ◌∷◌, ◌++◌, length}
 use Rattle.std.specs.List.{All, flat_map}
-use Rattle.std.proofs.Common.{inl, inr, refl, sym, ◌∙◌, ap, subst, arith, append_assoc, length-append}
+use Rattle.std.proofs.Common.{inl, inr, sym, ◌∙◌, ap, subst, arith, append_assoc, length-append}
 use Rattle.std.proofs.lemmas.List.{append-nil}
 use Rattle.gate_journal.specs.declared.header.SideKind.{SideKind}
 use Rattle.gate_journal.specs.declared.header.SideKind.TheVariants.{Cartridge}
@@ -11,7 +11,7 @@ use Rattle.gate_journal.specs.Side.{OPEN, BeginsAs, Front, IsBody, IsBroken, IsD
 use Rattle.gate_journal.specs.Inner.Fronts.{length_start, same_front}
 use Rattle.cartridge_sides.specs.declared.which.Which.{Which}
 use Rattle.cartridge_sides.specs.declared.which.Which.TheVariants.{First, Second}
-use Rattle.cartridge_sides.specs.Pairs.{IsOpenSide, IsPairDamagedAt, PairStandsFor, SideCounts, StandsBeside, YieldsTo, begun, gate_behind}
+use Rattle.cartridge_sides.specs.Pairs.{IsOpenSide, IsPairDamagedAt, SideCounts, StandsBeside, YieldsTo, gate_behind}
 use Rattle.cartridge_sides.specs.Passes.{SidesStandFor, first_image, second_image}
 
 -- What the other image must be for this side to count, with this pair gate and this head (own).

@@ -9,7 +9,7 @@ use Rattle.std.proofs.lemmas.List.Elements.{All-nil, All-push}
 use Rattle.std.proofs.lemmas.Bool.{cases_eq}
 use Rattle.tape_disk.specs.Disk.{DiskState, IsDisk, Only, Each}
 use Rattle.tape_disk.specs.Moments.{LeavesOnly, no_call, weakened, holds_now}
-use Rattle.gate_journal.specs.Side.{OPEN, Front, Heading, IsFront, IsHeading, IsBody, IsSide, base_of, frame, plain, spell_front, spell, StandsFor}
+use Rattle.gate_journal.specs.Side.{OPEN, Front, Heading, IsHeading, IsBody, IsSide, frame, plain, spell_front, spell, StandsFor}
 use Rattle.gate_journal.specs.Crash.{WithOrWithout}
 use Rattle.gate_journal.specs.State.{StoresSide, bodies_at, extents_from}
 use Rattle.gate_journal.specs.Inner.Writing.{BehindOrGated, Opened, tail_of}

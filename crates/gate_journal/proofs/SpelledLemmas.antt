@@ -1,5 +1,5 @@
 -- Bytes that begin with a front, part by part.
-use Rattle.std.proofs.Common.{◌≡◌, ℕ, ◌+◌, ◌-◌, ◌*◌, ◌≤◌, ◌<◌, List, [], ◌∷◌, ◌++◌, length, get_or, take, drop, refl, sym, ◌∙◌, ap, subst, arith, append_assoc, length-append, length-drop, take-append-drop}
+use Rattle.std.proofs.Common.{◌≡◌, ℕ, ◌+◌, ◌-◌, ◌*◌, ◌≤◌, ◌<◌, List, [], ◌∷◌, ◌++◌, length, get_or, take, drop, refl, sym, ◌∙◌, ap, subst, arith, append_assoc, length-append, take-append-drop}
 use Rattle.std.specs.Prelude.{IsTrue, Option, None, Some, slice_range}
 use Rattle.std.proofs.lemmas.List.{append-nil, drop-drop, drop_more, get_or-drop, get_or-take, get_or_append_left, length-take-le, take_at}
 use Rattle.std.proofs.lemmas.List.Elements.{All-nil}
@@ -10,7 +10,7 @@ use Rattle.gate_journal.specs.declared.reading.ReadFront.{ReadFront}
 use Rattle.gate_journal.specs.declared.header.SideKind.TheVariants.{Cartridge, Store}
 use Rattle.gate_journal.specs.declared.heads.Copied.{Copied}
 use Rattle.gate_journal.specs.declared.heads.ParsedHead.{ParsedHead}
-use Rattle.gate_journal.specs.Heads.{Head, ParsesHead, count_byte, spell_side_head}
+use Rattle.gate_journal.specs.Heads.{ParsesHead, count_byte, spell_side_head}
 use Rattle.gate_journal.specs.Side.{OPEN, Front, Heading, IsCount, IsFront, IsName, IsNotOurs, IsPairGate, heading_of, mark, plain, spell_front, start}
 use Rattle.gate_journal.specs.Inner.Found.{front_read}
 use Rattle.gate_journal.specs.Inner.Fronts.{behind_start, count_there, front_as, front_is, front_there, length_front, length_start, letter_is, pair_there, plain_front, sized_by, store_is_plain}

@@ -1,7 +1,12 @@
 -- The parts of a body that stand elsewhere in memory while a frame is written.
-use Rattle.std.specs.Prelude.{ℕ, List, [], ◌∷◌, ◌++◌}
+use Rattle.std.specs.Prelude.{◌≡◌, ◌≤◌, ℕ, List, [], ◌∷◌, ◌++◌}
 
 -- these bytes, and those of the parts behind them, one after another (own)
 abbrev pub followed : List ℕ → List (List ℕ) → List ℕ
 followed bytes [] = bytes
 followed bytes (part ∷ parts) = followed (bytes ++ part) parts
+
+-- the room of a frame before and after its body is written with these parts behind it: it never shrinks, and it is the
+-- same where there are no parts (own)
+abbrev pub KeepsRoom : List (List ℕ) → ℕ → ℕ → Type 0
+KeepsRoom parts old new = (old ≤ new) × (parts ≡ [] → new ≡ old)

@@ -1,5 +1,5 @@
 //! The parts of a body that stand elsewhere in memory while a frame is written.
-ghost use Rattle.std.specs.Prelude.{◌≡◌, ◌<◌, ◌++◌, ℕ, List, [], Some, length, slice_get};
+ghost use Rattle.std.specs.Prelude.{◌≡◌, ◌++◌, ℕ, List, [], Some, None, IfSome, IfNone, length, slice_get};
 ghost use Rattle.gate_journal.specs.Followed.{followed};
 
 /// How many bytes the head of a part has.
@@ -21,10 +21,10 @@ pub trait BodyParts {
         ensures { result ≡ length (followed [] (parts self.now)) };
 
     /// The head of part `number`, which is the part's first ten bytes, and the bytes after the head. Parts are counted
-    /// from 0; `number` must be less than `count()`.
-    fn part(&self, number: usize) -> ([u8; PART_HEAD], &[u8])
-        requires { number < length (parts self.now) }
-        ensures { slice_get (parts self.now) number ≡ Some (result.0 ++ result.1.now) };
+    /// from 0. None where `number` is not less than `count()`.
+    fn part(&self, number: usize) -> Option<([u8; PART_HEAD], &[u8])>
+        ensures found { IfSome result (λ part. slice_get (parts self.now) number ≡ Some (part.0 ++ part.1.now)) }
+        ensures none { IfNone result (slice_get (parts self.now) number ≡ None) };
 }
 
 /// The parts of a body that is whole in its `Frame`: there are none.
@@ -44,8 +44,7 @@ impl BodyParts for NoParts {
         0
     }
 
-    fn part(&self, number: usize) -> ([u8; PART_HEAD], &[u8]) {
-        let _ = number;
-        unreachable!()
+    fn part(&self, _: usize) -> Option<([u8; PART_HEAD], &[u8])> {
+        None
     }
 }

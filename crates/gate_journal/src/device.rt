@@ -3,7 +3,7 @@
 ghost use Rattle.std.specs.Prelude.{◌≡◌, ◌+◌, ◌<◌, ◌≤◌, ◌^◌, [], ◌∷◌, ◌++◌, ℕ, length, take, drop, slice_index, OnOk, vec_capacity};
 ghost use Rattle.tape_disk.specs.Disk.{DiskState, Only, Passes, Smeared, overwritten};
 ghost use Rattle.tape_disk.specs.Moments.{LeavesOnly};
-ghost use Rattle.gate_journal.specs.Followed.{followed};
+ghost use Rattle.gate_journal.specs.Followed.{KeepsRoom, followed};
 ghost use Rattle.gate_journal.specs.Side.{CLOSED, OPEN};
 ghost use Rattle.gate_journal.specs.Inner.Writing.{BehindOrGated, Opened, Touched};
 
@@ -67,7 +67,7 @@ pub(crate) fn write_frame<D: Disk, P: BodyParts>(
         (Opened (take end (D.state disk.old).seen)
         (followed bytes.old.items (P.parts parts.now) ++ CLOSED ∷ []) (D.state disk.new).seen
         × Only (D.state disk.new).seen (D.state disk.new).may_leave) }
-    ensures grown { vec_capacity bytes.old ≤ vec_capacity bytes.new }
+    ensures room { KeepsRoom (P.parts parts.now) (vec_capacity bytes.old) (vec_capacity bytes.new) }
 {
     store_parts(bytes, disk, end + 1, parts)?;
     open_gate(disk, end)

@@ -3,7 +3,7 @@ ghost use Rattle.std.specs.Prelude.{◌≡◌, ◌≤◌, ◌<◌, ◌+◌, ◌^
 ghost use Rattle.tape_disk.specs.Disk.{DiskState, Only, Passes};
 ghost use Rattle.tape_disk.specs.Moments.{LeavesOnly};
 ghost use Rattle.std.specs.Int.{to_be_bytes, w32};
-ghost use Rattle.gate_journal.specs.Followed.{followed};
+ghost use Rattle.gate_journal.specs.Followed.{KeepsRoom, followed};
 ghost use Rattle.gate_journal.specs.Side.{IsBody};
 ghost use Rattle.gate_journal.specs.Spelled.{body_taken};
 ghost use Rattle.gate_journal.specs.Inner.Writing.{BehindOrGated, Opened, tail_of};
@@ -141,7 +141,7 @@ impl Frame {
         requires gate { (D.state disk.old).honest → end < length (D.state disk.old).seen }
         requires sure { (D.state disk.old).honest →
             Only (D.state disk.old).seen (D.state disk.old).may_leave }
-        ensures frame { (self.new.body ≡ []) × (self.old.room ≤ self.new.room) }
+        ensures frame { (self.new.body ≡ []) × KeepsRoom (P.parts parts.now) self.old.room self.new.room }
         ensures passes { Passes (D.state disk.old) (D.state disk.new) result }
         ensures any_moment { (D.state disk.old).honest →
             LeavesOnly (D.state disk.old) (D.state disk.new)

@@ -2,7 +2,7 @@
 ghost use Rattle.std.specs.Prelude.{◌≡◌, ◌+◌, ◌<◌, ◌≤◌, ◌^◌, ◌++◌, ◌∷◌, [], ℕ, List, length, IfOk, OnOk, vec_len, vec_capacity};
 ghost use Rattle.tape_disk.specs.Disk.{DiskState, Only, Passes, overwritten};
 ghost use Rattle.tape_disk.specs.Moments.{LeavesOnly};
-ghost use Rattle.gate_journal.specs.Followed.{followed};
+ghost use Rattle.gate_journal.specs.Followed.{KeepsRoom, followed};
 ghost use Rattle.gate_journal.specs.Side.{CLOSED};
 ghost use Rattle.gate_journal.specs.Inner.Writing.{Gathers, Touched};
 
@@ -71,7 +71,7 @@ fn add_parts<D: Disk, P: BodyParts>(
     requires bound { from + length (followed bytes.old.items (P.parts parts.now)) < 2 ^ 64 }
     requires place { (D.state disk.old).honest → from ≤ length (D.state disk.old).seen }
     ensures passes { Passes (D.state disk.old) (D.state disk.new) result }
-    ensures room { vec_capacity bytes.old ≤ vec_capacity bytes.new }
+    ensures room { KeepsRoom (P.parts parts.now) (vec_capacity bytes.old) (vec_capacity bytes.new) }
     ensures any_moment { (D.state disk.old).honest →
         LeavesOnly (D.state disk.old) (D.state disk.new)
         (Touched from (length (followed bytes.old.items (P.parts parts.now))) (D.state disk.old).may_leave) }
@@ -80,7 +80,10 @@ fn add_parts<D: Disk, P: BodyParts>(
 {
     let mut at = from;
     for number in 0..parts.count() {
-        let (head, block) = parts.part(number);
+        let Some(part) = parts.part(number) else {
+            unreachable!()
+        };
+        let (head, block) = part;
         at = add_part(bytes, disk, at, &head, block)?;
     }
     Ok(at)
@@ -98,7 +101,7 @@ pub(crate) fn store_parts<D: Disk, P: BodyParts>(
     requires bound { from + length (followed bytes.old.items (P.parts parts.now)) + 1 < 2 ^ 64 }
     requires place { (D.state disk.old).honest → from ≤ length (D.state disk.old).seen }
     ensures passes { Passes (D.state disk.old) (D.state disk.new) result }
-    ensures room { vec_capacity bytes.old ≤ vec_capacity bytes.new }
+    ensures room { KeepsRoom (P.parts parts.now) (vec_capacity bytes.old) (vec_capacity bytes.new) }
     ensures any_moment { (D.state disk.old).honest →
         LeavesOnly (D.state disk.old) (D.state disk.new)
         (Touched from (length (followed bytes.old.items (P.parts parts.now) ++ CLOSED ∷ []))

@@ -2,7 +2,7 @@
 ghost use Rattle.std.specs.Prelude.{◌≡◌, ◌+◌, ◌<◌, ◌≤◌, ◌++◌, [], ◌∷◌, length, true, false, OnOk, IfErr, if◌then◌else◌, is_ok};
 ghost use Rattle.tape_disk.specs.Disk.{Each, Keeps};
 ghost use Rattle.tape_disk.specs.Moments.{LeavesOnly};
-ghost use Rattle.gate_journal.specs.Followed.{followed};
+ghost use Rattle.gate_journal.specs.Followed.{KeepsRoom, followed};
 ghost use Rattle.gate_journal.specs.Side.{IsBody, StandsFor};
 ghost use Rattle.gate_journal.specs.Answers.{Appended, Broke, IsFault, MatchWrite, NoneFailed};
 ghost use Rattle.gate_journal.specs.Crash.{WithOrWithout};
@@ -34,8 +34,8 @@ impl<D: Disk> Journal<D> {
     /// Adds a frame, as `append` does. Its body is the body that `frame` holds, followed by `parts`; `frame` must have
     /// room for this whole body. Where a part has 16,384 bytes or more after its head, these are written from where
     /// they are in memory; all other bytes are copied into `frame`. At Ok and after `Device` the body is removed from
-    /// `frame`; after every other error it is unchanged. The room of `frame` is at least what it was. Memory can run
-    /// out only where memory for no extent is reserved (`reserve_extents`).
+    /// `frame`; after every other error it is unchanged. The room of `frame` is at least what it was, and the same
+    /// where there are no parts. Memory can run out only where memory for no extent is reserved (`reserve_extents`).
     pub fn append_frame<P: BodyParts>(
         &mut self,
         frame: &mut Frame,
@@ -45,7 +45,7 @@ impl<D: Disk> Journal<D> {
             × (length (followed frame.old.body (P.parts parts.now)) ≤ frame.old.room) }
         ensures disk { Keeps (D.state self.old.disk) (D.state self.new.disk) }
         ensures front { self.new.front ≡ self.old.front }
-        ensures frame { (frame.old.room ≤ frame.new.room) × MatchWrite result
+        ensures frame { KeepsRoom (P.parts parts.now) frame.old.room frame.new.room × MatchWrite result
             (frame.new.body ≡ []) (frame.new.body ≡ frame.old.body)
             (frame.new.body ≡ frame.old.body) (λ _. frame.new.body ≡ [])
             (frame.new.body ≡ frame.old.body) }

@@ -4,9 +4,9 @@ use Rattle.std.proofs.lemmas.Bool.Decides.{nat_tests}
 use Rattle.std.proofs.lemmas.List.Sums.{sum_by-cons}
 use Rattle.tape_disk.specs.Disk.{DiskState}
 use Rattle.ledgers.specs.Ledgers.{Gathered, no_share}
-use Rattle.bays.specs.Elements.{BayState, bay_at}
-use Rattle.bays.specs.Finish.{HasFailedAt, IsWrittenAt}
-use Rattle.bays.specs.declared.finishing.Unwritten.{Unwritten}
+use Rattle.bay_moves.specs.Elements.{BayState, bay_at}
+use Rattle.bay_moves.specs.Finish.{HasFailedAt, IsWrittenAt}
+use Rattle.bay_moves.specs.declared.finishing.Unwritten.{Unwritten}
 use Rattle.library.specs.Counts.{count_of_drive, one_if_there, or_none}
 use Rattle.library.specs.Ends.{counts_of}
 use Rattle.library.specs.Inner.Ending.{HaveEnded, OfEach, OneHasFailed, worse_of}

@@ -7,8 +7,8 @@ use Rattle.scsi_sense.specs.declared.replies.Reply.{Reply}
 use Rattle.tape_buffer.specs.Moves.{buffer_below}
 use Rattle.tape_buffer.specs.State.{state_of}
 use Rattle.aptpl_store.specs.Kept.{store_below, store_kept}
-use Rattle.bays.specs.Elements.{BayState}
-use Rattle.bays.specs.Lent.{KeepsCount}
+use Rattle.bay_moves.specs.Elements.{BayState}
+use Rattle.bay_moves.specs.Lent.{KeepsCount}
 use Rattle.drive_core.specs.Alone.{AnswersAlone}
 use Rattle.drive_core.specs.Execute.{Answers}
 use Rattle.drive_core.specs.State.{machine_of}

@@ -2,8 +2,8 @@
 use Rattle.std.proofs.Common.{◌≡◌, ◌≢◌, ◌<◌, ◌≤◌, ℕ, List, Option, Result, Ok, Err, refl, sym, ap, ◌∙◌, subst, arith}
 use Rattle.std.specs.Prelude.{IfErr, IfOk, OnErr, OnOk}
 use Rattle.ledgers.specs.declared.gathering.SeatsMissing.{SeatsMissing}
-use Rattle.bays.specs.Elements.{BayState}
-use Rattle.bays.specs.declared.finishing.Unwritten.{Unwritten}
+use Rattle.bay_moves.specs.Elements.{BayState}
+use Rattle.bay_moves.specs.declared.finishing.Unwritten.{Unwritten}
 use Rattle.library.specs.Ends.{Balances, IsShort, counts_of, sum_of_counts}
 use Rattle.library.specs.Inner.Ending.{outcome_of}
 use Rattle.library.specs.declared.finishing.FinishError.{FinishError}

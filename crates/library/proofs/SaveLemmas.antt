@@ -8,7 +8,7 @@ use Rattle.pr_core.specs.declared.states.PrState.{PrState}
 use Rattle.aptpl_store.specs.Contents.{GivesStates, ShowsStates}
 use Rattle.aptpl_store.specs.Kept.{StoreMoves, core_with, store_rules}
 use Rattle.aptpl_store.specs.State.{OpenStore}
-use Rattle.bays.specs.Bays.{SavesIn}
+use Rattle.bay_moves.specs.Bays.{SavesIn}
 use Rattle.split_bay.specs.Fronts.{FrontState, KeepsHostsHalf}
 
 before : (states : List PrState) (more : PrState) → take (length states) (states ++ more ∷ []) ≡ states

@@ -7,7 +7,7 @@ use Rattle.tape_disk.specs.Disk.{DiskState}
 use Rattle.scsi_sense.specs.declared.replies.Reply.{Reply}
 use Rattle.ledgers.specs.Ledgers.{SeatState}
 use Rattle.vtl_script.specs.declared.lines.Line.{Line}
-use Rattle.bays.specs.Runs.{line_request}
+use Rattle.bay_moves.specs.Runs.{line_request}
 use Rattle.library.specs.Served.{IsServed}
 use Rattle.library.specs.Sessions.{AnswersSession}
 

@@ -1,7 +1,7 @@
 -- Which drives a library has, and their counts of changes.
 use Rattle.std.specs.Prelude.{◌≡◌, ℕ, ◌-◌, nat_le, Bool, false, List, slice_index_or, Option, None, Some, is_some, map, sum_by, if◌then◌else◌}
 use Rattle.ledgers.specs.Ledgers.{SeatState}
-use Rattle.bays.specs.Elements.{BayState}
+use Rattle.bay_moves.specs.Elements.{BayState}
 
 -- there is a drive of this number, by a list that says it for each number from 1 on (own)
 abbrev pub has_drive : List Bool → ℕ → Bool

@@ -3,8 +3,8 @@ use Rattle.std.specs.Prelude.{◌≡◌, ◌≢◌, ◌<◌, ◌≤◌, ℕ, Lis
 use Rattle.tape_disk.specs.Disk.{DiskState}
 use Rattle.ledgers.specs.Ledgers.{SeatState}
 use Rattle.tape_buffer.specs.State.{BufferState}
-use Rattle.bays.specs.Elements.{BayState, bay_at}
-use Rattle.bays.specs.Finish.{HasFailedAt, IsWrittenAt}
+use Rattle.bay_moves.specs.Elements.{BayState, bay_at}
+use Rattle.bay_moves.specs.Finish.{HasFailedAt, IsWrittenAt}
 use Rattle.library.specs.Counts.{count_of_drive, or_none, which_are_there}
 use Rattle.library.specs.Keeps.{AreLeft}
 use Rattle.library.specs.declared.finishing.FinishError.{FinishError}

@@ -2,7 +2,7 @@
 use Rattle.std.specs.Prelude.{◌≡◌, ℕ, Option, None, Some}
 use Rattle.tape_disk.specs.Disk.{DiskState}
 use Rattle.volume_core.specs.declared.media.Turn.{Turn}
-use Rattle.bays.specs.Elements.{BayState}
+use Rattle.bay_moves.specs.Elements.{BayState}
 use Rattle.split_bay.specs.Backs.{BackState, TurnsBack, works_in}
 use Rattle.split_bay.specs.Fronts.{FrontState}
 use Rattle.split_bay.specs.Halves.{Joins, Parts, ReportsBoth, is_unreported}

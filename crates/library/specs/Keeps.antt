@@ -3,9 +3,9 @@ use Rattle.std.specs.Prelude.{◌≡◌, ℕ, false, List, All, Option, None, So
 use Rattle.tape_disk.specs.Disk.{DiskState}
 use Rattle.drive_core.specs.State.{IsBayPositioned}
 use Rattle.tape_buffer.specs.State.{BufferState, state_of}
-use Rattle.bays.specs.Bays.{KeepsBoth, KeepsCartridge}
-use Rattle.bays.specs.Elements.{BayState, bay_at}
-use Rattle.bays.specs.Finish.{TurnsAt}
+use Rattle.bay_moves.specs.Bays.{KeepsBoth, KeepsCartridge}
+use Rattle.bay_moves.specs.Elements.{BayState, bay_at}
+use Rattle.bay_moves.specs.Finish.{TurnsAt}
 
 module _ {D : Type 0} (state : D → DiskState) where
   -- The invariant of a drive: what a crash may leave now of its disks, its cartridge's and its store's; and its

@@ -3,9 +3,9 @@ use Rattle.std.specs.Prelude.{◌≡◌, ◌≢◌, ℕ, Bool, List, Option, Non
 use Rattle.tape_disk.specs.Disk.{DiskState}
 use Rattle.scsi_sense.specs.declared.replies.Reply.{Reply}
 use Rattle.tape_buffer.specs.State.{BufferState}
-use Rattle.bays.specs.Elements.{BayState}
-use Rattle.bays.specs.Lent.{InEach}
-use Rattle.bays.specs.Moves.{KeepsCartridges, MovesMedium}
+use Rattle.bay_moves.specs.Elements.{BayState}
+use Rattle.bay_moves.specs.Lent.{InEach}
+use Rattle.bay_moves.specs.Moves.{KeepsCartridges, MovesMedium}
 use Rattle.library.specs.Counts.{has_drive}
 use Rattle.library.specs.Keeps.{KeepsLent}
 

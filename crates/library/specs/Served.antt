@@ -5,7 +5,7 @@ use Rattle.ledgers.specs.Ledgers.{SeatState}
 use Rattle.scsi_sense.specs.declared.replies.Reply.{Reply}
 use Rattle.volume_core.specs.declared.changes.Change.{Change}
 use Rattle.aptpl_store.specs.Kept.{store_below, store_kept}
-use Rattle.bays.specs.Bays.{SavesIn}
+use Rattle.bay_moves.specs.Bays.{SavesIn}
 use Rattle.drive_core.specs.Alone.{AnswersAlone}
 use Rattle.drive_core.specs.State.{machine_of}
 use Rattle.drive_core.specs.Synchronize.{Acknowledges, IsSynchronizing}

@@ -4,7 +4,7 @@ use Rattle.tape_disk.specs.Disk.{DiskState}
 use Rattle.ledgers.specs.Ledgers.{SeatState}
 use Rattle.scsi_sense.specs.declared.replies.Reply.{Reply}
 use Rattle.vtl_script.specs.declared.lines.Line.{Line}
-use Rattle.bays.specs.Runs.{line_request}
+use Rattle.bay_moves.specs.Runs.{line_request}
 use Rattle.library.specs.Served.{IsServed}
 
 module _ {D : Type 0} (state : D → DiskState) where

@@ -6,7 +6,7 @@ ghost use Rattle.library.specs.Keeps.{KeepsShelvedIn, KeepsSlots};
 ghost use Rattle.library.specs.Seen.{is_place_seen, seen_at};
 
 use crate::libraries::Library;
-use bays::Parked;
+use bay_moves::Parked;
 use element_slots::Slots;
 use ledgers::Parties;
 use split_bay::Rings;

@@ -15,7 +15,7 @@ mod rows;
 mod sessions;
 mod shared;
 
-pub use bays::{Bay, NotOn, Parked, laws, move_lent};
+pub use bay_moves::{Bay, NotOn, Parked, laws, move_lent};
 pub use beside::beside_flushers;
 pub use finishing::{FinishError, Finished};
 pub use flushers::Gate;

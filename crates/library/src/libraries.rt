@@ -2,13 +2,13 @@
 ghost use Rattle.std.specs.Prelude.{◌≡◌, true, is_some, IfSome};
 ghost use Rattle.drive_core.specs.Data.{data_left};
 ghost use Rattle.drive_core.specs.Execute.{asked};
-ghost use Rattle.bays.specs.Lent.{IsDriveAddress};
+ghost use Rattle.bay_moves.specs.Lent.{IsDriveAddress};
 ghost use Rattle.library.specs.Counts.{has_drive};
 ghost use Rattle.library.specs.Served.{IsServed};
 
 use crate::rows::Row;
 use crate::shared::SharedBay;
-use bays::{Parked, drive_of};
+use bay_moves::{Parked, drive_of};
 use element_slots::Slots;
 use ledgers::{Parties, Seat, Tally};
 use scsi_sense::Reply;

@@ -1,6 +1,6 @@
 //! Moves of cartridges between slots and drives that threads share.
 ghost use Rattle.std.specs.Prelude.{◌≡◌, ◌≢◌, IfSome, is_some};
-ghost use Rattle.bays.specs.Lent.{IsDriveAddress};
+ghost use Rattle.bay_moves.specs.Lent.{IsDriveAddress};
 ghost use Rattle.library.specs.Counts.{has_drive};
 ghost use Rattle.library.specs.MovesAt.{IsMovedAmong};
 

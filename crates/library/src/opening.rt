@@ -11,7 +11,7 @@ use crate::places::{BackPlace, FrontPlace};
 use crate::ring_rows::RingRow;
 use crate::rows::Row;
 use crate::shared::SharedBay;
-use bays::{Bay, Parked};
+use bay_moves::{Bay, Parked};
 use element_slots::Slots;
 use ledgers::{Parties, PartyShare, Seat, Tally};
 use split_bay::{Ends, NewRing, Rings, part};

@@ -4,7 +4,7 @@ ghost use Rattle.std.specs.Prelude.{◌≡◌, ◌<◌, None, IfOk, is_some, len
 ghost use Rattle.vtl_base.specs.declared.limits.TheConstants.{DRIVES};
 ghost use Rattle.library.specs.Counts.{which_are_there};
 
-use bays::Bay;
+use bay_moves::Bay;
 use split_bay::NewRing;
 use std::alloc::Global;
 use std::marker::Model;

@@ -3,7 +3,7 @@ ghost use Rattle.std.specs.Prelude.{◌≡◌, ◌<◌, None, Some, length, slic
 ghost use Rattle.vtl_base.specs.declared.limits.TheConstants.{DRIVES};
 ghost use Rattle.library.specs.Counts.{count_of_drive};
 
-use bays::Bay;
+use bay_moves::Bay;
 use std::marker::Model;
 use tape_disk::Disk;
 
@@ -16,7 +16,7 @@ pub(crate) struct Row<D: Disk> {
 impl<D: Disk> Model for Row<D> {
     ghost use Rattle.std.specs.Prelude.{◌≡◌, List, Option, length};
     ghost use Rattle.vtl_base.specs.declared.limits.TheConstants.{DRIVES};
-    ghost use Rattle.bays.specs.Elements.{BayState};
+    ghost use Rattle.bay_moves.specs.Elements.{BayState};
 
     ghost Value = { List (Option (BayState D)) };
 

@@ -1,7 +1,7 @@
 //! The lines of one host in a phase of a script.
 ghost use Rattle.std.specs.Prelude.{◌≡◌, ◌≤◌, [], nat_eq, true, length, vec_capacity, IfOk, OnErr};
 ghost use Rattle.std.specs.List.{list_all};
-ghost use Rattle.bays.specs.Runs.{line_request};
+ghost use Rattle.bay_moves.specs.Runs.{line_request};
 ghost use Rattle.library.specs.Counts.{has_drive};
 ghost use Rattle.library.specs.Served.{IsServed};
 ghost use Rattle.library.specs.Sessions.{AnswersSession};

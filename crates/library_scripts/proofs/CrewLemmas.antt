@@ -13,7 +13,7 @@ use Rattle.vtl_script.specs.Runs.{AnswersSome}
 use Rattle.vtl_script.specs.declared.lines.Line.{Line}
 use Rattle.vtl_script.specs.declared.items.Item.{Item}
 use Rattle.vtl_script.specs.declared.items.Item.TheVariants.{Phase, Move}
-use Rattle.bays.specs.Runs.{Command, Order, line_request}
+use Rattle.bay_moves.specs.Runs.{Command, Order, line_request}
 use Rattle.library.specs.MovesAt.{IsMovedAmong}
 use Rattle.library.specs.Served.{IsServed}
 use Rattle.library_scripts.specs.Crews.{AnswersAllAmong, AnswersCrew, AnswersLine, CrewState}

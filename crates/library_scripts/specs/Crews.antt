@@ -5,7 +5,7 @@ use Rattle.ledgers.specs.Ledgers.{SeatState}
 use Rattle.scsi_sense.specs.declared.replies.Reply.{Reply}
 use Rattle.vtl_script.specs.declared.items.Item.{Item}
 use Rattle.vtl_script.specs.declared.lines.Line.{Line}
-use Rattle.bays.specs.Runs.{Order, Command, Carry, line_request, orders_of}
+use Rattle.bay_moves.specs.Runs.{Order, Command, Carry, line_request, orders_of}
 use Rattle.library.specs.MovesAt.{IsMovedAmong}
 use Rattle.library.specs.Served.{IsServed}
 

@@ -4,7 +4,7 @@ use Rattle.tape_disk.specs.Disk.{DiskState}
 use Rattle.ledgers.specs.Ledgers.{SeatState}
 use Rattle.vtl_script.specs.declared.faults.ScriptFault.{ScriptFault}
 use Rattle.vtl_script.specs.Runs.{RunsScript}
-use Rattle.bays.specs.Elements.{BayState}
+use Rattle.bay_moves.specs.Elements.{BayState}
 use Rattle.library.specs.Counts.{has_drive, new_seat, which_are_there}
 use Rattle.library.specs.Ends.{counts_of, sum_of_counts, sum_of_seats}
 use Rattle.library.specs.declared.finishing.FinishError.{FinishError}

@@ -1,6 +1,6 @@
 //! The lines of one host in a phase.
 ghost use Rattle.std.specs.Prelude.{◌≡◌, ◌≤◌, ◌+◌, ◌++◌, ◌∷◌, [], true, length, vec_capacity, OnOk};
-ghost use Rattle.bays.specs.Runs.{line_request};
+ghost use Rattle.bay_moves.specs.Runs.{line_request};
 ghost use Rattle.library.specs.Counts.{has_drive};
 ghost use Rattle.library.specs.Served.{IsServed};
 ghost use Rattle.library_scripts.specs.Inner.Jobs.{IsDone, IsReady};

@@ -3,7 +3,7 @@ ghost use Rattle.std.specs.Prelude.{◌≡◌, ◌≤◌, ◌<◌, ◌+◌, [], 
 ghost use Rattle.std.specs.List.{list_all};
 ghost use Rattle.std.specs.List.Sorted.{IsNonDecreasingBy};
 ghost use Rattle.vtl_base.specs.declared.limits.TheConstants.{NEXUSES};
-ghost use Rattle.bays.specs.Runs.{Command};
+ghost use Rattle.bay_moves.specs.Runs.{Command};
 ghost use Rattle.library.specs.Counts.{has_drive};
 ghost use Rattle.library_scripts.specs.Crews.{AnswersAllAmong};
 ghost use Rattle.library_scripts.specs.Inner.InPlace.{AreInPlace};

@@ -17,7 +17,7 @@ use crate::crews::Crew;
 use crate::jobs::Job;
 use crate::serving::serve_all;
 use crate::stages::Stage;
-use bays::{Bay, Parked};
+use bay_moves::{Bay, Parked};
 use element_slots::Slots;
 use ledgers::{Parties, Seat};
 use library::{Finished, Gate, Library, NotOpened, RingRow, Rings, beside_flushers};

@@ -16,7 +16,7 @@ use Rattle.drive_core.specs.Work.{Request}
 use Rattle.aptpl_store.specs.Kept.{store_below, store_kept}
 use Rattle.aptpl_store.specs.State.{OpenStore}
 use Rattle.drive_core.specs.Run.{Asked}
-use Rattle.bays.specs.Reservations.{HoldingGoesOn, Served}
+use Rattle.bay_moves.specs.Reservations.{HoldingGoesOn, Served}
 use Rattle.split_bay.specs.declared.items.Item.{Item}
 use Rattle.split_bay.specs.declared.hosts.Hosts.{Hosts}
 use Rattle.split_bay.specs.Hosts.{IsApartIn, alone_hosts, drive_near, hosts_below, state_hosts}

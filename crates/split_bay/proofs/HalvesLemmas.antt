@@ -13,8 +13,8 @@ use Rattle.aptpl_store.specs.Kept.{store_kept}
 use Rattle.aptpl_store.specs.State.{OpenStore}
 use Rattle.tape_buffer.specs.Moves.{buffer_below}
 use Rattle.tape_buffer.specs.State.{BufferState, state_of}
-use Rattle.bays.specs.Elements.{BayState}
-use Rattle.bays.specs.Reservations.{IsHolding}
+use Rattle.bay_moves.specs.Elements.{BayState}
+use Rattle.bay_moves.specs.Reservations.{IsHolding}
 use Rattle.split_bay.specs.Backs.{BackState}
 use Rattle.split_bay.specs.Fronts.{FrontState, HasEnd, KeepsOrders}
 use Rattle.split_bay.specs.Halves.{Joins, JoinsBay, Parts, PartsBay}

@@ -5,8 +5,8 @@ use Rattle.std.proofs.lemmas.List.{append-nil}
 use Rattle.vtl_base.specs.declared.limits.TheConstants.{BUFFER_BYTES, BUFFER_RECORDS}
 use Rattle.tape_disk.specs.Disk.{DiskState, IsDisk}
 use Rattle.volume_core.specs.Medium.{MediumState, block_bytes, volume_of}
-use Rattle.record_index.specs.Places.{PlacedPart, blank, filled, outline}
-use Rattle.record_index.specs.Shapes.{IsIndexOf}
+use Rattle.object_index.specs.Places.{PlacedPart, blank, filled, outline}
+use Rattle.object_index.specs.Shapes.{IsIndexOf}
 use Rattle.cartridge.specs.Inner.Growing.{IsGrown}
 use Rattle.cartridge.specs.Shown.{HasEntriesIn, IsGrownIn}
 use Rattle.cartridge.specs.State.{ClosedCartridge, OpenCartridge}

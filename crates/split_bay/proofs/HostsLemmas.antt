@@ -19,7 +19,7 @@ use Rattle.drive_core.specs.State.{DriveState, IsBayPositioned, Machine, bay_of,
 use Rattle.drive_core.specs.Step.{Answered, Execute, Step}
 use Rattle.drive_core.specs.Work.{Request}
 use Rattle.aptpl_store.specs.State.{OpenStore}
-use Rattle.bays.specs.Reservations.{Call, IsHolding, LeavesHeld}
+use Rattle.bay_moves.specs.Reservations.{Call, IsHolding, LeavesHeld}
 use Rattle.split_bay.specs.declared.hosts.Hosts.{Hosts}
 use Rattle.split_bay.specs.declared.hosts.Hosts.TheVariants.{Apart, Whole}
 use Rattle.split_bay.specs.Fronts.{FrontState, HasEnd, KeepsHostsHalf, KeepsOrders, end_of}

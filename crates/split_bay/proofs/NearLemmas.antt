@@ -10,8 +10,8 @@ use Rattle.volume_core.specs.Stores.{Stores, after_append, stored_after}
 use Rattle.volume_core.specs.Volume.{Part, after, changed, part_of, refusal_in, refusal_of}
 use Rattle.volume_core.specs.declared.changes.Refusal.TheVariants.{NoPartition}
 use Rattle.cartridge.specs.Shown.{MayEnter}
-use Rattle.record_index.specs.Places.{PlacedPart, blank, filled_part, reserved_of}
-use Rattle.record_index.specs.Shapes.{IsIndexOf, shape_of_part}
+use Rattle.object_index.specs.Places.{PlacedPart, blank, filled_part, reserved_of}
+use Rattle.object_index.specs.Shapes.{IsIndexOf, shape_of_part}
 use Rattle.split_bay.specs.declared.items.Item.TheVariants.{Sent}
 use Rattle.split_bay.specs.Nears.{IsRoomSeen, KnowsSpan, ShowsSpan}
 use Rattle.split_bay.specs.Spans.{Span, medium_begun, medium_seen, span_with, volume_seen}

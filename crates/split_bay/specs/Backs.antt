@@ -13,7 +13,7 @@ use Rattle.tape_buffer.specs.Frames.{IsOneFrameIn, frames_in}
 use Rattle.tape_buffer.specs.Moves.{buffer_below}
 use Rattle.tape_buffer.specs.State.{BufferState, state_of}
 use Rattle.tape_buffer.specs.Taking.{LentState}
-use Rattle.bays.specs.Bays.{KeepsCartridgeIn}
+use Rattle.bay_moves.specs.Bays.{KeepsCartridgeIn}
 use Rattle.split_bay.specs.declared.items.Item.{Item}
 use Rattle.split_bay.specs.declared.items.Item.TheVariants.{Sent}
 use Rattle.split_bay.specs.Looks.{Looked, is_broken}

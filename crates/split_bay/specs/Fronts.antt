@@ -9,7 +9,7 @@ use Rattle.drive_core.specs.State.{DriveState, IsBayPositioned}
 use Rattle.drive_core.specs.Work.{Request}
 use Rattle.aptpl_store.specs.State.{OpenStore}
 use Rattle.drive_core.specs.Run.{Asked}
-use Rattle.bays.specs.Reservations.{GivesHeld, IsHolding, LeavesHeld, Served, disk_of}
+use Rattle.bay_moves.specs.Reservations.{GivesHeld, IsHolding, LeavesHeld, Served, disk_of}
 use Rattle.split_bay.specs.Nears.{IsThere, near_below, state_near}
 use Rattle.split_bay.specs.Rings.{SendingState}
 use Rattle.split_bay.specs.Spans.{KeepsLimits, no_span, span_of}

@@ -14,8 +14,8 @@ use Rattle.aptpl_store.specs.Kept.{store_kept}
 use Rattle.tape_buffer.specs.Moves.{buffer_below}
 use Rattle.tape_buffer.specs.State.{BufferState, state_of}
 use Rattle.tape_buffer.specs.Taking.{LentState}
-use Rattle.bays.specs.Bays.{AnswersLentInEvent, IsSafeIn, KeepsBoth}
-use Rattle.bays.specs.Elements.{BayState}
+use Rattle.bay_moves.specs.Bays.{AnswersLentInEvent, IsSafeIn, KeepsBoth}
+use Rattle.bay_moves.specs.Elements.{BayState}
 use Rattle.split_bay.specs.declared.items.Item.{Item}
 use Rattle.split_bay.specs.declared.items.Item.TheVariants.{Sent}
 use Rattle.split_bay.specs.Backs.{BackState, KeepsDiskHalf, is_stuck_in, with_changes}

@@ -6,8 +6,8 @@ use Rattle.vtl_base.specs.Below.{Below}
 use Rattle.vtl_base.specs.declared.limits.TheConstants.{BUFFER_RECORDS}
 use Rattle.volume_core.specs.declared.changes.Change.{Change}
 use Rattle.volume_core.specs.Medium.{MediumState, frame_size}
-use Rattle.record_index.specs.Places.{PlacedPart, reserved_of}
-use Rattle.record_index.specs.Shapes.{IsIndexOf}
+use Rattle.object_index.specs.Places.{PlacedPart, reserved_of}
+use Rattle.object_index.specs.Shapes.{IsIndexOf}
 use Rattle.split_bay.specs.declared.items.Item.{Item}
 use Rattle.split_bay.specs.declared.items.Item.TheVariants.{Sent}
 use Rattle.split_bay.specs.Rings.{SendingState}

@@ -1,6 +1,6 @@
 //! The disk's half of a bay.
 ghost use Rattle.std.specs.Prelude.{◌≡◌, IfSome, None, Some, option_map};
-ghost use Rattle.bays.specs.Bays.{KeepsCartridgeIn};
+ghost use Rattle.bay_moves.specs.Bays.{KeepsCartridgeIn};
 ghost use Rattle.tape_buffer.specs.State.{disk_in};
 ghost use Rattle.split_bay.specs.Backs.{FollowsIn, TurnsBack, is_stuck_in, works_in};
 ghost use Rattle.split_bay.specs.Spans.{KeepsLimits, span_of};

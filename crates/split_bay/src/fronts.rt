@@ -17,7 +17,7 @@ use crate::hosts::Hosts;
 use crate::joined::are_ends;
 use crate::near::Near;
 use aptpl_store::AptplStore;
-use bays::laws::reservations::reservations_outlive_each_stop;
+use bay_moves::laws::reservations::reservations_outlive_each_stop;
 use drive_core::Drive;
 use scsi_sense::Reply;
 use std::marker::Model;

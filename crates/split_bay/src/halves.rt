@@ -21,7 +21,7 @@ use crate::halving::{Ends, Joined, join_ends, join_medium, part_ends, part_mediu
 use crate::hosts::Hosts;
 use crate::joined::look_both;
 use crate::near::Near;
-use bays::Bay;
+use bay_moves::Bay;
 use drive_core::{Bay as Place, Drive, Rest};
 use pr_core::Keeper;
 use scsi_sense::Reply;

@@ -18,7 +18,7 @@ use crate::near::Near;
 use crate::noted::NotedBeginning;
 use crate::taking::take_known;
 use cartridge::shown::reserve_shown;
-use record_index::Index;
+use object_index::Index;
 use std::marker::Model;
 use tape_buffer::{Budget, Buffered, Cataloged, Lent};
 use tape_disk::Disk;

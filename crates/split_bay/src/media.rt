@@ -11,7 +11,7 @@ use crate::ends::Rings;
 use crate::joined::are_ends;
 use crate::near::Near;
 use cartridge::shown::{enter_shown, refusal_shown};
-use record_index::laws::a_volume_is_seen_by_its_shape;
+use object_index::laws::a_volume_is_seen_by_its_shape;
 use tape_disk::Disk;
 use volume_core::{Catalog, Change, Kind, MediumError, NotAccepted};
 use vtl_base::{ObjNo, PartNo};

@@ -4,7 +4,7 @@ ghost use Rattle.split_bay.specs.Nears.{KnowsSpan, ShowsSpanIn, state_near};
 ghost use Rattle.split_bay.specs.Spans.{span_of};
 
 use crate::ends::{Rings, Sending};
-use record_index::Index;
+use object_index::Index;
 use std::marker::Model;
 
 /// The hosts' half of a medium. It has the sending end of the ring, into which accepted changes go. While the medium is

@@ -14,7 +14,7 @@ use Rattle.volume_core.specs.Volume.{AllApply, Part, after, changed, is_well_for
 use Rattle.volume_core.specs.Medium.{Accepts, MediumState, Settles, Works, block_bytes, frame_size, volume_of}
 use Rattle.volume_core.specs.Stores.{Stores, after_append, stores_on}
 use Rattle.volume_core.specs.Plain.{moves_on_by_changes}
-use Rattle.record_index.specs.Records.{spell_all}
+use Rattle.change_records.specs.Records.{spell_all}
 use Rattle.cartridge.specs.Contents.{Start, changes_of, changes_since, start_of, volume_made}
 use Rattle.cartridge.specs.Extending.{volume_since}
 use Rattle.cartridge.specs.State.{OpenCartridge}

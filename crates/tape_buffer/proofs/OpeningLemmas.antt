@@ -17,7 +17,7 @@ use Rattle.gate_journal.specs.Heads.{Head, spell_side_head}
 use Rattle.gate_journal.specs.Side.{IsBody, frame}
 use Rattle.gate_journal.specs.State.{room_behind}
 use Rattle.cartridge_sides.specs.Pairs.{gate_behind}
-use Rattle.record_index.specs.Records.{spell_all}
+use Rattle.change_records.specs.Records.{spell_all}
 use Rattle.cartridge.specs.Contents.{Contents, GivesContents, ShowsContents, Start, bodies_of, changes_in, changes_of, changes_since, start_of, volume_made, with_frames}
 use Rattle.cartridge.specs.ContentsOn.{contents_on_is}
 use Rattle.cartridge.specs.Disks.{NoneOfTwo, OnlyOfTwo}

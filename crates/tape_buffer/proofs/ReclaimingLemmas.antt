@@ -9,7 +9,7 @@ use Rattle.tape_disk.specs.TwoDisks.{AreHonest, EachOfTwo, Images, KeepsDisks, M
 use Rattle.volume_core.specs.declared.changes.Change.{Change}
 use Rattle.volume_core.specs.Volume.{after}
 use Rattle.gate_journal.specs.Heads.{base_of}
-use Rattle.record_index.specs.Records.{spell_all}
+use Rattle.change_records.specs.Records.{spell_all}
 use Rattle.cartridge.specs.declared.error.CartridgeError.{CartridgeError}
 use Rattle.cartridge.specs.declared.error.CartridgeError.TheVariants.{Device}
 use Rattle.cartridge.specs.declared.reclaiming.NotReclaimed.{NotReclaimed}

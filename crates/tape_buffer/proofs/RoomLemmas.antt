@@ -6,7 +6,7 @@ use Rattle.std.proofs.lemmas.List.Sums.{sum_by-append}
 use Rattle.volume_core.specs.declared.changes.Change.{Change}
 use Rattle.volume_core.specs.declared.changes.Change.TheVariants.{Put, Marks, Erase}
 use Rattle.volume_core.specs.Medium.{frame_size}
-use Rattle.record_index.specs.Records.{spell_all, spell_change, spell_head}
+use Rattle.change_records.specs.Records.{spell_all, spell_change, spell_head}
 use Rattle.volume_core.specs.Volume.{part_of}
 use Rattle.cartridge.specs.Answers.{KeepsReserved, entries_of}
 use Rattle.cartridge.specs.State.{Reserved}

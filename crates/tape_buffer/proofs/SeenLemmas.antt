@@ -13,13 +13,13 @@ use Rattle.volume_core.specs.declared.objects.Kind.{Kind}
 use Rattle.volume_core.specs.declared.objects.Kind.TheVariants as Kinds
 use Rattle.volume_core.specs.declared.objects.Object.{Object}
 use Rattle.volume_core.specs.Volume.{AllApply, IsMarkOf, Part, after, block_at, block_in, cost_of, count_of, is_mark, kind_at, kind_in, mark_count, marks_in, marks_upto, objects_of, used_of, used_up_to}
-use Rattle.record_index.specs.declared.places.Placed.{Placed}
-use Rattle.record_index.specs.declared.places.Placed.TheVariants as Placeds
-use Rattle.record_index.specs.Facts.{count_by_shape, kind_by_shape, used_by_shape}
-use Rattle.record_index.specs.Indexes.{indexes_block, indexes_shape}
-use Rattle.record_index.specs.MarkFacts.{mark_count_by_shape, marks_by_shape, objects_outlined}
-use Rattle.record_index.specs.Places.{PlacedPart, blank, filled, outline, placed_objects}
-use Rattle.record_index.specs.Shapes.{shape_of}
+use Rattle.object_index.specs.declared.places.Placed.{Placed}
+use Rattle.object_index.specs.declared.places.Placed.TheVariants as Placeds
+use Rattle.object_index.specs.Facts.{count_by_shape, kind_by_shape, used_by_shape}
+use Rattle.object_index.specs.Indexes.{indexes_block, indexes_shape}
+use Rattle.object_index.specs.MarkFacts.{mark_count_by_shape, marks_by_shape, objects_outlined}
+use Rattle.object_index.specs.Places.{PlacedPart, blank, filled, outline, placed_objects}
+use Rattle.object_index.specs.Shapes.{shape_of}
 use Rattle.waiting_changes.specs.Tail.{IsBlockOf, IsSeenAs, IsTailOf, TailState, staying_in}
 use Rattle.waiting_changes.proofs.CutLemmas.{get_behind, get_front, take_parts}
 

@@ -4,8 +4,8 @@ use Rattle.tape_disk.specs.Disk.{DiskState}
 use Rattle.volume_core.specs.declared.media.MediumError.{MediumError}
 use Rattle.volume_core.specs.Medium.{volume_of}
 use Rattle.volume_core.specs.Volume.{Part}
-use Rattle.record_index.specs.Places.{PlacedPart}
-use Rattle.record_index.specs.Shapes.{IsIndexOf}
+use Rattle.object_index.specs.Places.{PlacedPart}
+use Rattle.object_index.specs.Shapes.{IsIndexOf}
 use Rattle.tape_buffer.specs.State.{BufferState, state_of}
 
 -- Exactly a medium that is awake has a catalog: with the capacities, kinds and lengths of the volume that the medium is

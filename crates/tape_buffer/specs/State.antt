@@ -8,7 +8,7 @@ use Rattle.volume_core.specs.Medium.{MediumState, frame_size}
 use Rattle.gate_journal.specs.declared.header.SideKind.TheVariants.{Store}
 use Rattle.gate_journal.specs.State.{room_behind}
 use Rattle.cartridge_sides.specs.Pairs.{gate_behind}
-use Rattle.record_index.specs.Records.{spell_all}
+use Rattle.change_records.specs.Records.{spell_all}
 use Rattle.cartridge.specs.Answers.{entries_of}
 use Rattle.cartridge.specs.Contents.{Contents, Start, bodies_of, changes_of, changes_since, start_of, volume_made}
 use Rattle.cartridge.specs.ContentsOn.{contents_on}

@@ -11,7 +11,7 @@ ghost use Rattle.tape_buffer.specs.declared.holding.Holding.TheVariants as Holdi
 use crate::buffered::Buffered;
 use accepting::Accepting;
 use cartridge::Shelved;
-use record_index::Index;
+use object_index::Index;
 use std::alloc::Global;
 use std::marker::Model;
 use tape_disk::Disk;

@@ -15,7 +15,7 @@ ghost use Rattle.tape_buffer.specs.Inner.Waking.{wake_error_of};
 use crate::storing::settle_over;
 use cartridge::laws::a_pair_gives_one_volume;
 use cartridge::{Cartridge, CartridgeError, NotOpened, Opening, Shelved};
-use record_index::Index;
+use object_index::Index;
 use std::alloc::Global;
 use tape_disk::Disk;
 use volume_core::MediumError;

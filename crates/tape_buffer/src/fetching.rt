@@ -16,7 +16,7 @@ ghost use Rattle.tape_buffer.specs.Moves.{buffer_below};
 
 use crate::seen::front_of;
 use cartridge::{Cartridge, CartridgeError};
-use record_index::Placed;
+use object_index::Placed;
 use tape_disk::Disk;
 use volume_core::{Change, MediumError};
 use vtl_base::{ObjNo, PartNo};

@@ -13,7 +13,7 @@ use crate::adding::accept_over;
 use crate::buffered::Buffered;
 use crate::closing::wake_closed;
 use crate::holding::{Holding, hold};
-use record_index::Index;
+use object_index::Index;
 use std::mem;
 use tape_disk::Disk;
 use volume_core::{Change, MediumError, NotAccepted};

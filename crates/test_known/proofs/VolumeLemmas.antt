@@ -12,7 +12,7 @@ use Rattle.volume_core.specs.Medium.{frame_size}
 use Rattle.volume_core.specs.Plain.{moves_on_by_changes}
 use Rattle.volume_core.specs.Stores.{after_append}
 use Rattle.tape_disk.specs.TwoDisks.{Images}
-use Rattle.record_index.specs.Records.{spell_all, spell_change, spell_head}
+use Rattle.change_records.specs.Records.{spell_all, spell_change, spell_head}
 use Rattle.cartridge.specs.Contents.{Contents, GivesContents, ShowsContents, changes_in, volume_made, with_frames}
 
 -- a cartridge that is opened holds the same volume as when it was closed

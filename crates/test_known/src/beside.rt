@@ -2,7 +2,7 @@
 ghost use Rattle.std.specs.Prelude.{◌≡◌, ◌≤◌, [], ◌∷◌, length, true, IfSome, OnOk};
 ghost use Rattle.volume_core.specs.Volume.{AllApply, after};
 ghost use Rattle.tape_disk.specs.TwoDisks.{AreHonest};
-ghost use Rattle.record_index.specs.Records.{spell_all};
+ghost use Rattle.change_records.specs.Records.{spell_all};
 ghost use Rattle.vtl_base.specs.declared.limits.TheConstants.{MAX_BODY};
 ghost use Rattle.cartridge.specs.Contents.{volume_made, with_frames};
 

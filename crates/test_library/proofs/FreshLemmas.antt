@@ -4,7 +4,7 @@ use Rattle.std.proofs.lemmas.List.{get_or_default, take_more}
 use Rattle.std.proofs.lemmas.List.Elements.{All-push}
 use Rattle.std.proofs.lemmas.List.Sums.{sum_by_more}
 use Rattle.std.specs.List.{All}
-use Rattle.bays.specs.Elements.{BayState}
+use Rattle.bay_moves.specs.Elements.{BayState}
 use Rattle.library.specs.Counts.{AcceptedNone, one_if_there}
 
 -- a count of places of sixteen, and one more

@@ -11,7 +11,7 @@ use crate::ends::{are_back, are_counts};
 use crate::opening::{count_fresh, hosts};
 use crate::samples::{Sample, loaded};
 use crate::stages::Stage;
-use bays::{Bay, Parked};
+use bay_moves::{Bay, Parked};
 use element_slots::Slots;
 use library::{FinishError, Finished, Library, Parties, RingRow, Rings, Seat};
 use std::alloc::Global;

@@ -4,7 +4,7 @@ ghost use Rattle.std.specs.List.{range_with_len};
 ghost use Rattle.vtl_base.specs.declared.limits.TheConstants.{DRIVES};
 ghost use Rattle.library.specs.Counts.{AcceptedNone, one_if_there, places_filled};
 
-use bays::Bay;
+use bay_moves::Bay;
 use std::alloc::Global;
 use std::process::Abort;
 use std::test::Fail;

@@ -4,7 +4,7 @@ ghost use Rattle.std.specs.Prelude.{◌≡◌, [], IfOk};
 use crate::disks::{NEVER, TestDisk, disk, freeing_disk, staged_disk};
 use crate::stages::Stage;
 use aptpl_store::AptplStore;
-use bays::{Bay, Parked};
+use bay_moves::{Bay, Parked};
 use cartridge::Cartridge;
 use element_slots::Slots;
 use pr_core::Reservations;

@@ -3,7 +3,7 @@ ghost use Rattle.std.specs.Prelude.{◌≡◌};
 
 use crate::opening::{count_fresh, hosts};
 use crate::samples::Sample;
-use bays::{Held, run_held};
+use bay_moves::{Held, run_held};
 use library::{Gate, RingRow};
 use library_scripts::{Ran, run_library};
 use std::alloc::Global;

@@ -13,7 +13,7 @@ use Rattle.volume_core.specs.declared.changes.Refusal.TheVariants.{NoRoom, PastE
 use Rattle.volume_core.specs.declared.objects.Object.{Object}
 use Rattle.volume_core.specs.Medium.{frame_size}
 use Rattle.volume_core.specs.Volume.{Part, added_by, capacity_in, capacity_of, cost_of, count_of, empty_part, has_room, is_well_formed, staying_of, objects_after, objects_in, part_of, refusal_in, refusal_of, used_of, used_up_to}
-use Rattle.record_index.specs.Records.{spell_all, spell_change, spell_head}
+use Rattle.change_records.specs.Records.{spell_all, spell_change, spell_head}
 
 -- the first of the three causes that holds: it is past the end, there is no room, or it is not well-formed
 abbrev cause : Bool → Bool → Bool → Option Refusal

@@ -1,6 +1,7 @@
 //! A copy by itself: its records, and the length of each of its frames.
 use crate::samples::indexed;
-use record_index::{Index, Record};
+use change_records::Record;
+use object_index::Index;
 use std::alloc::{AllocError, Global};
 use std::process::Abort;
 use std::test::Fail;

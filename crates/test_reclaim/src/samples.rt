@@ -2,12 +2,13 @@
 ghost use Rattle.std.specs.Prelude.{◌≡◌, ◌≤◌, [], ◌∷◌, None, true, length};
 ghost use Rattle.vtl_base.specs.declared.limits.TheConstants.{MAX_BODY};
 ghost use Rattle.volume_core.specs.Volume.{refusal_of};
-ghost use Rattle.record_index.specs.Records.{spell_all};
+ghost use Rattle.change_records.specs.Records.{spell_all};
 ghost use Rattle.cartridge.specs.Contents.{volume_made};
 
 use cartridge::{Cartridge, CartridgeError, ReclaimError, Shelved};
 use cartridge_sides::Which;
-use record_index::{Index, Record};
+use change_records::Record;
+use object_index::Index;
 use std::alloc::Global;
 use std::test::Fail;
 use tape_disk::{Disk, MemDisk};

@@ -9,7 +9,7 @@ ghost use Rattle.library.specs.RingRows.{AreRings};
 use crate::frames::{add_bytes, exchange};
 use crate::opening::{count_fresh, hosts};
 use crate::samples::row;
-use bays::{Bay, Parked};
+use bay_moves::{Bay, Parked};
 use element_slots::Slots;
 use ledgers::{Parties, Seat};
 use library::{Library, RingRow, Rings};

@@ -2,7 +2,7 @@
 ghost use Rattle.std.specs.Prelude.{◌≡◌, [], IfOk};
 
 use aptpl_store::AptplStore;
-use bays::{Bay, Parked};
+use bay_moves::{Bay, Parked};
 use cartridge::Cartridge;
 use pr_core::Reservations;
 use std::alloc::Global;

@@ -3,7 +3,7 @@ use crate::drives::{Disks, NEVER, TestDisk, TestDrive, switched_on};
 use crate::samples::{
     HELD_BY_A, KEY_A, NOBODY, NONE, POWERED_ON, READ_KEYS, READ_RESERVATION, READY, answers, reads,
 };
-use bays::Bay;
+use bay_moves::Bay;
 use std::alloc::Global;
 use std::fmt::Debug;
 use std::process::Abort;

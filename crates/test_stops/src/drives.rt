@@ -4,7 +4,7 @@ ghost use Rattle.aptpl_store.specs.Kept.{store_kept};
 ghost use Rattle.drive_core.specs.State.{left_of};
 
 use aptpl_store::AptplStore;
-use bays::{Bay, NotOn, Parked};
+use bay_moves::{Bay, NotOn, Parked};
 use cartridge::Shelved;
 use pr_core::Reservations;
 use scsi_sense::Reply;

@@ -4,7 +4,7 @@ use crate::drives::{Disks, TestDisk, TestDrive, reached, switched_on};
 use crate::fault_tables::{Again, Deed, Failed, Fault, READINGS, SAVES, STORINGS};
 use crate::samples::{NONE, POWERED_ON, READY, Wanted, ask, asks, reads, turns};
 use crate::ways::{Deeds, Way, does};
-use bays::Bay;
+use bay_moves::Bay;
 use std::alloc::Global;
 use std::process::Abort;
 use std::test::Fail;

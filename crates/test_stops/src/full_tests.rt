@@ -6,7 +6,7 @@ use crate::samples::{
     Wanted, ask, turns,
 };
 use crate::ways::{Deeds, Way, does};
-use bays::Bay;
+use bay_moves::Bay;
 use std::alloc::Global;
 use std::process::Abort;
 use std::test::Fail;

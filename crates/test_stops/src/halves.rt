@@ -4,7 +4,7 @@ ghost use Rattle.split_bay.specs.Fronts.{end_of};
 ghost use Rattle.split_bay.specs.Rings.{AreEnds};
 
 use crate::drives::TestDrive;
-use bays::Bay;
+use bay_moves::Bay;
 use scsi_sense::Reply;
 use split_bay::{Back, Ends, Front, Rings, execute_both, join, part, report_fault};
 use std::alloc::Global;

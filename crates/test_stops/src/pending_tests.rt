@@ -6,7 +6,7 @@ use crate::fault_tables::LATE;
 use crate::fault_tests::failing;
 use crate::halves::Parted;
 use crate::samples::{GOOD, NONE, Row, WRITE_1, WRITE_OUT, ask, asks};
-use bays::Bay;
+use bay_moves::Bay;
 use split_bay::{NewRing, Rings};
 use std::alloc::Global;
 use std::marker::Brand;

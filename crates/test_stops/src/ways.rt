@@ -3,7 +3,7 @@ ghost use Rattle.std.specs.Prelude.{◌≡◌, Some};
 
 use crate::drives::TestDrive;
 use crate::halves::Parted;
-use bays::Bay;
+use bay_moves::Bay;
 use split_bay::{NewRing, Rings};
 use std::alloc::Global;
 use std::marker::Brand;

@@ -4,7 +4,7 @@ ghost use Rattle.std.specs.Prelude.{◌≤◌, IfOk, length};
 mod bodies;
 
 use bodies::{Body, damage, drawn_body, drawn_cuts, drawn_place, read_plainly};
-use record_index::{Fed, Found, Record, RecordError, RecordReader, decode_changes};
+use change_records::{Fed, Found, Record, RecordError, RecordReader, decode_changes};
 use std::alloc::Global;
 use std::process::Abort;
 use std::test::Fail;

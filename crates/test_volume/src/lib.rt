@@ -1,4 +1,4 @@
-//! The tests of volume_core and record_index.
+//! The tests of volume_core, change_records and object_index.
 #![tactic(auto)]
 
 #[cfg(test)]

@@ -1,5 +1,6 @@
 //! An index against a plain list of objects.
-use record_index::{Index, Placed, Record};
+use change_records::Record;
+use object_index::{Index, Placed};
 use std::process::Abort;
 use std::test::Fail;
 use test_assertions::assert_equal;

@@ -1,5 +1,5 @@
 //! Records by their bytes, and an index against a plain list.
-use record_index::{Record, RecordError, decode_changes, encode_change};
+use change_records::{Record, RecordError, decode_changes, encode_change};
 use std::alloc::Global;
 use std::test::Fail;
 use test_assertions::assert_equal;

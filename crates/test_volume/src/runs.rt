@@ -1,6 +1,7 @@
 //! An index by its single calls: runs appended to the objects, room made for them, and cuts; runs of
 //! filemarks found.
-use record_index::{Index, MarkRun, Placed, Record, Run};
+use change_records::Record;
+use object_index::{Index, MarkRun, Placed, Run};
 use std::alloc::Global;
 use std::process::Abort;
 use std::test::Fail;

@@ -5,7 +5,8 @@ ghost use Rattle.std.specs.Prelude.{◌≡◌, true};
 mod stepping;
 
 use positioning::{Moved, Pos, SpaceCode, Stop, space};
-use record_index::{Index, MarkRun, Record};
+use change_records::Record;
+use object_index::{Index, MarkRun};
 use std::alloc::Global;
 use std::process::Abort;
 use std::test::Fail;

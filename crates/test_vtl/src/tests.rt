@@ -15,7 +15,7 @@ mod streams;
 mod unwritten;
 mod watched;
 
-use bays::{Held, run_held};
+use bay_moves::{Held, run_held};
 use std::alloc::Global;
 use std::test::Fail;
 use streams::{BadReader, BadWriter};

@@ -3,8 +3,8 @@ use Rattle.std.proofs.Common.{◌≡◌, ℕ, ◌<◌, ◌≤◌, List, [], leng
 use Rattle.std.specs.Prelude.{None, slice_get}
 use Rattle.std.proofs.lemmas.Bool.Decides.{leb_tells}
 use Rattle.std.proofs.lemmas.Option.{slice_get-get_or}
-use Rattle.record_index.specs.declared.places.Placed.TheVariants.{Mark}
-use Rattle.record_index.specs.Places.{PlacedPart, placed_objects}
+use Rattle.object_index.specs.declared.places.Placed.TheVariants.{Mark}
+use Rattle.object_index.specs.Places.{PlacedPart, placed_objects}
 use Rattle.volume_copy.specs.Entries.{entries_from}
 use Rattle.volume_copy.specs.EntryFacts.{all_ended}
 

@@ -4,10 +4,10 @@ use Rattle.std.specs.Prelude.{slice_get}
 use Rattle.std.proofs.lemmas.Bool.Decides.{leb_tells}
 use Rattle.std.proofs.lemmas.List.Sums.{sum_by-append}
 use Rattle.std.proofs.lemmas.Option.{slice_get_within}
-use Rattle.record_index.specs.declared.places.Placed.{Placed}
-use Rattle.record_index.specs.declared.places.Placed.TheVariants.{Block, Mark}
-use Rattle.record_index.specs.declared.runs.MarkRun.{MarkRun}
-use Rattle.record_index.specs.MarkRuns.{HasMarkAt, IsMarkRun, IsRunUpto, placed_marks}
+use Rattle.object_index.specs.declared.places.Placed.{Placed}
+use Rattle.object_index.specs.declared.places.Placed.TheVariants.{Block, Mark}
+use Rattle.object_index.specs.declared.runs.MarkRun.{MarkRun}
+use Rattle.object_index.specs.MarkRuns.{HasMarkAt, IsMarkRun, IsRunUpto, placed_marks}
 use Rattle.volume_copy.specs.EntryFacts.{RunOfMarks}
 
 -- the filemarks of two lists are those of both

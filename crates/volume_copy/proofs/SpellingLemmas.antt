@@ -7,7 +7,7 @@ use Rattle.std.proofs.lemmas.List.{append-nil, append_assoc}
 use Rattle.std.proofs.lemmas.List.Elements.{All-head}
 use Rattle.std.proofs.lemmas.List.Sums.{sum_by-append}
 use Rattle.volume_core.specs.declared.changes.Change.{Change}
-use Rattle.record_index.specs.Records.{spell_all, spell_change}
+use Rattle.change_records.specs.Records.{spell_all, spell_change}
 use Rattle.volume_copy.specs.declared.entries.Entry.{Entry}
 use Rattle.volume_copy.specs.declared.totals.TheConstants.{FRAME_BODY}
 use Rattle.volume_copy.specs.Entries.{entry_size}

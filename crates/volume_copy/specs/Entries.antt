@@ -1,10 +1,10 @@
 -- The copy of the volume of an index: its records, without the bytes of their blocks.
 use Rattle.std.specs.Prelude.{◌+◌, ℕ, zero, suc, List, [], ◌∷◌, ◌++◌, drop}
-use Rattle.record_index.specs.declared.places.Placed.{Placed}
-use Rattle.record_index.specs.declared.places.Placed.TheVariants as Placeds
-use Rattle.record_index.specs.declared.records.Record.TheVariants as Records
-use Rattle.record_index.specs.Places.{PlacedPart, placed_objects}
-use Rattle.record_index.specs.Records.{size_of}
+use Rattle.object_index.specs.declared.places.Placed.{Placed}
+use Rattle.object_index.specs.declared.places.Placed.TheVariants as Placeds
+use Rattle.change_records.specs.declared.records.Record.TheVariants as Records
+use Rattle.object_index.specs.Places.{PlacedPart, placed_objects}
+use Rattle.change_records.specs.Records.{size_of}
 use Rattle.volume_copy.specs.declared.entries.Entry.{Entry}
 
 -- a block at that place, after the first objects of a partition (own)

@@ -4,11 +4,11 @@ use Rattle.std.proofs.Common.{ap, sym, ◌∙◌, arith}
 use Rattle.std.proofs.lemmas.List.{length-map}
 use Rattle.std.proofs.lemmas.Option.{slice_get_past}
 use Rattle.volume_core.specs.Volume.{count_of}
-use Rattle.record_index.specs.declared.places.Placed.{Placed}
-use Rattle.record_index.specs.declared.places.Placed.TheVariants.{Block, Mark}
-use Rattle.record_index.specs.MarkFacts.{objects_outlined}
-use Rattle.record_index.specs.MarkRuns.{HasMarkAt}
-use Rattle.record_index.specs.Places.{PlacedPart, blank, filled, outline, placed_objects, placed_objects_in}
+use Rattle.object_index.specs.declared.places.Placed.{Placed}
+use Rattle.object_index.specs.declared.places.Placed.TheVariants.{Block, Mark}
+use Rattle.object_index.specs.MarkFacts.{objects_outlined}
+use Rattle.object_index.specs.MarkRuns.{HasMarkAt}
+use Rattle.object_index.specs.Places.{PlacedPart, blank, filled, outline, placed_objects, placed_objects_in}
 use Rattle.volume_copy.specs.declared.entries.Entry.{Entry}
 use Rattle.volume_copy.specs.Entries.{block_entry, entries_from, marks_entry, object_entries, part_entries}
 

@@ -7,7 +7,7 @@ use Rattle.std.proofs.lemmas.Bool.Decides.{leb_tells}
 use Rattle.std.proofs.lemmas.List.Elements.{All-cons, All-head, All-nil, All-tail}
 use Rattle.std.proofs.lemmas.List.Sums.{sum_by-cons}
 use Rattle.volume_core.specs.declared.changes.Change.{Change}
-use Rattle.record_index.specs.Records.{size_of}
+use Rattle.change_records.specs.Records.{size_of}
 use Rattle.volume_copy.specs.declared.entries.Entry.{Entry}
 use Rattle.volume_copy.specs.declared.totals.TheConstants.{FRAME_BODY}
 use Rattle.volume_copy.specs.Entries.{entry_size}

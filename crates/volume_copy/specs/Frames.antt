@@ -1,7 +1,7 @@
 -- Packing records into frames, as many into each as fit.
 use Rattle.std.specs.Prelude.{◌≡◌, ◌≤◌, ◌<◌, ◌+◌, ℕ, List, [], ◌∷◌, ◌++◌, length, sum_by, nat_le, if◌then◌else◌}
 use Rattle.volume_core.specs.declared.changes.Change.{Change}
-use Rattle.record_index.specs.Records.{record_of, size_of}
+use Rattle.change_records.specs.Records.{record_of, size_of}
 use Rattle.volume_copy.specs.declared.totals.TheConstants.{FRAME_BODY}
 
 -- for a size of each item in bytes

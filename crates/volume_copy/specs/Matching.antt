@@ -6,12 +6,12 @@ use Rattle.volume_core.specs.declared.objects.Object.TheVariants.{Block, Mark}
 use Rattle.volume_core.specs.declared.changes.Change.{Change}
 use Rattle.volume_core.specs.declared.changes.Change.TheVariants.{Put, Marks, Erase}
 use Rattle.volume_core.specs.Volume.{Part}
-use Rattle.record_index.specs.declared.places.Placed.{Placed}
-use Rattle.record_index.specs.declared.places.Placed.TheVariants as Placeds
-use Rattle.record_index.specs.declared.records.Record.TheVariants as Records
-use Rattle.record_index.specs.Indexes.{AllLieAs, Indexes, LiesAt}
-use Rattle.record_index.specs.Places.{PlacedPart}
-use Rattle.record_index.specs.Records.{record_of}
+use Rattle.object_index.specs.declared.places.Placed.{Placed}
+use Rattle.object_index.specs.declared.places.Placed.TheVariants as Placeds
+use Rattle.change_records.specs.declared.records.Record.TheVariants as Records
+use Rattle.object_index.specs.Indexes.{AllLieAs, Indexes, LiesAt}
+use Rattle.object_index.specs.Places.{PlacedPart}
+use Rattle.change_records.specs.Records.{record_of}
 use Rattle.volume_copy.specs.declared.entries.Entry.{Entry}
 use Rattle.volume_copy.specs.Copies.{copy_objects, copy_of, copy_parts, marks_change}
 use Rattle.volume_copy.specs.Entries.{entries_in, marks_entries, object_entries, part_entries}

@@ -11,8 +11,8 @@ use Rattle.volume_core.specs.declared.objects.Object.TheVariants.{Block, Mark}
 use Rattle.volume_core.specs.declared.changes.Change.{Change}
 use Rattle.volume_core.specs.declared.changes.Change.TheVariants.{Put, Marks, Erase}
 use Rattle.volume_core.specs.Volume.{IsObject, IsPart, IsVolume, Part, part_of}
-use Rattle.record_index.specs.Inner.Spelled.{length-spell}
-use Rattle.record_index.specs.Records.{IsRecord, spell_all, spell_change}
+use Rattle.change_records.specs.Inner.Spelled.{length-spell}
+use Rattle.change_records.specs.Records.{IsRecord, spell_all, spell_change}
 use Rattle.volume_copy.specs.declared.totals.TheConstants.{FRAME_BODY}
 use Rattle.volume_copy.specs.Copies.{AreApart, IsApartFrom, NoRunIsCut, copy_objects, copy_of, copy_parts, marks_change}
 use Rattle.volume_copy.specs.Frames.{change_size}

@@ -6,10 +6,10 @@ use Rattle.volume_core.specs.declared.objects.Object.{Object}
 use Rattle.volume_core.specs.declared.objects.Object.TheVariants.{Block, Mark}
 use Rattle.volume_core.specs.declared.changes.Change.{Change}
 use Rattle.volume_core.specs.Volume.{Part}
-use Rattle.record_index.specs.declared.records.Record.{Record}
-use Rattle.record_index.specs.declared.records.Record.TheVariants as Records
-use Rattle.record_index.specs.Records.{record_of, size_of}
-use Rattle.record_index.specs.Shapes.{blanked, shape_of}
+use Rattle.change_records.specs.declared.records.Record.{Record}
+use Rattle.change_records.specs.declared.records.Record.TheVariants as Records
+use Rattle.change_records.specs.Records.{record_of, size_of}
+use Rattle.object_index.specs.Shapes.{blanked, shape_of}
 use Rattle.volume_copy.specs.declared.totals.TheConstants.{FRAME_BODY}
 use Rattle.volume_copy.specs.Copies.{copy_objects, copy_of, copy_parts, marks_change}
 use Rattle.volume_copy.specs.Frames.{change_size, frames_behind, frames_by, frames_of, in_front}

@@ -9,9 +9,9 @@ use Rattle.std.proofs.lemmas.List.Sums.{sum_by-append, sum_by-cons}
 use Rattle.vtl_base.specs.declared.limits.TheConstants.{MAX_CAPACITY, MAX_OBJECTS, MAX_PARTITIONS, MIN_CAPACITY}
 use Rattle.volume_core.specs.declared.objects.Object.TheVariants as Objects
 use Rattle.volume_core.specs.Volume.{IsObject, IsPart, IsVolume, cost_of, used_of}
-use Rattle.record_index.specs.declared.places.Placed.{Placed}
-use Rattle.record_index.specs.declared.places.Placed.TheVariants.{Block, Mark}
-use Rattle.record_index.specs.Places.{PlacedPart, blank, filled, filled_part, outline, placed_objects}
+use Rattle.object_index.specs.declared.places.Placed.{Placed}
+use Rattle.object_index.specs.declared.places.Placed.TheVariants.{Block, Mark}
+use Rattle.object_index.specs.Places.{PlacedPart, blank, filled, filled_part, outline, placed_objects}
 use Rattle.volume_copy.specs.declared.entries.Entry.{Entry}
 use Rattle.volume_copy.specs.declared.totals.TheConstants.{FRAME_BODY}
 use Rattle.volume_copy.specs.Entries.{block_entry, entries_from, entries_in, entry_size, marks_entries, object_entries, part_entries}

@@ -1,9 +1,9 @@
 -- What the body of a copy's frame spells.
 use Rattle.std.specs.Prelude.{◌≡◌, ℕ, List, length, sum_by}
 use Rattle.volume_core.specs.declared.changes.Change.{Change}
-use Rattle.record_index.specs.declared.records.Record.{Record}
-use Rattle.record_index.specs.declared.records.Record.TheVariants as Records
-use Rattle.record_index.specs.Records.{spell_all, spell_change, spell_head}
+use Rattle.change_records.specs.declared.records.Record.{Record}
+use Rattle.change_records.specs.declared.records.Record.TheVariants as Records
+use Rattle.change_records.specs.Records.{spell_all, spell_change, spell_head}
 use Rattle.volume_copy.specs.declared.entries.Entry.{Entry}
 use Rattle.volume_copy.specs.Entries.{entry_size}
 use Rattle.volume_copy.specs.Frames.{IsFirstFrame}

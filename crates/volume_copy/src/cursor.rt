@@ -1,13 +1,14 @@
 //! The position in a copy, and the entry that comes next.
 ghost use Rattle.std.specs.Prelude.{◌≡◌, ◌≤◌, ◌<◌, ◌+◌, true, false, [], ◌∷◌, IfSome, IfNone, Some, length, slice_get};
 ghost use Rattle.vtl_base.specs.declared.limits.TheConstants.{MAX_OBJECTS, MAX_PARTITIONS};
-ghost use Rattle.record_index.specs.MarkRuns.{HasMarkAt};
-ghost use Rattle.record_index.specs.Places.{placed_objects};
+ghost use Rattle.object_index.specs.MarkRuns.{HasMarkAt};
+ghost use Rattle.object_index.specs.Places.{placed_objects};
 ghost use Rattle.volume_copy.specs.EntryFacts.{RunOfMarks};
 ghost use Rattle.volume_copy.specs.Entries.{entries_from};
 
 use crate::entries::Entry;
-use record_index::{Index, Placed, Record};
+use change_records::Record;
+use object_index::{Index, Placed};
 use vtl_base::{ObjNo, PartNo, Steps};
 
 /// A position in a copy: before object `at` of partition `part`, or at the end of the partition's objects. A position

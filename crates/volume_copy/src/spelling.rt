@@ -1,6 +1,6 @@
 //! Spells the frames of a copy, one after another. It takes no memory.
 ghost use Rattle.std.specs.Prelude.{◌≡◌, ◌≢◌, ◌≤◌, ◌+◌, ◌-◌, [], ◌∷◌, ◌++◌, ℕ, List, IfErr, IfNone, IfOk, IfSome, OnOk, length, take, vec_capacity, vec_len};
-ghost use Rattle.record_index.specs.Records.{spell_head};
+ghost use Rattle.change_records.specs.Records.{spell_head};
 ghost use Rattle.volume_copy.specs.declared.entries.Entry.{Entry};
 ghost use Rattle.volume_copy.specs.declared.totals.TheConstants.{FRAME_BODY};
 ghost use Rattle.volume_copy.specs.Entries.{entries_from, entry_size};
@@ -12,7 +12,8 @@ use crate::cursor::{Ahead, Cursor};
 use crate::entries::Entry;
 use crate::totals::FRAME_BODY;
 use byteorder::{BigEndian, ByteOrder};
-use record_index::{HEAD_BYTES, Index, Record};
+use change_records::{HEAD_BYTES, Record};
+use object_index::Index;
 use vtl_base::{DevFault, ObjNo, PartNo};
 
 // The kinds of records.

@@ -6,7 +6,7 @@ ghost use Rattle.volume_copy.specs.Frames.{frames_by};
 ghost use Rattle.volume_copy.specs.Inner.Packed.{packed_with};
 
 use crate::cursor::Cursor;
-use record_index::Index;
+use object_index::Index;
 
 /// The greatest length of the body of a copy's frame, in bytes.
 pub const FRAME_BODY: usize = 4_194_304;

@@ -2,9 +2,9 @@
 use Rattle.std.proofs.Common.{◌≡◌, ◌≤◌, inl, inr, ℕ, List, [], ◌∷◌, length, map, refl, sym, subst, ap, ◌∙◌, arith}
 use Rattle.std.specs.Prelude.{sum_by}
 use Rattle.std.proofs.lemmas.List.Sums.{sum_by-cons}
-use Rattle.record_index.specs.declared.records.Record.{Record}
-use Rattle.record_index.specs.declared.records.Record.TheVariants.{Put, Marks, Erase}
-use Rattle.record_index.specs.Records.{size_of, spell_all}
+use Rattle.change_records.specs.declared.records.Record.{Record}
+use Rattle.change_records.specs.declared.records.Record.TheVariants.{Put, Marks, Erase}
+use Rattle.change_records.specs.Records.{size_of, spell_all}
 use Rattle.volume_core.specs.declared.changes.Change.{Change}
 use Rattle.tape_disk.specs.Disk.{DiskState, IsDisk}
 use Rattle.cartridge_sides.specs.Copying.{GivesAll, IsCopyBody}

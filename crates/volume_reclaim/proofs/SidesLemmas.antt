@@ -13,8 +13,8 @@ use Rattle.gate_journal.specs.declared.heads.Copied.{Copied}
 use Rattle.gate_journal.specs.Crash.{Unwritten}
 use Rattle.gate_journal.specs.Heads.{Head}
 use Rattle.gate_journal.specs.Side.{OPEN}
-use Rattle.record_index.specs.Indexes.{Indexes, indexes_by}
-use Rattle.record_index.specs.Places.{PlacedPart}
+use Rattle.object_index.specs.Indexes.{Indexes, indexes_by}
+use Rattle.object_index.specs.Places.{PlacedPart}
 use Rattle.cartridge_sides.specs.declared.which.Which.{Which}
 use Rattle.cartridge_sides.specs.declared.which.Which.TheVariants.{First, Second}
 use Rattle.cartridge_sides.specs.Choosing.{FaultsOfOne}

@@ -7,9 +7,9 @@ use Rattle.gate_journal.specs.declared.header.Header.{Header}
 use Rattle.gate_journal.specs.declared.heads.Copied.{Copied}
 use Rattle.gate_journal.specs.Heads.{Head, epoch_of}
 use Rattle.gate_journal.specs.Side.{heading_of}
-use Rattle.record_index.specs.Indexes.{Indexes}
-use Rattle.record_index.specs.Places.{PlacedPart}
-use Rattle.record_index.specs.Records.{spell_all}
+use Rattle.object_index.specs.Indexes.{Indexes}
+use Rattle.object_index.specs.Places.{PlacedPart}
+use Rattle.change_records.specs.Records.{spell_all}
 use Rattle.cartridge_sides.specs.declared.which.Which.{Which}
 use Rattle.cartridge_sides.specs.declared.which.Which.TheVariants.{First, Second}
 use Rattle.cartridge_sides.specs.Passes.{IsOpenSideOf, copy_head, other, spell_copy}

@@ -13,7 +13,7 @@ use crate::blocks::Blocks;
 use crate::source::Source;
 use cartridge_sides::Which;
 use gate_journal::{Copied, Header};
-use record_index::Index;
+use object_index::Index;
 use side_reclaim::{copy_over, make_ready};
 use tape_disk::Disk;
 use volume_copy::Cursor;

@@ -3,7 +3,7 @@ ghost use Rattle.std.specs.Prelude.{◌≡◌, ◌≤◌, ◌+◌, ℕ, List, le
 
 use crate::blocks::Blocks;
 use cartridge_sides::GivesBodies;
-use record_index::Index;
+use object_index::Index;
 use tape_disk::Disk;
 use volume_copy::{Cursor, spell_frame};
 use vtl_base::DevFault;

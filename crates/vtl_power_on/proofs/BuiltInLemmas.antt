@@ -8,7 +8,7 @@ use Rattle.aptpl_store.specs.State.{OpenStore}
 use Rattle.element_slots.specs.Slots.{held_at, is_slot}
 use Rattle.drive_core.specs.Media.{SwitchesOn}
 use Rattle.drive_core.specs.State.{left_of}
-use Rattle.bays.specs.Elements.{BayState, bay_at}
+use Rattle.bay_moves.specs.Elements.{BayState, bay_at}
 use Rattle.vtl_power_on.specs.Inner.Waiting.{PutsHome, SwitchesOnAt}
 use Rattle.vtl_power_on.specs.Sides.{IsNewCartridge, IsNewStore}
 use Rattle.vtl_power_on.specs.Starting.{IsBuiltIn}

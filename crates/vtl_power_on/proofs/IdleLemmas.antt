@@ -4,7 +4,7 @@ use Rattle.std.specs.Io.KnownBytes.{Keeps}
 use Rattle.std.specs.declared.alloc.Global.{Global}
 use Rattle.std.specs.declared.io.Error.{Error}
 use Rattle.tape_disk.specs.Disk.{DiskState}
-use Rattle.bays.specs.Elements.{HeldState}
+use Rattle.bay_moves.specs.Elements.{HeldState}
 use Rattle.vtl_files.specs.Configured.{ReadsConfig}
 use Rattle.vtl_power_on.specs.Running.{RunsOrder}
 use Rattle.vtl_power_on.specs.Sides.{SidesGiven}

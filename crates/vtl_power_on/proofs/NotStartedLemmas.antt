@@ -2,7 +2,7 @@
 use Rattle.std.proofs.Common.{◌≡◌, inl, inr, Bool, true, List, [], ◌∷◌, ◌++◌, Option, None, is_some, refl, sym, subst}
 use Rattle.tape_disk.specs.Disk.{DiskState}
 use Rattle.aptpl_store.specs.State.{OpenStore}
-use Rattle.bays.specs.Elements.{bay_at}
+use Rattle.bay_moves.specs.Elements.{bay_at}
 use Rattle.vtl_config.specs.Entries.{AreDistinct, homes_of, numbers_of}
 use Rattle.vtl_config.specs.declared.entries.CartridgeEntry.{CartridgeEntry}
 use Rattle.vtl_config.specs.declared.entries.DriveEntry.{DriveEntry}

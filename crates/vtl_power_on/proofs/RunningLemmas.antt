@@ -5,7 +5,7 @@ use Rattle.std.proofs.lemmas.List.FromFn.{get_or-range_with_len, length-range_wi
 use Rattle.std.proofs.lemmas.List.Sums.{sum_by_more}
 use Rattle.tape_disk.specs.Disk.{DiskState}
 use Rattle.tape_buffer.specs.State.{BufferState}
-use Rattle.bays.specs.Elements.{BayState, HeldState}
+use Rattle.bay_moves.specs.Elements.{BayState, HeldState}
 use Rattle.library.specs.Counts.{one_if_there, which_are_there}
 use Rattle.library.specs.Ends.{EndsShared}
 use Rattle.library_scripts.specs.Ran.{RunsShared}

@@ -5,7 +5,7 @@ use Rattle.std.specs.declared.io.Error.{Error}
 use Rattle.std.specs.Prelude.{Vec, IfOk, IfErr}
 use Rattle.tape_disk.specs.Disk.{DiskState}
 use Rattle.tape_buffer.specs.State.{BufferState}
-use Rattle.bays.specs.Elements.{BayState, HeldState}
+use Rattle.bay_moves.specs.Elements.{BayState, HeldState}
 use Rattle.library.specs.Ends.{EndsShared}
 use Rattle.library.specs.declared.finishing.FinishError.{FinishError}
 use Rattle.vtl_config.specs.Configs.{Says}

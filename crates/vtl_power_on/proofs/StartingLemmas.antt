@@ -7,7 +7,7 @@ use Rattle.tape_disk.specs.Disk.{DiskState}
 use Rattle.tape_buffer.specs.State.{BufferState}
 use Rattle.aptpl_store.specs.State.{OpenStore}
 use Rattle.element_slots.specs.Slots.{held_at}
-use Rattle.bays.specs.Elements.{BayState, bay_at}
+use Rattle.bay_moves.specs.Elements.{BayState, bay_at}
 use Rattle.vtl_config.specs.Entries.{AreDistinct, address_of, homes_of, numbers_of}
 use Rattle.vtl_config.specs.declared.entries.CartridgeEntry.{CartridgeEntry}
 use Rattle.vtl_config.specs.declared.entries.DriveEntry.{DriveEntry}

@@ -14,7 +14,7 @@ use Rattle.element_slots.specs.Slots.{Puts, held_at, is_slot, refusal_of_placing
 use Rattle.pr_core.specs.declared.states.PrState.{PrState}
 use Rattle.drive_core.specs.Media.{SwitchesOn}
 use Rattle.drive_core.specs.State.{left_of}
-use Rattle.bays.specs.Elements.{BayState, Becomes, HeldState, bay_at}
+use Rattle.bay_moves.specs.Elements.{BayState, Becomes, HeldState, bay_at}
 use Rattle.vtl_power_on.specs.Starting.{StaysOff}
 use Rattle.vtl_power_on.specs.Inner.Waiting.{PutsHome, SwitchesOnAt}
 use Rattle.vtl_power_on.specs.Unfinished.{IsBare, StartingState, home_at, waits_at}

@@ -9,7 +9,7 @@ use Rattle.vtl_script.specs.Runs.{TakesWithin}
 use Rattle.vtl_script.specs.declared.faults.ScriptFault.{ScriptFault}
 use Rattle.vtl_script.specs.declared.faults.ScriptFault.TheVariants.{ReadFault}
 use Rattle.tape_disk.specs.Disk.{DiskState}
-use Rattle.bays.specs.Elements.{HeldState}
+use Rattle.bay_moves.specs.Elements.{HeldState}
 use Rattle.library.specs.Counts.{AcceptedNone}
 use Rattle.library.specs.Ends.{EndsShared}
 use Rattle.library_scripts.specs.Ran.{RunsShared}

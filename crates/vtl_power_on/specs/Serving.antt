@@ -3,7 +3,7 @@ use Rattle.std.specs.Prelude.{◌≡◌, ◌⊎◌, ℕ, Bool, true, false, List
 use Rattle.std.specs.declared.alloc.Global.{Global}
 use Rattle.std.specs.declared.io.Error.{Error}
 use Rattle.tape_disk.specs.Disk.{DiskState}
-use Rattle.bays.specs.Elements.{HeldState}
+use Rattle.bay_moves.specs.Elements.{HeldState}
 use Rattle.library.specs.Ends.{EndsShared}
 use Rattle.library.specs.declared.finishing.FinishError.{FinishError}
 use Rattle.vtl_config.specs.Entries.{address_of}

@@ -10,7 +10,7 @@ use Rattle.aptpl_store.specs.State.{OpenStore}
 use Rattle.element_slots.specs.Slots.{held_at, is_slot}
 use Rattle.drive_core.specs.Media.{SwitchesOn}
 use Rattle.drive_core.specs.State.{left_of}
-use Rattle.bays.specs.Elements.{BayState, HeldState, bay_at}
+use Rattle.bay_moves.specs.Elements.{BayState, HeldState, bay_at}
 use Rattle.vtl_config.specs.Entries.{AreDistinct, address_of, homes_of, numbers_of}
 use Rattle.vtl_config.specs.declared.entries.CartridgeEntry.{CartridgeEntry}
 use Rattle.vtl_config.specs.declared.entries.DriveEntry.{DriveEntry}

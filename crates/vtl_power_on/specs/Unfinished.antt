@@ -3,7 +3,7 @@ use Rattle.std.specs.Prelude.{◌≡◌, ℕ, ◌-◌, nat_le, List, slice_index
 use Rattle.tape_buffer.specs.State.{BufferState}
 use Rattle.aptpl_store.specs.State.{OpenStore}
 use Rattle.element_slots.specs.Slots.{held_at, is_slot}
-use Rattle.bays.specs.Elements.{HeldState, bay_at}
+use Rattle.bay_moves.specs.Elements.{HeldState, bay_at}
 
 -- a library, and the cartridges for drives that are not switched on yet, from drive 1 on (own)
 pub record StartingState (D : Type 0) : Type 0 where

@@ -10,7 +10,7 @@ ghost use Rattle.vtl_power_on.specs.Sides.{file_sides};
 use crate::pace::Pace;
 use crate::sides::{FileSides, NewSides, Sides};
 use crate::starting::{NotStarted, Starting, built_in, start};
-use bays::{Bay, Held, Parked};
+use bay_moves::{Bay, Held, Parked};
 use element_slots::Slots;
 use library::{FinishError, Finished, RingRow};
 use library_scripts::{Ran, run_library};

@@ -10,7 +10,7 @@ use crate::pace::Pace;
 use crate::running::{Left, count_drives, every_host, not_begun};
 use crate::sides::{FileSides, NewSides, Sides};
 use crate::starting::{NotStarted, Starting, built_in, start};
-use bays::Held;
+use bay_moves::Held;
 use library::{FinishError, Finished, RingRow};
 use std::alloc::Global;
 use std::io::{Read, Write};

@@ -7,7 +7,7 @@ ghost use Rattle.vtl_power_on.specs.Sides.{IsNoStoreOn, IsStoreOn, SidesGiven};
 
 use crate::starting::NotStarted;
 use aptpl_store::{AptplStore, StoreError, StoreRefused};
-use bays::{Held, Parked};
+use bay_moves::{Held, Parked};
 use cartridge::{Cartridge, CartridgeError, NotCreated, Shelved};
 use pr_core::Reservations;
 use std::alloc::Global;

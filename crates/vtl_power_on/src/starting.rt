@@ -11,7 +11,7 @@ ghost use Rattle.vtl_faults.specs.declared.faults.VtlFault.TheVariants as Faults
 
 use crate::sides::{DriveStore, Sides};
 use aptpl_store::AptplStore;
-use bays::{Bay, Held, NotOn, Parked};
+use bay_moves::{Bay, Held, NotOn, Parked};
 use cartridge::Cartridge;
 use pr_core::Reservations;
 use std::alloc::Global;

@@ -3,7 +3,7 @@ use Rattle.std.specs.Prelude.{ℕ, List, Result, Vec}
 use Rattle.std.specs.declared.alloc.Global.{Global}
 use Rattle.std.specs.declared.io.Error.{Error}
 use Rattle.file_disk.specs.declared.error.FileError.{FileError}
-use Rattle.bays.specs.Elements.{HeldState}
+use Rattle.bay_moves.specs.Elements.{HeldState}
 use Rattle.vtl_power_on.specs.Unfinished.{NotStartedState}
 
 -- The answers that a call for the file of a name may have, and the disks that may be returned for one, or in a library.

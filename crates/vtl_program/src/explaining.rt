@@ -6,7 +6,7 @@ ghost use Rattle.vtl_program.specs.Files.{answers_of};
 ghost use Rattle.vtl_program.specs.Orders.{given_words};
 
 use crate::orders::run;
-use bays::Held;
+use bay_moves::Held;
 use config_reasons::reason_of;
 use explanations::Explanation;
 use std::alloc::{AllocError, Global};

@@ -4,7 +4,7 @@ ghost use Rattle.vtl_files.specs.Creating.{makes_of};
 ghost use Rattle.vtl_program.specs.Files.{answers_of};
 ghost use Rattle.vtl_program.specs.Orders.{AnswersWords, CreatesOrder, DoesOrder, Obeys, ReclaimsOrder, RunsProgram, given_words};
 
-use bays::Held;
+use bay_moves::Held;
 use std::alloc::Global;
 use std::io::{Read, Write};
 use std::sync::Wait;

@@ -1,7 +1,7 @@
 //! The files of the operating system. The calls for them are noted.
 ghost use Rattle.std.specs.Prelude.{◌≡◌};
 
-use bays::Held;
+use bay_moves::Held;
 use file_disk::{FileDisk, FileError};
 use file_reasons::FileCall;
 use std::{fs, io};

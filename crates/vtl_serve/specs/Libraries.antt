@@ -2,7 +2,7 @@
 use Rattle.std.specs.Prelude.{◌≡◌, ◌⊎◌, ℕ, Bool, List, map, Option, Result, Err, IfOk}
 use Rattle.tape_disk.specs.Disk.{DiskState}
 use Rattle.ledgers.specs.Ledgers.{SeatState}
-use Rattle.bays.specs.Elements.{BayState}
+use Rattle.bay_moves.specs.Elements.{BayState}
 use Rattle.library.specs.Counts.{new_seat, which_are_there}
 use Rattle.library.specs.Ends.{counts_of, sum_of_counts, sum_of_seats}
 use Rattle.library.specs.declared.finishing.FinishError.{FinishError}

@@ -14,7 +14,7 @@ ghost use Rattle.vtl_serve.specs.Libraries.{ServesOpened, ServesShared, hosts_of
 use crate::desks::LibraryDesk;
 use crate::labels::Labels;
 use crate::one_host::OneHost;
-use bays::{Bay, Parked};
+use bay_moves::{Bay, Parked};
 use element_slots::Slots;
 use ledgers::{Parties, Seat};
 use library::{Finished, Gate, Library, NotOpened, RingRow, Rings, beside_flushers};

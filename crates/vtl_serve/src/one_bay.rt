@@ -4,7 +4,7 @@ ghost use Rattle.vtl_wire.specs.Serving.{ServesInput};
 ghost use Rattle.vtl_serve.specs.OneBay.{AnswersOf, BayAnswers, is_for};
 
 use aptpl_store::AptplStore;
-use bays::Bay;
+use bay_moves::Bay;
 use drive_laws::served_hosts_run;
 use std::alloc::Global;
 use std::io::{Read, Write};

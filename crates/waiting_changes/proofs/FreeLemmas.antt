@@ -6,10 +6,11 @@ use Rattle.vtl_base.specs.declared.limits.TheConstants.{MAX_CAPACITY, MAX_OBJECT
 use Rattle.volume_core.specs.declared.changes.Change.{Change}
 use Rattle.volume_core.specs.declared.changes.Change.TheVariants.{Put, Marks, Erase}
 use Rattle.volume_core.specs.Volume.{AllApply, Part, capacity_of, changed}
-use Rattle.record_index.specs.declared.records.Record.{Record}
-use Rattle.record_index.specs.declared.places.Placed.{Placed}
-use Rattle.record_index.specs.Places.{PlacedPart, empty_placed, outline, placed_after, placed_by, placed_objects, record_staying, record_part, reserved_in, reserved_of, runs_of, with_objects, with_objects_in}
-use Rattle.record_index.specs.Records.{record_of}
+use Rattle.change_records.specs.declared.records.Record.{Record}
+use Rattle.object_index.specs.declared.places.Placed.{Placed}
+use Rattle.change_records.specs.Records.{record_staying, record_part}
+use Rattle.object_index.specs.Places.{PlacedPart, empty_placed, outline, placed_after, placed_by, placed_objects, reserved_in, reserved_of, runs_of, with_objects, with_objects_in}
+use Rattle.change_records.specs.Records.{record_of}
 use Rattle.cartridge.specs.Inner.Growing.{HasEntries, IsGrown}
 use Rattle.waiting_changes.specs.Tail.{AreWide, IsFree, shifted}
 use Rattle.waiting_changes.proofs.TailLemmas.{row_same, wide_opened, wide_there, wide_with}

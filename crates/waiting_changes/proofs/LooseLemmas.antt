@@ -6,8 +6,8 @@ use Rattle.std.proofs.lemmas.List.{length-take-le, take-append-drop}
 use Rattle.vtl_base.specs.declared.limits.TheConstants.{MAX_CAPACITY, MAX_OBJECTS, MAX_PARTITIONS}
 use Rattle.volume_core.specs.declared.changes.Change.{Change}
 use Rattle.volume_core.specs.Volume.{AllApply, Part, after, capacity_of, count_of, staying_of, part_of}
-use Rattle.record_index.specs.Places.{placed_after}
-use Rattle.record_index.specs.Records.{record_of}
+use Rattle.object_index.specs.Places.{placed_after}
+use Rattle.change_records.specs.Records.{record_of}
 use Rattle.waiting_changes.specs.Tail.{AppliesBehind, AreWide, IsTailOf, TailState, staying_in, shifted}
 use Rattle.waiting_changes.proofs.ChangeLemmas.{inside_of}
 use Rattle.waiting_changes.proofs.FreeLemmas.{apply_front}

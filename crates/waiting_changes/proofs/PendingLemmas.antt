@@ -6,7 +6,7 @@ use Rattle.std.proofs.Common.{ap}
 use Rattle.volume_core.specs.declared.changes.Change.{Change}
 use Rattle.volume_core.specs.declared.changes.Change.TheVariants.{Put, Marks, Erase}
 use Rattle.volume_core.specs.Medium.{block_bytes, frame_size}
-use Rattle.record_index.specs.Records.{spell_all, spell_change, spell_head}
+use Rattle.change_records.specs.Records.{spell_all, spell_change, spell_head}
 
 -- a frame has 15 bytes and its block's
 frame_of : (change : Change) → frame_size change ≡ 15 + block_bytes change

@@ -10,11 +10,11 @@ use Rattle.volume_core.specs.declared.changes.Change.TheVariants.{Put, Marks, Er
 use Rattle.volume_core.specs.declared.objects.Object.{Object}
 use Rattle.volume_core.specs.Volume.{AllApply, Part, added_by, after, capacity_of, changed, cost_of, count_of, is_well_formed, staying_of, objects_of, part_of, refusal_of, used_of}
 use Rattle.volume_core.specs.Stores.{after_append}
-use Rattle.record_index.specs.Facts.{capacity_by_shape, refusal_by_shape}
-use Rattle.record_index.specs.Indexes.{Indexes, LiesAt, indexes_after, indexes_by, indexes_shape}
-use Rattle.record_index.specs.Places.{outline, placed_after}
-use Rattle.record_index.specs.Records.{record_of}
-use Rattle.record_index.specs.Shapes.{shape_of, shape_of_change}
+use Rattle.object_index.specs.Facts.{capacity_by_shape, refusal_by_shape}
+use Rattle.object_index.specs.Indexes.{Indexes, LiesAt, indexes_after, indexes_by, indexes_shape}
+use Rattle.object_index.specs.Places.{outline, placed_after}
+use Rattle.change_records.specs.Records.{record_of}
+use Rattle.object_index.specs.Shapes.{shape_of, shape_of_change}
 use Rattle.waiting_changes.specs.Tail.{AppliesBehind, AreWide, IsBlockOf, IsSeenAs, IsTailOf, TailState, shifted, staying_in}
 use Rattle.waiting_changes.proofs.ChangeLemmas.{well_formed}
 use Rattle.waiting_changes.proofs.CutLemmas.{get_last, get_more, take_seen}

@@ -8,9 +8,9 @@ use Rattle.vtl_base.specs.declared.limits.TheConstants.{MAX_CAPACITY, MAX_OBJECT
 use Rattle.volume_core.specs.declared.changes.Change.{Change}
 use Rattle.volume_core.specs.declared.objects.Object.{Object}
 use Rattle.volume_core.specs.Volume.{AllApply, Part, after, capacity_of, count_of, empty_volume, objects_of}
-use Rattle.record_index.specs.declared.places.Placed.{Placed}
-use Rattle.record_index.specs.Indexes.{AllLieAs, Indexes, indexes_empty, indexes_reserved}
-use Rattle.record_index.specs.Places.{PlacedPart, outline, placed_objects, placed_objects_in, with_objects, with_objects_in}
+use Rattle.object_index.specs.declared.places.Placed.{Placed}
+use Rattle.object_index.specs.Indexes.{AllLieAs, Indexes, indexes_empty, indexes_reserved}
+use Rattle.object_index.specs.Places.{PlacedPart, outline, placed_objects, placed_objects_in, with_objects, with_objects_in}
 use Rattle.waiting_changes.specs.Tail.{AreWide, IsBlockOf, IsSeenAs, IsTailOf, TailState, staying_in, no_tail, opened}
 use Rattle.waiting_changes.proofs.VolumeLemmas.{get_set_other, get_set_same}
 

@@ -5,8 +5,8 @@ use Rattle.volume_core.specs.declared.changes.Change.{Change}
 use Rattle.volume_core.specs.declared.changes.Change.TheVariants.{Put, Marks, Erase}
 use Rattle.volume_core.specs.declared.objects.Object.{Object}
 use Rattle.volume_core.specs.Volume.{AllApply, Part, after, capacity_of, count_of, objects_of, part_of}
-use Rattle.record_index.specs.Indexes.{Indexes}
-use Rattle.record_index.specs.Places.{PlacedPart, empty_placed, outline, placed_objects, reserved_of}
+use Rattle.object_index.specs.Indexes.{Indexes}
+use Rattle.object_index.specs.Places.{PlacedPart, empty_placed, outline, placed_objects, reserved_of}
 
 -- for each partition how many of the stored objects stay in front, at most, and the objects behind them: of a block the
 -- number of its change among the pending ones, and its length (own)

@@ -2,7 +2,7 @@
 ghost use Rattle.std.specs.Prelude.{◌≡◌, ◌≤◌, ◌+◌, ◌++◌, ◌↔◌, [], ◌∷◌, IsTrue, IfErr, OnOk, length, sum_by};
 ghost use Rattle.vtl_base.specs.declared.limits.TheConstants.{BUFFER_BYTES, MAX_BODY};
 ghost use Rattle.volume_core.specs.Medium.{block_bytes, frame_size};
-ghost use Rattle.record_index.specs.Records.{spell_all};
+ghost use Rattle.change_records.specs.Records.{spell_all};
 ghost use Rattle.waiting_changes.specs.Limits.{FitsBuffer};
 ghost use Rattle.waiting_changes.specs.Tail.{AppliesBehind, IsTailOf};
 

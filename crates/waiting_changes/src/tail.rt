@@ -2,13 +2,14 @@
 ghost use Rattle.std.specs.Prelude.{◌≡◌, ◌≤◌, ◌<◌, ◌+◌, ◌^◌, ◌-◌, ◌≢◌, ℕ, [], None, IfOk, OnErr, OnOk, min, slice_get, true};
 ghost use Rattle.vtl_base.specs.declared.limits.TheConstants.{MAX_CAPACITY, MAX_OBJECTS, MAX_PARTITIONS};
 ghost use Rattle.volume_core.specs.Volume.{IsMarkOf, capacity_of, count_of, is_well_formed, staying_of, kind_at, mark_count, marks_upto, part_of, refusal_of, used_up_to};
-ghost use Rattle.record_index.specs.Places.{outline, placed_after, placed_objects, reserved_of, with_objects};
-ghost use Rattle.record_index.specs.Records.{record_of};
-ghost use Rattle.record_index.specs.Shapes.{shape_of_change};
+ghost use Rattle.object_index.specs.Places.{outline, placed_after, placed_objects, reserved_of, with_objects};
+ghost use Rattle.change_records.specs.Records.{record_of};
+ghost use Rattle.object_index.specs.Shapes.{shape_of_change};
 ghost use Rattle.waiting_changes.specs.Tail.{AreWide, IsFree, shifted, staying_in, no_tail, opened};
 
 use cartridge::reserving::reserve_each;
-use record_index::{Index, Placed, Record};
+use change_records::Record;
+use object_index::{Index, Placed};
 use std::alloc::Global;
 use std::marker::Model;
 use volume_core::{Change, Kind};

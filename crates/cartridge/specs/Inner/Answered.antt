@@ -16,9 +16,9 @@ use Rattle.cartridge_sides.specs.declared.which.Which.{Which}
 use Rattle.cartridge_sides.specs.declared.which.Which.TheVariants.{First, Second}
 use Rattle.cartridge_sides.specs.Pairs.{IsOfCartridge, PairStandsFor, SideCounts, gate_behind}
 use Rattle.cartridge_sides.specs.Inner.Decided.{decided as decided_pair}
-use Rattle.record_index.specs.Records.{IsRecord, spell_all}
-use Rattle.record_index.specs.Inner.Decided.{never_both, same_list}
-use Rattle.record_index.specs.Inner.Decided.{decided as decided_list}
+use Rattle.change_records.specs.Records.{IsRecord, spell_all}
+use Rattle.change_records.specs.Inner.Decided.{never_both, same_list}
+use Rattle.change_records.specs.Inner.Decided.{decided as decided_list}
 use Rattle.cartridge.specs.Contents.{AreGood, IsAnswered, IsBadFrame, IsContents, bodies_of, changes_of, contents_from}
 
 -- whether changes apply can be found out

@@ -2,7 +2,7 @@
 use Rattle.std.specs.Prelude.{◌≡◌, ◌<◌, ◌≤◌, ◌+◌, ℕ, List, [], ◌∷◌, length, sum_by}
 use Rattle.volume_core.specs.declared.changes.Change.{Change}
 use Rattle.gate_journal.specs.State.{OpenSide}
-use Rattle.record_index.specs.Places.{PlacedPart, reserved_of}
+use Rattle.object_index.specs.Places.{PlacedPart, reserved_of}
 use Rattle.cartridge.specs.Answers.{entries_of}
 
 -- the partitions are as they were, and no less is reserved in each (own)

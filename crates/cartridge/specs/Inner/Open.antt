@@ -5,8 +5,8 @@ use Rattle.tape_disk.specs.Disk.{DiskState, Each}
 use Rattle.gate_journal.specs.Side.{Front, Heading, StandsFor}
 use Rattle.cartridge_sides.specs.declared.which.Which.{Which}
 use Rattle.cartridge_sides.specs.Roles.{MayCountBeside}
-use Rattle.record_index.specs.Places.{PlacedPart}
-use Rattle.record_index.specs.Indexes.{Indexes}
+use Rattle.object_index.specs.Places.{PlacedPart}
+use Rattle.object_index.specs.Indexes.{Indexes}
 use Rattle.cartridge.specs.Contents.{Contents, IsContents, bodies_of, volume_made, with_frames}
 use Rattle.cartridge.specs.Lying.{LiesOnSide}
 use Rattle.cartridge.specs.Notes.{Notes, noted_as, noted_contents}

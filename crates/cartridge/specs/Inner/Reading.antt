@@ -5,11 +5,12 @@ use Rattle.volume_core.specs.declared.changes.Change.{Change}
 use Rattle.volume_core.specs.declared.changes.Refusal.{Refusal}
 use Rattle.volume_core.specs.Volume.{Part, AllApply, after, refusal_of}
 use Rattle.gate_journal.specs.Side.{Heading}
-use Rattle.record_index.specs.declared.records.Record.{Record}
-use Rattle.record_index.specs.Readers.{IsAfter, ReaderState}
-use Rattle.record_index.specs.Records.{IsRecord, SpellsAll, spell_all}
-use Rattle.record_index.specs.Places.{PlacedPart, outline, outlined, placed_after}
-use Rattle.record_index.specs.Indexes.{Indexes}
+use Rattle.change_records.specs.declared.records.Record.{Record}
+use Rattle.change_records.specs.Readers.{IsAfter, ReaderState}
+use Rattle.change_records.specs.Records.{IsRecord, SpellsAll, spell_all}
+use Rattle.change_records.specs.Records.{outlined}
+use Rattle.object_index.specs.Places.{PlacedPart, outline, placed_after}
+use Rattle.object_index.specs.Indexes.{Indexes}
 use Rattle.cartridge.specs.Contents.{bodies_of}
 use Rattle.cartridge.specs.Inner.Open.{IsOpen}
 use Rattle.cartridge.specs.Lying.{IsPlaceOf, LiesIn}

@@ -12,8 +12,8 @@ use Rattle.gate_journal.specs.Heads.{Head}
 use Rattle.gate_journal.specs.Side.{frame}
 use Rattle.cartridge_sides.specs.Pairs.{gate_behind}
 use Rattle.cartridge_sides.specs.Inner.Decided.{one_place, one_thing, sound}
-use Rattle.record_index.specs.Records.{IsRecord, spell_all}
-use Rattle.record_index.specs.Inner.Decided.{same_list}
+use Rattle.change_records.specs.Records.{IsRecord, spell_all}
+use Rattle.change_records.specs.Inner.Decided.{same_list}
 use Rattle.cartridge.specs.Contents.{AreGood, Contents, GivesContents, IsBadFrame, IsBadFrameAt, IsContents, IsDamagedPairAt, IsNoCartridge, bodies_of, changes_of}
 
 -- frames that are spelled alike are the same

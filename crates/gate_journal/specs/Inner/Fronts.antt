@@ -1,12 +1,12 @@
 -- A front has one spelling, and whether bytes begin with one is decidable.
-use Rattle.std.proofs.Common.{◌≡◌, ◌⊎◌, inl, inr, ℕ, ◌≤◌, ◌+◌, ◌*◌, List, [], ◌∷◌, ◌++◌, length, take, drop, get_or, refl, sym, ◌∙◌, ap, subst, arith, append_assoc, length-append, Bool, true, false, nat_lt}
+use Rattle.std.proofs.Common.{◌≡◌, inl, inr, ℕ, ◌≤◌, ◌+◌, ◌*◌, List, ◌∷◌, ◌++◌, length, take, drop, get_or, refl, sym, ◌∙◌, ap, subst, arith, length-append, Bool, true, false, nat_lt}
 use Rattle.std.specs.Prelude.{Option, None, Some, ◌-◌, if◌then◌else◌}
 use Rattle.std.proofs.lemmas.Bool.{cases_eq, le-ltb, lt-ltb}
 use Rattle.std.proofs.lemmas.List.{append_cancel_left, drop_at, take_at}
 use Rattle.gate_journal.specs.declared.header.SideKind.{SideKind}
 use Rattle.gate_journal.specs.declared.header.SideKind.TheVariants.{Cartridge, Store}
 use Rattle.gate_journal.specs.declared.heads.Copied.{Copied}
-use Rattle.gate_journal.specs.Heads.{Head, IsHead, IsCopied, count_byte, spell_side_head}
+use Rattle.gate_journal.specs.Heads.{IsCopied, count_byte, spell_side_head}
 use Rattle.gate_journal.specs.Side.{CLOSED, OPEN, Front, Heading, IsFront, IsHeading, IsPairGate, mark, plain, spell_front, start}
 use Rattle.gate_journal.specs.Inner.Deciding.{Decidable, both, decided_as, same}
 use Rattle.gate_journal.specs.Inner.Heads.{head_as, is_copy}

@@ -3,9 +3,9 @@ use Rattle.std.specs.Prelude.{◌≡◌, ◌⊎◌, ℕ, List, [], ◌∷◌, Op
 use Rattle.tape_disk.specs.Disk.{DiskState}
 use Rattle.ledgers.specs.Ledgers.{Gathered}
 use Rattle.ledgers.specs.declared.gathering.SeatsMissing.{SeatsMissing}
-use Rattle.bays.specs.Elements.{BayState}
-use Rattle.bays.specs.Finish.{HasFailedAt, IsWrittenAt}
-use Rattle.bays.specs.declared.finishing.Unwritten.{Unwritten}
+use Rattle.bay_moves.specs.Elements.{BayState}
+use Rattle.bay_moves.specs.Finish.{HasFailedAt, IsWrittenAt}
+use Rattle.bay_moves.specs.declared.finishing.Unwritten.{Unwritten}
 use Rattle.library.specs.Counts.{places_filled, which_are_there}
 use Rattle.library.specs.Ends.{counts_of, sum_of_counts}
 use Rattle.library.specs.Keeps.{IsLeftAt}

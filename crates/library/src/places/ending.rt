@@ -1,11 +1,11 @@
 //! The end of a drive: its halves are joined, and it takes a last turn.
 ghost use Rattle.std.specs.Prelude.{◌≡◌, Some, OnErr, OnOk};
-ghost use Rattle.bays.specs.Finish.{HasFailedAt, IsWrittenAt};
+ghost use Rattle.bay_moves.specs.Finish.{HasFailedAt, IsWrittenAt};
 ghost use Rattle.library.specs.Halves.{EndsHeld};
 
 use super::held::{join_held, known_drive};
 use super::{BackPlace, FrontPlace};
-use bays::{Bay, Unwritten};
+use bay_moves::{Bay, Unwritten};
 use ledgers::{Parties, PartyShare};
 use split_bay::Rings;
 use std::sync::Wait;

@@ -5,7 +5,7 @@ ghost use Rattle.split_bay.specs.Rings.{AreEnds};
 ghost use Rattle.library.specs.Halves.{JoinsHeld, PartsHeld};
 ghost use Rattle.library.specs.Keeps.{KeepsDrive};
 
-use bays::Bay;
+use bay_moves::Bay;
 use split_bay::{Back, Ends, Front, Rings, join, part};
 use std::sync::Wait;
 use tape_disk::Disk;

@@ -1,7 +1,7 @@
 //! Moves of cartridges between two element addresses, each of which may be that of a locked drive.
 ghost use Rattle.std.specs.Prelude.{◌≡◌, ◌≢◌, Option, None, Some, IfSome, is_some};
-ghost use Rattle.bays.specs.Elements.{BayState};
-ghost use Rattle.bays.specs.Lent.{IsDriveAddress, KeepsCount};
+ghost use Rattle.bay_moves.specs.Elements.{BayState};
+ghost use Rattle.bay_moves.specs.Lent.{IsDriveAddress, KeepsCount};
 ghost use Rattle.library.specs.Halves.{HoldsBoth};
 ghost use Rattle.library.specs.Keeps.{KeepsAt};
 ghost use Rattle.library.specs.MovesAt.{MovesEach};
@@ -9,7 +9,7 @@ ghost use Rattle.library.specs.MovesAt.{MovesEach};
 use super::held::{join_held, known_drive, part_held};
 use super::{BackPlace, FrontPlace};
 use crate::inventories::known_slots;
-use bays::{Bay, Parked, move_lent};
+use bay_moves::{Bay, Parked, move_lent};
 use element_slots::Slots;
 use ledgers::Parties;
 use scsi_sense::Reply;

@@ -6,7 +6,7 @@ use Rattle.ledgers.specs.Ledgers.{SeatState}
 use Rattle.scsi_sense.specs.declared.replies.Reply.{Reply}
 use Rattle.vtl_script.specs.declared.items.Item.{Item}
 use Rattle.vtl_script.specs.declared.items.Item.TheVariants.{Phase}
-use Rattle.bays.specs.Runs.{Order, orders_of}
+use Rattle.bay_moves.specs.Runs.{Order, orders_of}
 use Rattle.library_scripts.specs.Crews.{AnswersAllAmong, AnswersCrew, CrewState}
 
 module _ {D : Type 0} (state : D → DiskState) where

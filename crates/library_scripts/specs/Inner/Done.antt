@@ -6,7 +6,7 @@ use Rattle.tape_disk.specs.Disk.{DiskState}
 use Rattle.scsi_sense.specs.declared.replies.Reply.{Reply}
 use Rattle.ledgers.specs.Ledgers.{SeatState}
 use Rattle.vtl_script.specs.declared.lines.Line.{Line}
-use Rattle.bays.specs.Runs.{Command, Order}
+use Rattle.bay_moves.specs.Runs.{Command, Order}
 use Rattle.library.specs.Sessions.{AnswersSession}
 use Rattle.library_scripts.specs.Crews.{AnswersAllAmong}
 use Rattle.library_scripts.specs.Inner.CrewsOn.{among_on}

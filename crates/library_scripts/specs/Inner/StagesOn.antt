@@ -5,7 +5,7 @@ use Rattle.tape_disk.specs.Disk.{DiskState}
 use Rattle.ledgers.specs.Ledgers.{SeatState}
 use Rattle.vtl_script.specs.declared.lines.Line.{Line}
 use Rattle.vtl_script.specs.declared.items.Item.TheVariants.{Phase}
-use Rattle.bays.specs.Runs.{Command, Order}
+use Rattle.bay_moves.specs.Runs.{Command, Order}
 use Rattle.library_scripts.specs.Crews.{AnswersAllAmong, AnswersCrew}
 use Rattle.library_scripts.specs.Inner.Jobs.{DealsLines, IsServedStage, StageState, lines_of, seats_of}
 use Rattle.library_scripts.specs.Inner.Staged.{crew_of, replies_at}

@@ -2,7 +2,7 @@
 ghost use Rattle.std.specs.Prelude.{◌≤◌, ◌<◌};
 
 use super::{Answer, next};
-use record_index::{Found, Record};
+use change_records::{Found, Record};
 use std::alloc::Global;
 use std::test::Fail;
 

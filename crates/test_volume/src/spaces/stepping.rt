@@ -1,7 +1,7 @@
 //! A catalog over an index, which counts the searches for filemarks, their steps, and the objects that are looked at.
 ghost use Rattle.std.specs.Prelude.{◌≡◌, true};
 
-use record_index::Index;
+use object_index::Index;
 use std::cell::Cell;
 use volume_core::{Catalog, Kind};
 use vtl_base::{ObjNo, PartNo, Steps};
@@ -47,7 +47,7 @@ impl<'a> Stepping<'a> {
 impl<'a> Catalog for Stepping<'a> {
     ghost use Rattle.std.specs.Prelude.{true};
     ghost use Rattle.volume_core.specs.Plain.{plain_state};
-    ghost use Rattle.record_index.specs.Places.{outline};
+    ghost use Rattle.object_index.specs.Places.{outline};
 
     ghost state = { λ c. plain_state (record { volume = outline c.index.now; awake = true }) };
 

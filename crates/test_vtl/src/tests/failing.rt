@@ -1,7 +1,7 @@
 //! A script over a disk of which one call fails: what is written, and which fault is reported.
 use super::streams::{BadReader, BadWriter};
 use aptpl_store::AptplStore;
-use bays::{Held, Parked};
+use bay_moves::{Held, Parked};
 use cartridge::Cartridge;
 use pr_core::Reservations;
 use std::alloc::Global;

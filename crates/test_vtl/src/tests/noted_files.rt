@@ -1,5 +1,5 @@
 //! Files in memory, of a test's own, that note their calls.
-use bays::Held;
+use bay_moves::Held;
 use file_disk::{FailedCall, FileError, SystemCall};
 use std::alloc::{AllocError, Global};
 use std::cell::{Cell, RefCell};

@@ -1,7 +1,7 @@
 -- The part of a frame that was spelled so far.
 use Rattle.std.specs.Prelude.{◌≡◌, ℕ, List, ◌++◌, length, sum_by}
 use Rattle.volume_core.specs.declared.changes.Change.{Change}
-use Rattle.record_index.specs.Records.{spell_all}
+use Rattle.change_records.specs.Records.{spell_all}
 use Rattle.volume_copy.specs.declared.entries.Entry.{Entry}
 use Rattle.volume_copy.specs.Entries.{entry_size}
 use Rattle.volume_copy.specs.Matching.{AllMatch}

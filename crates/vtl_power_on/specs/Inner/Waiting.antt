@@ -8,7 +8,7 @@ use Rattle.aptpl_store.specs.State.{OpenStore}
 use Rattle.element_slots.specs.Slots.{is_slot}
 use Rattle.drive_core.specs.Media.{SwitchesOn}
 use Rattle.drive_core.specs.State.{left_of}
-use Rattle.bays.specs.Elements.{BayState, Becomes, bay_at}
+use Rattle.bay_moves.specs.Elements.{BayState, Becomes, bay_at}
 use Rattle.vtl_config.specs.declared.entries.CartridgeEntry.{CartridgeEntry}
 use Rattle.vtl_config.specs.Entries.{AreDistinct, homes_of}
 use Rattle.vtl_power_on.specs.Sides.{SidesGiven}

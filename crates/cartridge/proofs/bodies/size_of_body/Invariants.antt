@@ -1,5 +1,5 @@
 use Rattle.std.proofs.Common.{◌≡◌, length, take}
-use Rattle.record_index.specs.Records.{spell_all}
+use Rattle.change_records.specs.Records.{spell_all}
 use Rattle.cartridge.proofs.bodies.size_of_body.Given as goal
 
 abbrev pub invariant-loop-change : goal.invariant-loop-change

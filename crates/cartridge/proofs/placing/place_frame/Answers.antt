@@ -2,11 +2,12 @@ use Rattle.std.proofs.Common.{◌≡◌, ◌-◌, ℕ, List, [], ◌∷◌, ◌+
 use Rattle.std.specs.Prelude.{slice_index_or}
 use Rattle.std.proofs.lemmas.List.{get_or_default, length-map}
 use Rattle.volume_core.specs.Volume.{Part, after}
-use Rattle.record_index.specs.declared.records.Record.{Record}
-use Rattle.record_index.specs.Inner.Spelled.{length-spell}
-use Rattle.record_index.specs.Indexes.{Indexes, LiesAt, indexes_after, indexes_shape}
-use Rattle.record_index.specs.Places.{PlacedPart, record_part, placed_after, reserved_of, runs_of}
-use Rattle.record_index.specs.Records.{IsRecord, record_of, size_of, spell_change, spell_all}
+use Rattle.change_records.specs.declared.records.Record.{Record}
+use Rattle.change_records.specs.Inner.Spelled.{length-spell}
+use Rattle.object_index.specs.Indexes.{Indexes, LiesAt, indexes_after, indexes_shape}
+use Rattle.change_records.specs.Records.{record_part}
+use Rattle.object_index.specs.Places.{PlacedPart, placed_after, reserved_of, runs_of}
+use Rattle.change_records.specs.Records.{IsRecord, record_of, size_of, spell_change, spell_all}
 use Rattle.cartridge.specs.Answers.{entries_of}
 use Rattle.cartridge.specs.Contents.{bodies_of, volume_made}
 use Rattle.cartridge.specs.Lying.{HasBlock, LiesIn, LiesOnSide}

@@ -1,7 +1,7 @@
 use Rattle.std.proofs.Common.{◌≡◌, ◌+◌, length, take}
 use Rattle.volume_core.specs.Volume.{after}
-use Rattle.record_index.specs.Records.{spell_all}
-use Rattle.record_index.specs.Indexes.{Indexes}
+use Rattle.change_records.specs.Records.{spell_all}
+use Rattle.object_index.specs.Indexes.{Indexes}
 use Rattle.cartridge.specs.Contents.{volume_made}
 use Rattle.cartridge.specs.Inner.Growing.{TakesEntries}
 use Rattle.cartridge.specs.Lying.{LiesOnSide}

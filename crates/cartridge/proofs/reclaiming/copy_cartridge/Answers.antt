@@ -2,11 +2,11 @@ use Rattle.std.proofs.Common.{◌≡◌, ◌<◌, ◌^◌, ◌⊎◌, inl, inr, 
 use Rattle.std.specs.Prelude.{OnOk, Result, Some}
 use Rattle.vtl_base.specs.declared.faults.DevFault.{DevFault}
 use Rattle.gate_journal.specs.declared.heads.Copied.{Copied}
-use Rattle.record_index.specs.Records.{spell_all}
+use Rattle.change_records.specs.Records.{spell_all}
 use Rattle.std.proofs.lemmas.List.{length-map}
 use Rattle.tape_disk.specs.TwoDisks.{AreHonest, EachOfTwo, MayLeave, TwoDisks, TwoLeave, seen_of_two, two_weakened}
 use Rattle.volume_core.specs.Volume.{IsVolume}
-use Rattle.record_index.specs.Indexes.{indexes_shape}
+use Rattle.object_index.specs.Indexes.{indexes_shape}
 use Rattle.volume_reclaim.specs.Reclaiming.{GivesCopy, MayReclaim}
 use Rattle.side_reclaim.specs.Ready.{GivesSide}
 use Rattle.cartridge.specs.Contents.{Contents, GivesContents, IsContents, bodies_of, volume_made}

@@ -1,5 +1,5 @@
 use Rattle.std.proofs.Common.{ℕ, ◌<◌, ◌≤◌}
-use Rattle.record_index.specs.Places.{reserved_of}
+use Rattle.object_index.specs.Places.{reserved_of}
 use Rattle.cartridge.specs.Inner.Growing.{IsGrown}
 use Rattle.cartridge.proofs.reserving.reserve_each.Given as goal
 

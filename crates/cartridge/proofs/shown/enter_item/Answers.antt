@@ -1,4 +1,5 @@
-use Rattle.record_index.specs.Places.{record_part, reserved_of}
+use Rattle.change_records.specs.Records.{record_part}
+use Rattle.object_index.specs.Places.{reserved_of}
 use Rattle.cartridge.proofs.EnterLemmas.{takes_one}
 use Rattle.cartridge.proofs.shown.enter_item.Goals as goal
 

@@ -1,6 +1,6 @@
 use Rattle.std.proofs.Common.{◌≡◌, ◌∙◌, None, arith, sym}
 use Rattle.volume_core.specs.Volume.{refusal_of}
-use Rattle.record_index.specs.Places.{reserved_of}
+use Rattle.object_index.specs.Places.{reserved_of}
 use Rattle.cartridge.proofs.EnterLemmas.{as_many_parts, is_record, shown_grown}
 use Rattle.cartridge.proofs.RecordLemmas.{inside_of}
 use Rattle.cartridge.proofs.shown.entry_for.Goals as goal

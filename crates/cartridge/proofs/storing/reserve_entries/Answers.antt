@@ -1,6 +1,6 @@
 use Rattle.std.proofs.Common.{◌≡◌, ℕ, List, sum_by, inl, inr, ap, sym, subst, arith}
 use Rattle.std.proofs.lemmas.Bool.{cases_eq}
-use Rattle.record_index.specs.Places.{PlacedPart, reserved_of}
+use Rattle.object_index.specs.Places.{PlacedPart, reserved_of}
 use Rattle.cartridge.specs.Answers.{entries_of}
 use Rattle.cartridge.specs.Inner.Growing.{IsGrown}
 use Rattle.cartridge.proofs.GrowingLemmas.{grown_length, grown_reserved, grown_same, grown_then, reserve_grown}

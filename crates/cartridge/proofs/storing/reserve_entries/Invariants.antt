@@ -1,5 +1,5 @@
 use Rattle.std.proofs.Common.{ℕ, ◌<◌, ◌≤◌, sum_by}
-use Rattle.record_index.specs.Places.{reserved_of}
+use Rattle.object_index.specs.Places.{reserved_of}
 use Rattle.cartridge.specs.Answers.{entries_of}
 use Rattle.cartridge.specs.Inner.Growing.{IsGrown}
 use Rattle.cartridge.proofs.storing.reserve_entries.Given as goal

@@ -1,5 +1,5 @@
 use Rattle.std.proofs.Common.{List, sym, subst}
-use Rattle.record_index.specs.Places.{PlacedPart, reserved_of}
+use Rattle.object_index.specs.Places.{PlacedPart, reserved_of}
 use Rattle.cartridge.specs.Inner.Growing.{IsGrown}
 use Rattle.cartridge.proofs.GrowingLemmas.{grown_same, reserve_grown}
 use Rattle.cartridge.proofs.storing.reserve_part.Goals as goal

@@ -1,5 +1,5 @@
 use Rattle.std.proofs.Common.{ℕ, List, ◌++◌, ◌-◌, ◌≤◌, length, take}
-use Rattle.record_index.specs.Places.{PlacedPart}
+use Rattle.object_index.specs.Places.{PlacedPart}
 use Rattle.cartridge.specs.Inner.Reading.{IsBodyWalked}
 use Rattle.cartridge.proofs.walking.walk_piece.Given as goal
 

@@ -9,7 +9,7 @@ pub loop-number-init : goal.loop-number-init
 loop-number-init g c =
     let d = g.D.Disk.state c.args.disk.now in
     record {
-      room = omega arith;
+      room = (omega arith, λ none. refl);
       gathers = record {
         written = [];
         all = refl;
@@ -28,17 +28,17 @@ add_part-requires-clause-room g c =
     let first = c.args.bytes.now.items in
     let parts = g.P.BodyParts.parts c.args.parts.now in
     let inv = c.loop-number.invariant in
-    let part = c.part.result.0 ++ c.part.result.1.now in
+    let part = c.in-Some.part.0 ++ c.in-Some.part.1.now in
     let counted : vec_len c.loop-number.bytes ≡ length c.loop-number.bytes.items = search rules in
     omega (
       arith,
       counted,
       c.requires.room,
-      inv.room,
+      inv.room.0,
       ap (λ (l : List ℕ). length l) inv.gathers.all,
       length-append inv.gathers.written c.loop-number.bytes.items,
-      followed_within first parts c.loop-number.number part c.part.ensures,
-      length-append c.part.result.0 c.part.result.1.now,
+      followed_within first parts c.loop-number.number part c.in-Some.ensures.found,
+      length-append c.in-Some.part.0 c.in-Some.part.1.now,
     )
 
 pub add_part-requires-clause-bound : goal.add_part-requires-clause-bound
@@ -46,7 +46,7 @@ add_part-requires-clause-bound g c =
     let first = c.args.bytes.now.items in
     let parts = g.P.BodyParts.parts c.args.parts.now in
     let inv = c.loop-number.invariant in
-    let part = c.part.result.0 ++ c.part.result.1.now in
+    let part = c.in-Some.part.0 ++ c.in-Some.part.1.now in
     let counted : vec_len c.loop-number.bytes ≡ length c.loop-number.bytes.items = search rules in
     omega (
       arith,
@@ -55,8 +55,8 @@ add_part-requires-clause-bound g c =
       inv.gathers.at_is,
       ap (λ (l : List ℕ). length l) inv.gathers.all,
       length-append inv.gathers.written c.loop-number.bytes.items,
-      followed_within first parts c.loop-number.number part c.part.ensures,
-      length-append c.part.result.0 c.part.result.1.now,
+      followed_within first parts c.loop-number.number part c.in-Some.ensures.found,
+      length-append c.in-Some.part.0 c.in-Some.part.1.now,
     )
 
 pub returns-in_err-at-clause-any_moment : goal.returns-in_err-at-clause-any_moment
@@ -65,8 +65,8 @@ returns-in_err-at-clause-any_moment g c = λ h.
     let parts = g.P.BodyParts.parts c.args.parts.now in
     let inv = c.loop-number.invariant in
     let bytes = c.loop-number.bytes.items in
-    let head = c.part.result.0 in
-    let block = c.part.result.1.now in
+    let head = c.in-Some.part.0 in
+    let block = c.in-Some.part.1.now in
     let h1 = inv.keeps.stays_honest h in
     laid_on c.args.from (length (followed first parts)) (g.D.Disk.state c.args.disk.now)
     (g.D.Disk.state c.loop-number.disk) (g.met.D.Disk.is_disk c.loop-number.disk h1) (inv.moments h)
@@ -77,7 +77,7 @@ returns-in_err-at-clause-any_moment g c = λ h.
       inv.gathers.at_is,
       ap (λ (l : List ℕ). length l) inv.gathers.all,
       length-append inv.gathers.written bytes,
-      followed_within first parts c.loop-number.number (head ++ block) c.part.ensures,
+      followed_within first parts c.loop-number.number (head ++ block) c.in-Some.ensures.found,
       length-append head block,
       length-append (bytes ++ head) block,
       length-append bytes head,
@@ -90,20 +90,23 @@ loop-number-preserved g c =
     let parts = g.P.BodyParts.parts c.args.parts.now in
     let inv = c.loop-number.invariant in
     let bytes = c.loop-number.bytes.items in
-    let head = c.part.result.0 in
-    let block = c.part.result.1.now in
+    let head = c.in-Some.part.0 in
+    let block = c.in-Some.part.1.now in
     let d0 = g.D.Disk.state c.args.disk.now in
     let d1 = g.D.Disk.state c.loop-number.disk in
     let d2 = g.D.Disk.state c.add_part.new.disk in
     let passes = c.in_ok-at.ensures.passes in
     record {
-      room = omega (arith, inv.room, c.add_part.ensures.room);
+      room = (
+        omega (arith, inv.room.0, c.add_part.ensures.room),
+        λ none. omega (arith, ap (λ (l : List (List ℕ)). length l) none, c.count-number-end.ensures, c.loop-number-test),
+      );
       gathers =
           gathers_on c.args.from c.loop-number.at c.in_ok-at.at (followed first (take c.loop-number.number parts))
           (head ++ block) bytes (bytes ++ head ++ block) c.add_part.new.bytes.items
           (followed first (take (c.loop-number.number + 1) parts)) d0 d1 d2 inv.gathers c.in_ok-at.ensures.gathers
           inv.keeps.stays_honest c.requires.place (append_assoc bytes head block)
-          (followed_more first parts c.loop-number.number (head ++ block) c.part.ensures);
+          (followed_more first parts c.loop-number.number (head ++ block) c.in-Some.ensures.found);
       keeps = record {
         stays_honest = λ h. passes.stays_honest (inv.keeps.stays_honest h);
         was_honest = λ h. inv.keeps.was_honest (passes.was_honest h);
@@ -119,7 +122,7 @@ loop-number-preserved g c =
             inv.gathers.at_is,
             ap (λ (l : List ℕ). length l) inv.gathers.all,
             length-append inv.gathers.written bytes,
-            followed_within first parts c.loop-number.number (head ++ block) c.part.ensures,
+            followed_within first parts c.loop-number.number (head ++ block) c.in-Some.ensures.found,
             length-append head block,
             length-append (bytes ++ head) block,
             length-append bytes head,

@@ -1,9 +1,9 @@
-use Rattle.std.proofs.Common.{◌≤◌, length, take}
+use Rattle.std.proofs.Common.{length, take}
 use Rattle.std.specs.Prelude.{vec_capacity}
 use Rattle.tape_disk.specs.Disk.{Keeps}
 use Rattle.tape_disk.specs.Moments.{LeavesOnly}
 use Rattle.gate_journal.specs.Answers.{NoneFailed}
-use Rattle.gate_journal.specs.Followed.{followed}
+use Rattle.gate_journal.specs.Followed.{KeepsRoom, followed}
 use Rattle.gate_journal.specs.Inner.Writing.{Gathers, Touched}
 use Rattle.gate_journal.proofs.gathering.add_parts.Given as goal
 
@@ -14,7 +14,7 @@ invariant-loop-number g l =
     let old = g.D.Disk.state l.fn.disk in
     let new = g.D.Disk.state l.disk in
     record {
-      room : vec_capacity l.fn.bytes ≤ vec_capacity l.bytes;
+      room : KeepsRoom parts (vec_capacity l.fn.bytes) (vec_capacity l.bytes);
       gathers : Gathers l.fn.from l.at (followed first (take l.number parts)) l.bytes.items old new;
       keeps : Keeps old new;
       none_failed : NoneFailed old new;

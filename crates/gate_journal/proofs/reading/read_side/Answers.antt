@@ -1,4 +1,4 @@
-use Rattle.std.proofs.Common.{◌≡◌, ℕ, List, length, ◌≤◌, arith, ap, subst, sym, ◌∙◌, length-append}
+use Rattle.std.proofs.Common.{ℕ, List, length, ◌≤◌, arith, ap, subst, sym, ◌∙◌, length-append}
 use Rattle.std.proofs.lemmas.Result.{err_from_is_err_and}
 use Rattle.tape_disk.specs.Sequences.{keeps_of_passes}
 use Rattle.gate_journal.specs.Side.{base_of, spell_front, StandsFor}

@@ -1,7 +1,7 @@
 use Rattle.std.proofs.Common.{◌≡◌, ◌<◌, ◌+◌, ◌-◌, ◌∷◌, ◌++◌, ◌∙◌, ℕ, Bool, List, [], Option, None, is_some, length, take, get_or, refl, ap, sym, subst, arith}
 use Rattle.std.proofs.lemmas.List.{get_or-set_other, map-append}
 use Rattle.std.proofs.Math.Seq.{take-length}
-use Rattle.bays.specs.Elements.{BayState}
+use Rattle.bay_moves.specs.Elements.{BayState}
 use Rattle.split_bay.specs.Rings.{Sender}
 use Rattle.library.specs.Counts.{AcceptedNone, one_if_there, which_are_there}
 use Rattle.library.proofs.RowLemmas.{alike_at, more_filled, more_there, room_for, same_filled, same_length}

@@ -1,5 +1,5 @@
 use Rattle.std.proofs.Common.{◌≡◌, ◌≤◌, ◌+◌, ℕ, Option, length, take, get_or, vec_len, vec_capacity}
-use Rattle.bays.specs.Elements.{BayState}
+use Rattle.bay_moves.specs.Elements.{BayState}
 use Rattle.split_bay.specs.Rings.{Sender}
 use Rattle.library.specs.Counts.{places_filled, which_are_there}
 use Rattle.library.proofs.opening.share_all.Given as goal

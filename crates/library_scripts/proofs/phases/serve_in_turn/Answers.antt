@@ -3,7 +3,7 @@ use Rattle.std.proofs.Math.Seq.{map-set}
 use Rattle.std.proofs.lemmas.List.{get_or-map, get_or-set_other, get_or_default, length-map, take_more}
 use Rattle.ledgers.specs.Ledgers.{SeatState}
 use Rattle.vtl_script.specs.declared.lines.Line.{Line}
-use Rattle.bays.specs.Runs.{line_request}
+use Rattle.bay_moves.specs.Runs.{line_request}
 use Rattle.library.specs.Served.{IsServed}
 use Rattle.library_scripts.specs.Crews.{AnswersLine}
 use Rattle.library_scripts.specs.Inner.Jobs.{JobState, seats_of}

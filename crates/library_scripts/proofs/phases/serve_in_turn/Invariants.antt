@@ -1,6 +1,6 @@
 use Rattle.std.proofs.Common.{◌≡◌, ◌≤◌, ℕ, get_or, map, take, length, vec_len, vec_capacity}
 use Rattle.vtl_script.specs.declared.lines.Line.{Line}
-use Rattle.bays.specs.Runs.{Command}
+use Rattle.bay_moves.specs.Runs.{Command}
 use Rattle.library_scripts.specs.Crews.{AnswersAllAmong}
 use Rattle.library_scripts.specs.Inner.InPlace.{AreInPlace}
 use Rattle.library_scripts.specs.Inner.Jobs.{seats_of}

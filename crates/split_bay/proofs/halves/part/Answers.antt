@@ -6,7 +6,7 @@ use Rattle.tape_buffer.specs.State.{BufferState, state_of}
 use Rattle.split_bay.specs.declared.hosts.Hosts.{Hosts}
 use Rattle.split_bay.specs.Hosts.{drive_near, state_hosts}
 use Rattle.split_bay.specs.Rings.{SendingState}
-use Rattle.bays.specs.Elements.{BayState}
+use Rattle.bay_moves.specs.Elements.{BayState}
 use Rattle.split_bay.proofs.HalvesLemmas.{keeps_parted, parts_apart, positioned_parted}
 use Rattle.split_bay.proofs.HostsLemmas.{apart_whole, near_whole, positioned_hosts}
 use Rattle.split_bay.proofs.halves.part.Goals as goal

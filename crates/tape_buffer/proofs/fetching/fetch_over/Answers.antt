@@ -4,8 +4,8 @@ use Rattle.std.specs.Option.{option_map}
 use Rattle.vtl_base.specs.Below.{Advances}
 use Rattle.volume_core.specs.declared.changes.Change.{Change}
 use Rattle.volume_core.specs.Volume.{block_at, block_in, kind_in}
-use Rattle.record_index.specs.declared.places.Placed.{Placed}
-use Rattle.record_index.specs.Places.{blank, filled}
+use Rattle.object_index.specs.declared.places.Placed.{Placed}
+use Rattle.object_index.specs.Places.{blank, filled}
 use Rattle.tape_disk.specs.TwoDisks.{failures_of}
 use Rattle.cartridge.specs.Contents.{volume_made}
 use Rattle.tape_buffer.specs.Moves.{buffer_below}

@@ -1,7 +1,7 @@
 use Rattle.std.proofs.Common.{arith}
 use Rattle.volume_core.specs.declared.objects.Kind.TheVariants as Kinds
 use Rattle.volume_core.specs.Volume.{objects_of}
-use Rattle.record_index.specs.Places.{outline}
+use Rattle.object_index.specs.Places.{outline}
 use Rattle.cartridge.specs.Contents.{volume_made}
 use Rattle.tape_buffer.proofs.SeenLemmas.{all_marks, kind_inside, mark_behind, mark_front}
 use Rattle.tape_buffer.proofs.seen.mark_seen.Goals as goal

@@ -1,6 +1,6 @@
 use Rattle.std.proofs.Common.{ap, arith}
 use Rattle.volume_core.specs.Volume.{after, marks_upto}
-use Rattle.record_index.specs.Places.{outline}
+use Rattle.object_index.specs.Places.{outline}
 use Rattle.cartridge.specs.Contents.{volume_made}
 use Rattle.tape_buffer.proofs.SeenLemmas.{marks_shown, no_more_marks}
 use Rattle.waiting_changes.proofs.VolumeLemmas.{stays_so}

@@ -1,6 +1,6 @@
 use Rattle.std.proofs.Common.{ap, arith}
 use Rattle.volume_core.specs.Volume.{used_up_to}
-use Rattle.record_index.specs.Places.{outline}
+use Rattle.object_index.specs.Places.{outline}
 use Rattle.cartridge.specs.Contents.{volume_made}
 use Rattle.waiting_changes.proofs.RefusalLemmas.{first_fit}
 use Rattle.tape_buffer.proofs.SeenLemmas.{used_shown}

@@ -1,7 +1,7 @@
 use Rattle.std.proofs.Common.{◌≡◌, List, length, take, ap, sym, subst, ◌∙◌, arith}
 use Rattle.volume_core.specs.declared.changes.Change.{Change}
 use Rattle.volume_core.specs.Volume.{AllApply, after, changed, refusal_of}
-use Rattle.record_index.specs.Records.{spell_all}
+use Rattle.change_records.specs.Records.{spell_all}
 use Rattle.test_known.proofs.VolumeLemmas.{carried_next, frame_of_one, spelled_next, taken_next}
 use Rattle.test_known.proofs.beside.carried_out.Goals as goal
 

@@ -1,7 +1,7 @@
 use Rattle.std.proofs.Common.{◌≡◌, ◌+◌, length, take}
 use Rattle.vtl_base.specs.declared.limits.TheConstants.{MAX_BODY}
 use Rattle.volume_core.specs.Volume.{AllApply, after}
-use Rattle.record_index.specs.Records.{spell_all}
+use Rattle.change_records.specs.Records.{spell_all}
 use Rattle.test_known.proofs.beside.carried_out.Given as goal
 
 abbrev pub invariant-loop-change : goal.invariant-loop-change

@@ -1,7 +1,7 @@
 use Rattle.std.proofs.Common.{◌∙◌, ap, sym, arith, length, List, Option, sum_by, subst}
 use Rattle.std.proofs.lemmas.List.{take_all}
 use Rattle.std.specs.List.{All}
-use Rattle.bays.specs.Elements.{BayState}
+use Rattle.bay_moves.specs.Elements.{BayState}
 use Rattle.library.specs.Counts.{AcceptedNone, one_if_there}
 use Rattle.test_library.proofs.FreshLemmas.{at_most_one, counts_fit, one_more}
 use Rattle.test_library.proofs.opening.count_fresh.Goals as goal

@@ -4,8 +4,8 @@ use Rattle.std.proofs.lemmas.Result.{on_ok_weaker}
 use Rattle.vtl_base.specs.declared.faults.DevFault.{DevFault}
 use Rattle.gate_journal.specs.declared.header.Header.{Header}
 use Rattle.gate_journal.specs.declared.heads.Copied.{Copied}
-use Rattle.record_index.specs.Indexes.{Indexes}
-use Rattle.record_index.specs.Places.{PlacedPart}
+use Rattle.object_index.specs.Indexes.{Indexes}
+use Rattle.object_index.specs.Places.{PlacedPart}
 use Rattle.volume_core.specs.Volume.{Part}
 use Rattle.tape_disk.specs.Disk.{DiskState, IsDisk}
 use Rattle.tape_disk.specs.Moments.{LeavesOnly}

@@ -1,6 +1,6 @@
 use Rattle.std.proofs.Common.{◌∙◌, ap, sym, arith, List, Option, sum_by, true, false}
 use Rattle.std.proofs.lemmas.List.{take_all}
-use Rattle.bays.specs.Elements.{BayState}
+use Rattle.bay_moves.specs.Elements.{BayState}
 use Rattle.library.specs.Counts.{one_if_there}
 use Rattle.vtl_power_on.proofs.RunningLemmas.{counted_more}
 use Rattle.vtl_power_on.proofs.running.count_drives.Goals as goal

@@ -1,5 +1,5 @@
 use Rattle.std.proofs.Common.{◌≡◌, ◌∙◌, inl, inr, ap, length, refl}
-use Rattle.bays.specs.Elements.{HeldState}
+use Rattle.bay_moves.specs.Elements.{HeldState}
 use Rattle.library.specs.Counts.{places_filled, which_are_there}
 use Rattle.vtl_power_on.proofs.IdleLemmas.{keeps_same}
 use Rattle.vtl_power_on.proofs.RunningLemmas.{as_many, put_together}

@@ -3,8 +3,8 @@ use Rattle.std.proofs.lemmas.List.{take_all}
 use Rattle.cartridge.specs.Contents.{volume_made}
 use Rattle.volume_core.specs.declared.changes.Change.{Change}
 use Rattle.volume_core.specs.Volume.{capacity_of, count_of, part_of}
-use Rattle.record_index.specs.Places.{reserved_of}
-use Rattle.record_index.specs.Records.{record_of}
+use Rattle.object_index.specs.Places.{reserved_of}
+use Rattle.change_records.specs.Records.{record_of}
 use Rattle.waiting_changes.specs.Tail.{IsTailOf, staying_in, shifted}
 use Rattle.waiting_changes.proofs.FreeLemmas.{wide_after}
 use Rattle.waiting_changes.proofs.LooseLemmas.{behind, tail_more}

@@ -1,6 +1,6 @@
 use Rattle.std.proofs.Common.{◌≡◌, ◌+◌, ◌<◌, ◌≤◌, ℕ, take}
 use Rattle.vtl_base.specs.declared.limits.TheConstants.{BUFFER_RECORDS, MAX_PARTITIONS}
-use Rattle.record_index.specs.Places.{reserved_of}
+use Rattle.object_index.specs.Places.{reserved_of}
 use Rattle.waiting_changes.specs.Tail.{AreWide, IsTailOf}
 use Rattle.waiting_changes.proofs.loose.fill_tail.Given as goal
 

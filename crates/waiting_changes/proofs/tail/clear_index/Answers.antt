@@ -1,5 +1,5 @@
 use Rattle.std.proofs.Common.{◌∙◌, List, ap, arith, length, subst, sym, take}
-use Rattle.record_index.specs.Places.{PlacedPart, placed_objects, reserved_of}
+use Rattle.object_index.specs.Places.{PlacedPart, placed_objects, reserved_of}
 use Rattle.waiting_changes.specs.Tail.{AreWide}
 use Rattle.waiting_changes.proofs.TailLemmas.{cleared_all, cleared_more, length_with, wide_with}
 use Rattle.waiting_changes.proofs.tail.clear_index.Goals as goal

@@ -1,5 +1,5 @@
 use Rattle.std.proofs.Common.{◌≡◌, ◌<◌, ℕ, [], length}
-use Rattle.record_index.specs.Places.{placed_objects}
+use Rattle.object_index.specs.Places.{placed_objects}
 use Rattle.waiting_changes.specs.Tail.{AreWide}
 use Rattle.waiting_changes.proofs.tail.clear_index.Given as goal
 

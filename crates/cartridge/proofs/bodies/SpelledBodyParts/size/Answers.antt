@@ -1,6 +1,6 @@
 use Rattle.std.proofs.Common.{◌≡◌, ℕ, List, [], length, map, ap, arith}
 use Rattle.volume_core.specs.declared.changes.Change.{Change}
-use Rattle.record_index.specs.Records.{spell_all}
+use Rattle.change_records.specs.Records.{spell_all}
 use Rattle.cartridge.proofs.RecordLemmas.{followed_all}
 use Rattle.cartridge.proofs.bodies.SpelledBodyParts.size.Goals as goal
 

@@ -1,7 +1,7 @@
 use Rattle.std.proofs.Common.{◌≡◌, ◌++◌, ◌<◌, ℕ, List, length, take, drop, Option, Some, false, refl, ap, subst, sym, ◌∙◌, arith, rules}
 use Rattle.std.specs.Prelude.{IfSome, vec_capacity}
 use Rattle.std.proofs.lemmas.Result.{err_from_is_err_and}
-use Rattle.record_index.specs.Indexes.{indexes_block}
+use Rattle.object_index.specs.Indexes.{indexes_block}
 use Rattle.cartridge.specs.Contents.{bodies_of, volume_made}
 use Rattle.cartridge.specs.Lying.{LiesOnSide}
 use Rattle.cartridge.specs.Notes.{noted_contents}

@@ -1,6 +1,6 @@
 use Rattle.std.proofs.Common.{◌∙◌, ◌<◌, ap, subst, sym, List, ℕ}
 use Rattle.volume_core.specs.Volume.{IsMarkOf, Part, mark_count}
-use Rattle.record_index.specs.MarkFacts.{mark_of_by_shape}
+use Rattle.object_index.specs.MarkFacts.{mark_of_by_shape}
 use Rattle.cartridge.specs.Contents.{volume_made}
 use Rattle.cartridge.specs.Notes.{noted_contents}
 use Rattle.cartridge.proofs.OpenLemmas.{open_shape}

@@ -1,6 +1,6 @@
 use Rattle.std.proofs.Common.{refl, inr, arith}
 use Rattle.std.proofs.lemmas.List.{length-map}
-use Rattle.record_index.specs.Places.{PlacedPart}
+use Rattle.object_index.specs.Places.{PlacedPart}
 use Rattle.cartridge.proofs.GrowingLemmas.{entries_at}
 use Rattle.cartridge.proofs.OpenLemmas.{open_grown}
 use Rattle.cartridge.proofs.StoringLemmas.{grown_entries, if_err_by, reserved_side, same_open, same_own, same_side, same_stores}

@@ -5,7 +5,7 @@ use Rattle.std.specs.Prelude.{map}
 use Rattle.gate_journal.specs.Followed.{followed}
 use Rattle.gate_journal.specs.Spelled.{SpelledBody}
 use Rattle.gate_journal.specs.State.{room_behind}
-use Rattle.record_index.specs.Records.{spell_all, spell_change}
+use Rattle.change_records.specs.Records.{spell_all, spell_change}
 use Rattle.cartridge.specs.Contents.{ShowsContents}
 use Rattle.cartridge.specs.Disks.{disks_by}
 use Rattle.cartridge.specs.Notes.{noted_as}
@@ -237,7 +237,7 @@ returns-in-Ok-append_frame-clause-answer g c =
           c.self.invariant.0 c.args.changes.now apply c.append_frame.new.self body body_is
           said.answer.0 c.with_frame.result.notes c.with_frame.ensures
           c.append_frame.ensures.front old.which old.spare c.place_frame.new.index _ _
-          (omega (arith, made.body, ap (λ (f : SpelledBody). f.room) c.clear.ensures, c.append_frame.ensures.frame.0))
+          (omega (arith, made.body, ap (λ (f : SpelledBody). f.room) c.clear.ensures, c.append_frame.ensures.frame.0.0))
           c.place_frame.ensures.reserved,
       none_by g.D.Disk.state old.which old.journal.disk old.spare c.append_frame.new.self.disk
           (said.answer.1 ∙ ap (λ d. (g.D.Disk.state d).failures) made.side.disk),
@@ -304,7 +304,7 @@ returns-in-Err-Device-clause-answer g c =
           c.self.invariant.0 c.args.changes.now apply c.append_frame.new.self body body_is
           answer.0 c.with_torn.result.notes c.with_torn.ensures c.append_frame.ensures.front
           old.which old.spare _ _
-          (omega (arith, made.body, ap (λ (f : SpelledBody). f.room) c.clear.ensures, c.append_frame.ensures.frame.0)),
+          (omega (arith, made.body, ap (λ (f : SpelledBody). f.room) c.clear.ensures, c.append_frame.ensures.frame.0.0)),
       fault_by g.D.Disk.state old.which old.journal.disk old.spare c.append_frame.new.self.disk
           c.in-Err-Device.fault
           (subst (λ d. IsFault c.in-Err-Device.fault (g.D.Disk.state d) (g.D.Disk.state c.append_frame.new.self.disk))

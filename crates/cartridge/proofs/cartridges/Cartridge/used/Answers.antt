@@ -1,6 +1,6 @@
 use Rattle.std.proofs.Common.{◌≡◌, ◌∙◌, ap, arith, List}
 use Rattle.volume_core.specs.Volume.{Part, capacity_of, used_up_to}
-use Rattle.record_index.specs.Places.{outline}
+use Rattle.object_index.specs.Places.{outline}
 use Rattle.cartridge.specs.Contents.{volume_made}
 use Rattle.cartridge.specs.Notes.{noted_contents}
 use Rattle.cartridge.proofs.OpenLemmas.{open_shape}

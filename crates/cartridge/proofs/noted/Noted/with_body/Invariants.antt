@@ -1,5 +1,5 @@
 use Rattle.std.proofs.Common.{[], unwrap_or}
-use Rattle.record_index.specs.ChangesOn.{changes_on}
+use Rattle.change_records.specs.ChangesOn.{changes_on}
 use Rattle.cartridge.specs.Notes.{with_frame}
 use Rattle.cartridge.proofs.noted.Noted.with_body.Given as goal
 

@@ -1,6 +1,6 @@
 use Rattle.std.proofs.Common.{◌∙◌, ap, map}
 use Rattle.gate_journal.specs.Side.{heading_of}
-use Rattle.record_index.specs.Places.{empty_placed}
+use Rattle.object_index.specs.Places.{empty_placed}
 use Rattle.cartridge.proofs.OpeningLemmas.{capacities_fit, read_none}
 use Rattle.cartridge.proofs.recovering.RecoveredDecodes.begin.Goals as goal
 

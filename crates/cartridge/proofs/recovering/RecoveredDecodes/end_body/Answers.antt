@@ -1,6 +1,6 @@
 use Rattle.std.proofs.Common.{[], ap, sym, ◌∙◌}
 use Rattle.std.specs.Prelude.{unwrap_or}
-use Rattle.record_index.specs.ChangesOn.{changes_on}
+use Rattle.change_records.specs.ChangesOn.{changes_on}
 use Rattle.cartridge.specs.Notes.{Notes, with_frame}
 use Rattle.cartridge.proofs.OpeningLemmas.{read_behind, refused_behind}
 use Rattle.cartridge.proofs.PieceLemmas.{walked_badly, walked_whole}

@@ -1,8 +1,8 @@
 use Rattle.std.proofs.Common.{◌≡◌, ◌∙◌, ℕ, List, Option, ap, sym, subst, arith, vec_len}
 use Rattle.std.specs.Prelude.{IfErr, IfOk}
 use Rattle.ledgers.specs.Ledgers.{Gathered, GatheringState}
-use Rattle.bays.specs.Elements.{BayState, bay_at}
-use Rattle.bays.specs.Finish.{HasFailedAt, IsWrittenAt}
+use Rattle.bay_moves.specs.Elements.{BayState, bay_at}
+use Rattle.bay_moves.specs.Finish.{HasFailedAt, IsWrittenAt}
 use Rattle.library.specs.Counts.{which_are_there}
 use Rattle.library.specs.Ends.{Balances, IsShort, counts_of, sum_of_counts, sum_of_seats}
 use Rattle.library.specs.Keeps.{AreLeft, IsLeftAt}

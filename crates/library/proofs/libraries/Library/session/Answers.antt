@@ -1,7 +1,7 @@
 use Rattle.std.proofs.Common.{◌≡◌, ℕ, [], ◌∷◌, ◌++◌, ◌+◌, nat_eq, take, get_or, ap, subst, sym, ◌∙◌, arith}
 use Rattle.std.proofs.lemmas.List.{get_or-set_other, take_more}
 use Rattle.vtl_script.specs.declared.lines.Line.{Line}
-use Rattle.bays.specs.Runs.{line_request}
+use Rattle.bay_moves.specs.Runs.{line_request}
 use Rattle.library.specs.Counts.{has_drive}
 use Rattle.library.specs.Served.{IsServed}
 use Rattle.library.proofs.SessionLemmas.{equal_if, passes_at, session_host, session_on}

@@ -1,5 +1,5 @@
 use Rattle.std.proofs.Common.{Option, Some, subst}
-use Rattle.bays.specs.Elements.{BayState}
+use Rattle.bay_moves.specs.Elements.{BayState}
 use Rattle.library.specs.MovesAt.{MovesEach}
 use Rattle.library.proofs.HalfLemmas.{back_there, front_there, holds_both, share_after, still_counted, still_there}
 use Rattle.library.proofs.places.FrontPlace.move_out.Goals as goal

@@ -1,7 +1,7 @@
 use Rattle.std.proofs.Common.{◌≡◌, ◌+◌, List, [], ◌∷◌, Option, Some, Ok, true, ap, sym, subst, ◌∙◌}
 use Rattle.volume_core.specs.Medium.{Accepts, block_bytes}
 use Rattle.volume_core.specs.Stores.{Stores}
-use Rattle.record_index.specs.Places.{PlacedPart}
+use Rattle.object_index.specs.Places.{PlacedPart}
 use Rattle.split_bay.specs.declared.items.Item.TheVariants.{Sent}
 use Rattle.split_bay.specs.Nears.{KnowsSpan, ShowsSpanIn, state_near}
 use Rattle.split_bay.specs.Rings.{SendingState}

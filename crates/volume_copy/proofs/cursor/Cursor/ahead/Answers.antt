@@ -1,7 +1,7 @@
 use Rattle.std.proofs.Common.{◌≡◌, ◌∷◌, sym, ap, ◌∙◌}
 use Rattle.std.specs.Prelude.{Some, slice_get}
-use Rattle.record_index.specs.declared.places.Placed.TheVariants.{Block}
-use Rattle.record_index.specs.Places.{placed_objects}
+use Rattle.object_index.specs.declared.places.Placed.TheVariants.{Block}
+use Rattle.object_index.specs.Places.{placed_objects}
 use Rattle.volume_copy.specs.Entries.{block_entry, entries_from, marks_entry}
 use Rattle.volume_copy.specs.EntryFacts.{block_next, run_next}
 use Rattle.volume_copy.proofs.cursor.Cursor.ahead.Goals as goal

@@ -1,5 +1,5 @@
 use Rattle.std.proofs.Common.{arith}
-use Rattle.record_index.specs.Places.{placed_objects}
+use Rattle.object_index.specs.Places.{placed_objects}
 use Rattle.volume_copy.specs.EntryFacts.{count_placed}
 use Rattle.volume_copy.proofs.RunLemmas.{inside, reaches_at, runs_on, some_run}
 use Rattle.volume_copy.proofs.cursor.Cursor.marks.Goals as goal

@@ -2,7 +2,7 @@ use Rattle.std.proofs.Common.{◌≡◌, ◌≤◌, ◌+◌, ℕ, List, ◌∷�
 use Rattle.std.specs.Prelude.{sum_by}
 use Rattle.std.specs.List.{All}
 use Rattle.std.proofs.lemmas.List.Elements.{All-head, All-tail}
-use Rattle.record_index.specs.Places.{PlacedPart}
+use Rattle.object_index.specs.Places.{PlacedPart}
 use Rattle.volume_copy.specs.declared.entries.Entry.{Entry}
 use Rattle.volume_copy.specs.declared.totals.Packed.{Packed}
 use Rattle.volume_copy.specs.declared.totals.TheConstants.{FRAME_BODY}

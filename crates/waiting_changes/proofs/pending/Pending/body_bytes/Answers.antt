@@ -1,6 +1,6 @@
 use Rattle.std.proofs.Common.{List, ap, arith, length}
 use Rattle.volume_core.specs.declared.changes.Change.{Change}
-use Rattle.record_index.specs.Records.{spell_all}
+use Rattle.change_records.specs.Records.{spell_all}
 use Rattle.waiting_changes.proofs.PendingLemmas.{records_of}
 use Rattle.waiting_changes.proofs.pending.Pending.body_bytes.Goals as goal
 

@@ -3,8 +3,8 @@ use Rattle.std.proofs.lemmas.List.Sums.{sum_by-append}
 use Rattle.volume_core.specs.declared.changes.Change.{Change}
 use Rattle.volume_core.specs.Volume.{part_of}
 use Rattle.volume_core.specs.Medium.{block_bytes}
-use Rattle.record_index.specs.Places.{placed_after, placed_objects, reserved_of}
-use Rattle.record_index.specs.Records.{record_of}
+use Rattle.object_index.specs.Places.{placed_after, placed_objects, reserved_of}
+use Rattle.change_records.specs.Records.{record_of}
 use Rattle.waiting_changes.specs.Limits.{FitsBuffer}
 use Rattle.waiting_changes.specs.Tail.{AreWide, IsTailOf, TailState, shifted, staying_in}
 use Rattle.waiting_changes.proofs.PutLemmas.{applies_behind, formed, tail_put}

@@ -1,6 +1,7 @@
 use Rattle.std.proofs.Common.{◌∙◌, ◌++◌, List, Option, subst, sym, take}
 use Rattle.std.proofs.lemmas.List.{length-set}
-use Rattle.record_index.specs.Places.{PlacedPart, placed_by, placed_objects, record_staying, record_part, reserved_of}
+use Rattle.change_records.specs.Records.{record_staying, record_part}
+use Rattle.object_index.specs.Places.{PlacedPart, placed_by, placed_objects, reserved_of}
 use Rattle.waiting_changes.specs.Tail.{AreWide, AreWideIn}
 use Rattle.waiting_changes.proofs.TailLemmas.{wide_with}
 use Rattle.waiting_changes.proofs.tail.Tail.put.Goals as goal

@@ -1,5 +1,5 @@
 use Rattle.std.proofs.Common.{List, Option, subst, sym}
-use Rattle.record_index.specs.Places.{PlacedPart, placed_objects, reserved_of}
+use Rattle.object_index.specs.Places.{PlacedPart, placed_objects, reserved_of}
 use Rattle.waiting_changes.specs.Tail.{AreWide, AreWideIn}
 use Rattle.waiting_changes.proofs.TailLemmas.{wide_with}
 use Rattle.waiting_changes.proofs.tail.Tail.reserve.Goals as goal

@@ -1,0 +1,272 @@
+-- What a call of a drive leaves at each moment inside it, of its cartridge and of its store.
+use Rattle.std.proofs.Common.{◌≡◌, ap, inl, inr, ℕ, List, [], Option, None, Some, Result, Ok, Err, refl, sym, subst}
+use Rattle.tape_disk.specs.Disk.{DiskState, Each, IsDisk}
+use Rattle.tape_disk.specs.Moments.{LeavesOnly, no_call}
+use Rattle.tape_disk.specs.TwoDisks.{TwoDisks}
+use Rattle.scsi_sense.specs.declared.replies.Reply.{Reply}
+use Rattle.pr_core.specs.declared.states.PrState.{PrState}
+use Rattle.volume_core.specs.declared.changes.Change.{Change}
+use Rattle.volume_core.specs.declared.media.MediumError.{MediumError}
+use Rattle.volume_core.specs.declared.media.MediumError.TheVariants as errors
+use Rattle.volume_core.specs.declared.media.Turn.{Turn}
+use Rattle.volume_core.specs.Medium.{turn_met_fault}
+use Rattle.vtl_base.specs.declared.faults.NoMemory.{NoMemory}
+use Rattle.cartridge.specs.Contents.{Start}
+use Rattle.accepting.specs.Core.{CanAcknowledge, Core}
+use Rattle.accepting.specs.Device.{one_disk, one_is_device}
+use Rattle.accepting.specs.Events.{core_moves_nowhere}
+use Rattle.aptpl_store.specs.Contents.{ShowsStates}
+use Rattle.aptpl_store.specs.Kept.{StoreMoves, core_of, store_below, store_kept, store_rules}
+use Rattle.aptpl_store.specs.State.{OpenStore}
+use Rattle.tape_buffer.specs.Moves.{MovesOn, ShowsOn, buffer_below, medium_core}
+use Rattle.tape_buffer.specs.State.{BufferState, disks_in, state_of}
+use Rattle.drive_core.specs.declared.bays.Bay.{Bay}
+use Rattle.drive_core.specs.declared.bays.Bay.TheVariants.{Empty, Unloaded, Loaded}
+use Rattle.drive_core.specs.Data.{AnswersLent}
+use Rattle.drive_core.specs.Execute.{Answers, is_device_fault}
+use Rattle.drive_core.specs.Load.{bay_when_on}
+use Rattle.drive_core.specs.Media.{GoesOutOf, SwitchesOn, TakesIn, TakesTurn}
+use Rattle.drive_core.specs.Relations.{Made, made_nothing}
+use Rattle.drive_core.specs.State.{medium_in}
+use Rattle.drive_core.specs.Work.{Request}
+use Rattle.bay_moves.specs.Bays.{AnswersInEvent, AnswersLentInEvent, EventIn, EventOn, EveryMoment, EveryMomentOff, EveryMomentOn, IsSafeIn, KeepsBoth, KeepsCartridge, KeepsCartridgeIn, SavesIn, loaded_or_back, out_or_in}
+use Rattle.bay_moves.specs.Elements.{BayState}
+use Rattle.drive_core.specs.Run.{Asked, Turned}
+use Rattle.bay_moves.specs.Reservations.{Call, CallDoes, ChangesBay, GivesHeld, HoldingGives, HoldingGoesOn, IsHolding, Served, disk_of}
+use Rattle.bay_moves.specs.Reservations as call
+use Rattle.bay_moves.proofs.CallLemmas.{carried_stays}
+use Rattle.bay_moves.proofs.CartridgeLemmas.{Moved, moved_by, moved_nowhere}
+use Rattle.bay_moves.proofs.StoreCoreLemmas.{to_core}
+
+module _ {D : Type 0} (state : D → DiskState) (is_disk : (disk : D) → (state disk).honest → IsDisk (state disk)) where
+  event_on : (x y : Option (TwoDisks D)) (a b : Core Start Change) (made : List Change) → ShowsOn state x a
+      → MovesOn state x y a b made → EventOn state x y a b made
+  event_on (Some x) (Some y) a b made shows moves = λ honest. moves.goes honest (shows honest)
+  event_on None None a b made shows moves = moves
+  event_on None (Some y) a b made shows moves = moves
+  event_on (Some x) None a b made shows moves = moves
+
+  -- the relation of the medium says what a crash at each moment leaves
+  pub event_in : (old new : Option (BufferState D)) (made : List Change) → KeepsCartridgeIn state old
+      → Moved state is_disk old new made → EventIn state old new made
+  event_in (Some old) (Some new) made keeps moved =
+      λ sure volume is. event_on (disks_in old.held) (disks_in new.held) (medium_core state old)
+      (medium_core state new)
+      made (keeps.shows sure volume is) moved
+  event_in None None made keeps moved = moved
+  event_in None (Some new) made keeps moved = moved
+  event_in (Some old) None made keeps moved = moved
+
+  -- the relation of the store does the same
+  saves_in : (old : BayState D) (new : OpenStore D) (saved : List PrState)
+      → IsHolding (state_of state) (buffer_below state) state old → StoreMoves state old.keeper saved new
+      → SavesIn state old.keeper new saved
+  saves_in old new saved holding moves = λ honest.
+      (moves.goes honest
+      (λ image left. to_core old.keeper.heading old.keeper.states old.keeper.torn image
+      (holding.shows honest image left))).0
+
+  -- a store that is not called
+  saves_nothing : (old new : OpenStore D) → new ≡ old → StoreMoves state old [] new
+  saves_nothing old new same =
+      subst (λ (k : OpenStore D). StoreMoves state old [] k) (sym same)
+      (core_moves_nowhere store_rules (one_disk state) (one_is_device state) old.disk (core_of old) (is_disk old.disk))
+
+  -- the medium after a loading
+  pub taken_moved : (old : BayState D) (given : BufferState D) (result : Result Unit (BufferState D × Reply))
+      (new : BayState D) → TakesIn (state_of state) (buffer_below state) old given result new
+      → Moved state is_disk (Some given) (loaded_or_back state result new) []
+  taken_moved old given (Ok done) new takes =
+      subst (λ (d : BayState D). Moved state is_disk (Some given) (medium_in d.bay) []) (sym takes.2)
+      takes.1.advances.moved
+  taken_moved old given (Err back) new takes = takes.1.advances.moved
+
+  -- the medium after an unloading
+  pub out_moved : (bay : Bay (BufferState D)) (old : BayState D) (result : Result (BufferState D) Reply)
+      (new : BayState D) → old.bay ≡ bay → GoesOutOf (state_of state) (buffer_below state) bay old result new
+      → Moved state is_disk (medium_in bay) (out_or_in state result new) []
+  out_moved Empty old (Ok out) new is goes = absurd goes
+  out_moved Empty old (Err reply) new is goes =
+      subst (λ (d : BayState D). Moved state is_disk None (medium_in d.bay) []) (sym goes.1)
+      (subst (λ (b : Bay (BufferState D)). Moved state is_disk None (medium_in b) []) (sym is) refl)
+  out_moved (Unloaded m) old (Ok out) new is goes =
+      subst (λ (x : BufferState D). Moved state is_disk (Some m) (Some x) []) (sym goes.0)
+      (moved_nowhere state is_disk (Some m))
+  out_moved (Unloaded m) old (Err reply) new is goes = absurd goes
+  out_moved (Loaded m) old (Ok out) new is goes = goes.0.1.moved
+  out_moved (Loaded m) old (Err reply) new is goes =
+      subst (λ (d : BayState D). Moved state is_disk (Some m) (medium_in d.bay) []) (sym goes.3) goes.1.2.moved
+
+  -- the medium of a drive that was just switched on is the one that was opened
+  abbrev in_some : Option (Bay (BufferState D)) → Option (BufferState D)
+  in_some None = None
+  in_some (Some bay) = medium_in bay
+
+  opened_in : (woke : Result Unit MediumError) (opened : BufferState D) (bay : Bay (BufferState D))
+      → bay_when_on woke opened ≡ Some bay → medium_in bay ≡ Some opened
+  opened_in (Ok done) opened bay is = ap in_some (sym is)
+  opened_in (Err errors.Failed) opened bay is = ap in_some (sym is)
+  opened_in (Err errors.Unreadable) opened bay is = ap in_some (sym is)
+  opened_in (Err errors.Device) opened bay is = ap in_some (sym is)
+  opened_in (Err errors.NoMemory) opened bay is = absurd (cc)
+  opened_in (Err errors.SideFull) opened bay is = absurd (cc)
+  opened_in (Err (errors.Refused refusal)) opened bay is = absurd (cc)
+
+  on_moved : (given : Option (BufferState D)) (reservations : PrState) (store : OpenStore D) (new : BayState D)
+      → SwitchesOn (state_of state) (buffer_below state) given reservations store (Ok new)
+      → Moved state is_disk given (medium_in new.bay) []
+  on_moved None reservations store new on =
+      subst (λ (d : BayState D). Moved state is_disk None (medium_in d.bay) []) (sym on) refl
+  on_moved (Some given) reservations store new on =
+      subst (λ (d : BayState D). Moved state is_disk (Some given) (medium_in d.bay) []) (sym on.5)
+      (subst (λ (m : Option (BufferState D)). Moved state is_disk (Some given) m [])
+      (sym (opened_in on.0 on.1 on.2 on.4)) on.3.advances.moved)
+
+  on_keeper : (given : Option (BufferState D)) (reservations : PrState) (store : OpenStore D) (new : BayState D)
+      → SwitchesOn (state_of state) (buffer_below state) given reservations store (Ok new) → new.keeper ≡ store
+  on_keeper None reservations store new on = ap (λ (d : BayState D). d.keeper) on
+  on_keeper (Some given) reservations store new on = ap (λ (d : BayState D). d.keeper) on.5
+
+  -- every moment of a power on that had memory
+  pub on_moments : (given : Option (BufferState D)) (reservations : PrState) (store : OpenStore D) (new : BayState D)
+      → HoldingGives (state_of state) (buffer_below state) state → KeepsCartridgeIn state given
+      → IsHolding (state_of state) (buffer_below state) state new
+      → SwitchesOn (state_of state) (buffer_below state) given reservations store (Ok new)
+      → EveryMomentOn state given store new
+  on_moments given reservations store new gives known holding on =
+      let same = on_keeper given reservations store new on in
+      record {
+        cartridge = event_in given (medium_in new.bay) [] known (on_moved given reservations store new on);
+        reservations = λ honest.
+            let still = subst (λ (k : OpenStore D). (state k.disk).honest) (sym same) honest in
+            subst
+            (λ (k : OpenStore D).
+            LeavesOnly (state k.disk) (disk_of (state_of state) (buffer_below state) state new)
+            (GivesHeld (state_of state) (buffer_below state) state new))
+            same
+            (no_call (disk_of (state_of state) (buffer_below state) state new)
+            (GivesHeld (state_of state) (buffer_below state) state new) (is_disk new.keeper.disk still)
+            (gives new holding still));
+      }
+
+  off_moved : (given : Option (BufferState D)) (reservations : PrState) (store : OpenStore D)
+      (back : Option (BufferState D)) (left : OpenStore D) (reason : NoMemory)
+      → SwitchesOn (state_of state) (buffer_below state) given reservations store (Err (back, left, reason))
+      → Moved state is_disk given back [] × (left ≡ store)
+  off_moved None reservations store back left reason off = absurd off
+  off_moved (Some given) reservations store back left reason off = (
+    subst (λ (m : Option (BufferState D)). Moved state is_disk (Some given) m []) (sym off.2) off.1.advances.moved,
+    off.3,
+  )
+
+  -- the same where memory ran out
+  pub off_moments : (given : Option (BufferState D)) (reservations : PrState) (store : OpenStore D)
+      (back : Option (BufferState D)) (left : OpenStore D) (reason : NoMemory) → KeepsCartridgeIn state given
+      → ((state store.disk).honest → Each (state store.disk) (ShowsStates store.heading store.states store.torn))
+      → SwitchesOn (state_of state) (buffer_below state) given reservations store (Err (back, left, reason))
+      → EveryMomentOff state given store back left
+  off_moments given reservations store back left reason known shows off =
+      let went = off_moved given reservations store back left reason off in
+      record {
+        cartridge = event_in given back [] known went.0;
+        reservations = λ honest.
+            subst
+            (λ (k : OpenStore D).
+            LeavesOnly (state store.disk) (state k.disk) (ShowsStates store.heading store.states store.torn))
+            (sym went.1)
+            (no_call (state store.disk) (ShowsStates store.heading store.states store.torn) (is_disk store.disk honest)
+            (shows honest));
+      }
+
+  -- all that was accepted is safe, where it is so for each medium that may be there
+  pub safe_where : (found : Option (BufferState D))
+      → ((medium : BufferState D) → found ≡ Some medium → CanAcknowledge (medium_core state medium))
+      → IsSafeIn state found
+  safe_where None each = tt
+  safe_where (Some medium) each = each medium refl
+
+  module _ (goes_on : HoldingGoesOn (state_of state) (buffer_below state) state) where
+    -- the invariant of both holds after a call
+    pub call_keeps : (old new : BayState D) (call : Call) → KeepsBoth state old
+        → CallDoes (state_of state) (buffer_below state) state old call new → KeepsCartridgeIn state (medium_in new.bay)
+        → KeepsBoth state new
+    call_keeps old new call keeps does known =
+        record { cartridge = known; reservations = (goes_on old new call keeps.reservations does).0 }
+
+    -- at each moment inside the call a crash leaves what this says
+    every_moment : (old new : BayState D) (call : Call) (made : Made) (before after : Option (BufferState D))
+        → KeepsBoth state old → CallDoes (state_of state) (buffer_below state) state old call new
+        → KeepsCartridgeIn state before → Moved state is_disk before after made.changes
+        → StoreMoves state old.keeper made.saved new.keeper → EveryMoment state old call made before after new
+    every_moment old new call made before after keeps does known moved saves =
+        record {
+          cartridge = event_in before after made.changes known moved;
+          saves = saves_in old new.keeper made.saved keeps.reservations saves;
+          reservations = λ honest. ((goes_on old new call keeps.reservations does).1 honest).1;
+        }
+
+    asked_moments : (old new : BayState D) (request : Request) (reply : Reply) → KeepsBoth state old
+        → (answers : Answers (state_of state) (buffer_below state) store_kept (store_below state) old request reply new)
+        → EveryMoment state old (Served (Asked request reply)) answers.taken.made (medium_in old.bay)
+        (medium_in new.bay) new
+    asked_moments old new request reply keeps answers =
+        every_moment old new (Served (Asked request reply)) answers.taken.made (medium_in old.bay)
+        (medium_in new.bay) keeps
+        answers keeps.cartridge
+        (moved_by state is_disk (medium_in old.bay) (medium_in new.bay) answers.taken.made.changes
+        (is_device_fault answers.answer) answers.taken.advances)
+        answers.taken.saves.moved
+
+    pub answers_in_event : (old new : BayState D) (request : Request) (reply : Reply) → KeepsBoth state old
+        → Answers (state_of state) (buffer_below state) store_kept (store_below state) old request reply new
+        → AnswersInEvent state old request reply new
+    answers_in_event old new request reply keeps answers =
+        record { step = answers; moments = asked_moments old new request reply keeps answers }
+
+    pub answers_lent_in_event : (old new : BayState D) (request : Request) (reply : Reply) (left : List ℕ)
+        → KeepsBoth state old
+        → AnswersLent (state_of state) (buffer_below state) store_kept (store_below state) old request reply new left
+        → AnswersLentInEvent state old request reply new left
+    answers_lent_in_event old new request reply left keeps answers =
+        record { step = answers; moments = asked_moments old new request reply keeps answers.step }
+
+    pub turn_moments : (old new : BayState D) (turn : Turn) → KeepsBoth state old
+        → TakesTurn (state_of state) (buffer_below state) store_kept old turn new
+        → EveryMoment state old (Served (Turned turn)) made_nothing (medium_in old.bay) (medium_in new.bay) new
+    turn_moments old new turn keeps takes =
+        every_moment old new (Served (Turned turn)) made_nothing (medium_in old.bay) (medium_in new.bay) keeps takes
+        keeps.cartridge
+        (moved_by state is_disk (medium_in old.bay) (medium_in new.bay) [] (turn_met_fault turn) takes.advances)
+        (saves_nothing old.keeper new.keeper takes.keeper)
+
+    -- of a cartridge that is loaded or unloaded
+    moved_moments : (old new : BayState D) (before after : Option (BufferState D)) → KeepsBoth state old
+        → ChangesBay (state_of state) (buffer_below state) state old new → KeepsCartridgeIn state before
+        → Moved state is_disk before after [] → EveryMoment state old call.Moved made_nothing before after new
+    moved_moments old new before after keeps does known moved =
+        every_moment old new call.Moved made_nothing before after keeps does known moved
+        (saves_nothing old.keeper new.keeper
+        (carried_stays (state_of state) (buffer_below state) state old new does).0)
+
+    pub load_moments : (old new : BayState D) (given : BufferState D) (result : Result Unit (BufferState D × Reply))
+        → KeepsBoth state old → KeepsCartridge state given
+        → TakesIn (state_of state) (buffer_below state) old given result new
+        → EveryMoment state old call.Moved made_nothing (Some given) (loaded_or_back state result new) new
+    load_moments old new given result keeps known takes =
+        moved_moments old new (Some given) (loaded_or_back state result new) keeps (inl (given, result, takes)) known
+        (taken_moved old given result new takes)
+
+    pub insert_moments : (old new : BayState D) (given : BufferState D) → KeepsBoth state old
+        → KeepsCartridge state given → new ≡ record old { bay = Unloaded given }
+        → EveryMoment state old call.Moved made_nothing (Some given) (medium_in new.bay) new
+    insert_moments old new given keeps known is =
+        moved_moments old new (Some given) (medium_in new.bay) keeps (inr (inl (given, is))) known
+        (subst (λ (d : BayState D). Moved state is_disk (Some given) (medium_in d.bay) []) (sym is)
+        (moved_nowhere state is_disk (Some given)))
+
+    pub out_moments : (old new : BayState D) (result : Result (BufferState D) Reply) → KeepsBoth state old
+        → GoesOutOf (state_of state) (buffer_below state) old.bay old result new
+        → EveryMoment state old call.Moved made_nothing (medium_in old.bay) (out_or_in state result new) new
+    out_moments old new result keeps goes =
+        moved_moments old new (medium_in old.bay) (out_or_in state result new) keeps (inr (inr (result, goes)))
+        keeps.cartridge (out_moved old.bay old result new refl goes)

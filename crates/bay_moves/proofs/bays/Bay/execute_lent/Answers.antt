@@ -1,0 +1,27 @@
+use Rattle.std.proofs.Common.{subst}
+use Rattle.drive_core.specs.Execute.{asked}
+use Rattle.bay_moves.specs.Bays.{AnswersLentInEvent}
+use Rattle.bay_moves.specs.Elements.{BayState}
+use Rattle.drive_core.specs.Run.{Asked}
+use Rattle.bay_moves.specs.Reservations.{Served}
+use Rattle.bay_moves.proofs.MomentLemmas.{answers_lent_in_event, call_keeps}
+use Rattle.bay_moves.proofs.bays.Bay.execute_lent.Goals as goal
+
+pub invariant_of-self : goal.invariant_of-self
+invariant_of-self g c =
+    call_keeps g.D.Disk.state g.met.D.Disk.is_disk c.reservations_outlive_each_stop.ensures.goes_on
+    c.self.inside.drive c.execute_lent-reply.new.self
+    (Served (Asked (asked c.args.nexus c.args.cdb.now c.args.sent.now) c.execute_lent-reply.result)) c.self.invariant
+    c.execute_lent-reply.ensures.step.step c.known.ensures
+
+pub returns-clause-moments : goal.returns-clause-moments
+returns-clause-moments g c =
+    let request = asked c.args.nexus c.args.cdb.now c.args.sent.now in
+    subst
+    (λ (d : BayState g.row.D.Denot).
+    AnswersLentInEvent g.D.Disk.state d request c.execute_lent-reply.result c.execute_lent-reply.new.self
+    c.execute_lent-reply.new.sent)
+    c.self.view_is
+    (answers_lent_in_event g.D.Disk.state g.met.D.Disk.is_disk c.reservations_outlive_each_stop.ensures.goes_on
+    c.self.inside.drive c.execute_lent-reply.new.self request c.execute_lent-reply.result
+    c.execute_lent-reply.new.sent c.self.invariant c.execute_lent-reply.ensures.step)

@@ -1,0 +1,46 @@
+use Rattle.std.proofs.Common.{◌≡◌, ◌∙◌, ap, Err, inl, Some, sym, subst, Result}
+use Rattle.scsi_sense.specs.declared.replies.Reply.{Reply}
+use Rattle.tape_buffer.specs.State.{BufferState}
+use Rattle.drive_core.specs.Relations.{made_nothing}
+use Rattle.bay_moves.specs.Bays.{EveryMoment, loaded_or_back}
+use Rattle.bay_moves.specs.Elements.{BayState}
+use Rattle.bay_moves.specs.Reservations.{Moved}
+use Rattle.bay_moves.proofs.MomentLemmas.{call_keeps, load_moments}
+use Rattle.bay_moves.proofs.bays.Bay.load.Goals.{in-Ok, in-Err}
+use Rattle.bay_moves.proofs.bays.Bay.load.Goals as goal
+
+pub invariant_of-self : goal.invariant_of-self
+invariant_of-self g c =
+    call_keeps g.D.Disk.state g.met.D.Disk.is_disk c.reservations_outlive_each_stop.ensures.goes_on
+    c.self.inside.drive c.load-loaded.new.self Moved c.self.invariant
+    (inl (c.into_medium-medium.result, c.load-loaded.result, c.load-loaded.ensures.taken)) c.known.ensures
+
+pub returns-clause-moments : goal.returns-clause-moments
+returns-clause-moments g c =
+    let state = g.D.Disk.state in
+    let new = c.load-loaded.new.self in
+    let given = c.into_medium-medium.result in
+    let same : c.match-loaded.result ≡ c.load-loaded.result =
+    elim c.match-loaded.branch [
+      | in-Ok w ↦ w.result-is ∙ sym w.in-Ok.is
+      | in-Err w ↦
+          w.result-is ∙ ap (λ (m : BufferState g.row.D.Denot). Err (m, w.in-Err.reply)) w.of_medium.ensures
+          ∙ sym w.in-Err.is
+    ] in
+    let there =
+    load_moments state g.met.D.Disk.is_disk c.reservations_outlive_each_stop.ensures.goes_on c.self.inside.drive new
+    given c.load-loaded.result c.self.invariant c.into_medium-medium.ensures.keeps c.load-loaded.ensures.taken in
+    let at_self =
+    subst
+    (λ (d : BayState g.row.D.Denot).
+    EveryMoment state d Moved made_nothing (Some given) (loaded_or_back state c.load-loaded.result new) new)
+    c.self.view_is there in
+    let at_given =
+    subst
+    (λ (m : BufferState g.row.D.Denot).
+    EveryMoment state c.args.self.now Moved made_nothing (Some m) (loaded_or_back state c.load-loaded.result new) new)
+    c.into_medium-medium.ensures.same at_self in
+    subst
+    (λ (r : Result Unit (BufferState g.row.D.Denot × Reply)).
+    EveryMoment state c.args.self.now Moved made_nothing (Some c.args.cartridge) (loaded_or_back state r new) new)
+    (sym same) at_given

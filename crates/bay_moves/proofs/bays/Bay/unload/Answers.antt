@@ -1,0 +1,39 @@
+use Rattle.std.proofs.Common.{◌≡◌, inr, sym, subst, Result}
+use Rattle.scsi_sense.specs.declared.replies.Reply.{Reply}
+use Rattle.tape_buffer.specs.State.{BufferState}
+use Rattle.drive_core.specs.Relations.{made_nothing}
+use Rattle.drive_core.specs.State.{medium_in}
+use Rattle.bay_moves.specs.Bays.{EveryMoment, out_or_in}
+use Rattle.bay_moves.specs.Elements.{BayState}
+use Rattle.bay_moves.specs.Reservations.{Moved}
+use Rattle.bay_moves.proofs.MomentLemmas.{call_keeps, out_moments}
+use Rattle.bay_moves.proofs.bays.Bay.unload.Goals.{in-Ok, in-Err}
+use Rattle.bay_moves.proofs.bays.Bay.unload.Goals as goal
+
+pub invariant_of-self : goal.invariant_of-self
+invariant_of-self g c =
+    call_keeps g.D.Disk.state g.met.D.Disk.is_disk c.reservations_outlive_each_stop.ensures.goes_on
+    c.self.inside.drive c.unload-out.new.self Moved c.self.invariant
+    (inr (inr (c.unload-out.result, c.unload-out.ensures.out))) c.known.ensures
+
+pub returns-clause-moments : goal.returns-clause-moments
+returns-clause-moments g c =
+    let state = g.D.Disk.state in
+    let new = c.unload-out.new.self in
+    let same : c.match-out.result ≡ c.unload-out.result =
+    elim c.match-out.branch [
+      | in-Ok w ↦ (let a = w.result-is in let b = w.in-Ok.is in let m = w.of_medium.ensures in cc)
+      | in-Err w ↦ (let a = w.result-is in let b = w.in-Err.is in cc)
+    ] in
+    let there =
+    out_moments state g.met.D.Disk.is_disk c.reservations_outlive_each_stop.ensures.goes_on c.self.inside.drive new
+    c.unload-out.result c.self.invariant c.unload-out.ensures.out in
+    let at_self =
+    subst
+    (λ (d : BayState g.row.D.Denot).
+    EveryMoment state d Moved made_nothing (medium_in d.bay) (out_or_in state c.unload-out.result new) new)
+    c.self.view_is there in
+    subst
+    (λ (r : Result (BufferState g.row.D.Denot) Reply).
+    EveryMoment state c.args.self.now Moved made_nothing (medium_in c.args.self.now.bay) (out_or_in state r new) new)
+    (sym same) at_self

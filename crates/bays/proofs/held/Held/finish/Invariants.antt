@@ -1,6 +1,0 @@
-use Rattle.bays.specs.Inner.Finishing.{IsWrittenUpTo}
-use Rattle.bays.proofs.held.Held.finish.Given as goal
-
--- the drives so far took a turn
-abbrev pub invariant-loop-place : goal.invariant-loop-place
-invariant-loop-place g l = IsWrittenUpTo g.D.Disk.state l.place l.fn.self l.result l.self

@@ -1,0 +1,5 @@
+mod Reading
+mod HeadLemmas
+mod StandLemmas
+mod ReaderLemmas
+mod Decoding

@@ -1,0 +1,4 @@
+pub mod Records
+pub mod Readers
+pub mod ChangesOn
+pub mod Inner

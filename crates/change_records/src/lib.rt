@@ -1,0 +1,12 @@
+//! How changes are spelled in bytes.
+#![tactic(auto)]
+
+mod head;
+pub mod laws;
+pub mod reader;
+pub mod records;
+pub mod spelling;
+
+pub use reader::{Fed, Found, RecordReader};
+pub use records::{HEAD_BYTES, Record, RecordError};
+pub use spelling::{decode_changes, encode_change, spelled_parts};

@@ -1,0 +1,11 @@
+mod Rows
+mod StepLemmas
+mod PlacedMarks
+mod RunLemmas
+mod RunChanges
+mod TableLemmas
+mod SplitLemmas
+mod TableChanges
+mod Parts
+mod ChangedIndex
+mod IndexMarks

@@ -1,8 +1,0 @@
--- Definitions for private contracts and the proofs of laws alone.
-pub mod Deciding
-pub mod Decoded
-pub mod Spelled
-pub mod Decided
-pub mod Table
-pub mod Tables
-pub mod RunSearch
