@@ -4,9 +4,9 @@ ghost use Rattle.std.specs.List.{All};
 ghost use Rattle.vtl_base.specs.declared.limits.TheConstants.{MAX_BODY};
 ghost use Rattle.change_records.specs.Records.{IsRecord, spell_all};
 
+use change_records::spelled_parts;
 use gate_journal::BodyParts;
 use gate_journal::body_parts::PART_HEAD;
-use change_records::spelled_parts;
 use std::marker::Model;
 use volume_core::Change;
 

@@ -12,8 +12,8 @@ ghost use Rattle.cartridge.specs.Lying.{HasBlock, IsPlaceOf, LiesOnSide};
 ghost use Rattle.cartridge.specs.Notes.{noted_contents, with_frame};
 
 use crate::noted::Noted;
-use gate_journal::Journal;
 use change_records::{HEAD_BYTES, Record};
+use gate_journal::Journal;
 use object_index::Index;
 use tape_disk::Disk;
 use volume_core::{ApplyError, Change};

@@ -2,8 +2,8 @@
 
 use crate::noted::Noted;
 use crate::walking::{walk_over, walk_piece};
-use gate_journal::{Decodes, Header, NotedBytes, SideKind};
 use change_records::RecordReader;
+use gate_journal::{Decodes, Header, NotedBytes, SideKind};
 use object_index::Index;
 use std::alloc::Global;
 use vtl_base::NoMemory;

@@ -9,9 +9,9 @@ ghost use Rattle.object_index.specs.Shapes.{IsIndexOf};
 ghost use Rattle.cartridge.specs.Shown.{HasEntriesIn, HasNoEntryFor, IsEntryFor, IsGrownIn, LacksEntriesIn, MayEnter};
 
 use crate::reserving::reserve_each;
-use object_index::laws::{a_volume_is_seen_by_its_shape, an_index_follows_a_volume};
 use change_records::Record;
 use object_index::Index;
+use object_index::laws::{a_volume_is_seen_by_its_shape, an_index_follows_a_volume};
 use volume_core::{ApplyError, Change, Refusal};
 use vtl_base::NoMemory;
 use vtl_base::limits::MAX_OBJECTS;

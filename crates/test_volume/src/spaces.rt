@@ -4,9 +4,9 @@ ghost use Rattle.std.specs.Prelude.{◌≡◌, true};
 
 mod stepping;
 
-use positioning::{Moved, Pos, SpaceCode, Stop, space};
 use change_records::Record;
 use object_index::{Index, MarkRun};
+use positioning::{Moved, Pos, SpaceCode, Stop, space};
 use std::alloc::Global;
 use std::process::Abort;
 use std::test::Fail;
