@@ -12,11 +12,11 @@ EDITS = [
     ("a change is stored one change early", "tape_buffer", "src/adding.rt", "    if !pending.is_full_for(change) {",
      "    if pending.len() < 255 && !pending.is_full_for(change) {",
      ["a_turn_reports_how_many_waited", "what_waits_is_counted"]),
-    ("what waits is stored before each write", "drive_core", "src/writes.rt",
+    ("what waits is stored before each write", "drive_commands", "src/writes.rt",
      "    let mut copy = Bytes::from_slice(alloc, sent)?;\n",
      "    crate::storing::store_pending(medium)?;\n    let mut copy = Bytes::from_slice(alloc, sent)?;\n",
      ["writes_wait_for_one_frame", "a_turn_reports_how_many_waited"]),
-    ("what waits is stored before each lent write", "drive_core", "src/drives/lending.rt",
+    ("what waits is stored before each lent write", "drive_commands", "src/drives/lending.rt",
      "        write(\n            self.alloc,\n            medium,\n",
      "        let (part, at, bytes) = (self.position.part, self.position.obj, sent.len() as u32);\n"
      "        let fits = bytes > 0 && medium.has_room_for(bytes) && at < 16_000_000\n"
@@ -24,16 +24,16 @@ EDITS = [
      "        if fits {\n            crate::storing::store_pending(medium)?;\n        }\n"
      "        write(\n            self.alloc,\n            medium,\n",
      ["writes_wait_for_one_frame", "a_turn_reports_how_many_waited"]),
-    ("a side that is refused at power on is reported as memory that ran out", "drive_core", "src/opening.rt",
+    ("a side that is refused at power on is reported as memory that ran out", "drive_commands", "src/opening.rt",
      "        Err(MediumError::Unreadable) => Ok(Bay::Unloaded(medium)),",
      "        Err(MediumError::Unreadable) => Err(medium),",
      ["a_side_that_is_refused"]),
-    ("a side that LOAD finds refused is reported as memory that ran out", "drive_core", "src/drives/loading.rt",
+    ("a side that LOAD finds refused is reported as memory that ran out", "drive_commands", "src/drives/loading.rt",
      "        Err(error) => Err((medium, error)),",
      "        Err(MediumError::Unreadable) => Err((medium, MediumError::NoMemory)),\n"
      "        Err(error) => Err((medium, error)),",
      ["a_side_that_is_refused"]),
-    ("a refused side that is moved into a drive is reported as memory that ran out", "drive_core", "src/drives.rt",
+    ("a refused side that is moved into a drive is reported as memory that ran out", "drive_commands", "src/drives.rt",
      "            return Err((medium, wake_reply(self.alloc, error)));",
      "            let told = match error {\n"
      "                volume_core::MediumError::Unreadable => volume_core::MediumError::NoMemory,\n"
@@ -143,7 +143,7 @@ STOPS = [
      ["a_stop_at_each_call_of_a_drive", "a_fault_at_each_call_of_a_drive"]),
     ("a journal goes on after a fault", "gate_journal", "src/placing.rt", "                self.failed = true;\n", "",
      ["a_fault_at_each_call_of_a_drive"]),
-    ("an order saves the state before it", "drive_core", "src/drives/reserving.rt",
+    ("an order saves the state before it", "drive_commands", "src/drives/reserving.rt",
      "        self.keeper.save(&reservations)?;\n",
      "        let before = self.reservations;\n        self.keeper.save(&before)?;\n",
      ["a_stop_at_each_call_of_a_drive", "a_fault_at_each_call_of_a_drive"]),
@@ -160,7 +160,7 @@ STOPS = [
      ["a_stop_at_each_call_of_a_drive"]),
     ("what is pending over a cartridge that failed is kept", "tape_buffer", "src/closing.rt",
      "    pending.clear();\n", "", ["a_fault_at_each_call_of_a_drive"]),
-    ("a command that is to store is answered with nothing stored", "drive_core", "src/storing.rt",
+    ("a command that is to store is answered with nothing stored", "drive_commands", "src/storing.rt",
      "    match medium.settle() {\n",
      "    if medium.pending() < 256 {\n        return Ok(());\n    }\n    match medium.settle() {\n",
      ["a_stop_at_each_call_of_a_drive", "a_fault_at_each_call_of_a_drive"]),

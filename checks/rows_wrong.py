@@ -20,10 +20,10 @@ import wrong_edits
 TOP = os.path.dirname(os.path.dirname(os.path.abspath(__file__)))
 LIST = os.path.join(TOP, "rows", "wrong.txt")
 # by crate, the folders whose rows are run first
-FIRST = {"scsi_sense": "03 05 11", "scsi_wire": "01", "scsi_lists": "07 09", "scsi_attention": "10", "pr_core": "09",
-         "positioning": "05 06", "drive_core": "10 08 03", "bay_moves": "11", "vtl_config": "12", "vtl_words": "13",
-         "vtl_script": "14", "volume_core": "06", "change_records": "06", "object_index": "06", "aptpl_store": "09 15", "gate_journal": "15",
-         "vtl_files": "15", "check_lines": "15"}
+FIRST = {"scsi_sense": "03 05 11", "scsi_opcodes": "01", "scsi_lists": "07 09", "scsi_attention": "10", "pr_core": "09",
+         "positioning": "05 06", "drive_commands": "10 08 03", "bay_moves": "11", "vtl_config": "12", "vtl_words": "13",
+         "vtl_script": "14", "volume_core": "06", "change_records": "06", "object_index": "06", "aptpl_store": "09 15",
+         "gate_journal": "15", "vtl_files": "15", "check_lines": "15"}
 
 
 def listed():

@@ -4,10 +4,10 @@ use Rattle.std.proofs.lemmas.List.{take_all, take_at}
 use Rattle.tape_disk.specs.Disk.{DiskState, Each, IsDisk, Keeps}
 use Rattle.tape_disk.specs.Moments.{LeavesOnly, weakened}
 use Rattle.gate_journal.specs.Side.{Heading}
-use Rattle.accepting.specs.Core.{Core, IsCore, settled, with_item}
-use Rattle.accepting.specs.Device.{IsDevice, one_disk, one_is_device, one_keeps}
-use Rattle.accepting.specs.Events.{CoreMoves, core_moves_on}
-use Rattle.accepting.specs.Kinds.{GivesSoMany, moves_accepting, moves_failing, moves_storing}
+use Rattle.accepted_changes.specs.Core.{Core, IsCore, settled, with_item}
+use Rattle.accepted_changes.specs.Device.{IsDevice, one_disk, one_is_device, one_keeps}
+use Rattle.accepted_changes.specs.Events.{CoreMoves, core_moves_on}
+use Rattle.accepted_changes.specs.Kinds.{GivesSoMany, moves_accepting, moves_failing, moves_storing}
 use Rattle.pr_core.specs.declared.states.PrState.{PrState}
 use Rattle.aptpl_store.specs.Contents.{GivesStates, ShowsStates}
 use Rattle.aptpl_store.specs.Kept.{core_with, store_rules}

@@ -8,8 +8,8 @@ use Rattle.gate_journal.specs.Answers.{Appended, Broke, NoneFailed}
 use Rattle.gate_journal.specs.Crash.{WithOrWithout}
 use Rattle.gate_journal.specs.Side.{Front, Heading, StandsFor}
 use Rattle.gate_journal.specs.State.{OpenSide, room_behind}
-use Rattle.accepting.specs.Device.{one_disk, one_is_device}
-use Rattle.accepting.specs.Events.{CoreMoves, core_moves_nowhere}
+use Rattle.accepted_changes.specs.Device.{one_disk, one_is_device}
+use Rattle.accepted_changes.specs.Events.{CoreMoves, core_moves_nowhere}
 use Rattle.pr_core.specs.declared.states.PrState.{PrState}
 use Rattle.pr_core.specs.States.{power_loss}
 use Rattle.pr_core.specs.Keepers.{Broken, Stored, state_frame_size}

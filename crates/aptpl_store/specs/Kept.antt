@@ -3,9 +3,9 @@ use Rattle.std.specs.Prelude.{◌+◌, ℕ, List, [], ◌∷◌, ◌++◌, lengt
 use Rattle.vtl_base.specs.Below.{Below}
 use Rattle.tape_disk.specs.Disk.{DiskState}
 use Rattle.gate_journal.specs.Side.{Heading}
-use Rattle.accepting.specs.Core.{Core, Rules}
-use Rattle.accepting.specs.Device.{one_disk}
-use Rattle.accepting.specs.Events.{CoreMoves}
+use Rattle.accepted_changes.specs.Core.{Core, Rules}
+use Rattle.accepted_changes.specs.Device.{one_disk}
+use Rattle.accepted_changes.specs.Events.{CoreMoves}
 use Rattle.pr_core.specs.declared.states.PrState.{PrState}
 use Rattle.pr_core.specs.Keepers.{KeeperState}
 use Rattle.aptpl_store.specs.Contents.{GivesStates, latest}

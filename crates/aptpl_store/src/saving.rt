@@ -17,8 +17,8 @@ use tape_disk::Disk;
 
 impl<D: Disk> Keeper for AptplStore<D> {
     ghost use Rattle.vtl_base.specs.Below.{advances_nowhere};
-    ghost use Rattle.accepting.specs.Device.{one_disk, one_is_device};
-    ghost use Rattle.accepting.specs.Events.{core_moves_nowhere, core_moves_on};
+    ghost use Rattle.accepted_changes.specs.Device.{one_disk, one_is_device};
+    ghost use Rattle.accepted_changes.specs.Events.{core_moves_nowhere, core_moves_on};
     ghost use Rattle.aptpl_store.specs.Kept.{core_of, store_below, store_kept, store_rules};
     ghost use Rattle.aptpl_store.specs.State.{OpenStore};
 

@@ -7,9 +7,9 @@ use Rattle.tape_disk.specs.Disk.{DiskState}
 use Rattle.pr_core.specs.declared.states.PrState.{PrState}
 use Rattle.pr_core.specs.States.{empty_state, power_loss}
 use Rattle.gate_journal.specs.Side.{Heading}
-use Rattle.accepting.specs.Core.{AllStepTo, Core, CoreStep, NeverRebases, NoneRebases, Rebase, Rules}
-use Rattle.accepting.specs.Events.{ShowsCore}
-use Rattle.accepting.specs.Laws.{AcknowledgedBegins, AcknowledgedIsKept, KeptBegins}
+use Rattle.accepted_changes.specs.Core.{AllStepTo, Core, CoreStep, NeverRebases, NoneRebases, Rebase, Rules}
+use Rattle.accepted_changes.specs.Events.{ShowsCore}
+use Rattle.accepted_changes.specs.Laws.{AcknowledgedBegins, AcknowledgedIsKept, KeptBegins}
 use Rattle.aptpl_store.specs.Contents.{OpensAs}
 use Rattle.tape_buffer.specs.Moves.{buffer_below}
 use Rattle.tape_buffer.specs.State.{state_of}

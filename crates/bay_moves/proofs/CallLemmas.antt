@@ -8,8 +8,8 @@ use Rattle.volume_core.specs.declared.media.Turn.{Turn}
 use Rattle.volume_core.specs.declared.media.Turn.TheVariants as turns
 use Rattle.volume_core.specs.Medium.{MediumState}
 use Rattle.tape_disk.specs.Disk.{DiskState, IsDisk}
-use Rattle.accepting.specs.Device.{one_disk, one_is_device}
-use Rattle.accepting.specs.Events.{CoreMoves, core_moves_nowhere}
+use Rattle.accepted_changes.specs.Device.{one_disk, one_is_device}
+use Rattle.accepted_changes.specs.Events.{CoreMoves, core_moves_nowhere}
 use Rattle.pr_core.specs.declared.keepers.KeeperError.{KeeperError}
 use Rattle.pr_core.specs.declared.keepers.KeeperError.TheVariants as save
 use Rattle.pr_core.specs.declared.states.PrState.{PrState}
@@ -18,21 +18,21 @@ use Rattle.pr_core.specs.Laws.{OrdersKeepRules, SavedAlikeAreLostAlike, SavesAre
 use Rattle.pr_core.specs.Saves.{needs_save}
 use Rattle.pr_core.specs.Sound.{IsSound}
 use Rattle.pr_core.specs.States.{empty_state, power_loss}
-use Rattle.drive_core.specs.declared.bays.Bay.{Bay}
-use Rattle.drive_core.specs.declared.bays.Bay.TheVariants.{Empty, Unloaded, Loaded}
-use Rattle.drive_core.specs.declared.faults.Fault.{Fault}
-use Rattle.drive_core.specs.Execute.{Answers}
-use Rattle.drive_core.specs.Relations.{Made}
-use Rattle.drive_core.specs.ReserveOut.{StandsBy, StandsOnceSaved}
-use Rattle.drive_core.specs.State.{DriveState, Machine, loaded, machine_of}
-use Rattle.drive_core.specs.LoadUnload.{emptied}
-use Rattle.drive_core.specs.Media.{GoesOutOf, TakesIn}
-use Rattle.drive_core.specs.Turn.{TurnsIn}
-use Rattle.drive_core.specs.Work.{Request}
+use Rattle.drive_commands.specs.declared.bays.Bay.{Bay}
+use Rattle.drive_commands.specs.declared.bays.Bay.TheVariants.{Empty, Unloaded, Loaded}
+use Rattle.drive_commands.specs.declared.faults.Fault.{Fault}
+use Rattle.drive_commands.specs.Execute.{Answers}
+use Rattle.drive_commands.specs.Relations.{Made}
+use Rattle.drive_commands.specs.ReserveOut.{StandsBy, StandsOnceSaved}
+use Rattle.drive_commands.specs.State.{DriveState, Machine, loaded, machine_of}
+use Rattle.drive_commands.specs.LoadUnload.{emptied}
+use Rattle.drive_commands.specs.Media.{GoesOutOf, TakesIn}
+use Rattle.drive_commands.specs.Turn.{TurnsIn}
+use Rattle.drive_commands.specs.Work.{Request}
 use Rattle.aptpl_store.specs.Contents.{latest}
 use Rattle.aptpl_store.specs.Kept.{core_of, store_below, store_kept, store_rules}
 use Rattle.aptpl_store.specs.State.{OpenStore}
-use Rattle.drive_core.specs.Run.{Asked, Turned}
+use Rattle.drive_commands.specs.Run.{Asked, Turned}
 use Rattle.bay_moves.specs.Reservations.{Call, CallDoes, ChangesBay, IsHolding, IsOrdered, IsOrderedIn, MayStand, Moved, Served}
 use Rattle.bay_moves.proofs.MachineLemmas.{Goes, step_goes}
 use Rattle.bay_moves.proofs.StoreCoreLemmas.{none_torn}

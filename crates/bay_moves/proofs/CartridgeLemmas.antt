@@ -11,22 +11,22 @@ use Rattle.volume_core.specs.declared.changes.Change.{Change}
 use Rattle.volume_core.specs.Medium.{turn_met_fault}
 use Rattle.cartridge.specs.Contents.{Contents, Start, changes_since}
 use Rattle.cartridge.specs.State.{ClosedCartridge, OpenCartridge}
-use Rattle.accepting.specs.Core.{CanAcknowledge, Core, IsCore}
-use Rattle.accepting.specs.Device.{two_disks}
-use Rattle.accepting.specs.Events.{GivesAcknowledged, IsEvent, ShowsCore}
-use Rattle.accepting.specs.Laws.{CrashesKeepAcknowledged, StepsKeepCores}
+use Rattle.accepted_changes.specs.Core.{CanAcknowledge, Core, IsCore}
+use Rattle.accepted_changes.specs.Device.{two_disks}
+use Rattle.accepted_changes.specs.Events.{GivesAcknowledged, IsEvent, ShowsCore}
+use Rattle.accepted_changes.specs.Laws.{CrashesKeepAcknowledged, StepsKeepCores}
 use Rattle.tape_buffer.specs.declared.holding.Holding.{Holding}
 use Rattle.tape_buffer.specs.declared.holding.Holding.TheVariants.{Open, Closed, Between}
 use Rattle.tape_buffer.specs.Rules.{medium_rules}
 use Rattle.tape_buffer.specs.Moves.{HonestOn, MediumMoves, MovesOn, buffer_below, medium_core, medium_moves_nowhere, medium_moves_on}
 use Rattle.tape_buffer.specs.State.{BufferState, core_held, disks_in, found_core, found_in, state_held, state_of, torn_in}
-use Rattle.drive_core.specs.declared.bays.Bay.{Bay}
-use Rattle.drive_core.specs.declared.bays.Bay.TheVariants.{Empty, Unloaded, Loaded}
-use Rattle.drive_core.specs.State.{DriveState, IsBayPositioned, machine_of, medium_in}
-use Rattle.drive_core.specs.Relations.{Made}
-use Rattle.drive_core.specs.Execute.{AdvancesIn, HonestIn, is_device_fault}
-use Rattle.drive_core.specs.Run.{Asked, Event, Turned}
-use Rattle.drive_core.specs.Synchronize.{NothingPending}
+use Rattle.drive_commands.specs.declared.bays.Bay.{Bay}
+use Rattle.drive_commands.specs.declared.bays.Bay.TheVariants.{Empty, Unloaded, Loaded}
+use Rattle.drive_commands.specs.State.{DriveState, IsBayPositioned, machine_of, medium_in}
+use Rattle.drive_commands.specs.Relations.{Made}
+use Rattle.drive_commands.specs.Execute.{AdvancesIn, HonestIn, is_device_fault}
+use Rattle.drive_commands.specs.Run.{Asked, Event, Turned}
+use Rattle.drive_commands.specs.Synchronize.{NothingPending}
 use Rattle.bay_moves.specs.Cartridges.{IsKnown, KeepsIn, StopsKeepChanges}
 use Rattle.bay_moves.specs.Doings.{Does, DoesAll}
 

@@ -2,7 +2,7 @@
 use Rattle.std.proofs.Common.{◌≡◌, ◌⊎◌, inl, inr, ℕ, zero, suc, ◌≤◌, ◌<◌, ◌+◌, List, [], ◌∷◌, ◌++◌, length, take, refl, sym, ◌∙◌, ap, subst, arith, length-append}
 use Rattle.std.proofs.lemmas.Bool.{cases_lt}
 use Rattle.std.proofs.lemmas.List.{length-take-le, take_all, take_at}
-use Rattle.accepting.specs.Core.{Rules, Core, CoreStep, Accept, Store, Safe, Ack, Fault, Stop, Rebase, AllStepTo, NeverRebases, accepted_in}
+use Rattle.accepted_changes.specs.Core.{Rules, Core, CoreStep, Accept, Store, Safe, Ack, Fault, Stop, Rebase, AllStepTo, NeverRebases, accepted_in}
 
 -- the first item, or this one
 abbrev head_or : {A : Type 0} → A → List A → A

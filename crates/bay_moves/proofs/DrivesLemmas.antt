@@ -3,8 +3,8 @@ use Rattle.std.proofs.Common.{◌≡◌, ◌≢◌, ◌⊎◌, inl, inr, ℕ, �
 use Rattle.tape_disk.specs.Disk.{DiskState}
 use Rattle.scsi_sense.specs.declared.replies.Reply.{Reply}
 use Rattle.scsi_sense.specs.Replies.{good_with}
-use Rattle.drive_core.specs.declared.bays.Bay.TheVariants.{Unloaded}
-use Rattle.drive_core.specs.Media.{GoesOut, TakesIn}
+use Rattle.drive_commands.specs.declared.bays.Bay.TheVariants.{Unloaded}
+use Rattle.drive_commands.specs.Media.{GoesOut, TakesIn}
 use Rattle.tape_buffer.specs.Moves.{buffer_below}
 use Rattle.tape_buffer.specs.State.{BufferState, state_of}
 use Rattle.element_slots.specs.Slots.{is_slot}

@@ -4,17 +4,17 @@ use Rattle.std.proofs.Common.{inl, inr, sym, ◌∙◌, ap, subst}
 use Rattle.tape_disk.specs.Disk.{DiskState, IsDisk}
 use Rattle.scsi_sense.specs.declared.replies.Reply.{Reply}
 use Rattle.volume_core.specs.declared.changes.Change.{Change}
-use Rattle.accepting.specs.Core.{CanAcknowledge}
-use Rattle.accepting.specs.Device.{two_disks}
-use Rattle.accepting.specs.Laws.{CrashesKeepAcknowledged, StepsKeepCores}
+use Rattle.accepted_changes.specs.Core.{CanAcknowledge}
+use Rattle.accepted_changes.specs.Device.{two_disks}
+use Rattle.accepted_changes.specs.Laws.{CrashesKeepAcknowledged, StepsKeepCores}
 use Rattle.tape_buffer.specs.Rules.{medium_rules}
 use Rattle.tape_buffer.specs.Moves.{medium_core}
 use Rattle.tape_buffer.specs.State.{BufferState}
 use Rattle.aptpl_store.specs.Kept.{store_below, store_kept}
-use Rattle.drive_core.specs.Relations.{made_nothing}
-use Rattle.drive_core.specs.State.{medium_in}
-use Rattle.drive_core.specs.Execute.{is_device_fault}
-use Rattle.drive_core.specs.Run.{Turned}
+use Rattle.drive_commands.specs.Relations.{made_nothing}
+use Rattle.drive_commands.specs.State.{medium_in}
+use Rattle.drive_commands.specs.Execute.{is_device_fault}
+use Rattle.drive_commands.specs.Run.{Turned}
 use Rattle.element_slots.specs.Slots.{held_at, is_slot}
 use Rattle.bay_moves.specs.Bays.{IsSafeIn}
 use Rattle.bay_moves.specs.Elements.{BayState, HeldState, bay_at, cartridge_at, cartridge_in}

@@ -7,30 +7,30 @@ use Rattle.scsi_lists.specs.declared.mode_lists.ModeList.{ModeList}
 use Rattle.scsi_lists.specs.declared.pr_lists.PrOut.{PrOut}
 use Rattle.scsi_lists.specs.ModeLists.{mode_decoded}
 use Rattle.scsi_lists.specs.PrLists.{list_decoded}
-use Rattle.scsi_wire.specs.declared.commands.Command.{Command}
-use Rattle.scsi_wire.specs.declared.commands.Command.TheVariants.{TestUnitReady, Rewind, RequestSense, ReadBlockLimits, Read, Write, WriteFilemarks, Space, Inquiry, Erase, Locate, ReadPosition, PersistentReserveIn, PersistentReserveOut, ModeSelect, ModeSense, LoadUnload}
-use Rattle.scsi_wire.specs.Commands.{code_of}
-use Rattle.scsi_wire.specs.Opcodes.{needs_medium}
+use Rattle.scsi_opcodes.specs.declared.commands.Command.{Command}
+use Rattle.scsi_opcodes.specs.declared.commands.Command.TheVariants.{TestUnitReady, Rewind, RequestSense, ReadBlockLimits, Read, Write, WriteFilemarks, Space, Inquiry, Erase, Locate, ReadPosition, PersistentReserveIn, PersistentReserveOut, ModeSelect, ModeSense, LoadUnload}
+use Rattle.scsi_opcodes.specs.Commands.{code_of}
+use Rattle.scsi_opcodes.specs.Opcodes.{needs_medium}
 use Rattle.volume_core.specs.declared.media.MediumError.{MediumError}
 use Rattle.volume_core.specs.Medium.{MediumState}
-use Rattle.drive_core.specs.declared.bays.Bay.{Bay}
-use Rattle.drive_core.specs.declared.bays.Bay.TheVariants.{Empty, Unloaded, Loaded}
-use Rattle.drive_core.specs.declared.conditions.Condition.{Condition}
-use Rattle.drive_core.specs.declared.conditions.Condition.TheVariants.{DeferredError, UnitAttention}
-use Rattle.drive_core.specs.declared.conditions.Denial.{Denial}
-use Rattle.drive_core.specs.declared.conditions.Denial.TheVariants.{Refused, Reported, Conflict}
-use Rattle.drive_core.specs.declared.faults.Fault.{Fault}
-use Rattle.drive_core.specs.Checks.{Executes, ExecutesAs, verdict}
-use Rattle.drive_core.specs.Conditions.{condition_due, denied, without_condition}
-use Rattle.drive_core.specs.LoadUnload.{LoadsAgain, LoadsIn, LoadUnloadWork, ParksAs, ReloadsAs, UnloadsInto, unloaded}
-use Rattle.drive_core.specs.Mode.{ModeSelectOf, in_asked_mode, in_mode}
-use Rattle.drive_core.specs.OnMedium.{OnMediumIn}
-use Rattle.drive_core.specs.Relations.{Made, MediumRelation, made_nothing}
-use Rattle.drive_core.specs.RequestSense.{after_report, once_reported}
-use Rattle.drive_core.specs.ReserveOut.{OrderOf, OrderUnlessFailed, OrderWork}
-use Rattle.drive_core.specs.State.{Machine, start}
-use Rattle.drive_core.specs.StoredFirst.{GoesTo, StoredFirst}
-use Rattle.drive_core.specs.Work.{DriveWork, MediumWork, Request, WorkBy}
+use Rattle.drive_commands.specs.declared.bays.Bay.{Bay}
+use Rattle.drive_commands.specs.declared.bays.Bay.TheVariants.{Empty, Unloaded, Loaded}
+use Rattle.drive_commands.specs.declared.conditions.Condition.{Condition}
+use Rattle.drive_commands.specs.declared.conditions.Condition.TheVariants.{DeferredError, UnitAttention}
+use Rattle.drive_commands.specs.declared.conditions.Denial.{Denial}
+use Rattle.drive_commands.specs.declared.conditions.Denial.TheVariants.{Refused, Reported, Conflict}
+use Rattle.drive_commands.specs.declared.faults.Fault.{Fault}
+use Rattle.drive_commands.specs.Checks.{Executes, ExecutesAs, verdict}
+use Rattle.drive_commands.specs.Conditions.{condition_due, denied, without_condition}
+use Rattle.drive_commands.specs.LoadUnload.{LoadsAgain, LoadsIn, LoadUnloadWork, ParksAs, ReloadsAs, UnloadsInto, unloaded}
+use Rattle.drive_commands.specs.Mode.{ModeSelectOf, in_asked_mode, in_mode}
+use Rattle.drive_commands.specs.OnMedium.{OnMediumIn}
+use Rattle.drive_commands.specs.Relations.{Made, MediumRelation, made_nothing}
+use Rattle.drive_commands.specs.RequestSense.{after_report, once_reported}
+use Rattle.drive_commands.specs.ReserveOut.{OrderOf, OrderUnlessFailed, OrderWork}
+use Rattle.drive_commands.specs.State.{Machine, start}
+use Rattle.drive_commands.specs.StoredFirst.{GoesTo, StoredFirst}
+use Rattle.drive_commands.specs.Work.{DriveWork, MediumWork, Request, WorkBy}
 
 -- reservations and keeper are unchanged, and nothing was saved
 pub record Unordered (old : Machine) (made : Made) (new : Machine) : Type 0 where

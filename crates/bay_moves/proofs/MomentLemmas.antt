@@ -12,26 +12,26 @@ use Rattle.volume_core.specs.declared.media.Turn.{Turn}
 use Rattle.volume_core.specs.Medium.{turn_met_fault}
 use Rattle.vtl_base.specs.declared.faults.NoMemory.{NoMemory}
 use Rattle.cartridge.specs.Contents.{Start}
-use Rattle.accepting.specs.Core.{CanAcknowledge, Core}
-use Rattle.accepting.specs.Device.{one_disk, one_is_device}
-use Rattle.accepting.specs.Events.{core_moves_nowhere}
+use Rattle.accepted_changes.specs.Core.{CanAcknowledge, Core}
+use Rattle.accepted_changes.specs.Device.{one_disk, one_is_device}
+use Rattle.accepted_changes.specs.Events.{core_moves_nowhere}
 use Rattle.aptpl_store.specs.Contents.{ShowsStates}
 use Rattle.aptpl_store.specs.Kept.{StoreMoves, core_of, store_below, store_kept, store_rules}
 use Rattle.aptpl_store.specs.State.{OpenStore}
 use Rattle.tape_buffer.specs.Moves.{MovesOn, ShowsOn, buffer_below, medium_core}
 use Rattle.tape_buffer.specs.State.{BufferState, disks_in, state_of}
-use Rattle.drive_core.specs.declared.bays.Bay.{Bay}
-use Rattle.drive_core.specs.declared.bays.Bay.TheVariants.{Empty, Unloaded, Loaded}
-use Rattle.drive_core.specs.Data.{AnswersLent}
-use Rattle.drive_core.specs.Execute.{Answers, is_device_fault}
-use Rattle.drive_core.specs.Load.{bay_when_on}
-use Rattle.drive_core.specs.Media.{GoesOutOf, SwitchesOn, TakesIn, TakesTurn}
-use Rattle.drive_core.specs.Relations.{Made, made_nothing}
-use Rattle.drive_core.specs.State.{medium_in}
-use Rattle.drive_core.specs.Work.{Request}
+use Rattle.drive_commands.specs.declared.bays.Bay.{Bay}
+use Rattle.drive_commands.specs.declared.bays.Bay.TheVariants.{Empty, Unloaded, Loaded}
+use Rattle.drive_commands.specs.Data.{AnswersLent}
+use Rattle.drive_commands.specs.Execute.{Answers, is_device_fault}
+use Rattle.drive_commands.specs.Load.{bay_when_on}
+use Rattle.drive_commands.specs.Media.{GoesOutOf, SwitchesOn, TakesIn, TakesTurn}
+use Rattle.drive_commands.specs.Relations.{Made, made_nothing}
+use Rattle.drive_commands.specs.State.{medium_in}
+use Rattle.drive_commands.specs.Work.{Request}
 use Rattle.bay_moves.specs.Bays.{AnswersInEvent, AnswersLentInEvent, EventIn, EventOn, EveryMoment, EveryMomentOff, EveryMomentOn, IsSafeIn, KeepsBoth, KeepsCartridge, KeepsCartridgeIn, SavesIn, loaded_or_back, out_or_in}
 use Rattle.bay_moves.specs.Elements.{BayState}
-use Rattle.drive_core.specs.Run.{Asked, Turned}
+use Rattle.drive_commands.specs.Run.{Asked, Turned}
 use Rattle.bay_moves.specs.Reservations.{Call, CallDoes, ChangesBay, GivesHeld, HoldingGives, HoldingGoesOn, IsHolding, Served, disk_of}
 use Rattle.bay_moves.specs.Reservations as call
 use Rattle.bay_moves.proofs.CallLemmas.{carried_stays}

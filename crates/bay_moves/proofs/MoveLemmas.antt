@@ -4,10 +4,10 @@ use Rattle.scsi_sense.specs.declared.replies.Reply.{Reply}
 use Rattle.scsi_sense.specs.Replies.{check_with, conflict, good_with}
 use Rattle.scsi_sense.specs.Senses.{destination_full, invalid_element_address, source_empty}
 use Rattle.tape_disk.specs.Disk.{DiskState, IsDisk}
-use Rattle.drive_core.specs.declared.bays.Bay.{Bay}
-use Rattle.drive_core.specs.declared.bays.Bay.TheVariants.{Empty, Unloaded, Loaded}
-use Rattle.drive_core.specs.Media.{GoesOutOf}
-use Rattle.drive_core.specs.State.{medium_in}
+use Rattle.drive_commands.specs.declared.bays.Bay.{Bay}
+use Rattle.drive_commands.specs.declared.bays.Bay.TheVariants.{Empty, Unloaded, Loaded}
+use Rattle.drive_commands.specs.Media.{GoesOutOf}
+use Rattle.drive_commands.specs.State.{medium_in}
 use Rattle.tape_buffer.specs.Moves.{buffer_below, medium_moves_nowhere}
 use Rattle.tape_buffer.specs.State.{BufferState, state_of}
 use Rattle.bay_moves.specs.Elements.{BayState, HeldState, bay_at, cartridge_at, is_element, is_reserved_at}

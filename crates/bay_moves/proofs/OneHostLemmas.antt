@@ -7,15 +7,15 @@ use Rattle.vtl_base.specs.Below.{Below}
 use Rattle.tape_disk.specs.Disk.{DiskState}
 use Rattle.scsi_sense.specs.declared.replies.Reply.{Reply}
 use Rattle.volume_core.specs.declared.changes.Change.{Change}
-use Rattle.drive_core.specs.declared.faults.Fault.{Fault}
-use Rattle.drive_core.specs.Determined.{AllAskAlike, BringsSure, HonestStepsAreSteps, InRun, IsCalm, IsSureDrive, IsSureInput, RunsAreDetermined, RunsStaySure, seen_of, without_turns}
-use Rattle.drive_core.specs.Execute.{HonestIn}
-use Rattle.drive_core.specs.Faults.{reply_of}
-use Rattle.drive_core.specs.Relations.{Made}
-use Rattle.drive_core.specs.Run.{Run, ServedByRuns}
-use Rattle.drive_core.specs.State.{Machine, medium_in}
-use Rattle.drive_core.specs.Step.{Input, Execute, Output, Answered, replies_of}
-use Rattle.drive_core.specs.Work.{Request}
+use Rattle.drive_commands.specs.declared.faults.Fault.{Fault}
+use Rattle.drive_commands.specs.Determined.{AllAskAlike, BringsSure, HonestStepsAreSteps, InRun, IsCalm, IsSureDrive, IsSureInput, RunsAreDetermined, RunsStaySure, seen_of, without_turns}
+use Rattle.drive_commands.specs.Execute.{HonestIn}
+use Rattle.drive_commands.specs.Faults.{reply_of}
+use Rattle.drive_commands.specs.Relations.{Made}
+use Rattle.drive_commands.specs.Run.{Run, ServedByRuns}
+use Rattle.drive_commands.specs.State.{Machine, medium_in}
+use Rattle.drive_commands.specs.Step.{Input, Execute, Output, Answered, replies_of}
+use Rattle.drive_commands.specs.Work.{Request}
 use Rattle.tape_buffer.specs.Moves.{buffer_below}
 use Rattle.tape_buffer.specs.State.{state_of}
 use Rattle.aptpl_store.specs.Kept.{store_below, store_kept}

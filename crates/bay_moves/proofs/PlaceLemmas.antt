@@ -7,9 +7,9 @@ use Rattle.scsi_sense.specs.declared.sense_data.Sense.{Sense}
 use Rattle.scsi_sense.specs.Replies.{check_with, conflict, good_with}
 use Rattle.volume_core.specs.declared.media.MediumError.{MediumError}
 use Rattle.volume_core.specs.declared.media.MediumError.TheVariants as Errors
-use Rattle.drive_core.specs.Faults.{reply_of}
-use Rattle.drive_core.specs.Load.{wake_answer}
-use Rattle.drive_core.specs.State.{medium_in}
+use Rattle.drive_commands.specs.Faults.{reply_of}
+use Rattle.drive_commands.specs.Load.{wake_answer}
+use Rattle.drive_commands.specs.State.{medium_in}
 use Rattle.tape_buffer.specs.State.{BufferState}
 use Rattle.element_slots.specs.Slots.{held_at, is_slot}
 use Rattle.bay_moves.specs.Elements.{BayState, HeldState, bay_at, cartridge_at, cartridge_in}

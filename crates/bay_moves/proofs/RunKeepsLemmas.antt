@@ -12,11 +12,11 @@ use Rattle.tape_buffer.specs.State.{BufferState, awake_is_read, disks_in, state_
 use Rattle.cartridge.specs.Contents.{volume_made}
 use Rattle.cartridge.specs.State.{ClosedCartridge, OpenCartridge}
 use Rattle.aptpl_store.specs.Kept.{store_kept}
-use Rattle.drive_core.specs.declared.bays.Bay.{Bay}
-use Rattle.drive_core.specs.declared.bays.Bay.TheVariants.{Loaded}
-use Rattle.drive_core.specs.State.{IsBayPositioned, machine_of, medium_in}
-use Rattle.drive_core.specs.Run.{Asked}
-use Rattle.drive_core.specs.Synchronize.{IsSynchronizing}
+use Rattle.drive_commands.specs.declared.bays.Bay.{Bay}
+use Rattle.drive_commands.specs.declared.bays.Bay.TheVariants.{Loaded}
+use Rattle.drive_commands.specs.State.{IsBayPositioned, machine_of, medium_in}
+use Rattle.drive_commands.specs.Run.{Asked}
+use Rattle.drive_commands.specs.Synchronize.{IsSynchronizing}
 use Rattle.vtl_script.specs.declared.faults.ScriptFault.{ScriptFault}
 use Rattle.vtl_script.specs.declared.faults.ScriptFault.TheVariants as faults
 use Rattle.vtl_script.specs.declared.items.Item.{Item}

@@ -7,7 +7,7 @@ use Rattle.volume_core.specs.declared.media.MediumError.{MediumError}
 use Rattle.volume_core.specs.declared.media.MediumError.TheVariants as Errors
 use Rattle.volume_core.specs.Volume.{Part, after}
 use Rattle.volume_core.specs.Medium.{IsParkedFrom, MediumState, StaysParked, WakesFrom, met_fault, volume_of, volume_or_empty}
-use Rattle.drive_core.specs.Media.{ParksFrom, WakesAs}
+use Rattle.drive_commands.specs.Media.{ParksFrom, WakesAs}
 use Rattle.tape_buffer.specs.Moves.{buffer_below, medium_moves_on}
 use Rattle.tape_buffer.specs.State.{BufferState, state_of}
 use Rattle.bay_moves.specs.Moves.{IsSameCartridge, StaysCartridge, volume_given}

@@ -5,9 +5,9 @@ use Rattle.std.proofs.lemmas.List.{map-append}
 use Rattle.std.specs.List.{list_all}
 use Rattle.tape_disk.specs.Disk.{DiskState}
 use Rattle.scsi_sense.specs.declared.replies.Reply.{Reply}
-use Rattle.drive_core.specs.Execute.{Answers}
-use Rattle.drive_core.specs.Run.{Serves}
-use Rattle.drive_core.specs.Work.{Request}
+use Rattle.drive_commands.specs.Execute.{Answers}
+use Rattle.drive_commands.specs.Run.{Serves}
+use Rattle.drive_commands.specs.Work.{Request}
 use Rattle.tape_buffer.specs.Moves.{buffer_below}
 use Rattle.tape_buffer.specs.State.{state_of}
 use Rattle.aptpl_store.specs.Kept.{store_below, store_kept}

@@ -8,21 +8,21 @@ use Rattle.scsi_sense.specs.declared.sense_data.Sense.{Sense}
 use Rattle.scsi_lists.specs.declared.actions.PrAction.{PrAction}
 use Rattle.scsi_lists.specs.declared.pr_lists.PrOut.{PrOut}
 use Rattle.scsi_lists.specs.PrLists.{list_decoded}
-use Rattle.scsi_wire.specs.declared.commands.Command.{Command}
-use Rattle.scsi_wire.specs.declared.commands.Command.TheVariants.{PersistentReserveOut}
+use Rattle.scsi_opcodes.specs.declared.commands.Command.{Command}
+use Rattle.scsi_opcodes.specs.declared.commands.Command.TheVariants.{PersistentReserveOut}
 use Rattle.pr_core.specs.declared.keepers.KeeperError.{KeeperError}
 use Rattle.pr_core.specs.declared.states.PrAnswer.{PrAnswer}
 use Rattle.pr_core.specs.declared.states.PrState.{PrState}
 use Rattle.pr_core.specs.Keepers.{KeeperState}
 use Rattle.pr_core.specs.Saves.{needs_save}
-use Rattle.drive_core.specs.declared.conditions.Denial.{Denial}
-use Rattle.drive_core.specs.declared.faults.Fault.{Fault}
-use Rattle.drive_core.specs.Checks.{Executes, ExecutesAs, verdict}
-use Rattle.drive_core.specs.Faults.{reply_of}
-use Rattle.drive_core.specs.Relations.{Made}
-use Rattle.drive_core.specs.ReserveOut.{OrderOf, OrderUnlessFailed, StandsBy, StandsOnceSaved}
-use Rattle.drive_core.specs.State.{Machine}
-use Rattle.drive_core.specs.Work.{Request}
+use Rattle.drive_commands.specs.declared.conditions.Denial.{Denial}
+use Rattle.drive_commands.specs.declared.faults.Fault.{Fault}
+use Rattle.drive_commands.specs.Checks.{Executes, ExecutesAs, verdict}
+use Rattle.drive_commands.specs.Faults.{reply_of}
+use Rattle.drive_commands.specs.Relations.{Made}
+use Rattle.drive_commands.specs.ReserveOut.{OrderOf, OrderUnlessFailed, StandsBy, StandsOnceSaved}
+use Rattle.drive_commands.specs.State.{Machine}
+use Rattle.drive_commands.specs.Work.{Request}
 use Rattle.bay_moves.specs.Reservations.{IsOrdered}
 use Rattle.bay_moves.proofs.MachineLemmas.{Goes}
 

@@ -12,15 +12,15 @@ use Rattle.pr_core.specs.declared.states.PrState.{PrState}
 use Rattle.pr_core.specs.Laws.{OrdersKeepRules, PowerLossIsOnce, SavedAlikeAreLostAlike, SavesAreDueByChange}
 use Rattle.pr_core.specs.Sound.{IsSound}
 use Rattle.pr_core.specs.States.{empty_state, power_loss}
-use Rattle.drive_core.specs.declared.bays.Bay.{Bay}
-use Rattle.drive_core.specs.declared.bays.Bay.TheVariants.{Empty}
-use Rattle.drive_core.specs.State.{DriveState, left_of, machine_of, powered_on}
+use Rattle.drive_commands.specs.declared.bays.Bay.{Bay}
+use Rattle.drive_commands.specs.declared.bays.Bay.TheVariants.{Empty}
+use Rattle.drive_commands.specs.State.{DriveState, left_of, machine_of, powered_on}
 use Rattle.aptpl_store.specs.Contents.{GivesStates, ShowsStates, latest}
-use Rattle.accepting.specs.Device.{one_disk}
-use Rattle.accepting.specs.Events.{IsEvent, ShowsCore}
+use Rattle.accepted_changes.specs.Device.{one_disk}
+use Rattle.accepted_changes.specs.Events.{IsEvent, ShowsCore}
 use Rattle.aptpl_store.specs.Kept.{core_of, core_with, store_kept, store_rules}
 use Rattle.aptpl_store.specs.State.{OpenStore}
-use Rattle.drive_core.specs.Run.{Asked, Turned}
+use Rattle.drive_commands.specs.Run.{Asked, Turned}
 use Rattle.bay_moves.specs.Reservations.{Call, CallDoes, Calls, GivesHeld, HoldingGives, HoldingGoesOn, IsHolding, LeavesHeld, MayStand, Moved, OrdersStand, ReservationsOutlive, Served, SwitchedOnHolds, disk_of}
 use Rattle.bay_moves.proofs.MachineLemmas.{step_goes}
 use Rattle.bay_moves.proofs.StandLemmas.{good_stands, step_stands}

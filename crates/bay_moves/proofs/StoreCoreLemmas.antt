@@ -4,9 +4,9 @@ use Rattle.std.proofs.lemmas.List.{append-nil, take_all, take_at}
 use Rattle.tape_disk.specs.Disk.{DiskState}
 use Rattle.tape_disk.specs.Moments.{LeavesOnly, weakened}
 use Rattle.gate_journal.specs.Side.{Heading}
-use Rattle.accepting.specs.Core.{Core}
-use Rattle.accepting.specs.Device.{one_disk}
-use Rattle.accepting.specs.Events.{IsEvent, ShowsCore}
+use Rattle.accepted_changes.specs.Core.{Core}
+use Rattle.accepted_changes.specs.Device.{one_disk}
+use Rattle.accepted_changes.specs.Events.{IsEvent, ShowsCore}
 use Rattle.pr_core.specs.declared.states.PrState.{PrState}
 use Rattle.pr_core.specs.Keepers.{last_saved}
 use Rattle.aptpl_store.specs.Contents.{GivesStates, ShowsStates}

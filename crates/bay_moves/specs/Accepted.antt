@@ -10,7 +10,7 @@ use Rattle.pr_core.specs.Orders.{effect_of}
 use Rattle.pr_core.specs.Sets.{nexuses}
 use Rattle.pr_core.specs.States.{empty_state, power_loss}
 use Rattle.gate_journal.specs.Side.{Heading}
-use Rattle.accepting.specs.Core.{Ack, AllStepTo, Core, CoreStep, IsCore, IsKept, IsPrefix, NoneRebases, Rebase, Rules, StepsTo}
+use Rattle.accepted_changes.specs.Core.{Ack, AllStepTo, Core, CoreStep, IsCore, IsKept, IsPrefix, NoneRebases, Rebase, Rules, StepsTo}
 use Rattle.aptpl_store.specs.Contents.{OpensAs}
 
 -- what changes the reservations of a drive: an order of a host, or a loss of power (SPC-4, PERSISTENT RESERVE OUT,

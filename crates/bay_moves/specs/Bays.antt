@@ -10,23 +10,23 @@ use Rattle.pr_core.specs.States.{empty_state}
 use Rattle.volume_core.specs.Volume.{Part}
 use Rattle.volume_core.specs.declared.changes.Change.{Change}
 use Rattle.cartridge.specs.Contents.{Start}
-use Rattle.accepting.specs.Core.{CanAcknowledge, Core, IsCore}
-use Rattle.accepting.specs.Device.{one_disk, two_disks}
-use Rattle.accepting.specs.Events.{IsEvent, ShowsCore}
+use Rattle.accepted_changes.specs.Core.{CanAcknowledge, Core, IsCore}
+use Rattle.accepted_changes.specs.Device.{one_disk, two_disks}
+use Rattle.accepted_changes.specs.Events.{IsEvent, ShowsCore}
 use Rattle.tape_buffer.specs.Moves.{IsSafeOrPending, ShowsOn, buffer_below, medium_core}
 use Rattle.tape_buffer.specs.Rules.{medium_rules}
 use Rattle.tape_buffer.specs.State.{BufferState, IsSettledIn, disks_in, state_of}
 use Rattle.aptpl_store.specs.Contents.{ShowsStates}
 use Rattle.aptpl_store.specs.Kept.{core_of, store_below, store_kept, store_rules}
 use Rattle.aptpl_store.specs.State.{OpenStore}
-use Rattle.drive_core.specs.Data.{AnswersLent}
-use Rattle.drive_core.specs.Execute.{Answers}
-use Rattle.drive_core.specs.Relations.{Made}
-use Rattle.drive_core.specs.State.{medium_in}
-use Rattle.drive_core.specs.Work.{Request}
+use Rattle.drive_commands.specs.Data.{AnswersLent}
+use Rattle.drive_commands.specs.Execute.{Answers}
+use Rattle.drive_commands.specs.Relations.{Made}
+use Rattle.drive_commands.specs.State.{medium_in}
+use Rattle.drive_commands.specs.Work.{Request}
 use Rattle.bay_moves.specs.Accepted.{PrEvent, order_rules, orders_core, pr_after, pr_after_all}
 use Rattle.bay_moves.specs.Elements.{BayState}
-use Rattle.drive_core.specs.Run.{Asked}
+use Rattle.drive_commands.specs.Run.{Asked}
 use Rattle.bay_moves.specs.Reservations.{Call, GivesHeld, IsHolding, LeavesHeld, Served, disk_of}
 
 module _ {D : Type 0} (state : D → DiskState) where

@@ -7,18 +7,18 @@ use Rattle.scsi_sense.specs.declared.replies.Reply.{Reply}
 use Rattle.pr_core.specs.declared.states.PrState.{PrState}
 use Rattle.pr_core.specs.Keepers.{KeeperState}
 use Rattle.volume_core.specs.declared.changes.Change.{Change}
-use Rattle.accepting.specs.Core.{CanAcknowledge, IsCore}
-use Rattle.accepting.specs.Device.{two_disks}
-use Rattle.accepting.specs.Events.{GivesAcknowledged, IsEvent, ShowsCore}
+use Rattle.accepted_changes.specs.Core.{CanAcknowledge, IsCore}
+use Rattle.accepted_changes.specs.Device.{two_disks}
+use Rattle.accepted_changes.specs.Events.{GivesAcknowledged, IsEvent, ShowsCore}
 use Rattle.tape_buffer.specs.Rules.{medium_rules}
 use Rattle.tape_buffer.specs.Moves.{buffer_below, medium_core}
 use Rattle.tape_buffer.specs.State.{BufferState, disks_in, state_of}
-use Rattle.drive_core.specs.State.{DriveState, IsBayPositioned, machine_of, medium_in}
-use Rattle.drive_core.specs.Relations.{Made}
-use Rattle.drive_core.specs.Work.{Request}
-use Rattle.drive_core.specs.Execute.{Answers, HonestIn}
-use Rattle.drive_core.specs.Run.{Event}
-use Rattle.drive_core.specs.Synchronize.{Acknowledges, IsSynchronizing, NothingPending}
+use Rattle.drive_commands.specs.State.{DriveState, IsBayPositioned, machine_of, medium_in}
+use Rattle.drive_commands.specs.Relations.{Made}
+use Rattle.drive_commands.specs.Work.{Request}
+use Rattle.drive_commands.specs.Execute.{Answers, HonestIn}
+use Rattle.drive_commands.specs.Run.{Event}
+use Rattle.drive_commands.specs.Synchronize.{Acknowledges, IsSynchronizing, NothingPending}
 use Rattle.bay_moves.specs.Doings.{DoesAll}
 
 module _ {D : Type 0} (state : D → DiskState) where

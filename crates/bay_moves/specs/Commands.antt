@@ -2,10 +2,10 @@
 use Rattle.std.specs.Prelude.{◌≡◌, ℕ, false, Some}
 use Rattle.tape_disk.specs.Disk.{DiskState}
 use Rattle.scsi_sense.specs.declared.replies.Reply.{Reply}
-use Rattle.drive_core.specs.Execute.{Answers, HonestIn}
-use Rattle.drive_core.specs.State.{IsBayPositioned, machine_of, medium_in}
-use Rattle.drive_core.specs.Synchronize.{Acknowledges, IsSynchronizing, NothingPending}
-use Rattle.drive_core.specs.Work.{Request}
+use Rattle.drive_commands.specs.Execute.{Answers, HonestIn}
+use Rattle.drive_commands.specs.State.{IsBayPositioned, machine_of, medium_in}
+use Rattle.drive_commands.specs.Synchronize.{Acknowledges, IsSynchronizing, NothingPending}
+use Rattle.drive_commands.specs.Work.{Request}
 use Rattle.tape_buffer.specs.Moves.{buffer_below}
 use Rattle.tape_buffer.specs.State.{state_of}
 use Rattle.aptpl_store.specs.Kept.{store_below, store_kept}
@@ -13,7 +13,7 @@ use Rattle.element_slots.specs.Slots.{is_slot}
 use Rattle.bay_moves.specs.Bays.{EveryMoment, IsSafeIn, KeepsCartridgeIn}
 use Rattle.bay_moves.specs.Elements.{BayState, HeldState, bay_at}
 use Rattle.bay_moves.specs.Moves.{BayIs}
-use Rattle.drive_core.specs.Run.{Asked}
+use Rattle.drive_commands.specs.Run.{Asked}
 use Rattle.bay_moves.specs.Reservations.{Served}
 
 module _ {D : Type 0} (state : D → DiskState) where

@@ -5,11 +5,11 @@ use Rattle.pr_core.specs.declared.states.PrState.{PrState}
 use Rattle.pr_core.specs.Keepers.{KeeperState}
 use Rattle.volume_core.specs.declared.changes.Change.{Change}
 use Rattle.volume_core.specs.Medium.{MediumState}
-use Rattle.drive_core.specs.State.{DriveState}
-use Rattle.drive_core.specs.Relations.{Made, made_after, made_nothing}
-use Rattle.drive_core.specs.Execute.{Answers}
-use Rattle.drive_core.specs.Media.{TakesTurn}
-use Rattle.drive_core.specs.Run.{Asked, Event, Turned}
+use Rattle.drive_commands.specs.State.{DriveState}
+use Rattle.drive_commands.specs.Relations.{Made, made_after, made_nothing}
+use Rattle.drive_commands.specs.Execute.{Answers}
+use Rattle.drive_commands.specs.Media.{TakesTurn}
+use Rattle.drive_commands.specs.Run.{Asked, Event, Turned}
 
 module _ {M K : Type 0}
     (state : M → MediumState) (below : Below M Change) (kept : K → KeeperState) (keeps : Below K PrState) where

@@ -1,7 +1,7 @@
 -- The slots and drives of a library.
 use Rattle.std.specs.Prelude.{◌≡◌, ◌≢◌, ℕ, ◌-◌, ◌||◌, nat_le, Bool, false, List, slice_index_or, Option, None, Some, is_some, if◌then◌else◌}
 use Rattle.element_slots.specs.Slots.{held_at, is_slot}
-use Rattle.drive_core.specs.State.{DriveState, medium_in}
+use Rattle.drive_commands.specs.State.{DriveState, medium_in}
 use Rattle.tape_buffer.specs.State.{BufferState}
 use Rattle.aptpl_store.specs.State.{OpenStore}
 

@@ -2,17 +2,17 @@
 use Rattle.std.specs.Prelude.{◌≡◌, ℕ, [], true, false, Option, None, Some, Result, OnOk, OnErr}
 use Rattle.tape_disk.specs.Disk.{DiskState}
 use Rattle.volume_core.specs.declared.media.Turn.{Turn}
-use Rattle.drive_core.specs.declared.bays.Bay.{Bay}
-use Rattle.drive_core.specs.declared.bays.Bay.TheVariants.{Loaded}
-use Rattle.drive_core.specs.Media.{TakesTurn}
-use Rattle.drive_core.specs.Relations.{made_nothing}
-use Rattle.drive_core.specs.State.{medium_in}
+use Rattle.drive_commands.specs.declared.bays.Bay.{Bay}
+use Rattle.drive_commands.specs.declared.bays.Bay.TheVariants.{Loaded}
+use Rattle.drive_commands.specs.Media.{TakesTurn}
+use Rattle.drive_commands.specs.Relations.{made_nothing}
+use Rattle.drive_commands.specs.State.{medium_in}
 use Rattle.tape_buffer.specs.Moves.{buffer_below}
 use Rattle.tape_buffer.specs.State.{BufferState, state_of}
 use Rattle.aptpl_store.specs.Kept.{store_kept}
 use Rattle.bay_moves.specs.Bays.{EveryMoment}
 use Rattle.bay_moves.specs.Elements.{BayState, HeldState, bay_at}
-use Rattle.drive_core.specs.Run.{Turned}
+use Rattle.drive_commands.specs.Run.{Turned}
 use Rattle.bay_moves.specs.Reservations.{Served}
 use Rattle.bay_moves.specs.declared.finishing.Unwritten.{Unwritten}
 

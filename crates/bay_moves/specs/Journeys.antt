@@ -4,15 +4,15 @@ use Rattle.tape_disk.specs.Disk.{DiskState}
 use Rattle.scsi_sense.specs.declared.replies.Reply.{Reply}
 use Rattle.scsi_sense.specs.Replies.{good_with}
 use Rattle.volume_core.specs.declared.changes.Change.{Change}
-use Rattle.accepting.specs.Core.{CanAcknowledge}
+use Rattle.accepted_changes.specs.Core.{CanAcknowledge}
 use Rattle.tape_buffer.specs.Moves.{buffer_below, medium_core}
 use Rattle.tape_buffer.specs.State.{BufferState, state_of}
 use Rattle.aptpl_store.specs.Kept.{store_below, store_kept}
-use Rattle.drive_core.specs.Relations.{Made}
-use Rattle.drive_core.specs.State.{machine_of}
-use Rattle.drive_core.specs.Synchronize.{Acknowledges, IsSynchronizing}
-use Rattle.drive_core.specs.Work.{Request}
-use Rattle.drive_core.specs.Run.{Event}
+use Rattle.drive_commands.specs.Relations.{Made}
+use Rattle.drive_commands.specs.State.{machine_of}
+use Rattle.drive_commands.specs.Synchronize.{Acknowledges, IsSynchronizing}
+use Rattle.drive_commands.specs.Work.{Request}
+use Rattle.drive_commands.specs.Run.{Event}
 use Rattle.element_slots.specs.Slots.{is_slot}
 use Rattle.bay_moves.specs.Cartridges.{IsKnown, KeepsIn}
 use Rattle.bay_moves.specs.Commands.{Commands}

@@ -6,8 +6,8 @@ use Rattle.scsi_sense.specs.Replies.{check_with, conflict, good_with}
 use Rattle.scsi_sense.specs.Senses.{destination_full, invalid_element_address, source_empty}
 use Rattle.volume_core.specs.Volume.{Part}
 use Rattle.volume_core.specs.Medium.{MediumState, volume_of}
-use Rattle.drive_core.specs.declared.bays.Bay.TheVariants.{Unloaded}
-use Rattle.drive_core.specs.Media.{GoesOut, TakesIn}
+use Rattle.drive_commands.specs.declared.bays.Bay.TheVariants.{Unloaded}
+use Rattle.drive_commands.specs.Media.{GoesOut, TakesIn}
 use Rattle.tape_buffer.specs.Moves.{buffer_below}
 use Rattle.tape_buffer.specs.State.{BufferState, state_of}
 use Rattle.element_slots.specs.Slots.{Puts, held_at, is_slot}

@@ -3,15 +3,15 @@ use Rattle.std.specs.Prelude.{◌≡◌, ◌≢◌, ℕ, ◌==◌, if◌then◌e
 use Rattle.std.specs.Io.KnownBytes.{Appends}
 use Rattle.tape_disk.specs.Disk.{DiskState}
 use Rattle.scsi_sense.specs.declared.replies.Reply.{Reply}
-use Rattle.drive_core.specs.declared.faults.Fault.{Fault}
-use Rattle.drive_core.specs.Faults.{reply_of}
-use Rattle.drive_core.specs.State.{Machine, machine_of, medium_in}
-use Rattle.drive_core.specs.Execute.{HonestIn}
-use Rattle.drive_core.specs.Relations.{Made}
-use Rattle.drive_core.specs.Step.{Input, Execute, Output, Answered, replies_of}
-use Rattle.drive_core.specs.Run.{Run}
-use Rattle.drive_core.specs.Determined.{IsCalm, IsSureDrive, seen_of, without_turns}
-use Rattle.drive_core.specs.Work.{Request}
+use Rattle.drive_commands.specs.declared.faults.Fault.{Fault}
+use Rattle.drive_commands.specs.Faults.{reply_of}
+use Rattle.drive_commands.specs.State.{Machine, machine_of, medium_in}
+use Rattle.drive_commands.specs.Execute.{HonestIn}
+use Rattle.drive_commands.specs.Relations.{Made}
+use Rattle.drive_commands.specs.Step.{Input, Execute, Output, Answered, replies_of}
+use Rattle.drive_commands.specs.Run.{Run}
+use Rattle.drive_commands.specs.Determined.{IsCalm, IsSureDrive, seen_of, without_turns}
+use Rattle.drive_commands.specs.Work.{Request}
 use Rattle.tape_buffer.specs.Moves.{buffer_below}
 use Rattle.tape_buffer.specs.State.{state_of}
 use Rattle.aptpl_store.specs.Kept.{store_kept}

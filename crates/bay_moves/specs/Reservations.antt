@@ -7,7 +7,7 @@ use Rattle.scsi_attention.specs.AttentionSets.{AttentionSet}
 use Rattle.scsi_lists.specs.declared.actions.PrAction.{PrAction}
 use Rattle.scsi_lists.specs.declared.pr_lists.PrOut.{PrOut}
 use Rattle.scsi_lists.specs.PrLists.{list_decoded}
-use Rattle.scsi_wire.specs.declared.commands.Command.TheVariants.{PersistentReserveOut}
+use Rattle.scsi_opcodes.specs.declared.commands.Command.TheVariants.{PersistentReserveOut}
 use Rattle.pr_core.specs.declared.states.PrState.{PrState}
 use Rattle.pr_core.specs.declared.states.PrAnswer.{PrAnswer}
 use Rattle.pr_core.specs.Orders.{Orders}
@@ -18,13 +18,13 @@ use Rattle.volume_core.specs.declared.media.Turn.{Turn}
 use Rattle.volume_core.specs.Medium.{MediumState}
 use Rattle.tape_disk.specs.Disk.{DiskState, Each}
 use Rattle.tape_disk.specs.Moments.{LeavesOnly}
-use Rattle.drive_core.specs.Checks.{verdict}
-use Rattle.drive_core.specs.Execute.{Answers}
-use Rattle.drive_core.specs.declared.bays.Bay.TheVariants.{Unloaded}
-use Rattle.drive_core.specs.Media.{GoesOut, SwitchesOn, TakesIn, TakesTurn}
-use Rattle.drive_core.specs.State.{DriveState, Machine, left_of, machine_of}
-use Rattle.drive_core.specs.Run.{Asked, Event, Turned}
-use Rattle.drive_core.specs.Work.{Request}
+use Rattle.drive_commands.specs.Checks.{verdict}
+use Rattle.drive_commands.specs.Execute.{Answers}
+use Rattle.drive_commands.specs.declared.bays.Bay.TheVariants.{Unloaded}
+use Rattle.drive_commands.specs.Media.{GoesOut, SwitchesOn, TakesIn, TakesTurn}
+use Rattle.drive_commands.specs.State.{DriveState, Machine, left_of, machine_of}
+use Rattle.drive_commands.specs.Run.{Asked, Event, Turned}
+use Rattle.drive_commands.specs.Work.{Request}
 use Rattle.aptpl_store.specs.Contents.{OpensAs, ShowsStates, latest}
 use Rattle.aptpl_store.specs.Kept.{store_below, store_kept}
 use Rattle.aptpl_store.specs.State.{OpenStore}

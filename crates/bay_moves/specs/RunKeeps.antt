@@ -4,14 +4,14 @@ use Rattle.tape_disk.specs.Disk.{DiskState}
 use Rattle.tape_disk.specs.TwoDisks.{AreHonest, TwoDisks}
 use Rattle.scsi_sense.specs.declared.replies.Reply.{Reply}
 use Rattle.volume_core.specs.declared.changes.Change.{Change}
-use Rattle.accepting.specs.Core.{CanAcknowledge}
+use Rattle.accepted_changes.specs.Core.{CanAcknowledge}
 use Rattle.tape_buffer.specs.Moves.{medium_core}
 use Rattle.tape_buffer.specs.State.{BufferState, disks_in, state_of}
 use Rattle.aptpl_store.specs.Kept.{store_kept}
-use Rattle.drive_core.specs.declared.bays.Bay.TheVariants.{Loaded}
-use Rattle.drive_core.specs.State.{machine_of}
-use Rattle.drive_core.specs.Run.{Asked}
-use Rattle.drive_core.specs.Synchronize.{Acknowledges, IsSynchronizing}
+use Rattle.drive_commands.specs.declared.bays.Bay.TheVariants.{Loaded}
+use Rattle.drive_commands.specs.State.{machine_of}
+use Rattle.drive_commands.specs.Run.{Asked}
+use Rattle.drive_commands.specs.Synchronize.{Acknowledges, IsSynchronizing}
 use Rattle.bay_moves.specs.Cartridges.{IsKnown, KeepsIn}
 use Rattle.bay_moves.specs.Elements.{BayState, HeldState, bay_at, cartridge_at}
 use Rattle.bay_moves.specs.Journeys.{Deed, GoesWithAll, InDrive, Moving}

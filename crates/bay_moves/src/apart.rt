@@ -7,7 +7,7 @@ ghost use Rattle.bay_moves.specs.Reservations.{IsHolding};
 
 use crate::bays::{Bay, known};
 use aptpl_store::AptplStore;
-use drive_core::Drive;
+use drive_commands::Drive;
 use tape_buffer::Cataloged;
 use tape_disk::Disk;
 

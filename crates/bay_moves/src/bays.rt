@@ -1,26 +1,26 @@
 //! A drive of a library.
 ghost use Rattle.std.specs.Prelude.{[], Some, ◌≡◌, ◌↔◌, IsTrue, IfOk, IfErr, IfSome, Err, false, is_some, option_map};
 ghost use Rattle.tape_disk.specs.Disk.{Each};
-ghost use Rattle.drive_core.specs.declared.bays.Bay.TheVariants as Bays;
-ghost use Rattle.drive_core.specs.State.{IsBayPositioned, left_of, machine_of, medium_in};
-ghost use Rattle.drive_core.specs.Data.{AnswersLent};
-ghost use Rattle.drive_core.specs.Execute.{Answers, HonestIn, asked};
-ghost use Rattle.drive_core.specs.Media.{GoesOut, SwitchesOn, TakesIn, TakesTurn};
-ghost use Rattle.drive_core.specs.Relations.{made_nothing};
-ghost use Rattle.drive_core.specs.Synchronize.{Acknowledges, IsSynchronizing, NothingPending};
+ghost use Rattle.drive_commands.specs.declared.bays.Bay.TheVariants as Bays;
+ghost use Rattle.drive_commands.specs.State.{IsBayPositioned, left_of, machine_of, medium_in};
+ghost use Rattle.drive_commands.specs.Data.{AnswersLent};
+ghost use Rattle.drive_commands.specs.Execute.{Answers, HonestIn, asked};
+ghost use Rattle.drive_commands.specs.Media.{GoesOut, SwitchesOn, TakesIn, TakesTurn};
+ghost use Rattle.drive_commands.specs.Relations.{made_nothing};
+ghost use Rattle.drive_commands.specs.Synchronize.{Acknowledges, IsSynchronizing, NothingPending};
 ghost use Rattle.tape_buffer.specs.Moves.{buffer_below};
 ghost use Rattle.tape_buffer.specs.State.{state_of};
 ghost use Rattle.aptpl_store.specs.Kept.{store_below, store_kept};
 ghost use Rattle.bay_moves.specs.Bays.{AnswersInEvent, AnswersLentInEvent, EveryMoment, EveryMomentOff, EveryMomentOn, IsSafeIn, KeepsBoth, KeepsCartridgeIn, ShowsOrders, loaded_or_back, out_or_in};
 ghost use Rattle.bay_moves.specs.Inner.Going.{IsAwakeIn};
-ghost use Rattle.drive_core.specs.Run.{Turned};
+ghost use Rattle.drive_commands.specs.Run.{Turned};
 ghost use Rattle.bay_moves.specs.Reservations.{GivesHeld, Moved, Served};
 
 use crate::laws::reservations::reservations_outlive_each_stop;
 use crate::parked::Parked;
-use accepting::Accepting;
+use accepted_changes::Accepting;
 use aptpl_store::AptplStore;
-use drive_core::Drive;
+use drive_commands::Drive;
 use pr_core::Reservations;
 use scsi_sense::Reply;
 use std::alloc::Global;
@@ -60,7 +60,7 @@ impl<D: Disk> Model for Bay<D> {
 
 // A drive accepts the orders of its reservations.
 impl<D: Disk> Accepting for Bay<D> {
-    ghost use Rattle.accepting.specs.Device.{one_disk, one_is_device};
+    ghost use Rattle.accepted_changes.specs.Device.{one_disk, one_is_device};
     ghost use Rattle.bay_moves.specs.Accepted.{order_rules};
 
     ghost rules = { order_rules };

@@ -2,8 +2,8 @@
 ghost use Rattle.std.specs.Prelude.{◌≡◌, ◌≢◌, [], ℕ, None, Some, true, IfOk, IfErr, OnOk, is_some, option_map, length};
 ghost use Rattle.vtl_base.specs.declared.limits.TheConstants.{DRIVES, SLOTS};
 ghost use Rattle.element_slots.specs.Slots.{Puts, held_at, refusal_of_placing};
-ghost use Rattle.drive_core.specs.Data.{data_left};
-ghost use Rattle.drive_core.specs.Execute.{asked};
+ghost use Rattle.drive_commands.specs.Data.{data_left};
+ghost use Rattle.drive_commands.specs.Execute.{asked};
 ghost use Rattle.bay_moves.specs.Commands.{Commands};
 ghost use Rattle.bay_moves.specs.Elements.{Becomes, bay_at};
 

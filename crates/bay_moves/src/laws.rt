@@ -6,7 +6,7 @@ pub mod cartridges;
 pub mod reservations;
 
 use crate::bays::Bay;
-use accepting::laws::{
+use accepted_changes::laws::{
     what_is_kept_begins, what_was_acknowledged_begins, what_was_acknowledged_is_kept,
 };
 use tape_buffer::Cataloged;

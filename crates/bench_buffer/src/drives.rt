@@ -1,6 +1,6 @@
 //! A drive over a cartridge on two disks.
 use cartridge::Shelved;
-use drive_core::Drive;
+use drive_commands::Drive;
 use pr_core::{NoKeeper, Reservations};
 use std::alloc::Global;
 use tape_buffer::Buffered;

@@ -5,10 +5,10 @@ use Rattle.volume_core.specs.declared.changes.Change.{Change}
 use Rattle.volume_core.specs.Volume.{Part}
 use Rattle.volume_core.specs.Medium.{MediumState, Works}
 use Rattle.positioning.specs.declared.positions.Pos.{Pos}
-use Rattle.drive_core.specs.State.{Mounted, mounted, contents_of}
-use Rattle.drive_core.specs.Relations.{MediumRelation, Idles}
-use Rattle.drive_core.specs.StoredFirst.{StoredFirst, GoesTo}
-use Rattle.drive_core.specs.Determined.{IsSureSight, Sight, sight_of, side_sight}
+use Rattle.drive_commands.specs.State.{Mounted, mounted, contents_of}
+use Rattle.drive_commands.specs.Relations.{MediumRelation, Idles}
+use Rattle.drive_commands.specs.StoredFirst.{StoredFirst, GoesTo}
+use Rattle.drive_commands.specs.Determined.{IsSureSight, Sight, sight_of, side_sight}
 
 -- loaded media that are seen alike, at one position; where something holds, it is sure what their sides give
 pub record MountedAlike (S : Type 0) (m m' : Mounted) : Type 0 where

@@ -1,8 +1,8 @@
 -- Where no fault comes, a command's work has one answer, command by command.
 use Rattle.std.proofs.Common.{◌≡◌, ℕ, ℤ, zero, suc, List, [], ◌∷◌, Option, None, Some, Bool, true, false, not, sym, ◌∙◌, ap, subst, slice_get}
 use Rattle.scsi_sense.specs.declared.replies.Reply.{Reply}
-use Rattle.scsi_wire.specs.declared.commands.Command.{Command}
-use Rattle.scsi_wire.specs.declared.commands.Command.TheVariants.{TestUnitReady, Rewind, RequestSense, ReadBlockLimits, Read, Write, WriteFilemarks, Space, Inquiry, Erase, Locate, ReadPosition, PersistentReserveIn, PersistentReserveOut, ModeSelect, ModeSense, LoadUnload}
+use Rattle.scsi_opcodes.specs.declared.commands.Command.{Command}
+use Rattle.scsi_opcodes.specs.declared.commands.Command.TheVariants.{TestUnitReady, Rewind, RequestSense, ReadBlockLimits, Read, Write, WriteFilemarks, Space, Inquiry, Erase, Locate, ReadPosition, PersistentReserveIn, PersistentReserveOut, ModeSelect, ModeSense, LoadUnload}
 use Rattle.scsi_sense.specs.Replies.{good_with}
 use Rattle.vtl_base.specs.declared.space_codes.SpaceCode.{SpaceCode}
 use Rattle.volume_core.specs.declared.changes.Change.{Change}
@@ -12,23 +12,23 @@ use Rattle.volume_core.specs.declared.objects.Object.{Object}
 use Rattle.volume_core.specs.declared.objects.Object.TheVariants.{Block, Mark}
 use Rattle.volume_core.specs.Volume.{refusal_of, changed, objects_of}
 use Rattle.positioning.specs.declared.positions.Pos.{Pos}
-use Rattle.drive_core.specs.State.{Mounted, contents_of}
-use Rattle.drive_core.specs.Relations.{Idles}
-use Rattle.drive_core.specs.StoredFirst.{GoesTo}
-use Rattle.drive_core.specs.Rewind.{RewindWork, partition_start}
+use Rattle.drive_commands.specs.State.{Mounted, contents_of}
+use Rattle.drive_commands.specs.Relations.{Idles}
+use Rattle.drive_commands.specs.StoredFirst.{GoesTo}
+use Rattle.drive_commands.specs.Rewind.{RewindWork, partition_start}
 use Rattle.positioning.specs.Laws.{NoSpaceEndsTwice, NoLocateEndsTwice}
 use Rattle.positioning.specs.Motion.{SpacesTo, LocatesTo}
 use Rattle.positioning.specs.Report.{report_of}
-use Rattle.drive_core.specs.Append.{AppendWork, AppendAnswer, LacksRoom, amount_of, behind, done_reply, is_warned}
-use Rattle.drive_core.specs.Erase.{EraseWork, Erases, erase_at}
-use Rattle.drive_core.specs.Space.{SpaceMotion, SpaceWhen, is_over_nothing, space_reply}
-use Rattle.drive_core.specs.Locate.{LocateMotion, locate_reply, part_asked}
-use Rattle.drive_core.specs.Giving.{GivesPosition}
-use Rattle.drive_core.specs.Write.{WriteWork, put_at}
-use Rattle.drive_core.specs.Marks.{MarksWork, marks_at}
-use Rattle.drive_core.specs.Read.{ReadWork, ReadAnswer, GivesObject, object_at, next, block_reply}
-use Rattle.drive_core.specs.Work.{MediumWork}
-use Rattle.drive_core.specs.Determined.{IsSureSight, sight_of}
+use Rattle.drive_commands.specs.Append.{AppendWork, AppendAnswer, LacksRoom, amount_of, behind, done_reply, is_warned}
+use Rattle.drive_commands.specs.Erase.{EraseWork, Erases, erase_at}
+use Rattle.drive_commands.specs.Space.{SpaceMotion, SpaceWhen, is_over_nothing, space_reply}
+use Rattle.drive_commands.specs.Locate.{LocateMotion, locate_reply, part_asked}
+use Rattle.drive_commands.specs.Giving.{GivesPosition}
+use Rattle.drive_commands.specs.Write.{WriteWork, put_at}
+use Rattle.drive_commands.specs.Marks.{MarksWork, marks_at}
+use Rattle.drive_commands.specs.Read.{ReadWork, ReadAnswer, GivesObject, object_at, next, block_reply}
+use Rattle.drive_commands.specs.Work.{MediumWork}
+use Rattle.drive_commands.specs.Determined.{IsSureSight, sight_of}
 use Rattle.drive_laws.proofs.AlikeLemmas.{MountedAlike, Agrees, IsDetermined, works_sure, works_alike, contents_alike, alike_by, goes_to, idles, stored_first}
 
 module _ (old old' : Mounted) (reply reply' : Reply) (made made' : List Change) (m m' : Mounted)

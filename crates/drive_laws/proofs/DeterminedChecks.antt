@@ -1,20 +1,20 @@
 -- Where no fault comes, a request has one answer.
 use Rattle.std.proofs.Common.{◌≡◌, ℕ, List, Result, Ok, Err, IfOk, Bool, true, false, sym, ap, subst}
 use Rattle.scsi_sense.specs.declared.replies.Reply.{Reply}
-use Rattle.scsi_wire.specs.declared.commands.Command.{Command}
-use Rattle.scsi_wire.specs.Opcodes.{needs_medium}
-use Rattle.scsi_wire.specs.Commands.{code_of}
+use Rattle.scsi_opcodes.specs.declared.commands.Command.{Command}
+use Rattle.scsi_opcodes.specs.Opcodes.{needs_medium}
+use Rattle.scsi_opcodes.specs.Commands.{code_of}
 use Rattle.positioning.specs.Laws.{NoSpaceEndsTwice, NoLocateEndsTwice}
 use Rattle.pr_core.specs.Laws.{NoOrderEndsTwice}
-use Rattle.drive_core.specs.declared.conditions.Denial.{Denial}
-use Rattle.drive_core.specs.State.{Machine}
-use Rattle.drive_core.specs.Conditions.{denial_reply, denied}
-use Rattle.drive_core.specs.Relations.{Made}
-use Rattle.drive_core.specs.Work.{Request, MediumWork, WorkBy}
-use Rattle.drive_core.specs.OnMedium.{OnMediumIn}
-use Rattle.drive_core.specs.Checks.{Executes, ExecutesAs, verdict}
-use Rattle.drive_core.specs.Step.{Answered, Execute}
-use Rattle.drive_core.specs.Determined.{IsSureCommand, IsSureDrive, IsSureInput, seen_of, AreAlike}
+use Rattle.drive_commands.specs.declared.conditions.Denial.{Denial}
+use Rattle.drive_commands.specs.State.{Machine}
+use Rattle.drive_commands.specs.Conditions.{denial_reply, denied}
+use Rattle.drive_commands.specs.Relations.{Made}
+use Rattle.drive_commands.specs.Work.{Request, MediumWork, WorkBy}
+use Rattle.drive_commands.specs.OnMedium.{OnMediumIn}
+use Rattle.drive_commands.specs.Checks.{Executes, ExecutesAs, verdict}
+use Rattle.drive_commands.specs.Step.{Answered, Execute}
+use Rattle.drive_commands.specs.Determined.{IsSureCommand, IsSureDrive, IsSureInput, seen_of, AreAlike}
 use Rattle.drive_laws.proofs.CommandLemmas.{commands}
 use Rattle.drive_laws.proofs.DeterminedOrders.{Seen, ends}
 use Rattle.drive_laws.proofs.DeterminedVerdicts.{denied_same, denied_sure, verdict_same}

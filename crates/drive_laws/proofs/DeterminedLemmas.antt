@@ -6,16 +6,16 @@ use Rattle.volume_core.specs.Medium.{MediumState, volume_of, Turns}
 use Rattle.positioning.specs.Laws.{NoSpaceEndsTwice, NoLocateEndsTwice}
 use Rattle.pr_core.specs.Keepers.{KeeperState}
 use Rattle.pr_core.specs.Laws.{NoOrderEndsTwice}
-use Rattle.drive_core.specs.declared.bays.Bay.{Bay}
-use Rattle.drive_core.specs.declared.bays.Bay.TheVariants.{Empty, Unloaded, Loaded}
-use Rattle.drive_core.specs.State.{DriveState, Machine, bay_of}
-use Rattle.drive_core.specs.Relations.{Made, made_nothing}
-use Rattle.drive_core.specs.Work.{Request}
-use Rattle.drive_core.specs.Turn.{TurnsIn, after_turn, turn_outcome}
-use Rattle.drive_core.specs.Step.{Input, Execute, FlushTurn, Insert, Load, Unload, PowerOn, Output, Answered, Unanswered, Step}
-use Rattle.drive_core.specs.Determined.{BringsSure, IsSure, IsSureDrive, IsSureInput, OpensSurely, Sight, sight_of, side_sight, seen_of, without_room, IsCalm, AreSeenAlike, AreAlike, StepsAreDetermined}
+use Rattle.drive_commands.specs.declared.bays.Bay.{Bay}
+use Rattle.drive_commands.specs.declared.bays.Bay.TheVariants.{Empty, Unloaded, Loaded}
+use Rattle.drive_commands.specs.State.{DriveState, Machine, bay_of}
+use Rattle.drive_commands.specs.Relations.{Made, made_nothing}
+use Rattle.drive_commands.specs.Work.{Request}
+use Rattle.drive_commands.specs.Turn.{TurnsIn, after_turn, turn_outcome}
+use Rattle.drive_commands.specs.Step.{Input, Execute, FlushTurn, Insert, Load, Unload, PowerOn, Output, Answered, Unanswered, Step}
+use Rattle.drive_commands.specs.Determined.{BringsSure, IsSure, IsSureDrive, IsSureInput, OpensSurely, Sight, sight_of, side_sight, seen_of, without_room, IsCalm, AreSeenAlike, AreAlike, StepsAreDetermined}
 use Rattle.drive_laws.proofs.AlikeLemmas.{works_sight}
-use Rattle.drive_core.specs.LoadUnload.{emptied}
+use Rattle.drive_commands.specs.LoadUnload.{emptied}
 use Rattle.drive_laws.proofs.DeterminedLoads.{loads, powers_on}
 use Rattle.drive_laws.proofs.DeterminedParks.{unloads_alike}
 use Rattle.drive_laws.proofs.DeterminedChecks.{requests}

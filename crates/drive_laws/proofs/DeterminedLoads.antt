@@ -7,14 +7,14 @@ use Rattle.volume_core.specs.declared.media.MediumError.{MediumError}
 use Rattle.volume_core.specs.declared.media.MediumError.TheVariants as Errors
 use Rattle.volume_core.specs.Volume.{Part, after}
 use Rattle.volume_core.specs.Medium.{MediumState, GivenBy, Wakes, WakesFrom, volume_or_empty}
-use Rattle.drive_core.specs.declared.bays.Bay.{Bay}
-use Rattle.drive_core.specs.declared.bays.Bay.TheVariants.{Empty, Unloaded, Loaded}
-use Rattle.drive_core.specs.declared.faults.Fault.{Fault}
-use Rattle.drive_core.specs.State.{Machine, bay_of, left_of, loaded, medium_in, powered_on}
-use Rattle.drive_core.specs.Relations.{Made}
-use Rattle.drive_core.specs.Load.{LoadsAs, LoadsInto, PowersOn, bay_when_on, power_on_outcome}
-use Rattle.drive_core.specs.Step.{Answered, Unanswered}
-use Rattle.drive_core.specs.Determined.{IsSure, IsSureDrive, IsSureSight, OpensSurely, Sight, SideSight, torn_seen, sight_of, side_sight, seen_of, without_room, AreSeenAlike, IsCalm, AreAlike}
+use Rattle.drive_commands.specs.declared.bays.Bay.{Bay}
+use Rattle.drive_commands.specs.declared.bays.Bay.TheVariants.{Empty, Unloaded, Loaded}
+use Rattle.drive_commands.specs.declared.faults.Fault.{Fault}
+use Rattle.drive_commands.specs.State.{Machine, bay_of, left_of, loaded, medium_in, powered_on}
+use Rattle.drive_commands.specs.Relations.{Made}
+use Rattle.drive_commands.specs.Load.{LoadsAs, LoadsInto, PowersOn, bay_when_on, power_on_outcome}
+use Rattle.drive_commands.specs.Step.{Answered, Unanswered}
+use Rattle.drive_commands.specs.Determined.{IsSure, IsSureDrive, IsSureSight, OpensSurely, Sight, SideSight, torn_seen, sight_of, side_sight, seen_of, without_room, AreSeenAlike, IsCalm, AreAlike}
 use Rattle.drive_laws.proofs.AlikeLemmas.{working_sight}
 
 -- neither memory ran out nor the device failed

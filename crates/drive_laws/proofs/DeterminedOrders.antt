@@ -13,12 +13,12 @@ use Rattle.pr_core.specs.Orders.{Orders}
 use Rattle.pr_core.specs.Laws.{NoOrderEndsTwice}
 use Rattle.pr_core.specs.Saves.{needs_save}
 use Rattle.pr_core.specs.Keepers.{KeeperState, Stored, saved_over}
-use Rattle.drive_core.specs.declared.faults.Fault.{Fault}
-use Rattle.drive_core.specs.State.{Machine, DriveState}
-use Rattle.drive_core.specs.Relations.{Made, made_nothing}
-use Rattle.drive_core.specs.ReserveOut.{OrderOf, OrderUnlessFailed, OrderWork, StandsBy, order_reply, ordered}
-use Rattle.drive_core.specs.Step.{Answered}
-use Rattle.drive_core.specs.Determined.{IsSureDrive, Sight, seen_of, without_room, AreAlike}
+use Rattle.drive_commands.specs.declared.faults.Fault.{Fault}
+use Rattle.drive_commands.specs.State.{Machine, DriveState}
+use Rattle.drive_commands.specs.Relations.{Made, made_nothing}
+use Rattle.drive_commands.specs.ReserveOut.{OrderOf, OrderUnlessFailed, OrderWork, StandsBy, order_reply, ordered}
+use Rattle.drive_commands.specs.Step.{Answered}
+use Rattle.drive_commands.specs.Determined.{IsSureDrive, Sight, seen_of, without_room, AreAlike}
 
 -- a drive as it is seen
 abbrev pub Seen : Type 0

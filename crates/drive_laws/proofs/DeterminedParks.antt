@@ -7,15 +7,15 @@ use Rattle.volume_core.specs.declared.changes.Change.{Change}
 use Rattle.volume_core.specs.declared.media.MediumError.{MediumError}
 use Rattle.volume_core.specs.Volume.{Part, after}
 use Rattle.volume_core.specs.Medium.{MediumState, IsParked, IsParkedFrom, Parks, volume_of, volume_or_empty}
-use Rattle.drive_core.specs.declared.bays.Bay.{Bay}
-use Rattle.drive_core.specs.declared.bays.Bay.TheVariants.{Empty, Unloaded, Loaded}
-use Rattle.drive_core.specs.State.{Machine, bay_of, medium_in}
-use Rattle.drive_core.specs.Relations.{Made}
-use Rattle.drive_core.specs.declared.faults.Fault.{Fault}
+use Rattle.drive_commands.specs.declared.bays.Bay.{Bay}
+use Rattle.drive_commands.specs.declared.bays.Bay.TheVariants.{Empty, Unloaded, Loaded}
+use Rattle.drive_commands.specs.State.{Machine, bay_of, medium_in}
+use Rattle.drive_commands.specs.Relations.{Made}
+use Rattle.drive_commands.specs.declared.faults.Fault.{Fault}
 use Rattle.volume_core.specs.declared.media.MediumError.TheVariants as Errors
-use Rattle.drive_core.specs.LoadUnload.{LoadsIn, ParksAs, ReloadsAs, UnloadsInto, reloaded, unloaded}
-use Rattle.drive_core.specs.Step.{Answered}
-use Rattle.drive_core.specs.Determined.{IsSure, IsSureDrive, IsSureSight, OpensSurely, SideSight, Sight, is_sound, sight_of, side_sight, seen_of, torn_seen, AreAlike}
+use Rattle.drive_commands.specs.LoadUnload.{LoadsIn, ParksAs, ReloadsAs, UnloadsInto, reloaded, unloaded}
+use Rattle.drive_commands.specs.Step.{Answered}
+use Rattle.drive_commands.specs.Determined.{IsSure, IsSureDrive, IsSureSight, OpensSurely, SideSight, Sight, is_sound, sight_of, side_sight, seen_of, torn_seen, AreAlike}
 use Rattle.drive_laws.proofs.DeterminedLoads.{IsQuiet, wakes_alike}
 
 -- a parked medium, as it is seen

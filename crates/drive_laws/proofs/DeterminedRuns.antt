@@ -4,18 +4,18 @@ use Rattle.std.specs.Prelude.{All, IfOk, IfSome, ◌&&◌, not}
 use Rattle.std.specs.List.{cons_option}
 use Rattle.std.proofs.lemmas.List.Elements.{All-head, All-tail}
 use Rattle.scsi_sense.specs.declared.replies.Reply.{Reply}
-use Rattle.scsi_wire.specs.declared.commands.Command.{Command}
-use Rattle.scsi_wire.specs.declared.commands.Command.TheVariants.{TestUnitReady, Rewind, RequestSense, ReadBlockLimits, Read, Write, WriteFilemarks, Space, Inquiry, Erase, Locate, ReadPosition, PersistentReserveIn, PersistentReserveOut, ModeSelect, ModeSense, LoadUnload}
+use Rattle.scsi_opcodes.specs.declared.commands.Command.{Command}
+use Rattle.scsi_opcodes.specs.declared.commands.Command.TheVariants.{TestUnitReady, Rewind, RequestSense, ReadBlockLimits, Read, Write, WriteFilemarks, Space, Inquiry, Erase, Locate, ReadPosition, PersistentReserveIn, PersistentReserveOut, ModeSelect, ModeSense, LoadUnload}
 use Rattle.volume_core.specs.Medium.{MediumState}
-use Rattle.drive_core.specs.State.{Machine, bay_of, medium_in}
-use Rattle.drive_core.specs.Relations.{Made, made_nothing, made_after}
-use Rattle.drive_core.specs.Step.{Input, Execute, FlushTurn, Insert, Load, Unload, PowerOn, Output, Step, reply_in, replies_of}
-use Rattle.drive_core.specs.Run.{Run}
-use Rattle.drive_core.specs.declared.bays.Bay.{Bay}
-use Rattle.drive_core.specs.declared.bays.Bay.TheVariants.{Empty, Unloaded, Loaded}
-use Rattle.drive_core.specs.declared.conditions.Denial.{Denial}
-use Rattle.drive_core.specs.Checks.{verdict}
-use Rattle.drive_core.specs.Determined.{AllAskAlike, AreAlike, AreSeenAlike, AskAlike, BringsSure, InRun, IsCalm, IsSure, IsSureCommand, IsSureDrive, IsSureInput, IsSureSight, OpensSurely, RunsAreDetermined, RunsStaySure, StepsAreDetermined, seen_of, side_sight, sight_of, torn_seen, without_turns}
+use Rattle.drive_commands.specs.State.{Machine, bay_of, medium_in}
+use Rattle.drive_commands.specs.Relations.{Made, made_nothing, made_after}
+use Rattle.drive_commands.specs.Step.{Input, Execute, FlushTurn, Insert, Load, Unload, PowerOn, Output, Step, reply_in, replies_of}
+use Rattle.drive_commands.specs.Run.{Run}
+use Rattle.drive_commands.specs.declared.bays.Bay.{Bay}
+use Rattle.drive_commands.specs.declared.bays.Bay.TheVariants.{Empty, Unloaded, Loaded}
+use Rattle.drive_commands.specs.declared.conditions.Denial.{Denial}
+use Rattle.drive_commands.specs.Checks.{verdict}
+use Rattle.drive_commands.specs.Determined.{AllAskAlike, AreAlike, AreSeenAlike, AskAlike, BringsSure, InRun, IsCalm, IsSure, IsSureCommand, IsSureDrive, IsSureInput, IsSureSight, OpensSurely, RunsAreDetermined, RunsStaySure, StepsAreDetermined, seen_of, side_sight, sight_of, torn_seen, without_turns}
 use Rattle.drive_laws.proofs.DeterminedLemmas.{turn_unseen}
 
 -- a run without a fault, in which each step may start from any drive that is seen as the one before it left it, and

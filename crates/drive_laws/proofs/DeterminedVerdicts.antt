@@ -2,26 +2,26 @@
 use Rattle.std.proofs.Common.{◌≡◌, ℕ, List, [], Option, None, Some, Ok, Err, Bool, true, false, refl, sym, ◌∙◌, ap, length, nat_lt, ◌==◌, ◌&&◌, not, if◌then◌else◌}
 use Rattle.scsi_attention.specs.Attentions.{attention_of, cleared}
 use Rattle.scsi_sense.specs.Senses.{invalid_field, medium_not_present, medium_failed}
-use Rattle.scsi_wire.specs.declared.opcodes.Opcode.{Opcode}
-use Rattle.scsi_wire.specs.declared.commands.Command.{Command}
-use Rattle.scsi_wire.specs.declared.commands.Command.TheVariants.{TestUnitReady, Rewind, RequestSense, ReadBlockLimits, Read, Write, WriteFilemarks, Space, Inquiry, Erase, Locate, ReadPosition, PersistentReserveIn, PersistentReserveOut, ModeSelect, ModeSense, LoadUnload}
-use Rattle.scsi_wire.specs.Opcodes.{opcode_of, is_exempt, is_stopped_by_reservation, needs_medium}
-use Rattle.scsi_wire.specs.Commands.{command_of, sent_length}
+use Rattle.scsi_opcodes.specs.declared.opcodes.Opcode.{Opcode}
+use Rattle.scsi_opcodes.specs.declared.commands.Command.{Command}
+use Rattle.scsi_opcodes.specs.declared.commands.Command.TheVariants.{TestUnitReady, Rewind, RequestSense, ReadBlockLimits, Read, Write, WriteFilemarks, Space, Inquiry, Erase, Locate, ReadPosition, PersistentReserveIn, PersistentReserveOut, ModeSelect, ModeSense, LoadUnload}
+use Rattle.scsi_opcodes.specs.Opcodes.{opcode_of, is_exempt, is_stopped_by_reservation, needs_medium}
+use Rattle.scsi_opcodes.specs.Commands.{command_of, sent_length}
 use Rattle.volume_core.specs.Volume.{Part}
 use Rattle.volume_core.specs.Medium.{MediumState}
 use Rattle.pr_core.specs.States.{is_allowed}
-use Rattle.drive_core.specs.declared.bays.Bay.{Bay}
-use Rattle.drive_core.specs.declared.bays.Bay.TheVariants.{Empty, Unloaded, Loaded}
-use Rattle.drive_core.specs.declared.conditions.Condition.{Condition}
-use Rattle.drive_core.specs.declared.conditions.Condition.TheVariants.{DeferredError, UnitAttention}
-use Rattle.drive_core.specs.declared.conditions.Denial.{Denial}
-use Rattle.drive_core.specs.declared.conditions.Denial.TheVariants.{Refused, Reported, Conflict}
-use Rattle.drive_core.specs.State.{Machine, bay_of, volume_in}
-use Rattle.drive_core.specs.Conditions.{attention_due, condition_due, denied, first_some, without_condition}
-use Rattle.drive_core.specs.RequestSense.{once_reported}
-use Rattle.drive_core.specs.Work.{Request}
-use Rattle.drive_core.specs.Checks.{condition_denial, fields_verdict, medium_denial, state_denial, suits, unless_denied, verdict, verdict_at}
-use Rattle.drive_core.specs.Determined.{IsSureDrive, Sight, sight_of, seen_of}
+use Rattle.drive_commands.specs.declared.bays.Bay.{Bay}
+use Rattle.drive_commands.specs.declared.bays.Bay.TheVariants.{Empty, Unloaded, Loaded}
+use Rattle.drive_commands.specs.declared.conditions.Condition.{Condition}
+use Rattle.drive_commands.specs.declared.conditions.Condition.TheVariants.{DeferredError, UnitAttention}
+use Rattle.drive_commands.specs.declared.conditions.Denial.{Denial}
+use Rattle.drive_commands.specs.declared.conditions.Denial.TheVariants.{Refused, Reported, Conflict}
+use Rattle.drive_commands.specs.State.{Machine, bay_of, volume_in}
+use Rattle.drive_commands.specs.Conditions.{attention_due, condition_due, denied, first_some, without_condition}
+use Rattle.drive_commands.specs.RequestSense.{once_reported}
+use Rattle.drive_commands.specs.Work.{Request}
+use Rattle.drive_commands.specs.Checks.{condition_denial, fields_verdict, medium_denial, state_denial, suits, unless_denied, verdict, verdict_at}
+use Rattle.drive_commands.specs.Determined.{IsSureDrive, Sight, sight_of, seen_of}
 use Rattle.drive_laws.proofs.DeterminedOrders.{Seen}
 
 -- what denies a command that needs a medium, by what is seen of it

@@ -5,32 +5,32 @@ use Rattle.scsi_sense.specs.Replies.{check_with, good_with}
 use Rattle.scsi_sense.specs.declared.sense_data.Sense.{Sense}
 use Rattle.scsi_sense.specs.SenseData.{sense_bytes}
 use Rattle.scsi_sense.specs.Senses.{medium_not_present, medium_failed}
-use Rattle.scsi_wire.specs.declared.commands.Command.{Command}
-use Rattle.scsi_wire.specs.declared.commands.Command.TheVariants.{TestUnitReady, Rewind, RequestSense, ReadBlockLimits, Read, Write, WriteFilemarks, Space, Inquiry, Erase, Locate, ReadPosition, PersistentReserveIn, PersistentReserveOut, ModeSelect, ModeSense, LoadUnload}
-use Rattle.scsi_wire.specs.Answers.{block_limits, cut_to, inquiry_data}
+use Rattle.scsi_opcodes.specs.declared.commands.Command.{Command}
+use Rattle.scsi_opcodes.specs.declared.commands.Command.TheVariants.{TestUnitReady, Rewind, RequestSense, ReadBlockLimits, Read, Write, WriteFilemarks, Space, Inquiry, Erase, Locate, ReadPosition, PersistentReserveIn, PersistentReserveOut, ModeSelect, ModeSense, LoadUnload}
+use Rattle.scsi_opcodes.specs.Answers.{block_limits, cut_to, inquiry_data}
 use Rattle.volume_core.specs.Medium.{MediumState}
 use Rattle.positioning.specs.Laws.{NoSpaceEndsTwice, NoLocateEndsTwice}
 use Rattle.pr_core.specs.declared.states.PrState.{PrState}
 use Rattle.pr_core.specs.Laws.{NoOrderEndsTwice}
 use Rattle.scsi_lists.specs.PrLists.{list_decoded}
-use Rattle.drive_core.specs.declared.bays.Bay.{Bay}
-use Rattle.drive_core.specs.declared.bays.Bay.TheVariants.{Empty, Unloaded, Loaded}
-use Rattle.drive_core.specs.declared.conditions.Condition.{Condition}
-use Rattle.drive_core.specs.State.{Machine, medium_in, mounted, start, with_mounted, bay_of}
-use Rattle.drive_core.specs.Conditions.{condition_due}
-use Rattle.drive_core.specs.Relations.{Made, MediumRelation}
-use Rattle.drive_core.specs.RequestSense.{RequestSenseWork, once_reported, sense_due}
-use Rattle.drive_core.specs.ReserveIn.{data_read}
-use Rattle.drive_core.specs.Giving.{GivesData}
-use Rattle.drive_core.specs.Work.{DriveWork}
-use Rattle.drive_core.specs.LoadUnload.{LoadUnloadWork, LoadsAgain, LoadsIn, unloaded}
-use Rattle.drive_core.specs.Mode.{ModeSelectOf, changed_mode, in_asked_mode, in_mode}
-use Rattle.drive_core.specs.StoredFirst.{GoesTo, StoredFirst}
+use Rattle.drive_commands.specs.declared.bays.Bay.{Bay}
+use Rattle.drive_commands.specs.declared.bays.Bay.TheVariants.{Empty, Unloaded, Loaded}
+use Rattle.drive_commands.specs.declared.conditions.Condition.{Condition}
+use Rattle.drive_commands.specs.State.{Machine, medium_in, mounted, start, with_mounted, bay_of}
+use Rattle.drive_commands.specs.Conditions.{condition_due}
+use Rattle.drive_commands.specs.Relations.{Made, MediumRelation}
+use Rattle.drive_commands.specs.RequestSense.{RequestSenseWork, once_reported, sense_due}
+use Rattle.drive_commands.specs.ReserveIn.{data_read}
+use Rattle.drive_commands.specs.Giving.{GivesData}
+use Rattle.drive_commands.specs.Work.{DriveWork}
+use Rattle.drive_commands.specs.LoadUnload.{LoadUnloadWork, LoadsAgain, LoadsIn, unloaded}
+use Rattle.drive_commands.specs.Mode.{ModeSelectOf, changed_mode, in_asked_mode, in_mode}
+use Rattle.drive_commands.specs.StoredFirst.{GoesTo, StoredFirst}
 use Rattle.scsi_lists.specs.declared.mode_lists.ModeList.{ModeList}
 use Rattle.scsi_lists.specs.ModeLists.{mode_data, mode_decoded}
-use Rattle.drive_core.specs.OnMedium.{OnMediumIn}
-use Rattle.drive_core.specs.Step.{Answered}
-use Rattle.drive_core.specs.Determined.{IsSureCommand, IsSureDrive, IsSureSight, Sight, sight_of, seen_of, AreAlike}
+use Rattle.drive_commands.specs.OnMedium.{OnMediumIn}
+use Rattle.drive_commands.specs.Step.{Answered}
+use Rattle.drive_commands.specs.Determined.{IsSureCommand, IsSureDrive, IsSureSight, Sight, sight_of, seen_of, AreAlike}
 use Rattle.drive_laws.proofs.AlikeLemmas.{IsDetermined, goes_to, stored_first}
 use Rattle.drive_laws.proofs.DeterminedParks.{reloads_alike, unloads_alike}
 use Rattle.drive_laws.proofs.DeterminedOrders.{Seen, ends, lists_alike}

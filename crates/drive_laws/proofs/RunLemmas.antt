@@ -6,13 +6,13 @@ use Rattle.pr_core.specs.declared.states.PrState.{PrState}
 use Rattle.pr_core.specs.Keepers.{KeeperState}
 use Rattle.volume_core.specs.declared.changes.Change.{Change}
 use Rattle.volume_core.specs.Medium.{MediumState, turn_met_fault}
-use Rattle.drive_core.specs.State.{Machine, machine_of, medium_in}
-use Rattle.drive_core.specs.Faults.{reply_of}
-use Rattle.drive_core.specs.Relations.{Made, made_nothing, made_after}
-use Rattle.drive_core.specs.Step.{Input, Execute, Output, Answered, Unanswered}
-use Rattle.drive_core.specs.Turn.{turn_outcome}
-use Rattle.drive_core.specs.Execute.{AdvancesIn, HonestIn, is_device_fault}
-use Rattle.drive_core.specs.Run.{Run, RunsAppend, ServedByRuns, EventsAreRuns, Asked, Turned, input_of, reply_to}
+use Rattle.drive_commands.specs.State.{Machine, machine_of, medium_in}
+use Rattle.drive_commands.specs.Faults.{reply_of}
+use Rattle.drive_commands.specs.Relations.{Made, made_nothing, made_after}
+use Rattle.drive_commands.specs.Step.{Input, Execute, Output, Answered, Unanswered}
+use Rattle.drive_commands.specs.Turn.{turn_outcome}
+use Rattle.drive_commands.specs.Execute.{AdvancesIn, HonestIn, is_device_fault}
+use Rattle.drive_commands.specs.Run.{Run, RunsAppend, ServedByRuns, EventsAreRuns, Asked, Turned, input_of, reply_to}
 use Rattle.drive_laws.proofs.StepLemmas.{step_where}
 
 -- what three steps in a row make

@@ -5,10 +5,10 @@ use Rattle.vtl_base.specs.Below.{Below}
 use Rattle.scsi_sense.specs.declared.replies.Reply.{Reply}
 use Rattle.scsi_sense.specs.declared.sense_data.Sense.{Sense}
 use Rattle.scsi_sense.specs.Senses.{insufficient_resources, volume_overflow, write_error}
-use Rattle.scsi_wire.specs.declared.commands.Command.{Command}
-use Rattle.scsi_wire.specs.declared.commands.Command.TheVariants.{TestUnitReady, Rewind, RequestSense, ReadBlockLimits, Read, Write, WriteFilemarks, Space, Inquiry, Erase, Locate, ReadPosition, PersistentReserveIn, PersistentReserveOut, ModeSelect, ModeSense, LoadUnload}
-use Rattle.scsi_wire.specs.Commands.{decoded, sent_length}
-use Rattle.scsi_wire.specs.Opcodes.{opcode_of}
+use Rattle.scsi_opcodes.specs.declared.commands.Command.{Command}
+use Rattle.scsi_opcodes.specs.declared.commands.Command.TheVariants.{TestUnitReady, Rewind, RequestSense, ReadBlockLimits, Read, Write, WriteFilemarks, Space, Inquiry, Erase, Locate, ReadPosition, PersistentReserveIn, PersistentReserveOut, ModeSelect, ModeSense, LoadUnload}
+use Rattle.scsi_opcodes.specs.Commands.{decoded, sent_length}
+use Rattle.scsi_opcodes.specs.Opcodes.{opcode_of}
 use Rattle.scsi_lists.specs.ModeLists.{mode_decoded}
 use Rattle.scsi_lists.specs.PrLists.{list_decoded}
 use Rattle.pr_core.specs.declared.states.PrState.{PrState}
@@ -18,32 +18,32 @@ use Rattle.volume_core.specs.declared.changes.Refusal.{Refusal}
 use Rattle.volume_core.specs.declared.changes.Refusal.TheVariants.{NoPartition, PastEnd, NoRoom, TooLong}
 use Rattle.volume_core.specs.Volume.{changed, refusal_of}
 use Rattle.volume_core.specs.Medium.{MediumState}
-use Rattle.drive_core.specs.declared.bays.Bay.{Bay}
-use Rattle.drive_core.specs.declared.bays.Bay.TheVariants.{Empty, Unloaded, Loaded}
-use Rattle.drive_core.specs.declared.conditions.Denial.{Denial}
-use Rattle.drive_core.specs.declared.faults.Fault.{Fault}
-use Rattle.drive_core.specs.declared.faults.Fault.TheVariants.{NoMemory, Writing, Reading, SideFull, Saving, StoreFull}
-use Rattle.drive_core.specs.State.{Machine, DriveState, Mounted, contents_of, machine_of, medium_in, mounted}
-use Rattle.drive_core.specs.Relations.{Idles, Made, MediumRelation, made_nothing}
-use Rattle.drive_core.specs.Faults.{reply_of}
-use Rattle.drive_core.specs.Conditions.{denial_reply}
-use Rattle.drive_core.specs.Append.{AppendAnswer, AppendFails, AppendWork, LacksRoom, amount_of, behind, done_reply, is_warned}
-use Rattle.drive_core.specs.Write.{WriteWork, put_at}
-use Rattle.drive_core.specs.Marks.{MarksWork, marks_at}
-use Rattle.drive_core.specs.Erase.{EraseWork, Erases, erase_at}
-use Rattle.drive_core.specs.Rewind.{partition_start}
-use Rattle.drive_core.specs.Space.{is_over_nothing}
-use Rattle.drive_core.specs.Locate.{LocateMotion}
-use Rattle.drive_core.specs.StoredFirst.{GoesTo, StoredFirst}
-use Rattle.drive_core.specs.Giving.{GivesPosition}
-use Rattle.drive_core.specs.OnMedium.{OnMediumIn}
-use Rattle.drive_core.specs.Work.{MediumWork, Request, Work}
-use Rattle.drive_core.specs.Checks.{Executes, ExecutesAs, verdict}
-use Rattle.drive_core.specs.Synchronize.{Acknowledges}
-use Rattle.drive_core.specs.Execute.{Answers, HonestIn}
-use Rattle.drive_core.specs.ShownChanges.{IsChanging, RepliesShowChanges, ShowsChanges, ShowsWriteError, changes_medium}
-use Rattle.drive_core.proofs.QuietLemmas.{goes_quiet, idles_quiet, list_quiet, load_unload_quiet, locate_quiet, mode_quiet, read_quiet, space_quiet, stored_quiet, unmade}
-use Rattle.drive_core.proofs.SettledLemmas.{Judged, code_judged, lacks_unacknowledged, unacknowledged}
+use Rattle.drive_commands.specs.declared.bays.Bay.{Bay}
+use Rattle.drive_commands.specs.declared.bays.Bay.TheVariants.{Empty, Unloaded, Loaded}
+use Rattle.drive_commands.specs.declared.conditions.Denial.{Denial}
+use Rattle.drive_commands.specs.declared.faults.Fault.{Fault}
+use Rattle.drive_commands.specs.declared.faults.Fault.TheVariants.{NoMemory, Writing, Reading, SideFull, Saving, StoreFull}
+use Rattle.drive_commands.specs.State.{Machine, DriveState, Mounted, contents_of, machine_of, medium_in, mounted}
+use Rattle.drive_commands.specs.Relations.{Idles, Made, MediumRelation, made_nothing}
+use Rattle.drive_commands.specs.Faults.{reply_of}
+use Rattle.drive_commands.specs.Conditions.{denial_reply}
+use Rattle.drive_commands.specs.Append.{AppendAnswer, AppendFails, AppendWork, LacksRoom, amount_of, behind, done_reply, is_warned}
+use Rattle.drive_commands.specs.Write.{WriteWork, put_at}
+use Rattle.drive_commands.specs.Marks.{MarksWork, marks_at}
+use Rattle.drive_commands.specs.Erase.{EraseWork, Erases, erase_at}
+use Rattle.drive_commands.specs.Rewind.{partition_start}
+use Rattle.drive_commands.specs.Space.{is_over_nothing}
+use Rattle.drive_commands.specs.Locate.{LocateMotion}
+use Rattle.drive_commands.specs.StoredFirst.{GoesTo, StoredFirst}
+use Rattle.drive_commands.specs.Giving.{GivesPosition}
+use Rattle.drive_commands.specs.OnMedium.{OnMediumIn}
+use Rattle.drive_commands.specs.Work.{MediumWork, Request, Work}
+use Rattle.drive_commands.specs.Checks.{Executes, ExecutesAs, verdict}
+use Rattle.drive_commands.specs.Synchronize.{Acknowledges}
+use Rattle.drive_commands.specs.Execute.{Answers, HonestIn}
+use Rattle.drive_commands.specs.ShownChanges.{IsChanging, RepliesShowChanges, ShowsChanges, ShowsWriteError, changes_medium}
+use Rattle.drive_commands.proofs.QuietLemmas.{goes_quiet, idles_quiet, list_quiet, load_unload_quiet, locate_quiet, mode_quiet, read_quiet, space_quiet, stored_quiet, unmade}
+use Rattle.drive_commands.proofs.SettledLemmas.{Judged, code_judged, lacks_unacknowledged, unacknowledged}
 
 -- A command that changes the medium made none, and is not acknowledged; or it made one, and the reply shows that, or a
 -- write error.

@@ -1,29 +1,29 @@
 -- Steps, where more is known of the medium's honesty.
 use Rattle.std.proofs.Common.{ℕ, List, [], Option, None, Some, Result, Ok, Err, Bool, true, false}
 use Rattle.scsi_sense.specs.declared.replies.Reply.{Reply}
-use Rattle.scsi_wire.specs.declared.commands.Command.{Command}
-use Rattle.scsi_wire.specs.declared.commands.Command.TheVariants.{TestUnitReady, Rewind, RequestSense, ReadBlockLimits, Read, Write, WriteFilemarks, Space, Inquiry, Erase, Locate, ReadPosition, PersistentReserveIn, PersistentReserveOut, ModeSelect, ModeSense, LoadUnload}
-use Rattle.scsi_wire.specs.Opcodes.{needs_medium}
-use Rattle.scsi_wire.specs.Commands.{code_of}
+use Rattle.scsi_opcodes.specs.declared.commands.Command.{Command}
+use Rattle.scsi_opcodes.specs.declared.commands.Command.TheVariants.{TestUnitReady, Rewind, RequestSense, ReadBlockLimits, Read, Write, WriteFilemarks, Space, Inquiry, Erase, Locate, ReadPosition, PersistentReserveIn, PersistentReserveOut, ModeSelect, ModeSense, LoadUnload}
+use Rattle.scsi_opcodes.specs.Opcodes.{needs_medium}
+use Rattle.scsi_opcodes.specs.Commands.{code_of}
 use Rattle.pr_core.specs.Keepers.{KeeperState}
 use Rattle.volume_core.specs.declared.changes.Change.{Change}
 use Rattle.volume_core.specs.declared.media.MediumError.{MediumError}
 use Rattle.volume_core.specs.declared.media.MediumError.TheVariants as Errors
 use Rattle.volume_core.specs.Volume.{Part}
 use Rattle.volume_core.specs.Medium.{MediumState, IsParked, IsParkedFrom, IsUnopened, Parks, StaysParked, WakesFrom, volume_of}
-use Rattle.drive_core.specs.declared.bays.Bay.{Bay}
-use Rattle.drive_core.specs.declared.bays.Bay.TheVariants.{Empty, Unloaded, Loaded}
-use Rattle.drive_core.specs.declared.faults.Fault.{Fault}
-use Rattle.drive_core.specs.State.{Machine, Mounted, mounted}
-use Rattle.drive_core.specs.Relations.{Made}
-use Rattle.drive_core.specs.declared.conditions.Denial.{Denial}
-use Rattle.drive_core.specs.Work.{Request, DriveWork, MediumWork, WorkBy}
-use Rattle.drive_core.specs.OnMedium.{OnMediumIn}
-use Rattle.drive_core.specs.LoadUnload.{LoadUnloadWork, LoadsIn, UnloadsInto, emptied, unloaded}
-use Rattle.drive_core.specs.Checks.{ExecutesAs, verdict}
-use Rattle.drive_core.specs.Load.{LoadsInto, PowersOn}
-use Rattle.drive_core.specs.Step.{Input, Execute, FlushTurn, Insert, Load, Unload, PowerOn, Output, Answered, Unanswered, Step}
-use Rattle.drive_core.proofs.ReadLemmas.{read_where}
+use Rattle.drive_commands.specs.declared.bays.Bay.{Bay}
+use Rattle.drive_commands.specs.declared.bays.Bay.TheVariants.{Empty, Unloaded, Loaded}
+use Rattle.drive_commands.specs.declared.faults.Fault.{Fault}
+use Rattle.drive_commands.specs.State.{Machine, Mounted, mounted}
+use Rattle.drive_commands.specs.Relations.{Made}
+use Rattle.drive_commands.specs.declared.conditions.Denial.{Denial}
+use Rattle.drive_commands.specs.Work.{Request, DriveWork, MediumWork, WorkBy}
+use Rattle.drive_commands.specs.OnMedium.{OnMediumIn}
+use Rattle.drive_commands.specs.LoadUnload.{LoadUnloadWork, LoadsIn, UnloadsInto, emptied, unloaded}
+use Rattle.drive_commands.specs.Checks.{ExecutesAs, verdict}
+use Rattle.drive_commands.specs.Load.{LoadsInto, PowersOn}
+use Rattle.drive_commands.specs.Step.{Input, Execute, FlushTurn, Insert, Load, Unload, PowerOn, Output, Answered, Unanswered, Step}
+use Rattle.drive_commands.proofs.ReadLemmas.{read_where}
 
 module _ (H H' : Type 0) (so : H → H') where
   work_where : (command : Command) (buffered : Bool) (sent : List ℕ) (old : Mounted) (answer : Result Reply Fault)

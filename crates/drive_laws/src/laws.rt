@@ -1,8 +1,8 @@
 //! Laws of the drive machine. Each is a function that does nothing, and its contract is the law.
-ghost use Rattle.drive_core.specs.Counted.{CountsAreHeld};
-ghost use Rattle.drive_core.specs.Determined.{HonestStepsAreSteps, StepsAreDetermined, RunsAreDetermined, RunsStaySure};
-ghost use Rattle.drive_core.specs.Run.{EventsAreRuns, RunsAppend, ServedByRuns};
-ghost use Rattle.drive_core.specs.ShownChanges.{RepliesShowChanges};
+ghost use Rattle.drive_commands.specs.Counted.{CountsAreHeld};
+ghost use Rattle.drive_commands.specs.Determined.{HonestStepsAreSteps, StepsAreDetermined, RunsAreDetermined, RunsStaySure};
+ghost use Rattle.drive_commands.specs.Run.{EventsAreRuns, RunsAppend, ServedByRuns};
+ghost use Rattle.drive_commands.specs.ShownChanges.{RepliesShowChanges};
 
 use positioning::laws::{each_locate_has_one_end, each_space_has_one_end};
 use pr_core::Keeper;

@@ -1,4 +1,4 @@
-//! Laws of the drive machine (`drive_core`), over any medium and any keeper, which saves a drive's reservations.
+//! Laws of the drive machine (`drive_commands`), over any medium and any keeper, which saves a drive's reservations.
 #![tactic(auto)]
 
 mod laws;

@@ -5,11 +5,11 @@ use Rattle.vtl_base.specs.Below.{Below}
 use Rattle.scsi_sense.specs.declared.replies.Reply.{Reply}
 use Rattle.volume_core.specs.declared.changes.Change.{Change}
 use Rattle.ledgers.specs.Ledgers.{SeatState}
-use Rattle.drive_core.specs.Counted.{counted_up}
-use Rattle.drive_core.specs.Execute.{Answers}
-use Rattle.drive_core.specs.ShownChanges.{ShowsChanges}
-use Rattle.drive_core.specs.Work.{Request}
-use Rattle.drive_core.specs.State.{DriveState}
+use Rattle.drive_commands.specs.Counted.{counted_up}
+use Rattle.drive_commands.specs.Execute.{Answers}
+use Rattle.drive_commands.specs.ShownChanges.{ShowsChanges}
+use Rattle.drive_commands.specs.Work.{Request}
+use Rattle.drive_commands.specs.State.{DriveState}
 use Rattle.pr_core.specs.declared.states.PrState.{PrState}
 use Rattle.pr_core.specs.Keepers.{KeeperState}
 use Rattle.volume_core.specs.Medium.{MediumState}

@@ -9,12 +9,12 @@ use Rattle.tape_buffer.specs.State.{state_of}
 use Rattle.aptpl_store.specs.Kept.{store_below, store_kept}
 use Rattle.bay_moves.specs.Elements.{BayState}
 use Rattle.bay_moves.specs.Lent.{KeepsCount}
-use Rattle.drive_core.specs.Alone.{AnswersAlone}
-use Rattle.drive_core.specs.Execute.{Answers}
-use Rattle.drive_core.specs.State.{machine_of}
-use Rattle.drive_core.specs.Synchronize.{Acknowledges, IsSynchronizing}
-use Rattle.drive_core.specs.ShownChanges.{ShowsChanges}
-use Rattle.drive_core.specs.Work.{Request}
+use Rattle.drive_commands.specs.Alone.{AnswersAlone}
+use Rattle.drive_commands.specs.Execute.{Answers}
+use Rattle.drive_commands.specs.State.{machine_of}
+use Rattle.drive_commands.specs.Synchronize.{Acknowledges, IsSynchronizing}
+use Rattle.drive_commands.specs.ShownChanges.{ShowsChanges}
+use Rattle.drive_commands.specs.Work.{Request}
 use Rattle.split_bay.specs.Backs.{BackState}
 use Rattle.split_bay.specs.Fronts.{FrontState, KeepsHostsHalf, LeavesOrders}
 use Rattle.split_bay.specs.Halves.{ExecutesBoth, ReportsBoth}

@@ -3,7 +3,7 @@ use Rattle.std.proofs.Common.{◌≡◌, inl, inr, refl, ◌+◌, ℕ, List, [],
 use Rattle.std.proofs.lemmas.List.{append-nil, take_all, take_at}
 use Rattle.tape_disk.specs.Disk.{DiskState}
 use Rattle.gate_journal.specs.Side.{Heading}
-use Rattle.accepting.specs.Events.{ShowsCore}
+use Rattle.accepted_changes.specs.Events.{ShowsCore}
 use Rattle.pr_core.specs.declared.states.PrState.{PrState}
 use Rattle.aptpl_store.specs.Contents.{GivesStates, ShowsStates}
 use Rattle.aptpl_store.specs.Kept.{StoreMoves, core_with, store_rules}

@@ -4,9 +4,9 @@ use Rattle.tape_disk.specs.Disk.{DiskState}
 use Rattle.ledgers.specs.Ledgers.{SeatState}
 use Rattle.scsi_sense.specs.declared.replies.Reply.{Reply}
 use Rattle.volume_core.specs.declared.changes.Change.{Change}
-use Rattle.drive_core.specs.Data.{data_left}
-use Rattle.drive_core.specs.Execute.{asked}
-use Rattle.drive_core.specs.Work.{Request}
+use Rattle.drive_commands.specs.Data.{data_left}
+use Rattle.drive_commands.specs.Execute.{asked}
+use Rattle.drive_commands.specs.Work.{Request}
 use Rattle.split_bay.specs.Backs.{BackState}
 use Rattle.split_bay.specs.Fronts.{FrontState}
 use Rattle.library.specs.Served.{IsServed, ServesAlone, ServesBoth}

@@ -1,7 +1,7 @@
 -- The invariants of the drives of a library, and of the cartridges in its slots.
 use Rattle.std.specs.Prelude.{◌≡◌, ℕ, false, List, All, Option, None, Some}
 use Rattle.tape_disk.specs.Disk.{DiskState}
-use Rattle.drive_core.specs.State.{IsBayPositioned}
+use Rattle.drive_commands.specs.State.{IsBayPositioned}
 use Rattle.tape_buffer.specs.State.{BufferState, state_of}
 use Rattle.bay_moves.specs.Bays.{KeepsBoth, KeepsCartridge}
 use Rattle.bay_moves.specs.Elements.{BayState, bay_at}

@@ -1,6 +1,6 @@
 -- What an inventory shows at the element addresses of a library.
 use Rattle.std.specs.Prelude.{Bool, true, false, Option, None, Some}
-use Rattle.drive_core.specs.State.{medium_in}
+use Rattle.drive_commands.specs.State.{medium_in}
 use Rattle.split_bay.specs.Fronts.{FrontState}
 use Rattle.library.specs.declared.inventories.Element.{Element}
 use Rattle.library.specs.declared.inventories.Element.TheVariants.{Missing, Empty, Full}

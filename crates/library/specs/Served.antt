@@ -6,11 +6,11 @@ use Rattle.scsi_sense.specs.declared.replies.Reply.{Reply}
 use Rattle.volume_core.specs.declared.changes.Change.{Change}
 use Rattle.aptpl_store.specs.Kept.{store_below, store_kept}
 use Rattle.bay_moves.specs.Bays.{SavesIn}
-use Rattle.drive_core.specs.Alone.{AnswersAlone}
-use Rattle.drive_core.specs.State.{machine_of}
-use Rattle.drive_core.specs.Synchronize.{Acknowledges, IsSynchronizing}
-use Rattle.drive_core.specs.ShownChanges.{IsChanging, ShowsWriteError}
-use Rattle.drive_core.specs.Work.{Request}
+use Rattle.drive_commands.specs.Alone.{AnswersAlone}
+use Rattle.drive_commands.specs.State.{machine_of}
+use Rattle.drive_commands.specs.Synchronize.{Acknowledges, IsSynchronizing}
+use Rattle.drive_commands.specs.ShownChanges.{IsChanging, ShowsWriteError}
+use Rattle.drive_commands.specs.Work.{Request}
 use Rattle.split_bay.specs.Backs.{BackState}
 use Rattle.split_bay.specs.Fronts.{FrontState, KeepsHostsHalf, LeavesOrders}
 use Rattle.split_bay.specs.Halves.{ExecutesBoth}

@@ -1,7 +1,7 @@
 //! A library whose drives threads share.
 ghost use Rattle.std.specs.Prelude.{◌≡◌, true, is_some, IfSome};
-ghost use Rattle.drive_core.specs.Data.{data_left};
-ghost use Rattle.drive_core.specs.Execute.{asked};
+ghost use Rattle.drive_commands.specs.Data.{data_left};
+ghost use Rattle.drive_commands.specs.Execute.{asked};
 ghost use Rattle.bay_moves.specs.Lent.{IsDriveAddress};
 ghost use Rattle.library.specs.Counts.{has_drive};
 ghost use Rattle.library.specs.Served.{IsServed};

@@ -1,7 +1,7 @@
 //! A drive that threads share.
 ghost use Rattle.std.specs.Prelude.{◌≡◌};
-ghost use Rattle.drive_core.specs.Data.{data_left};
-ghost use Rattle.drive_core.specs.Execute.{asked};
+ghost use Rattle.drive_commands.specs.Data.{data_left};
+ghost use Rattle.drive_commands.specs.Execute.{asked};
 ghost use Rattle.library.specs.Served.{IsServed};
 
 use crate::flushers::Gate;

@@ -6,13 +6,13 @@ use Rattle.pr_core.specs.Keepers.{KeeperState}
 use Rattle.scsi_sense.specs.declared.replies.Reply.{Reply}
 use Rattle.volume_core.specs.declared.changes.Change.{Change}
 use Rattle.volume_core.specs.Medium.{MediumState}
-use Rattle.drive_core.specs.declared.bays.Bay.{Bay}
-use Rattle.drive_core.specs.declared.bays.Bay.TheVariants.{Empty, Unloaded, Loaded}
-use Rattle.drive_core.specs.Execute.{AdvancesIn, Answers, HonestIn, StoresIn}
-use Rattle.drive_core.specs.State.{DriveState, Machine, bay_of, machine_of, medium_in}
-use Rattle.drive_core.specs.Step.{Answered, Execute, Step}
-use Rattle.drive_core.specs.ShownChanges.{RepliesShowChanges}
-use Rattle.drive_core.specs.Work.{Request}
+use Rattle.drive_commands.specs.declared.bays.Bay.{Bay}
+use Rattle.drive_commands.specs.declared.bays.Bay.TheVariants.{Empty, Unloaded, Loaded}
+use Rattle.drive_commands.specs.Execute.{AdvancesIn, Answers, HonestIn, StoresIn}
+use Rattle.drive_commands.specs.State.{DriveState, Machine, bay_of, machine_of, medium_in}
+use Rattle.drive_commands.specs.Step.{Answered, Execute, Step}
+use Rattle.drive_commands.specs.ShownChanges.{RepliesShowChanges}
+use Rattle.drive_commands.specs.Work.{Request}
 use Rattle.split_bay.specs.declared.hosts.Hosts.{Hosts}
 use Rattle.split_bay.specs.declared.hosts.Hosts.TheVariants.{Apart}
 use Rattle.split_bay.specs.Hosts.{hosts_below, state_hosts}

@@ -5,7 +5,7 @@ use Rattle.std.proofs.lemmas.List.{append-nil}
 use Rattle.std.proofs.lemmas.List.Sums.{sum_by-cons}
 use Rattle.tape_disk.specs.Disk.{DiskState}
 use Rattle.volume_core.specs.Medium.{MediumState}
-use Rattle.drive_core.specs.declared.bays.Bay.TheVariants.{Empty, Unloaded, Loaded}
+use Rattle.drive_commands.specs.declared.bays.Bay.TheVariants.{Empty, Unloaded, Loaded}
 use Rattle.tape_buffer.specs.State.{BufferState, state_of}
 use Rattle.tape_buffer.specs.Taking.{LentState}
 use Rattle.split_bay.specs.declared.items.Item.{Item}

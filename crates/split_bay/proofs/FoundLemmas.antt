@@ -5,10 +5,10 @@ use Rattle.volume_core.specs.declared.changes.Change.{Change}
 use Rattle.volume_core.specs.declared.media.Turn.{Turn}
 use Rattle.volume_core.specs.declared.media.Turn.TheVariants.{Device, Idle, Stored}
 use Rattle.volume_core.specs.Medium.{MediumState, Turns}
-use Rattle.drive_core.specs.declared.bays.Bay.{Bay}
-use Rattle.drive_core.specs.declared.bays.Bay.TheVariants.{Empty, Loaded, Unloaded}
-use Rattle.drive_core.specs.State.{Machine}
-use Rattle.drive_core.specs.Turn.{after_turn}
+use Rattle.drive_commands.specs.declared.bays.Bay.{Bay}
+use Rattle.drive_commands.specs.declared.bays.Bay.TheVariants.{Empty, Loaded, Unloaded}
+use Rattle.drive_commands.specs.State.{Machine}
+use Rattle.drive_commands.specs.Turn.{after_turn}
 use Rattle.split_bay.specs.Found.{TurnedDrive, having_pending}
 use Rattle.split_bay.specs.Looks.{LookedIn, Looks, deferred_after, fails_anew}
 use Rattle.split_bay.proofs.LookLemmas.{not_both}

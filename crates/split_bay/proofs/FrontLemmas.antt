@@ -6,16 +6,16 @@ use Rattle.tape_disk.specs.Disk.{DiskState}
 use Rattle.volume_core.specs.declared.changes.Change.{Change}
 use Rattle.volume_core.specs.Medium.{MediumState}
 use Rattle.scsi_sense.specs.declared.replies.Reply.{Reply}
-use Rattle.drive_core.specs.declared.bays.Bay.{Bay}
-use Rattle.drive_core.specs.declared.bays.Bay.TheVariants.{Empty, Unloaded, Loaded}
-use Rattle.drive_core.specs.Alone.{AnswersAlone}
-use Rattle.drive_core.specs.Apart.{rest_of_drive}
-use Rattle.drive_core.specs.Execute.{AdvancesIn}
-use Rattle.drive_core.specs.State.{DriveState, medium_in}
-use Rattle.drive_core.specs.Work.{Request}
+use Rattle.drive_commands.specs.declared.bays.Bay.{Bay}
+use Rattle.drive_commands.specs.declared.bays.Bay.TheVariants.{Empty, Unloaded, Loaded}
+use Rattle.drive_commands.specs.Alone.{AnswersAlone}
+use Rattle.drive_commands.specs.Apart.{rest_of_drive}
+use Rattle.drive_commands.specs.Execute.{AdvancesIn}
+use Rattle.drive_commands.specs.State.{DriveState, medium_in}
+use Rattle.drive_commands.specs.Work.{Request}
 use Rattle.aptpl_store.specs.Kept.{store_below, store_kept}
 use Rattle.aptpl_store.specs.State.{OpenStore}
-use Rattle.drive_core.specs.Run.{Asked}
+use Rattle.drive_commands.specs.Run.{Asked}
 use Rattle.bay_moves.specs.Reservations.{HoldingGoesOn, Served}
 use Rattle.split_bay.specs.declared.items.Item.{Item}
 use Rattle.split_bay.specs.declared.hosts.Hosts.{Hosts}

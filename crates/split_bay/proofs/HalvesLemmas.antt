@@ -5,10 +5,10 @@ use Rattle.positioning.specs.declared.positions.Pos.{Pos}
 use Rattle.positioning.specs.Motion.{IsOnTape}
 use Rattle.volume_core.specs.Medium.{MediumState}
 use Rattle.volume_core.specs.Volume.{Part}
-use Rattle.drive_core.specs.declared.bays.Bay.{Bay}
-use Rattle.drive_core.specs.declared.bays.Bay.TheVariants.{Empty, Unloaded, Loaded}
-use Rattle.drive_core.specs.Apart.{RestState, drive_with, rest_of_drive}
-use Rattle.drive_core.specs.State.{DriveState, IsBayPositioned, bay_of, machine_of}
+use Rattle.drive_commands.specs.declared.bays.Bay.{Bay}
+use Rattle.drive_commands.specs.declared.bays.Bay.TheVariants.{Empty, Unloaded, Loaded}
+use Rattle.drive_commands.specs.Apart.{RestState, drive_with, rest_of_drive}
+use Rattle.drive_commands.specs.State.{DriveState, IsBayPositioned, bay_of, machine_of}
 use Rattle.aptpl_store.specs.Kept.{store_kept}
 use Rattle.aptpl_store.specs.State.{OpenStore}
 use Rattle.tape_buffer.specs.Moves.{buffer_below}

@@ -13,7 +13,7 @@ use Rattle.cartridge.specs.State.{ClosedCartridge, OpenCartridge}
 use Rattle.tape_buffer.specs.declared.budgets.Budget.{Budget}
 use Rattle.tape_buffer.specs.declared.holding.Holding.{Holding}
 use Rattle.tape_buffer.specs.declared.holding.Holding.TheVariants.{Open, Closed, Between}
-use Rattle.accepting.specs.Core.{IsCore}
+use Rattle.accepted_changes.specs.Core.{IsCore}
 use Rattle.tape_buffer.specs.Catalogs.{IsCataloged}
 use Rattle.tape_buffer.specs.Moves.{medium_core}
 use Rattle.tape_buffer.specs.State.{BufferState, awake_is_read, state_held, state_of}

@@ -9,15 +9,15 @@ use Rattle.pr_core.specs.Keepers.{KeeperState}
 use Rattle.scsi_sense.specs.declared.replies.Reply.{Reply}
 use Rattle.volume_core.specs.declared.changes.Change.{Change}
 use Rattle.volume_core.specs.Medium.{MediumState}
-use Rattle.drive_core.specs.declared.bays.Bay.{Bay}
-use Rattle.drive_core.specs.declared.bays.Bay.TheVariants.{Empty, Unloaded, Loaded}
-use Rattle.drive_core.specs.Alone.{AnswersAlone, alone_in, needs_disk_as, request_needs_disk}
-use Rattle.drive_core.specs.Apart.{RestState, drive_with}
-use Rattle.drive_core.specs.Checks.{verdict}
-use Rattle.drive_core.specs.Execute.{AdvancesIn, Answers, HonestIn, StoresIn}
-use Rattle.drive_core.specs.State.{DriveState, IsBayPositioned, Machine, bay_of, has_failed_in, machine_of, medium_in}
-use Rattle.drive_core.specs.Step.{Answered, Execute, Step}
-use Rattle.drive_core.specs.Work.{Request}
+use Rattle.drive_commands.specs.declared.bays.Bay.{Bay}
+use Rattle.drive_commands.specs.declared.bays.Bay.TheVariants.{Empty, Unloaded, Loaded}
+use Rattle.drive_commands.specs.Alone.{AnswersAlone, alone_in, needs_disk_as, request_needs_disk}
+use Rattle.drive_commands.specs.Apart.{RestState, drive_with}
+use Rattle.drive_commands.specs.Checks.{verdict}
+use Rattle.drive_commands.specs.Execute.{AdvancesIn, Answers, HonestIn, StoresIn}
+use Rattle.drive_commands.specs.State.{DriveState, IsBayPositioned, Machine, bay_of, has_failed_in, machine_of, medium_in}
+use Rattle.drive_commands.specs.Step.{Answered, Execute, Step}
+use Rattle.drive_commands.specs.Work.{Request}
 use Rattle.aptpl_store.specs.State.{OpenStore}
 use Rattle.bay_moves.specs.Reservations.{Call, IsHolding, LeavesHeld}
 use Rattle.split_bay.specs.declared.hosts.Hosts.{Hosts}

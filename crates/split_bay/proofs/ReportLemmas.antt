@@ -5,9 +5,9 @@ use Rattle.tape_disk.specs.Disk.{DiskState}
 use Rattle.positioning.specs.declared.positions.Pos.{Pos}
 use Rattle.volume_core.specs.declared.changes.Change.{Change}
 use Rattle.volume_core.specs.Medium.{MediumState}
-use Rattle.drive_core.specs.declared.bays.Bay.{Bay}
-use Rattle.drive_core.specs.declared.bays.Bay.TheVariants.{Empty, Unloaded, Loaded}
-use Rattle.drive_core.specs.State.{IsBayPositioned, Machine, bay_of, has_failed_in, medium_in}
+use Rattle.drive_commands.specs.declared.bays.Bay.{Bay}
+use Rattle.drive_commands.specs.declared.bays.Bay.TheVariants.{Empty, Unloaded, Loaded}
+use Rattle.drive_commands.specs.State.{IsBayPositioned, Machine, bay_of, has_failed_in, medium_in}
 use Rattle.bay_moves.specs.Elements.{BayState}
 use Rattle.tape_buffer.specs.State.{BufferState, state_of}
 use Rattle.tape_buffer.specs.Taking.{LentState}

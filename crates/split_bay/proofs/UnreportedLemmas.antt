@@ -10,10 +10,10 @@ use Rattle.volume_core.specs.Volume.{AllApply, Part, after, refusal_of}
 use Rattle.cartridge.specs.Contents.{Start, changes_since, start_of, volume_made}
 use Rattle.cartridge.specs.Extending.{volume_since}
 use Rattle.cartridge.specs.State.{ClosedCartridge, OpenCartridge}
-use Rattle.accepting.specs.Core.{Core, IsCore, with_item}
-use Rattle.accepting.specs.Device.{two_disks, two_is_device}
-use Rattle.accepting.specs.Events.{CoreMoves, core_moves_nowhere, core_moves_on}
-use Rattle.accepting.specs.Kinds.{moves_accepting}
+use Rattle.accepted_changes.specs.Core.{Core, IsCore, with_item}
+use Rattle.accepted_changes.specs.Device.{two_disks, two_is_device}
+use Rattle.accepted_changes.specs.Events.{CoreMoves, core_moves_nowhere, core_moves_on}
+use Rattle.accepted_changes.specs.Kinds.{moves_accepting}
 use Rattle.tape_buffer.specs.declared.holding.Holding.{Holding}
 use Rattle.tape_buffer.specs.declared.holding.Holding.TheVariants.{Open, Closed, Between}
 use Rattle.tape_buffer.specs.Moves.{MovesOn, medium_core}

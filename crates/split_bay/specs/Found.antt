@@ -4,11 +4,11 @@ use Rattle.volume_core.specs.declared.changes.Change.{Change}
 use Rattle.volume_core.specs.declared.media.Turn.{Turn}
 use Rattle.volume_core.specs.Medium.{MediumState, Turns}
 use Rattle.volume_core.specs.Stores.{Stores}
-use Rattle.drive_core.specs.declared.bays.Bay.TheVariants.{Empty, Unloaded, Loaded}
-use Rattle.drive_core.specs.Relations.{made_nothing}
-use Rattle.drive_core.specs.State.{Machine}
-use Rattle.drive_core.specs.Step.{FlushTurn, Step, Unanswered}
-use Rattle.drive_core.specs.Turn.{after_turn, turn_outcome}
+use Rattle.drive_commands.specs.declared.bays.Bay.TheVariants.{Empty, Unloaded, Loaded}
+use Rattle.drive_commands.specs.Relations.{made_nothing}
+use Rattle.drive_commands.specs.State.{Machine}
+use Rattle.drive_commands.specs.Step.{FlushTurn, Step, Unanswered}
+use Rattle.drive_commands.specs.Turn.{after_turn, turn_outcome}
 use Rattle.split_bay.specs.Looks.{Looks}
 
 -- a medium of which these changes are pending (own)

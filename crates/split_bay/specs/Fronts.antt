@@ -3,12 +3,12 @@ use Rattle.std.specs.Prelude.{◌≡◌, ℕ, [], length, Option, None, Some}
 use Rattle.tape_disk.specs.Disk.{DiskState, Each}
 use Rattle.tape_disk.specs.Moments.{LeavesOnly}
 use Rattle.scsi_sense.specs.declared.replies.Reply.{Reply}
-use Rattle.drive_core.specs.declared.bays.Bay.{Bay}
-use Rattle.drive_core.specs.declared.bays.Bay.TheVariants.{Empty, Unloaded, Loaded}
-use Rattle.drive_core.specs.State.{DriveState, IsBayPositioned}
-use Rattle.drive_core.specs.Work.{Request}
+use Rattle.drive_commands.specs.declared.bays.Bay.{Bay}
+use Rattle.drive_commands.specs.declared.bays.Bay.TheVariants.{Empty, Unloaded, Loaded}
+use Rattle.drive_commands.specs.State.{DriveState, IsBayPositioned}
+use Rattle.drive_commands.specs.Work.{Request}
 use Rattle.aptpl_store.specs.State.{OpenStore}
-use Rattle.drive_core.specs.Run.{Asked}
+use Rattle.drive_commands.specs.Run.{Asked}
 use Rattle.bay_moves.specs.Reservations.{GivesHeld, IsHolding, LeavesHeld, Served, disk_of}
 use Rattle.split_bay.specs.Nears.{IsThere, near_below, state_near}
 use Rattle.split_bay.specs.Rings.{SendingState}

@@ -4,12 +4,12 @@ use Rattle.vtl_base.specs.Below.{Advances}
 use Rattle.tape_disk.specs.Disk.{DiskState}
 use Rattle.volume_core.specs.declared.changes.Change.{Change}
 use Rattle.scsi_sense.specs.declared.replies.Reply.{Reply}
-use Rattle.drive_core.specs.declared.bays.Bay.{Bay}
-use Rattle.drive_core.specs.declared.bays.Bay.TheVariants.{Empty, Unloaded, Loaded}
-use Rattle.drive_core.specs.Execute.{HonestIn}
-use Rattle.drive_core.specs.State.{IsBayPositioned, bay_of, has_failed_in, machine_of, medium_in}
-use Rattle.drive_core.specs.Synchronize.{Acknowledges, IsSynchronizing, NothingPending}
-use Rattle.drive_core.specs.Work.{Request}
+use Rattle.drive_commands.specs.declared.bays.Bay.{Bay}
+use Rattle.drive_commands.specs.declared.bays.Bay.TheVariants.{Empty, Unloaded, Loaded}
+use Rattle.drive_commands.specs.Execute.{HonestIn}
+use Rattle.drive_commands.specs.State.{IsBayPositioned, bay_of, has_failed_in, machine_of, medium_in}
+use Rattle.drive_commands.specs.Synchronize.{Acknowledges, IsSynchronizing, NothingPending}
+use Rattle.drive_commands.specs.Work.{Request}
 use Rattle.aptpl_store.specs.Kept.{store_kept}
 use Rattle.tape_buffer.specs.Moves.{buffer_below}
 use Rattle.tape_buffer.specs.State.{BufferState, state_of}

@@ -4,9 +4,9 @@ use Rattle.vtl_base.specs.Below.{Advances, Below}
 use Rattle.volume_core.specs.declared.changes.Change.{Change}
 use Rattle.volume_core.specs.Medium.{MediumState}
 use Rattle.volume_core.specs.Stores.{Stores, stores_nowhere}
-use Rattle.drive_core.specs.declared.bays.Bay.{Bay}
-use Rattle.drive_core.specs.declared.bays.Bay.TheVariants.{Empty, Unloaded, Loaded}
-use Rattle.drive_core.specs.State.{DriveState, bay_of}
+use Rattle.drive_commands.specs.declared.bays.Bay.{Bay}
+use Rattle.drive_commands.specs.declared.bays.Bay.TheVariants.{Empty, Unloaded, Loaded}
+use Rattle.drive_commands.specs.State.{DriveState, bay_of}
 use Rattle.split_bay.specs.declared.hosts.Hosts.{Hosts}
 use Rattle.split_bay.specs.declared.hosts.Hosts.TheVariants.{Apart, Whole}
 use Rattle.split_bay.specs.Nears.{alone_near, near_below, near_is_read, near_moves_nowhere, near_moves_on, state_near}

@@ -3,9 +3,9 @@ use Rattle.std.specs.Prelude.{◌≡◌, ◌≤◌, ◌++◌, ◌&&◌, List, []
 use Rattle.volume_core.specs.declared.changes.Change.{Change}
 use Rattle.volume_core.specs.Medium.{MediumState, volume_of}
 use Rattle.volume_core.specs.Stores.{Stores}
-use Rattle.drive_core.specs.declared.bays.Bay.{Bay}
-use Rattle.drive_core.specs.declared.bays.Bay.TheVariants.{Empty, Unloaded, Loaded}
-use Rattle.drive_core.specs.State.{Machine}
+use Rattle.drive_commands.specs.declared.bays.Bay.{Bay}
+use Rattle.drive_commands.specs.declared.bays.Bay.TheVariants.{Empty, Unloaded, Loaded}
+use Rattle.drive_commands.specs.State.{Machine}
 
 -- the frame that was in flight when the device failed: a first part of what is pending, of which there is some (own)
 pub record IsTorn (new : MediumState) : Type 0 where

@@ -2,7 +2,7 @@
 use Rattle.std.specs.Prelude.{List, false}
 use Rattle.tape_disk.specs.Disk.{DiskState}
 use Rattle.volume_core.specs.declared.changes.Change.{Change}
-use Rattle.accepting.specs.Core.{Core}
+use Rattle.accepted_changes.specs.Core.{Core}
 use Rattle.tape_buffer.specs.Moves.{MovesOn, medium_core}
 use Rattle.tape_buffer.specs.State.{BufferState, disks_in}
 

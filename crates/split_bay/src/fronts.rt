@@ -1,11 +1,11 @@
 //! The hosts' half of a bay.
 ghost use Rattle.std.specs.Prelude.{◌≡◌, ◌↔◌, [], IfSome, IsTrue, None, Some, is_some};
 ghost use Rattle.aptpl_store.specs.Kept.{store_below, store_kept};
-ghost use Rattle.drive_core.specs.declared.bays.Bay.TheVariants as Bays;
-ghost use Rattle.drive_core.specs.Alone.{AnswersAlone};
-ghost use Rattle.drive_core.specs.Execute.{asked};
-ghost use Rattle.drive_core.specs.State.{has_failed_in, machine_of, medium_in};
-ghost use Rattle.drive_core.specs.Synchronize.{Acknowledges, IsSynchronizing};
+ghost use Rattle.drive_commands.specs.declared.bays.Bay.TheVariants as Bays;
+ghost use Rattle.drive_commands.specs.Alone.{AnswersAlone};
+ghost use Rattle.drive_commands.specs.Execute.{asked};
+ghost use Rattle.drive_commands.specs.State.{has_failed_in, machine_of, medium_in};
+ghost use Rattle.drive_commands.specs.Synchronize.{Acknowledges, IsSynchronizing};
 ghost use Rattle.split_bay.specs.Fronts.{GivesOrders, KeepsHostsHalf, LeavesOrders, end_of, pending_of};
 ghost use Rattle.split_bay.specs.Nears.{alone_near, near_below, state_near};
 ghost use Rattle.split_bay.specs.Rings.{AreEnds};
@@ -18,7 +18,7 @@ use crate::joined::are_ends;
 use crate::near::Near;
 use aptpl_store::AptplStore;
 use bay_moves::laws::reservations::reservations_outlive_each_stop;
-use drive_core::Drive;
+use drive_commands::Drive;
 use scsi_sense::Reply;
 use std::marker::Model;
 use tape_buffer::Cataloged;

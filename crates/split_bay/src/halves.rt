@@ -1,9 +1,9 @@
 //! Joins the two halves of a bay, and splits the bay into its halves again.
 ghost use Rattle.std.specs.Prelude.{◌≡◌, ◌&&◌, None, not};
-ghost use Rattle.drive_core.specs.declared.bays.Bay.TheVariants as Bays;
+ghost use Rattle.drive_commands.specs.declared.bays.Bay.TheVariants as Bays;
 ghost use Rattle.tape_buffer.specs.State.{state_of};
-ghost use Rattle.drive_core.specs.Execute.{asked};
-ghost use Rattle.drive_core.specs.State.{bay_of};
+ghost use Rattle.drive_commands.specs.Execute.{asked};
+ghost use Rattle.drive_commands.specs.State.{bay_of};
 ghost use Rattle.split_bay.specs.declared.hosts.Hosts.TheVariants as Variants;
 ghost use Rattle.split_bay.specs.Fronts.{HasEnd, end_in, end_of};
 ghost use Rattle.split_bay.specs.Hosts.{IsApartIn, near_of};
@@ -22,7 +22,7 @@ use crate::hosts::Hosts;
 use crate::joined::look_both;
 use crate::near::Near;
 use bay_moves::Bay;
-use drive_core::{Bay as Place, Drive, Rest};
+use drive_commands::{Bay as Place, Drive, Rest};
 use pr_core::Keeper;
 use scsi_sense::Reply;
 use tape_buffer::{Cataloged, Lent};

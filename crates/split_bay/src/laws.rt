@@ -1,6 +1,6 @@
 //! Laws of the halves of a bay.
 ghost use Rattle.aptpl_store.specs.Kept.{store_below, store_kept};
-ghost use Rattle.drive_core.specs.ShownChanges.{RepliesShowChanges};
+ghost use Rattle.drive_commands.specs.ShownChanges.{RepliesShowChanges};
 ghost use Rattle.split_bay.specs.Found.{FoundAsItWas, FoundIsTurned};
 ghost use Rattle.split_bay.specs.Nears.{near_below, state_near};
 

@@ -18,10 +18,10 @@ use Rattle.change_records.specs.Records.{spell_all}
 use Rattle.cartridge.specs.Contents.{Start, changes_of, changes_since, start_of, volume_made}
 use Rattle.cartridge.specs.Extending.{volume_since}
 use Rattle.cartridge.specs.State.{OpenCartridge}
-use Rattle.accepting.specs.Core.{Core, with_item}
-use Rattle.accepting.specs.Device.{two_disks, two_is_device}
-use Rattle.accepting.specs.Events.{CoreMoves}
-use Rattle.accepting.specs.Kinds.{moves_accepting}
+use Rattle.accepted_changes.specs.Core.{Core, with_item}
+use Rattle.accepted_changes.specs.Device.{two_disks, two_is_device}
+use Rattle.accepted_changes.specs.Events.{CoreMoves}
+use Rattle.accepted_changes.specs.Kinds.{moves_accepting}
 use Rattle.waiting_changes.specs.Limits.{FitsBuffer}
 use Rattle.tape_buffer.specs.Moves.{buffer_below, medium_moves_on}
 use Rattle.tape_buffer.specs.Rules.{applies_behind, is_unrefused, medium_rules}

@@ -10,10 +10,10 @@ use Rattle.volume_core.specs.Medium.{IsParkedFrom, Settles, frame_size}
 use Rattle.volume_core.specs.Stores.{Stores}
 use Rattle.cartridge.specs.Contents.{Start, changes_of, changes_since, start_of}
 use Rattle.cartridge.specs.State.{ClosedCartridge, OpenCartridge}
-use Rattle.accepting.specs.Core.{Core, stopped}
-use Rattle.accepting.specs.Device.{two_disks, two_is_device}
-use Rattle.accepting.specs.Events.{CoreMoves}
-use Rattle.accepting.specs.Kinds.{moves_stopping}
+use Rattle.accepted_changes.specs.Core.{Core, stopped}
+use Rattle.accepted_changes.specs.Device.{two_disks, two_is_device}
+use Rattle.accepted_changes.specs.Events.{CoreMoves}
+use Rattle.accepted_changes.specs.Kinds.{moves_stopping}
 use Rattle.tape_buffer.specs.Moves.{buffer_below, medium_moves_on}
 use Rattle.tape_buffer.specs.Rules.{medium_rules}
 use Rattle.tape_buffer.specs.State.{IsTornFrom, closed_buffer, closed_state, found_core, open_buffer, open_core, open_state}

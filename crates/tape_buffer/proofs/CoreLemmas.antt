@@ -13,10 +13,10 @@ use Rattle.cartridge.specs.Contents.{Contents, GivesContents, IsContents, ShowsC
 use Rattle.cartridge.specs.Disks.{IsFaultOfTwo, NoneOfTwo}
 use Rattle.cartridge.specs.Extending.{since_with, start_with}
 use Rattle.cartridge.specs.State.{OpenCartridge}
-use Rattle.accepting.specs.Core.{Core, IsCore, broken_in, settled}
-use Rattle.accepting.specs.Device.{two_disks, two_is_device, two_keep}
-use Rattle.accepting.specs.Events.{CoreMoves, ShowsCore}
-use Rattle.accepting.specs.Kinds.{GivesSoMany, moves_failing, moves_storing}
+use Rattle.accepted_changes.specs.Core.{Core, IsCore, broken_in, settled}
+use Rattle.accepted_changes.specs.Device.{two_disks, two_is_device, two_keep}
+use Rattle.accepted_changes.specs.Events.{CoreMoves, ShowsCore}
+use Rattle.accepted_changes.specs.Kinds.{GivesSoMany, moves_failing, moves_storing}
 use Rattle.tape_buffer.specs.Rules.{GivesChanges, medium_rules}
 use Rattle.tape_buffer.specs.Moves.{buffer_below, medium_moves_nowhere}
 use Rattle.tape_buffer.specs.State.{BufferState, IsTornFrom, open_buffer, open_core}

@@ -15,9 +15,9 @@ use Rattle.volume_core.specs.Volume.{AllApply, Part, after, block_at, changed}
 use Rattle.volume_core.specs.Medium.{met_fault}
 use Rattle.cartridge.specs.Disks.{UnwrittenTwo}
 use Rattle.cartridge.specs.State.{OpenCartridge}
-use Rattle.accepting.specs.Device.{two_disks, two_is_device, two_keep, two_rest}
-use Rattle.accepting.specs.Events.{ShowsCore}
-use Rattle.accepting.specs.Kinds.{moves_faulting, moves_resting}
+use Rattle.accepted_changes.specs.Device.{two_disks, two_is_device, two_keep, two_rest}
+use Rattle.accepted_changes.specs.Events.{ShowsCore}
+use Rattle.accepted_changes.specs.Kinds.{moves_faulting, moves_resting}
 use Rattle.tape_buffer.specs.Inner.Fetching.{IsCopyOfBlock, IsFetched, IsPut}
 use Rattle.tape_buffer.specs.Moves.{buffer_below}
 use Rattle.tape_buffer.specs.Rules.{medium_rules}

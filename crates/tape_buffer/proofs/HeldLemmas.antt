@@ -11,8 +11,8 @@ use Rattle.gate_journal.specs.Heads.{base_of}
 use Rattle.cartridge.specs.Contents.{Contents, GivesContents, IsContents, ShowsContents, changes_of, changes_since, start_of, volume_made}
 use Rattle.cartridge.specs.ContentsOn.{contents_on, contents_on_gives}
 use Rattle.cartridge.specs.State.{ClosedCartridge, OpenCartridge}
-use Rattle.accepting.specs.Core.{IsCore}
-use Rattle.accepting.specs.Events.{ShowsCore}
+use Rattle.accepted_changes.specs.Core.{IsCore}
+use Rattle.accepted_changes.specs.Events.{ShowsCore}
 use Rattle.tape_buffer.specs.declared.holding.Holding.{Holding}
 use Rattle.tape_buffer.specs.declared.holding.Holding.TheVariants.{Open, Closed, Between}
 use Rattle.tape_buffer.specs.Invariants.{IsHeld}

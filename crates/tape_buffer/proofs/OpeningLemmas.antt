@@ -22,10 +22,10 @@ use Rattle.cartridge.specs.Contents.{Contents, GivesContents, ShowsContents, Sta
 use Rattle.cartridge.specs.ContentsOn.{contents_on_is}
 use Rattle.cartridge.specs.Disks.{NoneOfTwo, OnlyOfTwo}
 use Rattle.cartridge.specs.State.{ClosedCartridge, OpenCartridge}
-use Rattle.accepting.specs.Core.{Core, IsCore, recovered}
-use Rattle.accepting.specs.Device.{two_disks, two_is_device, two_keep, two_rest}
-use Rattle.accepting.specs.Events.{ShowsCore}
-use Rattle.accepting.specs.Kinds.{moves_recovering}
+use Rattle.accepted_changes.specs.Core.{Core, IsCore, recovered}
+use Rattle.accepted_changes.specs.Device.{two_disks, two_is_device, two_keep, two_rest}
+use Rattle.accepted_changes.specs.Events.{ShowsCore}
+use Rattle.accepted_changes.specs.Kinds.{moves_recovering}
 use Rattle.tape_buffer.specs.Moves.{buffer_below}
 use Rattle.tape_buffer.specs.Rules.{GivesChanges, medium_rules}
 use Rattle.tape_buffer.specs.State.{IsPendingOver, closed_buffer, closed_state, found_core, found_in, open_buffer, open_core, open_state, room_found, room_of, torn_in}

@@ -19,10 +19,10 @@ use Rattle.cartridge.specs.Contents.{Contents, GivesContents, ShowsContents, cha
 use Rattle.cartridge.specs.Disks.{NoneOfTwo}
 use Rattle.cartridge.specs.Reclaiming.{GivesVolume, IsBrokenOff, IsNotReclaimed, IsUnplanned, KeepsOldSide, LeavesVolume, copy_frames, copy_length, reclaimed_from}
 use Rattle.cartridge.specs.State.{ClosedCartridge}
-use Rattle.accepting.specs.Core.{CanAcknowledge, rebased}
-use Rattle.accepting.specs.Device.{two_keep}
-use Rattle.accepting.specs.Events.{ShowsCore}
-use Rattle.accepting.specs.Rebasing.{ShowsEither}
+use Rattle.accepted_changes.specs.Core.{CanAcknowledge, rebased}
+use Rattle.accepted_changes.specs.Device.{two_keep}
+use Rattle.accepted_changes.specs.Events.{ShowsCore}
+use Rattle.accepted_changes.specs.Rebasing.{ShowsEither}
 use Rattle.tape_buffer.specs.Reclaiming.{FailsToCopy, GiveOnly, IsNotRebased, RebasesContents, StayGiven}
 use Rattle.tape_buffer.specs.Rules.{GivesChanges, GoesInto, medium_rules}
 use Rattle.tape_buffer.specs.State.{found_core}

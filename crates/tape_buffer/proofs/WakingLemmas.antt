@@ -16,10 +16,10 @@ use Rattle.cartridge.specs.Contents.{Contents, GivesContents, IsBadFrameAt, IsDa
 use Rattle.cartridge.specs.Disks.{OnlyOfTwo}
 use Rattle.cartridge.specs.ContentsOn.{contents_on, contents_on_is, contents_on_none}
 use Rattle.cartridge.specs.State.{ClosedCartridge}
-use Rattle.accepting.specs.Core.{Core}
-use Rattle.accepting.specs.Device.{two_disks, two_is_device, two_keep, two_rest}
-use Rattle.accepting.specs.Events.{CoreMoves, ShowsCore}
-use Rattle.accepting.specs.Kinds.{moves_resting}
+use Rattle.accepted_changes.specs.Core.{Core}
+use Rattle.accepted_changes.specs.Device.{two_disks, two_is_device, two_keep, two_rest}
+use Rattle.accepted_changes.specs.Events.{CoreMoves, ShowsCore}
+use Rattle.accepted_changes.specs.Kinds.{moves_resting}
 use Rattle.tape_buffer.specs.Inner.Waking.{wake_error_of}
 use Rattle.tape_buffer.specs.Moves.{buffer_below}
 use Rattle.tape_buffer.specs.Rules.{GivesChanges, medium_rules}

@@ -8,9 +8,9 @@ use Rattle.tape_disk.specs.TwoDisks.{AreHonest, EachOfTwo, MayLeave, TwoDisks, T
 use Rattle.volume_core.specs.declared.changes.Change.{Change}
 use Rattle.cartridge.specs.Contents.{Start}
 use Rattle.cartridge.specs.Disks.{EachStays}
-use Rattle.accepting.specs.Core.{Core}
-use Rattle.accepting.specs.Device.{two_disks, two_is_device}
-use Rattle.accepting.specs.Events.{CoreMoves, ShowsCore, core_moves_nowhere, core_moves_on}
+use Rattle.accepted_changes.specs.Core.{Core}
+use Rattle.accepted_changes.specs.Device.{two_disks, two_is_device}
+use Rattle.accepted_changes.specs.Events.{CoreMoves, ShowsCore, core_moves_nowhere, core_moves_on}
 use Rattle.tape_buffer.specs.Rules.{medium_rules}
 use Rattle.tape_buffer.specs.State.{BufferState, core_held, disks_in}
 

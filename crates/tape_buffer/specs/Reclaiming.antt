@@ -12,8 +12,8 @@ use Rattle.cartridge.specs.Contents.{Contents, GivesContents, start_of, volume_m
 use Rattle.cartridge.specs.Disks.{NoneOfTwo}
 use Rattle.cartridge.specs.Reclaiming.{IsBrokenOff, IsNotReclaimed, IsUntouched, KeepsOldSide, LeavesVolume, copy_length, disks_reclaimed, reclaimed_from}
 use Rattle.cartridge.specs.State.{ClosedCartridge}
-use Rattle.accepting.specs.Device.{two_disks}
-use Rattle.accepting.specs.Rebasing.{FailsToRebase, Rebases}
+use Rattle.accepted_changes.specs.Device.{two_disks}
+use Rattle.accepted_changes.specs.Rebasing.{FailsToRebase, Rebases}
 use Rattle.tape_buffer.specs.Rules.{medium_rules}
 use Rattle.tape_buffer.specs.State.{found_core}
 

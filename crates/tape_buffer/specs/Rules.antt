@@ -5,7 +5,7 @@ use Rattle.volume_core.specs.declared.changes.Refusal.{Refusal}
 use Rattle.volume_core.specs.Volume.{after, refusal_of}
 use Rattle.tape_disk.specs.TwoDisks.{Images}
 use Rattle.cartridge.specs.Contents.{Contents, GivesContents, Start, changes_since, start_of}
-use Rattle.accepting.specs.Core.{Rules}
+use Rattle.accepted_changes.specs.Core.{Rules}
 
 -- there is no cause to refuse a change (own)
 abbrev pub is_unrefused : Option Refusal → Bool

@@ -14,7 +14,7 @@ use Rattle.cartridge.specs.Contents.{Contents, Start, bodies_of, changes_of, cha
 use Rattle.cartridge.specs.ContentsOn.{contents_on}
 use Rattle.cartridge.specs.Disks.{OnlyOfTwo, disk_at}
 use Rattle.cartridge.specs.State.{ClosedCartridge, OpenCartridge, Reserved}
-use Rattle.accepting.specs.Core.{Core, IsPrefix}
+use Rattle.accepted_changes.specs.Core.{Core, IsPrefix}
 use Rattle.tape_buffer.specs.declared.holding.Holding.{Holding}
 use Rattle.tape_buffer.specs.declared.holding.Holding.TheVariants.{Open, Closed, Between}
 

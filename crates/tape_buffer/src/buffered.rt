@@ -1,7 +1,7 @@
 //! A buffered medium.
 ghost use Rattle.std.specs.Prelude.{◌≡◌, ◌⊎◌, List, Some, true, false};
 ghost use Rattle.volume_core.specs.Volume.{Part};
-ghost use Rattle.accepting.specs.Core.{IsCore};
+ghost use Rattle.accepted_changes.specs.Core.{IsCore};
 ghost use Rattle.waiting_changes.specs.Limits.{FitsBuffer};
 ghost use Rattle.tape_buffer.specs.Rules.{medium_rules};
 ghost use Rattle.tape_buffer.specs.State.{IsSettledIn, closed_buffer, disk_in, disks_in, state_of};
@@ -9,7 +9,7 @@ ghost use Rattle.tape_buffer.specs.Moves.{IsSafeOrPending, ShowsOn, medium_core}
 ghost use Rattle.tape_buffer.specs.declared.holding.Holding.TheVariants as Holdings;
 
 use crate::holding::Holding;
-use accepting::Accepting;
+use accepted_changes::Accepting;
 use cartridge::{Cartridge, Shelved};
 use std::alloc::Global;
 use std::marker::Model;
@@ -39,7 +39,7 @@ impl<D: Disk> Model for Buffered<D> {
 }
 
 impl<D: Disk> Accepting for Buffered<D> {
-    ghost use Rattle.accepting.specs.Device.{two_disks, two_is_device};
+    ghost use Rattle.accepted_changes.specs.Device.{two_disks, two_is_device};
     ghost use Rattle.tape_buffer.specs.Rules.{medium_rules};
 
     ghost rules = { medium_rules };

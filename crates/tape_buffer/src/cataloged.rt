@@ -1,7 +1,7 @@
 //! A buffered medium with a catalog of the volume that a caller sees.
 ghost use Rattle.std.specs.Prelude.{◌≡◌, ◌⊎◌, List, Some, false};
 ghost use Rattle.volume_core.specs.Volume.{Part};
-ghost use Rattle.accepting.specs.Core.{IsCore};
+ghost use Rattle.accepted_changes.specs.Core.{IsCore};
 ghost use Rattle.tape_buffer.specs.Catalogs.{IsCataloged};
 ghost use Rattle.waiting_changes.specs.Limits.{FitsBuffer};
 ghost use Rattle.tape_buffer.specs.Moves.{IsSafeOrPending, ShowsOn, medium_core};
@@ -9,7 +9,7 @@ ghost use Rattle.tape_buffer.specs.State.{IsSettledIn, closed_buffer, disk_in, d
 ghost use Rattle.tape_buffer.specs.declared.holding.Holding.TheVariants as Holdings;
 
 use crate::buffered::Buffered;
-use accepting::Accepting;
+use accepted_changes::Accepting;
 use cartridge::Shelved;
 use object_index::Index;
 use std::alloc::Global;
@@ -36,7 +36,7 @@ impl<D: Disk> Model for Cataloged<D> {
 }
 
 impl<D: Disk> Accepting for Cataloged<D> {
-    ghost use Rattle.accepting.specs.Device.{two_disks, two_is_device};
+    ghost use Rattle.accepted_changes.specs.Device.{two_disks, two_is_device};
     ghost use Rattle.tape_buffer.specs.Rules.{medium_rules};
 
     ghost rules = { medium_rules };

@@ -4,7 +4,7 @@ ghost use Rattle.vtl_base.specs.Below.{Advances};
 ghost use Rattle.volume_core.specs.Volume.{Part, refusal_of};
 ghost use Rattle.volume_core.specs.Medium.{Turns, turn_met_fault, volume_of};
 ghost use Rattle.volume_core.specs.Stores.{Stores};
-ghost use Rattle.accepting.specs.Core.{IsCore};
+ghost use Rattle.accepted_changes.specs.Core.{IsCore};
 ghost use Rattle.tape_buffer.specs.Frames.{IsOneFrameIn, frames_in};
 ghost use Rattle.waiting_changes.specs.Limits.{FitsBuffer};
 ghost use Rattle.tape_buffer.specs.Moves.{IsSafeOrPending, ShowsOn, buffer_below, medium_core};

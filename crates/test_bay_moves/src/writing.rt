@@ -2,7 +2,7 @@
 use crate::moving::{Work, met};
 use crate::samples::{Answer, GOOD, NEVER, Once, READY, asks, is_answer, library, moves};
 use bay_moves::{Held, Unwritten};
-use drive_core::Drive;
+use drive_commands::Drive;
 use scsi_sense::Status;
 use std::process::Abort;
 use std::test::Fail;

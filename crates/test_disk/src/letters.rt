@@ -1,6 +1,6 @@
 //! The laws of accepting types, for one kind of item over one disk, and over two.
-use accepting::Accepting;
-use accepting::laws::{
+use accepted_changes::Accepting;
+use accepted_changes::laws::{
     a_crash_leaves_what_was_acknowledged, calls_drop_nothing,
     changes_of_base_keep_what_was_accepted, events_keep_their_base,
     failed_changes_of_base_keep_what_was_accepted, moves_append, steps_keep_cores,
@@ -17,7 +17,7 @@ struct Letters<D: Disk> {
 
 impl<D: Disk> Accepting for Letters<D> {
     ghost use Rattle.std.specs.Prelude.{◌≡◌, ◌++◌, ℕ, List, true};
-    ghost use Rattle.accepting.specs.Device.{one_disk, one_is_device};
+    ghost use Rattle.accepted_changes.specs.Device.{one_disk, one_is_device};
 
     ghost rules = { record {
       Base = List ℕ;
@@ -42,7 +42,7 @@ struct LettersOfTwo<D: Disk> {
 impl<D: Disk> Accepting for LettersOfTwo<D> {
     ghost use Rattle.std.specs.Prelude.{◌≡◌, ◌⊎◌, ◌++◌, ℕ, List, true};
     ghost use Rattle.tape_disk.specs.TwoDisks.{Images};
-    ghost use Rattle.accepting.specs.Device.{two_disks, two_is_device};
+    ghost use Rattle.accepted_changes.specs.Device.{two_disks, two_is_device};
 
     ghost rules = { record {
       Base = List ℕ;

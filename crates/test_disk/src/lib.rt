@@ -1,4 +1,4 @@
-//! The tests of tape_disk, of file_disk and of accepting.
+//! The tests of tape_disk, of file_disk and of accepted_changes.
 #![tactic(auto)]
 
 #[cfg(test)]

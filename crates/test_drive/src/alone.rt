@@ -5,7 +5,7 @@ use crate::loading::UNLOAD;
 use crate::samples::{assert_reply, switched_on};
 use crate::tables::{NONE, READ_5, SOUND, TEST_UNIT_READY, WRITE_5};
 use crate::{asking, halves};
-use drive_core::Drive;
+use drive_commands::Drive;
 use pr_core::NoKeeper;
 use scsi_sense::Reply;
 use std::alloc::Global;

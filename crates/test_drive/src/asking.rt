@@ -1,7 +1,7 @@
 //! Commands of hosts to a drive, as rows, and orders to its reservations.
 use crate::samples::{assert_established, sense_bytes};
 use crate::tables::{NONE, SOUND, TEST_UNIT_READY};
-use drive_core::Drive;
+use drive_commands::Drive;
 use pr_core::Keeper;
 use scsi_sense::{Reply, Status};
 use std::alloc::Global;

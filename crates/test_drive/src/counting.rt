@@ -4,7 +4,7 @@ use crate::tables::{
     BAD_FIELD, FAILED, GOOD, HELLO, LATE_ERROR, NO_MEDIUM, NONE, POWERED_ON, READ_5, REWIND, Row,
     SOUND, TEST_UNIT_READY, WRITE_5, WRITE_ERROR, WRITE_MARK, Wanted,
 };
-use drive_core::Drive;
+use drive_commands::Drive;
 use drive_laws::{counts_are_held, replies_show_changes};
 use pr_core::NoKeeper;
 use scsi_sense::Reply;

@@ -10,7 +10,7 @@ use crate::tables::{
     NO_BYTE, NO_MARKS_FAIL, NO_MEMORY, NONE, NOTHING_LOADED, POWERED_ON, READ_5, READ_FAILS,
     READ_FAILS_TO_STORE, REWIND_FAILS, Row, SOUND, WRITE_ERROR, Wanted,
 };
-use drive_core::{Drive, Fault};
+use drive_commands::{Drive, Fault};
 use drive_laws::{answers_are_determined, events_run, honest_steps, runs_append, served_hosts_run};
 use pr_core::NoKeeper;
 use std::alloc::Global;

@@ -6,7 +6,7 @@ use crate::tables::{
     BAD_FIELD, END, FAILED, FULL_BY_5, GOOD, HELLO, NO_MEDIUM, NONE, NOTHING_LOADED, POWERED_ON,
     READ_5, REWIND, Row, SOUND, TEST_UNIT_READY, WRITE_5, WRITE_ERROR, WRITE_MARK, Wanted,
 };
-use drive_core::Drive;
+use drive_commands::Drive;
 use pr_core::NoKeeper;
 use scsi_sense::Reply;
 use std::alloc::Global;

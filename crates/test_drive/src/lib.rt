@@ -1,4 +1,4 @@
-//! The tests of drive_core.
+//! The tests of drive_commands.
 #![tactic(auto)]
 
 #[cfg(test)]

@@ -5,7 +5,7 @@ use crate::asking::{
 };
 use crate::samples::with_side;
 use crate::tables::{NONE, READ_5, SOUND, TEST_UNIT_READY, WRITE_5};
-use drive_core::Drive;
+use drive_commands::Drive;
 use pr_core::NoKeeper;
 use std::alloc::Global;
 use std::process::Abort;

@@ -1,6 +1,6 @@
 //! Drives for the tests, and replies by rows.
 use crate::tables::{Row, Wanted};
-use drive_core::Drive;
+use drive_commands::Drive;
 use pr_core::{NoKeeper, Reservations};
 use scsi_sense::{Reply, Status};
 use std::alloc::Global;

@@ -5,7 +5,7 @@ use crate::asking::{
     RELEASE_5, RESERVE_5, Row, STORE_FULL, ask_all, asks, greet, tape,
 };
 use crate::tables::{NONE, REWIND, TEST_UNIT_READY};
-use drive_core::Drive;
+use drive_commands::Drive;
 use pr_core::Reservations;
 use scsi_lists::{PrOut, PrType};
 use std::alloc::Global;

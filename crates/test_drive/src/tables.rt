@@ -1,5 +1,5 @@
 //! Tables of commands, with the expected reply of each.
-use drive_core::Fault;
+use drive_commands::Fault;
 use test_media::FaultPlan;
 
 // The expected reply: its sense data, if any, by bytes 0 and 2, INFORMATION, additional code and qualifier;

@@ -1,7 +1,7 @@
 //! A drive and its disks, as the tests use them.
 ghost use Rattle.std.specs.Prelude.{◌≡◌};
 ghost use Rattle.aptpl_store.specs.Kept.{store_kept};
-ghost use Rattle.drive_core.specs.State.{left_of};
+ghost use Rattle.drive_commands.specs.State.{left_of};
 
 use aptpl_store::AptplStore;
 use bay_moves::{Bay, NotOn, Parked};

@@ -1,10 +1,10 @@
 //! Commands of hosts to a drive over a store, and their answers.
 ghost use Rattle.std.specs.Prelude.{◌≡◌, [], IfOk};
 ghost use Rattle.aptpl_store.specs.Kept.{store_kept};
-ghost use Rattle.drive_core.specs.State.{left_of};
+ghost use Rattle.drive_commands.specs.State.{left_of};
 
 use aptpl_store::{AptplStore, StoreError, StoreRefused};
-use drive_core::Drive;
+use drive_commands::Drive;
 use pr_core::Reservations;
 use scsi_sense::Reply;
 use std::alloc::Global;

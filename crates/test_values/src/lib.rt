@@ -1,4 +1,4 @@
-//! The tests of the crates of plain values: vtl_base, ledgers, scsi_attention, scsi_sense, scsi_wire, scsi_lists,
+//! The tests of the crates of plain values: vtl_base, ledgers, scsi_attention, scsi_sense, scsi_opcodes, scsi_lists,
 //! pr_core, positioning and element_slots.
 #![tactic(auto)]
 

@@ -3,8 +3,8 @@ mod answers;
 mod blocks;
 mod fields;
 
+use scsi_opcodes::{Cdb, Command};
 use scsi_sense::Sense;
-use scsi_wire::{Cdb, Command};
 use std::process::Abort;
 use test_assertions::assert_equal;
 

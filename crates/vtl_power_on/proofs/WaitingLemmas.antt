@@ -12,8 +12,8 @@ use Rattle.element_slots.specs.declared.error.SlotError.{SlotError}
 use Rattle.element_slots.specs.declared.error.SlotError.TheVariants as Errors
 use Rattle.element_slots.specs.Slots.{Puts, held_at, is_slot, refusal_of_placing}
 use Rattle.pr_core.specs.declared.states.PrState.{PrState}
-use Rattle.drive_core.specs.Media.{SwitchesOn}
-use Rattle.drive_core.specs.State.{left_of}
+use Rattle.drive_commands.specs.Media.{SwitchesOn}
+use Rattle.drive_commands.specs.State.{left_of}
 use Rattle.bay_moves.specs.Elements.{BayState, Becomes, HeldState, bay_at}
 use Rattle.vtl_power_on.specs.Starting.{StaysOff}
 use Rattle.vtl_power_on.specs.Inner.Waiting.{PutsHome, SwitchesOnAt}

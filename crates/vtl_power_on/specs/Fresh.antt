@@ -7,7 +7,7 @@ use Rattle.tape_buffer.specs.Moves.{buffer_below}
 use Rattle.tape_buffer.specs.State.{BufferState, state_of}
 use Rattle.aptpl_store.specs.State.{OpenStore}
 use Rattle.pr_core.specs.declared.states.PrState.{PrState}
-use Rattle.drive_core.specs.Media.{SwitchesOn}
+use Rattle.drive_commands.specs.Media.{SwitchesOn}
 use Rattle.bay_moves.specs.Elements.{BayState, HeldState, bay_at}
 use Rattle.library.specs.Counts.{AcceptedNone}
 use Rattle.vtl_config.specs.declared.entries.CartridgeEntry.{CartridgeEntry}

@@ -1,7 +1,7 @@
 //! Where the sides of a library, the bytes of its cartridges and stores, come from: from files, or made in memory.
 ghost use Rattle.std.specs.Prelude.{◌≡◌, IfOk, IfErr};
 ghost use Rattle.aptpl_store.specs.Kept.{store_kept};
-ghost use Rattle.drive_core.specs.State.{left_of};
+ghost use Rattle.drive_commands.specs.State.{left_of};
 ghost use Rattle.vtl_faults.specs.FromBelow.{IsFailure, fault_of_store};
 ghost use Rattle.vtl_power_on.specs.Sides.{IsNoStoreOn, IsStoreOn, SidesGiven};
 

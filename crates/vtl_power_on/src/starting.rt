@@ -1,7 +1,7 @@
 //! Switches on a library, with each cartridge at its home: the slot or drive of its entry in the configuration.
 ghost use Rattle.std.specs.Prelude.{◌≡◌, true, IfOk, IfErr, OnOk, is_some};
 ghost use Rattle.aptpl_store.specs.Kept.{store_kept};
-ghost use Rattle.drive_core.specs.State.{left_of};
+ghost use Rattle.drive_commands.specs.State.{left_of};
 ghost use Rattle.vtl_config.specs.Entries.{address_of};
 ghost use Rattle.vtl_power_on.specs.Inner.Waiting.{AreHome, IsNotHome, IsOffAt, PutsHome, SwitchesOnAt};
 ghost use Rattle.vtl_power_on.specs.Sides.{memory_state};

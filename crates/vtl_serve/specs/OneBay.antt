@@ -4,14 +4,14 @@ use Rattle.std.specs.List.{All}
 use Rattle.std.specs.Io.KnownBytes.{Appends}
 use Rattle.tape_disk.specs.Disk.{DiskState}
 use Rattle.scsi_sense.specs.declared.replies.Reply.{Reply}
-use Rattle.drive_core.specs.declared.faults.Fault.{Fault}
-use Rattle.drive_core.specs.Execute.{Answers, HonestIn, asked}
-use Rattle.drive_core.specs.Faults.{reply_of}
-use Rattle.drive_core.specs.Relations.{Made}
-use Rattle.drive_core.specs.Run.{Run}
-use Rattle.drive_core.specs.State.{machine_of, medium_in}
-use Rattle.drive_core.specs.Step.{Execute, Answered}
-use Rattle.drive_core.specs.Work.{Request as Asked}
+use Rattle.drive_commands.specs.declared.faults.Fault.{Fault}
+use Rattle.drive_commands.specs.Execute.{Answers, HonestIn, asked}
+use Rattle.drive_commands.specs.Faults.{reply_of}
+use Rattle.drive_commands.specs.Relations.{Made}
+use Rattle.drive_commands.specs.Run.{Run}
+use Rattle.drive_commands.specs.State.{machine_of, medium_in}
+use Rattle.drive_commands.specs.Step.{Execute, Answered}
+use Rattle.drive_commands.specs.Work.{Request as Asked}
 use Rattle.tape_buffer.specs.Moves.{buffer_below}
 use Rattle.tape_buffer.specs.State.{state_of}
 use Rattle.aptpl_store.specs.Kept.{store_below, store_kept}

@@ -5,7 +5,7 @@ use Rattle.std.specs.Io.KnownBytes.{Appends}
 use Rattle.tape_disk.specs.Disk.{DiskState}
 use Rattle.ledgers.specs.Ledgers.{SeatState}
 use Rattle.scsi_sense.specs.declared.replies.Reply.{Reply}
-use Rattle.drive_core.specs.Execute.{asked}
+use Rattle.drive_commands.specs.Execute.{asked}
 use Rattle.library.specs.Counts.{has_drive}
 use Rattle.library.specs.Served.{IsServed}
 use Rattle.vtl_wire.specs.declared.answers.Answer.{Answer}

@@ -4,7 +4,7 @@ use Rattle.tape_disk.specs.Disk.{DiskState}
 use Rattle.scsi_sense.specs.declared.replies.Reply.{Reply}
 use Rattle.scsi_sense.specs.Replies.{check_with, conflict}
 use Rattle.scsi_sense.specs.Senses.{destination_full, invalid_element_address, source_empty}
-use Rattle.drive_core.specs.State.{medium_in}
+use Rattle.drive_commands.specs.State.{medium_in}
 use Rattle.element_slots.specs.Slots.{held_at, is_slot}
 use Rattle.tape_buffer.specs.State.{BufferState}
 use Rattle.bay_moves.specs.Elements.{BayState, HeldState}

@@ -2,7 +2,7 @@
 ghost use Rattle.bay_moves.specs.Cartridges.{StopsKeepChanges};
 ghost use Rattle.bay_moves.specs.Journeys.{KeepsWhatIsSafe, StopsKeepWhatIsMoved};
 
-use accepting::laws::{a_crash_leaves_what_was_acknowledged, steps_keep_cores};
+use accepted_changes::laws::{a_crash_leaves_what_was_acknowledged, steps_keep_cores};
 use pr_core::Keeper;
 use tape_buffer::Cataloged;
 use tape_disk::Disk;

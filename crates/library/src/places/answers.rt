@@ -1,7 +1,7 @@
 //! A host's command is answered by the hosts' half of a drive alone, or by both halves.
 ghost use Rattle.std.specs.Prelude.{◌≡◌, ◌≢◌, ◌+◌, ◌^◌, ◌<◌};
 ghost use Rattle.bay_moves.specs.Elements.{BayState};
-ghost use Rattle.drive_core.specs.Execute.{asked};
+ghost use Rattle.drive_commands.specs.Execute.{asked};
 ghost use Rattle.split_bay.specs.Fronts.{end_of};
 ghost use Rattle.split_bay.specs.Halves.{ReportsBoth, is_unreported};
 ghost use Rattle.split_bay.specs.Rings.{AreEnds};

@@ -1,5 +1,5 @@
 //! The data in which a drive describes itself, byte by byte.
-use scsi_wire::{block_limits, cut_to, inquiry_data};
+use scsi_opcodes::{block_limits, cut_to, inquiry_data};
 use test_assertions::assert_equal;
 
 // 018006021f000000, VTLIB and TAPE DRIVE padded with spaces to 8 and 16 bytes, 0001.

@@ -1,7 +1,7 @@
 //! Every operation code in blocks of every length, and the table.
 use scsi_lists::PrAction;
+use scsi_opcodes::{Cdb, Command, Opcode, PrRead, length_of};
 use scsi_sense::Sense;
-use scsi_wire::{Cdb, Command, Opcode, PrRead, length_of};
 use test_assertions::assert_equal;
 use vtl_base::SpaceCode;
 

@@ -1,7 +1,7 @@
 //! Fields whose values no script shows: bits that are ignored, and numbers beyond those of a drive.
 use super::is_decoded;
 use scsi_lists::{PrAction, PrType};
-use scsi_wire::{Command, PrRead};
+use scsi_opcodes::{Command, PrRead};
 use vtl_base::SpaceCode;
 
 macro_rules! blocks {

@@ -6,8 +6,8 @@ use Rattle.tape_buffer.specs.State.{BufferState, state_of}
 use Rattle.aptpl_store.specs.Kept.{store_kept}
 use Rattle.aptpl_store.specs.State.{OpenStore}
 use Rattle.element_slots.specs.Slots.{is_slot}
-use Rattle.drive_core.specs.Media.{SwitchesOn}
-use Rattle.drive_core.specs.State.{left_of}
+use Rattle.drive_commands.specs.Media.{SwitchesOn}
+use Rattle.drive_commands.specs.State.{left_of}
 use Rattle.bay_moves.specs.Elements.{BayState, Becomes, bay_at}
 use Rattle.vtl_config.specs.declared.entries.CartridgeEntry.{CartridgeEntry}
 use Rattle.vtl_config.specs.Entries.{AreDistinct, homes_of}

@@ -99,7 +99,12 @@ loop-number-preserved g c =
     record {
       room = (
         omega (arith, inv.room.0, c.add_part.ensures.room),
-        λ none. omega (arith, ap (λ (l : List (List ℕ)). length l) none, c.count-number-end.ensures, c.loop-number-test),
+        λ none. omega (
+          arith,
+          ap (λ (l : List (List ℕ)). length l) none,
+          c.count-number-end.ensures,
+          c.loop-number-test,
+        ),
       );
       gathers =
           gathers_on c.args.from c.loop-number.at c.in_ok-at.at (followed first (take c.loop-number.number parts))

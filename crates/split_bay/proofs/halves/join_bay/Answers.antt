@@ -1,6 +1,6 @@
 use Rattle.std.proofs.Common.{false, subst, sym}
-use Rattle.drive_core.specs.declared.bays.Bay.{Bay}
-use Rattle.drive_core.specs.declared.bays.Bay.TheVariants.{Empty, Unloaded, Loaded}
+use Rattle.drive_commands.specs.declared.bays.Bay.{Bay}
+use Rattle.drive_commands.specs.declared.bays.Bay.TheVariants.{Empty, Unloaded, Loaded}
 use Rattle.split_bay.specs.Fronts.{HasEnd, end_in}
 use Rattle.split_bay.specs.Halves.{JoinsBay}
 use Rattle.split_bay.specs.Rings.{AreEnds, SendingState}

@@ -1,5 +1,5 @@
 use Rattle.std.proofs.Common.{Option, ap, subst, ◌∙◌}
-use Rattle.drive_core.specs.declared.bays.Bay.TheVariants.{Empty}
+use Rattle.drive_commands.specs.declared.bays.Bay.TheVariants.{Empty}
 use Rattle.tape_buffer.specs.Taking.{LentState}
 use Rattle.split_bay.specs.Backs.{FollowsIn}
 use Rattle.split_bay.specs.Fronts.{HasEnd}

@@ -1,7 +1,7 @@
 use Rattle.std.proofs.Common.{◌≡◌, ap, subst, sym, ◌∙◌}
-use Rattle.drive_core.specs.declared.bays.Bay.{Bay}
-use Rattle.drive_core.specs.Apart.{drive_with, rest_of_drive}
-use Rattle.drive_core.specs.State.{IsBayPositioned}
+use Rattle.drive_commands.specs.declared.bays.Bay.{Bay}
+use Rattle.drive_commands.specs.Apart.{drive_with, rest_of_drive}
+use Rattle.drive_commands.specs.State.{IsBayPositioned}
 use Rattle.tape_buffer.specs.State.{BufferState, state_of}
 use Rattle.split_bay.specs.declared.hosts.Hosts.{Hosts}
 use Rattle.split_bay.specs.Hosts.{drive_near, state_hosts}

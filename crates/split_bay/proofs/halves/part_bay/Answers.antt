@@ -1,6 +1,6 @@
 use Rattle.std.proofs.Common.{None, Some, subst, sym}
-use Rattle.drive_core.specs.declared.bays.Bay.{Bay}
-use Rattle.drive_core.specs.declared.bays.Bay.TheVariants.{Empty, Unloaded, Loaded}
+use Rattle.drive_commands.specs.declared.bays.Bay.{Bay}
+use Rattle.drive_commands.specs.declared.bays.Bay.TheVariants.{Empty, Unloaded, Loaded}
 use Rattle.tape_buffer.specs.State.{BufferState}
 use Rattle.split_bay.specs.Halves.{PartsBay}
 use Rattle.split_bay.proofs.BayHalvesLemmas.{parts_empty, parts_loaded, parts_unloaded}

@@ -1,8 +1,8 @@
 use Rattle.std.proofs.Common.{subst}
-use Rattle.drive_core.specs.Execute.{asked}
+use Rattle.drive_commands.specs.Execute.{asked}
 use Rattle.bay_moves.specs.Bays.{AnswersInEvent}
 use Rattle.bay_moves.specs.Elements.{BayState}
-use Rattle.drive_core.specs.Run.{Asked}
+use Rattle.drive_commands.specs.Run.{Asked}
 use Rattle.bay_moves.specs.Reservations.{Served}
 use Rattle.bay_moves.proofs.MomentLemmas.{answers_in_event, call_keeps}
 use Rattle.bay_moves.proofs.bays.Bay.execute.Goals as goal

@@ -1,7 +1,7 @@
 use Rattle.std.proofs.Common.{inl, inr, Some, subst}
 use Rattle.tape_buffer.specs.State.{BufferState}
-use Rattle.drive_core.specs.Relations.{made_nothing}
-use Rattle.drive_core.specs.State.{medium_in}
+use Rattle.drive_commands.specs.Relations.{made_nothing}
+use Rattle.drive_commands.specs.State.{medium_in}
 use Rattle.bay_moves.specs.Bays.{EveryMoment}
 use Rattle.bay_moves.specs.Elements.{BayState}
 use Rattle.bay_moves.specs.Reservations.{Moved}

@@ -1,7 +1,7 @@
 use Rattle.std.proofs.Common.{◌≡◌, ◌∙◌, ap, Err, inl, Some, sym, subst, Result}
 use Rattle.scsi_sense.specs.declared.replies.Reply.{Reply}
 use Rattle.tape_buffer.specs.State.{BufferState}
-use Rattle.drive_core.specs.Relations.{made_nothing}
+use Rattle.drive_commands.specs.Relations.{made_nothing}
 use Rattle.bay_moves.specs.Bays.{EveryMoment, loaded_or_back}
 use Rattle.bay_moves.specs.Elements.{BayState}
 use Rattle.bay_moves.specs.Reservations.{Moved}

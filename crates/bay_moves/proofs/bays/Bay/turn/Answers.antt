@@ -1,9 +1,9 @@
 use Rattle.std.proofs.Common.{subst}
-use Rattle.drive_core.specs.Relations.{made_nothing}
-use Rattle.drive_core.specs.State.{medium_in}
+use Rattle.drive_commands.specs.Relations.{made_nothing}
+use Rattle.drive_commands.specs.State.{medium_in}
 use Rattle.bay_moves.specs.Bays.{EveryMoment}
 use Rattle.bay_moves.specs.Elements.{BayState}
-use Rattle.drive_core.specs.Run.{Turned}
+use Rattle.drive_commands.specs.Run.{Turned}
 use Rattle.bay_moves.specs.Reservations.{Served}
 use Rattle.bay_moves.proofs.MomentLemmas.{call_keeps, turn_moments}
 use Rattle.bay_moves.proofs.bays.Bay.turn.Goals as goal

@@ -304,7 +304,12 @@ returns-in-Err-Device-clause-answer g c =
           c.self.invariant.0 c.args.changes.now apply c.append_frame.new.self body body_is
           answer.0 c.with_torn.result.notes c.with_torn.ensures c.append_frame.ensures.front
           old.which old.spare _ _
-          (omega (arith, made.body, ap (λ (f : SpelledBody). f.room) c.clear.ensures, c.append_frame.ensures.frame.0.0)),
+          (omega (
+            arith,
+            made.body,
+            ap (λ (f : SpelledBody). f.room) c.clear.ensures,
+            c.append_frame.ensures.frame.0.0,
+          )),
       fault_by g.D.Disk.state old.which old.journal.disk old.spare c.append_frame.new.self.disk
           c.in-Err-Device.fault
           (subst (λ d. IsFault c.in-Err-Device.fault (g.D.Disk.state d) (g.D.Disk.state c.append_frame.new.self.disk))

@@ -1,5 +1,5 @@
 use Rattle.std.proofs.Common.{ℕ, subst}
-use Rattle.drive_core.specs.Execute.{asked}
+use Rattle.drive_commands.specs.Execute.{asked}
 use Rattle.library.specs.Served.{ServesHalves}
 use Rattle.library.proofs.HalfLemmas.{halves_serve, halves_share}
 use Rattle.library.proofs.places.answers.answer_both.Goals as goal

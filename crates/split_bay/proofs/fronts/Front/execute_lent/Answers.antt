@@ -1,10 +1,10 @@
 use Rattle.std.proofs.Common.{false, subst}
 use Rattle.std.specs.Prelude.{IfSome}
 use Rattle.aptpl_store.specs.Kept.{store_below, store_kept}
-use Rattle.drive_core.specs.Alone.{AnswersAlone}
-use Rattle.drive_core.specs.Execute.{asked}
-use Rattle.drive_core.specs.State.{Machine, machine_of}
-use Rattle.drive_core.specs.Synchronize.{Acknowledges, IsSynchronizing}
+use Rattle.drive_commands.specs.Alone.{AnswersAlone}
+use Rattle.drive_commands.specs.Execute.{asked}
+use Rattle.drive_commands.specs.State.{Machine, machine_of}
+use Rattle.drive_commands.specs.Synchronize.{Acknowledges, IsSynchronizing}
 use Rattle.tape_buffer.specs.Moves.{buffer_below}
 use Rattle.tape_buffer.specs.State.{state_of}
 use Rattle.split_bay.specs.Fronts.{FrontState, LeavesOrders}

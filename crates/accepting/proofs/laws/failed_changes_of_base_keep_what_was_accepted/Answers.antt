@@ -1,5 +1,0 @@
-use Rattle.accepting.proofs.BaseLemmas.{failures_keep}
-use Rattle.accepting.proofs.laws.failed_changes_of_base_keep_what_was_accepted.Goals as goal
-
-pub returns : goal.returns
-returns g c = failures_keep g.A.Accepting.rules g.A.Accepting.device g.A.Accepting.is_device

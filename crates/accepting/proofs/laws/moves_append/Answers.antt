@@ -1,9 +1,0 @@
-use Rattle.accepting.specs.Events.{core_moves_nowhere, core_moves_on}
-use Rattle.accepting.proofs.laws.moves_append.Goals as goal
-
-pub returns : goal.returns
-returns g c =
-    record {
-      nothing = core_moves_nowhere g.A.Accepting.rules g.A.Accepting.device g.A.Accepting.is_device;
-      in_a_row = core_moves_on g.A.Accepting.rules g.A.Accepting.device g.A.Accepting.is_device;
-    }

@@ -1,5 +1,0 @@
-use Rattle.accepting.proofs.KeptLemmas.{keeps_core}
-use Rattle.accepting.proofs.laws.steps_keep_cores.Goals as goal
-
-pub returns : goal.returns
-returns g c = keeps_core g.A.Accepting.rules

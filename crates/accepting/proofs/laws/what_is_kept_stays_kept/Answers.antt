@@ -1,5 +1,0 @@
-use Rattle.accepting.proofs.ChainLemmas.{kept_stays_kept}
-use Rattle.accepting.proofs.laws.what_is_kept_stays_kept.Goals as goal
-
-pub returns : goal.returns
-returns g c = kept_stays_kept g.A.Accepting.rules

@@ -1,5 +1,0 @@
-use Rattle.accepting.proofs.KeptLemmas.{safe_is_kept}
-use Rattle.accepting.proofs.laws.what_is_safe_is_kept.Goals as goal
-
-pub returns : goal.returns
-returns g c = safe_is_kept g.A.Accepting.rules
