@@ -109,9 +109,9 @@ pub fn run_held<D: Disk + Drop, R: Read, W: Write>(
     ensures keeps { RunKeeps D.state held.old held.new }
 {
     // The laws of the machine, of scripts and of stops, for the proof alone.
-    drive_laws::honest_steps::<Cataloged<D>>();
-    drive_laws::answers_are_determined();
-    drive_laws::served_hosts_run::<Cataloged<D>, AptplStore<D>>();
+    drive_theorems::honest_steps::<Cataloged<D>>();
+    drive_theorems::answers_are_determined();
+    drive_theorems::served_hosts_run::<Cataloged<D>, AptplStore<D>>();
     vtl_script::laws::one_host_runs_in_order();
     a_stop_keeps_acknowledged_changes_of_what_is_moved::<D>();
     run_script(alloc, held, reader, writer)

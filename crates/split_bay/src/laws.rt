@@ -8,12 +8,12 @@ use crate::ends::Rings;
 use crate::hosts::Hosts;
 use crate::near::Near;
 use aptpl_store::AptplStore;
-use drive_laws::replies_show_changes;
+use drive_theorems::replies_show_changes;
 use tape_buffer::Cataloged;
 use tape_disk::Disk;
 
 /// A reply of the hosts' half shows how many changes this half accepted in the command, as
-/// `drive_laws::replies_show_changes` says of a whole drive.
+/// `drive_theorems::replies_show_changes` says of a whole drive.
 pub fn replies_show_changes_alone<D: Disk, R: Rings>()
     ensures { RepliesShowChanges state_near near_below store_kept (store_below D.state) }
 {

@@ -5,7 +5,7 @@ use crate::tables::{
     SOUND, TEST_UNIT_READY, WRITE_5, WRITE_ERROR, WRITE_MARK, Wanted,
 };
 use drive_commands::Drive;
-use drive_laws::{counts_are_held, replies_show_changes};
+use drive_theorems::{counts_are_held, replies_show_changes};
 use pr_core::NoKeeper;
 use scsi_sense::Reply;
 use std::alloc::Global;

@@ -11,7 +11,9 @@ use crate::tables::{
     READ_FAILS_TO_STORE, REWIND_FAILS, Row, SOUND, WRITE_ERROR, Wanted,
 };
 use drive_commands::{Drive, Fault};
-use drive_laws::{answers_are_determined, events_run, honest_steps, runs_append, served_hosts_run};
+use drive_theorems::{
+    answers_are_determined, events_run, honest_steps, runs_append, served_hosts_run,
+};
 use pr_core::NoKeeper;
 use std::alloc::Global;
 use std::process::Abort;

@@ -5,7 +5,7 @@ ghost use Rattle.vtl_serve.specs.OneBay.{AnswersOf, BayAnswers, is_for};
 
 use aptpl_store::AptplStore;
 use bay_moves::Bay;
-use drive_laws::served_hosts_run;
+use drive_theorems::served_hosts_run;
 use std::alloc::Global;
 use std::io::{Read, Write};
 use std::marker::Model;

@@ -11,7 +11,7 @@ ghost use Rattle.library.specs.Served.{ServesAlone, ServesBoth, ServesFront, Ser
 use super::held::{fit, join_held, part_held};
 use super::{BackPlace, FrontPlace};
 use aptpl_store::AptplStore;
-use drive_laws::replies_show_changes;
+use drive_theorems::replies_show_changes;
 use ledgers::{Parties, PartyShare, Seat, Tally};
 use scsi_sense::Reply;
 use split_bay::{Back, Front, Rings, execute_both, replies_show_changes_alone, report_fault};

@@ -29,7 +29,7 @@ use Rattle.drive_commands.specs.Marks.{MarksWork, marks_at}
 use Rattle.drive_commands.specs.Read.{ReadWork, ReadAnswer, GivesObject, object_at, next, block_reply}
 use Rattle.drive_commands.specs.Work.{MediumWork}
 use Rattle.drive_commands.specs.Determined.{IsSureSight, sight_of}
-use Rattle.drive_laws.proofs.AlikeLemmas.{MountedAlike, Agrees, IsDetermined, works_sure, works_alike, contents_alike, alike_by, goes_to, idles, stored_first}
+use Rattle.drive_theorems.proofs.AlikeLemmas.{MountedAlike, Agrees, IsDetermined, works_sure, works_alike, contents_alike, alike_by, goes_to, idles, stored_first}
 
 module _ (old old' : Mounted) (reply reply' : Reply) (made made' : List Change) (m m' : Mounted)
     (S : Type 0) (e : MountedAlike S old old') where

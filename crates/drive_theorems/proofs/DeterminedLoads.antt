@@ -15,7 +15,7 @@ use Rattle.drive_commands.specs.Relations.{Made}
 use Rattle.drive_commands.specs.Load.{LoadsAs, LoadsInto, PowersOn, bay_when_on, power_on_outcome}
 use Rattle.drive_commands.specs.Step.{Answered, Unanswered}
 use Rattle.drive_commands.specs.Determined.{IsSure, IsSureDrive, IsSureSight, OpensSurely, Sight, SideSight, torn_seen, sight_of, side_sight, seen_of, without_room, AreSeenAlike, IsCalm, AreAlike}
-use Rattle.drive_laws.proofs.AlikeLemmas.{working_sight}
+use Rattle.drive_theorems.proofs.AlikeLemmas.{working_sight}
 
 -- neither memory ran out nor the device failed
 abbrev pub IsQuiet : Result Unit MediumError → Type 0

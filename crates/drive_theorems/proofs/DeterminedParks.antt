@@ -16,7 +16,7 @@ use Rattle.volume_core.specs.declared.media.MediumError.TheVariants as Errors
 use Rattle.drive_commands.specs.LoadUnload.{LoadsIn, ParksAs, ReloadsAs, UnloadsInto, reloaded, unloaded}
 use Rattle.drive_commands.specs.Step.{Answered}
 use Rattle.drive_commands.specs.Determined.{IsSure, IsSureDrive, IsSureSight, OpensSurely, SideSight, Sight, is_sound, sight_of, side_sight, seen_of, torn_seen, AreAlike}
-use Rattle.drive_laws.proofs.DeterminedLoads.{IsQuiet, wakes_alike}
+use Rattle.drive_theorems.proofs.DeterminedLoads.{IsQuiet, wakes_alike}
 
 -- a parked medium, as it is seen
 abbrev parked_sight : Option (List Part) → List Change → Sight

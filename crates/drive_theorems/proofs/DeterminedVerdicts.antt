@@ -22,7 +22,7 @@ use Rattle.drive_commands.specs.RequestSense.{once_reported}
 use Rattle.drive_commands.specs.Work.{Request}
 use Rattle.drive_commands.specs.Checks.{condition_denial, fields_verdict, medium_denial, state_denial, suits, unless_denied, verdict, verdict_at}
 use Rattle.drive_commands.specs.Determined.{IsSureDrive, Sight, sight_of, seen_of}
-use Rattle.drive_laws.proofs.DeterminedOrders.{Seen}
+use Rattle.drive_theorems.proofs.DeterminedOrders.{Seen}
 
 -- what denies a command that needs a medium, by what is seen of it
 abbrev denial_seen : Bay Sight → Option Denial

@@ -13,7 +13,7 @@ use Rattle.drive_commands.specs.Step.{Input, Execute, Output, Answered, Unanswer
 use Rattle.drive_commands.specs.Turn.{turn_outcome}
 use Rattle.drive_commands.specs.Execute.{AdvancesIn, HonestIn, is_device_fault}
 use Rattle.drive_commands.specs.Run.{Run, RunsAppend, ServedByRuns, EventsAreRuns, Asked, Turned, input_of, reply_to}
-use Rattle.drive_laws.proofs.StepLemmas.{step_where}
+use Rattle.drive_theorems.proofs.StepLemmas.{step_where}
 
 -- what three steps in a row make
 made_after_after : (first second third : Made)

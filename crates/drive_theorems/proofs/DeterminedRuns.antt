@@ -16,7 +16,7 @@ use Rattle.drive_commands.specs.declared.bays.Bay.TheVariants.{Empty, Unloaded, 
 use Rattle.drive_commands.specs.declared.conditions.Denial.{Denial}
 use Rattle.drive_commands.specs.Checks.{verdict}
 use Rattle.drive_commands.specs.Determined.{AllAskAlike, AreAlike, AreSeenAlike, AskAlike, BringsSure, InRun, IsCalm, IsSure, IsSureCommand, IsSureDrive, IsSureInput, IsSureSight, OpensSurely, RunsAreDetermined, RunsStaySure, StepsAreDetermined, seen_of, side_sight, sight_of, torn_seen, without_turns}
-use Rattle.drive_laws.proofs.DeterminedLemmas.{turn_unseen}
+use Rattle.drive_theorems.proofs.DeterminedLemmas.{turn_unseen}
 
 -- a run without a fault, in which each step may start from any drive that is seen as the one before it left it, and
 -- each input and that drive have this relation

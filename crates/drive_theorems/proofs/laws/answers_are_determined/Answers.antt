@@ -1,6 +1,6 @@
-use Rattle.drive_laws.proofs.DeterminedLemmas.{steps_determined}
-use Rattle.drive_laws.proofs.DeterminedRuns.{runs_determined, runs_stay_sure}
-use Rattle.drive_laws.proofs.laws.answers_are_determined.Goals as goal
+use Rattle.drive_theorems.proofs.DeterminedLemmas.{steps_determined}
+use Rattle.drive_theorems.proofs.DeterminedRuns.{runs_determined, runs_stay_sure}
+use Rattle.drive_theorems.proofs.laws.answers_are_determined.Goals as goal
 
 pub returns-clause-step : goal.returns-clause-step
 returns-clause-step c =

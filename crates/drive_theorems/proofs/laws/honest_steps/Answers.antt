@@ -1,5 +1,5 @@
-use Rattle.drive_laws.proofs.StepLemmas.{step_where}
-use Rattle.drive_laws.proofs.laws.honest_steps.Goals as goal
+use Rattle.drive_theorems.proofs.StepLemmas.{step_where}
+use Rattle.drive_theorems.proofs.laws.honest_steps.Goals as goal
 
 pub returns : goal.returns
 returns g c medium old input output made new honest step =

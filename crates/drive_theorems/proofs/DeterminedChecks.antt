@@ -15,10 +15,10 @@ use Rattle.drive_commands.specs.OnMedium.{OnMediumIn}
 use Rattle.drive_commands.specs.Checks.{Executes, ExecutesAs, verdict}
 use Rattle.drive_commands.specs.Step.{Answered, Execute}
 use Rattle.drive_commands.specs.Determined.{IsSureCommand, IsSureDrive, IsSureInput, seen_of, AreAlike}
-use Rattle.drive_laws.proofs.CommandLemmas.{commands}
-use Rattle.drive_laws.proofs.DeterminedOrders.{Seen, ends}
-use Rattle.drive_laws.proofs.DeterminedVerdicts.{denied_same, denied_sure, verdict_same}
-use Rattle.drive_laws.proofs.DeterminedWorks.{on_drive, on_medium}
+use Rattle.drive_theorems.proofs.CommandLemmas.{commands}
+use Rattle.drive_theorems.proofs.DeterminedOrders.{Seen, ends}
+use Rattle.drive_theorems.proofs.DeterminedVerdicts.{denied_same, denied_sure, verdict_same}
+use Rattle.drive_theorems.proofs.DeterminedWorks.{on_drive, on_medium}
 
 module _ (spaces : NoSpaceEndsTwice) (locates : NoLocateEndsTwice) (orders : NoOrderEndsTwice)
     (old beside : Machine) (reply reply' : Reply) (made made' : Made) (new new' : Machine)

@@ -14,11 +14,11 @@ use Rattle.drive_commands.specs.Work.{Request}
 use Rattle.drive_commands.specs.Turn.{TurnsIn, after_turn, turn_outcome}
 use Rattle.drive_commands.specs.Step.{Input, Execute, FlushTurn, Insert, Load, Unload, PowerOn, Output, Answered, Unanswered, Step}
 use Rattle.drive_commands.specs.Determined.{BringsSure, IsSure, IsSureDrive, IsSureInput, OpensSurely, Sight, sight_of, side_sight, seen_of, without_room, IsCalm, AreSeenAlike, AreAlike, StepsAreDetermined}
-use Rattle.drive_laws.proofs.AlikeLemmas.{works_sight}
+use Rattle.drive_theorems.proofs.AlikeLemmas.{works_sight}
 use Rattle.drive_commands.specs.LoadUnload.{emptied}
-use Rattle.drive_laws.proofs.DeterminedLoads.{loads, powers_on}
-use Rattle.drive_laws.proofs.DeterminedParks.{unloads_alike}
-use Rattle.drive_laws.proofs.DeterminedChecks.{requests}
+use Rattle.drive_theorems.proofs.DeterminedLoads.{loads, powers_on}
+use Rattle.drive_theorems.proofs.DeterminedParks.{unloads_alike}
+use Rattle.drive_theorems.proofs.DeterminedChecks.{requests}
 
 -- a turn that meets no fault leaves the medium seen as it was
 turns_unseen : (medium : MediumState) (turn : Turn) (left : MediumState) → medium.awake ≡ true

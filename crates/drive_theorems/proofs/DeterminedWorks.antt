@@ -31,10 +31,10 @@ use Rattle.scsi_lists.specs.ModeLists.{mode_data, mode_decoded}
 use Rattle.drive_commands.specs.OnMedium.{OnMediumIn}
 use Rattle.drive_commands.specs.Step.{Answered}
 use Rattle.drive_commands.specs.Determined.{IsSureCommand, IsSureDrive, IsSureSight, Sight, sight_of, seen_of, AreAlike}
-use Rattle.drive_laws.proofs.AlikeLemmas.{IsDetermined, goes_to, stored_first}
-use Rattle.drive_laws.proofs.DeterminedParks.{reloads_alike, unloads_alike}
-use Rattle.drive_laws.proofs.DeterminedOrders.{Seen, ends, lists_alike}
-use Rattle.drive_laws.proofs.DeterminedVerdicts.{due_same, reported_same, reported_sure}
+use Rattle.drive_theorems.proofs.AlikeLemmas.{IsDetermined, goes_to, stored_first}
+use Rattle.drive_theorems.proofs.DeterminedParks.{reloads_alike, unloads_alike}
+use Rattle.drive_theorems.proofs.DeterminedOrders.{Seen, ends, lists_alike}
+use Rattle.drive_theorems.proofs.DeterminedVerdicts.{due_same, reported_same, reported_sure}
 
 module _ (spaces : NoSpaceEndsTwice) (locates : NoLocateEndsTwice) (orders : NoOrderEndsTwice)
     (old beside : Machine) (reply reply' : Reply) (made made' : Made) (new new' : Machine)

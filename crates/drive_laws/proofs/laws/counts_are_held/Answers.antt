@@ -1,5 +1,0 @@
-use Rattle.drive_laws.proofs.CountLemmas.{counts_are_held}
-use Rattle.drive_laws.proofs.laws.counts_are_held.Goals as goal
-
-pub returns : goal.returns
-returns c = counts_are_held

@@ -1,5 +1,0 @@
-use Rattle.drive_laws.proofs.RunLemmas.{runs_append}
-use Rattle.drive_laws.proofs.laws.runs_append.Goals as goal
-
-pub returns : goal.returns
-returns c = runs_append
