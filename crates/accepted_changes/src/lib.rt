@@ -5,4 +5,4 @@
 pub mod accepting;
 pub mod laws;
 
-pub use accepted_changes::Accepting;
+pub use accepting::Accepting;
