@@ -7,8 +7,9 @@ same of the plain program, of raw files, and where each sync takes 20 millisecon
 cartridge, of two hosts beside one; how long short buffered WRITEs wait where each sync takes longer; and the memory at
 rest, without a host and with 64 that have spoken.
 
-Of five times, taken in turns, the best and the median. --program PATH: another program than the proved one. The files
-lie in a new folder beside the repository's own, or in the one that a word names."""
+Of five times, taken in turns, the best and the median. --program PATH: another program than the proved one. --pipe
+BYTES: longer pipes, as a front end may make them. The files lie in a new folder beside the repository's own, or in the
+one that a word names."""
 import argparse
 import os
 import statistics
@@ -38,10 +39,11 @@ DATA = os.urandom(BLOCK)
 
 class Peer:
     """A process at the other end of two pipes. Answers are read to their end, and GOOD has to be their status."""
+    pipe = -1
 
     def __init__(self, words, folder, **environment):
         self.process = subprocess.Popen(words, cwd=folder, stdin=subprocess.PIPE, stdout=subprocess.PIPE,
-                                        env={**os.environ, **environment})
+                                        pipesize=Peer.pipe, env={**os.environ, **environment})
         self.answers = self.process.stdout
 
     def send(self, block, data=b"", host=1, drive=1):
@@ -250,7 +252,7 @@ class Bench:
 
     def raw_reads(self):
         self.raw(1)
-        with subprocess.Popen(["cat", "raw1.tape"], cwd=self.folder, stdout=subprocess.PIPE) as cat:
+        with subprocess.Popen(["cat", "raw1.tape"], cwd=self.folder, stdout=subprocess.PIPE, pipesize=Peer.pipe) as cat:
             return timed(lambda: [cat.stdout.read(BLOCK) for _ in range(BLOCKS)])
 
     def rest(self):
@@ -269,7 +271,9 @@ def main():
     parser.add_argument("folder", nargs="?")
     parser.add_argument("--program", default=PROVED)
     parser.add_argument("--waits", action="store_true", help="how long short buffered WRITEs wait, alone")
+    parser.add_argument("--pipe", type=int, default=-1, help="the bytes of each pipe, where the system's are 65,536")
     given = parser.parse_args()
+    Peer.pipe = given.pipe
     with tempfile.TemporaryDirectory(prefix="vtl-served-", dir=given.folder or os.path.dirname(TOP)) as folder:
         peer = compiled(folder, "peer.c")
         bench = Bench(os.path.abspath(given.program), folder)

@@ -101,7 +101,7 @@ pub fn place<D: Disk + Drop>(
     frame: &mut Frame,
 ) -> Result<(), JournalError> {
     let size = frame.body().len();
-    if size == 0 || size > MAX_BODY as usize {
+    if size == 0 || size > MAX_BODY as usize || size > frame.room() {
         return Err(JournalError::NotOurs);
     }
     journal.append_frame(frame, &NoParts)
