@@ -1,9 +1,9 @@
 -- The bytes of parts, one after another.
-use Rattle.std.proofs.Common.{◌≡◌, ℕ, ◌+◌, ◌≤◌, ◌<◌, List, [], ◌∷◌, ◌++◌, length, get_or, take, drop, Some, refl, ◌∙◌, ap, arith, append_assoc, length-append, take-append-drop}
+use Rattle.std.proofs.Common.{◌≡◌, ℕ, ◌+◌, ◌-◌, ◌≤◌, ◌<◌, ⊎_elim, List, [], ◌∷◌, ◌++◌, length, get_or, take, drop, Some, refl, ◌∙◌, ap, arith, append_assoc, length-append, take-append-drop}
 use Rattle.std.specs.Prelude.{slice_get}
-use Rattle.std.proofs.lemmas.List.{take_more}
+use Rattle.std.proofs.lemmas.List.{length-drop, take_more}
 use Rattle.std.proofs.lemmas.Option.{get_or_from_slice_get, slice_get_within}
-use Rattle.gate_journal.specs.Followed.{followed}
+use Rattle.gate_journal.specs.Followed.{HasRoomFor, followed}
 
 -- a part more
 followed_push : (bytes : List ℕ) (parts : List (List ℕ)) (part : List ℕ)
@@ -34,6 +34,43 @@ pub followed_length : (bytes : List ℕ) (parts : List (List ℕ))
 followed_length bytes [] = omega arith
 followed_length bytes (p ∷ ps) =
     omega (arith, followed_length (bytes ++ p) ps, followed_length p ps, length-append bytes p)
+
+-- the bytes of a length and of a body, in a buffer of a frame
+module _ (bytes : List ℕ) (parts : List (List ℕ)) (capacity : ℕ)
+    (fits : HasRoomFor parts (length (followed (drop 4 bytes) parts)) (capacity - 5))
+    (some : 1 ≤ length (followed (drop 4 bytes) parts))
+    (wide : 5 < capacity → 4 ≤ length bytes) (below : 4 < length bytes → length bytes < capacity) where
+  held : parts ≡ [] → 4 < length bytes
+  held none =
+      omega (
+        arith,
+        some,
+        ap (λ (p : List (List ℕ)). length (followed (drop 4 bytes) p)) none,
+        length-drop 4 bytes,
+      )
+
+  -- the buffer has the four bytes of a length
+  pub has_length : 4 ≤ length bytes
+  has_length =
+      ⊎_elim
+      (λ (none : parts ≡ []). omega (arith, held none))
+      (λ (room : length (followed (drop 4 bytes) parts) ≤ capacity - 5). wide (omega (arith, some, room)))
+      fits
+
+  -- and room for the length, the whole body and a byte
+  pub has_room : 4 + length (followed (drop 4 bytes) parts) < capacity
+  has_room =
+      ⊎_elim
+      (λ (none : parts ≡ []).
+      omega (
+        arith,
+        below (held none),
+        held none,
+        ap (λ (p : List (List ℕ)). length (followed (drop 4 bytes) p)) none,
+        length-drop 4 bytes,
+      ))
+      (λ (room : length (followed (drop 4 bytes) parts) ≤ capacity - 5). omega (arith, some, room))
+      fits
 
 module _ (bytes : List ℕ) (parts : List (List ℕ)) (i : ℕ) (part : List ℕ) (at : slice_get parts i ≡ Some part) where
   inside : i < length parts

@@ -2,7 +2,7 @@
 ghost use Rattle.std.specs.Prelude.{◌≡◌, ◌+◌, ◌<◌, ◌≤◌, ◌++◌, [], ◌∷◌, length, true, false, OnOk, IfErr, if◌then◌else◌, is_ok};
 ghost use Rattle.tape_disk.specs.Disk.{Each, Keeps};
 ghost use Rattle.tape_disk.specs.Moments.{LeavesOnly};
-ghost use Rattle.gate_journal.specs.Followed.{KeepsRoom, followed};
+ghost use Rattle.gate_journal.specs.Followed.{HasRoomFor, KeepsRoom, followed};
 ghost use Rattle.gate_journal.specs.Side.{IsBody, StandsFor};
 ghost use Rattle.gate_journal.specs.Answers.{Appended, Broke, IsFault, MatchWrite, NoneFailed};
 ghost use Rattle.gate_journal.specs.Crash.{WithOrWithout};
@@ -31,24 +31,24 @@ impl<D: Disk> Journal<D> {
         Ok(())
     }
 
-    /// Adds a frame, as `append` does. Its body is the body that `frame` holds, followed by `parts`; `frame` must have
-    /// room for this whole body. Where a part has 16,384 bytes or more after its head, these are written from where
-    /// they are in memory; all other bytes are copied into `frame`. At Ok and after `Device` the body is removed from
-    /// `frame`; after every other error it is unchanged. The room of `frame` is at least what it was, and the same
-    /// where there are no parts. Memory can run out only where memory for no extent is reserved (`reserve_extents`).
+    /// Adds a frame, as `append` does. Its body is the body that `frame` holds, followed by `parts`; where there are
+    /// parts, `frame` must have room for this whole body. Where a part has 16,384 bytes or more after its head, these
+    /// are written from where they are in memory; all other bytes are copied into `frame`. At Ok and after `Device` the
+    /// body is removed from `frame`, whose room is at least what it was, and the same where there are no parts. After
+    /// every other error `frame` is unchanged. Memory can run out only where memory for no extent is reserved
+    /// (`reserve_extents`).
     pub fn append_frame<P: BodyParts>(
         &mut self,
         frame: &mut Frame,
         parts: &P,
     ) -> Result<(), JournalError>
         requires { IsBody (followed frame.old.body (P.parts parts.now))
-            × (length (followed frame.old.body (P.parts parts.now)) ≤ frame.old.room) }
+            × HasRoomFor (P.parts parts.now) (length (followed frame.old.body (P.parts parts.now))) frame.old.room }
         ensures disk { Keeps (D.state self.old.disk) (D.state self.new.disk) }
         ensures front { self.new.front ≡ self.old.front }
         ensures frame { KeepsRoom (P.parts parts.now) frame.old.room frame.new.room × MatchWrite result
-            (frame.new.body ≡ []) (frame.new.body ≡ frame.old.body)
-            (frame.new.body ≡ frame.old.body) (λ _. frame.new.body ≡ [])
-            (frame.new.body ≡ frame.old.body) }
+            (frame.new.body ≡ []) (frame.new ≡ frame.old) (frame.new ≡ frame.old)
+            (λ _. frame.new.body ≡ []) (frame.new ≡ frame.old) }
         ensures answer { MatchWrite result
             (Appended self.old self.new (length (followed frame.old.body (P.parts parts.now)))
             × NoneFailed (D.state self.old.disk) (D.state self.new.disk))

@@ -1,4 +1,4 @@
-use Rattle.std.proofs.Common.{◌≤◌, ap, arith}
+use Rattle.std.proofs.Common.{◌≤◌, inl, refl, ap, arith}
 use Rattle.gate_journal.specs.State.{OpenSide}
 use Rattle.aptpl_store.specs.Kept.{store_kept}
 use Rattle.aptpl_store.proofs.SavingLemmas.{broken_advances, broken_kept, broken_open, broken_stores, frame_of, is_body, opened, opens_saved, rests, saved_advances, saved_kept, saved_open, saved_stores, saved_value, spells_given, store_on}
@@ -11,7 +11,7 @@ append_frame-requires g c =
     let spelled = spells_given c.fill_body.ensures.body c.state.ensures.state c.fill_body.ensures.savable in
     let is = is_body state body spelled.1 spelled.0 in (
       (is.0, omega (arith, is.1)),
-      omega (arith, is.1, c.self.invariant.0.body, c.fill_body.ensures.room),
+      inl refl,
     )
 
 pub invariant_of-self : goal.invariant_of-self

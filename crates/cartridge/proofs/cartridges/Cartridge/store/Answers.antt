@@ -1,4 +1,4 @@
-use Rattle.std.proofs.Common.{◌≡◌, inl, ℕ, List, [], ◌∷◌, length, false, ap, sym, subst, ◌∙◌, arith}
+use Rattle.std.proofs.Common.{◌≡◌, inl, inr, ℕ, List, [], ◌∷◌, length, false, ap, sym, subst, ◌∙◌, arith}
 use Rattle.tape_disk.specs.TwoDisks.{TwoLeave, two_rest_still}
 use Rattle.gate_journal.specs.Answers.{IsFault}
 use Rattle.std.specs.Prelude.{map}
@@ -92,13 +92,13 @@ append_frame-requires g c =
         omega (arith, ap (λ (l : List ℕ). length l) body_is, some_body changes c.requires.some),
         omega (arith, ap (λ (l : List ℕ). length l) body_is, c.requires.short),
       ),
-      omega (
+      inr (omega (
         arith,
         ap (λ (l : List ℕ). length l) body_is,
         c.size_of_body-size.ensures,
         c.in-Ok.ensures.ok.0,
         ap (λ (f : SpelledBody). f.room) c.clear.ensures,
-      ),
+      )),
     )
 
 pub place_frame-requires-clause-records : goal.place_frame-requires-clause-records
