@@ -3,7 +3,7 @@ use Rattle.std.proofs.Common.{◌≡◌, ℕ, ◌+◌, ◌-◌, ◌≤◌, ◌<�
 use Rattle.std.specs.Prelude.{slice_get}
 use Rattle.std.proofs.lemmas.List.{length-drop, take_more}
 use Rattle.std.proofs.lemmas.Option.{get_or_from_slice_get, slice_get_within}
-use Rattle.gate_journal.specs.Followed.{HasRoomFor, followed}
+use Rattle.gate_journal.specs.Followed.{FrameHasRoom, followed}
 
 -- a part more
 followed_push : (bytes : List ℕ) (parts : List (List ℕ)) (part : List ℕ)
@@ -37,7 +37,7 @@ followed_length bytes (p ∷ ps) =
 
 -- the bytes of a length and of a body, in a buffer of a frame
 module _ (bytes : List ℕ) (parts : List (List ℕ)) (capacity : ℕ)
-    (fits : HasRoomFor parts (length (followed (drop 4 bytes) parts)) (capacity - 5))
+    (fits : FrameHasRoom parts (length (followed (drop 4 bytes) parts)) (capacity - 5))
     (some : 1 ≤ length (followed (drop 4 bytes) parts))
     (wide : 5 < capacity → 4 ≤ length bytes) (below : 4 < length bytes → length bytes < capacity) where
   held : parts ≡ [] → 4 < length bytes

@@ -8,8 +8,8 @@ followed bytes (part ∷ parts) = followed (bytes ++ part) parts
 
 -- A frame with this room may be written with these parts behind its body: the whole body is no longer than the room.
 -- Where there are no parts, nothing is added to the body that the frame holds (own).
-abbrev pub HasRoomFor : List (List ℕ) → ℕ → ℕ → Type 0
-HasRoomFor parts size room = (parts ≡ []) ⊎ (size ≤ room)
+abbrev pub FrameHasRoom : List (List ℕ) → ℕ → ℕ → Type 0
+FrameHasRoom parts size room = (parts ≡ []) ⊎ (size ≤ room)
 
 -- the room of a frame before and after its body is written with these parts behind it: it never shrinks, and it is the
 -- same where there are no parts (own)

@@ -3,7 +3,7 @@ ghost use Rattle.std.specs.Prelude.{◌≡◌, ◌≤◌, ◌<◌, ◌+◌, ◌^
 ghost use Rattle.tape_disk.specs.Disk.{DiskState, Only, Passes};
 ghost use Rattle.tape_disk.specs.Moments.{LeavesOnly};
 ghost use Rattle.std.specs.Int.{to_be_bytes, w32};
-ghost use Rattle.gate_journal.specs.Followed.{HasRoomFor, KeepsRoom, followed};
+ghost use Rattle.gate_journal.specs.Followed.{FrameHasRoom, KeepsRoom, followed};
 ghost use Rattle.gate_journal.specs.Side.{IsBody};
 ghost use Rattle.gate_journal.specs.Spelled.{body_taken};
 ghost use Rattle.gate_journal.specs.Inner.Writing.{BehindOrGated, Opened, tail_of};
@@ -136,7 +136,7 @@ impl Frame {
         parts: &P,
     ) -> Result<(), DevFault>
         requires body { IsBody (followed self.old.body (P.parts parts.now)) }
-        requires fits { HasRoomFor (P.parts parts.now) (length (followed self.old.body (P.parts parts.now)))
+        requires fits { FrameHasRoom (P.parts parts.now) (length (followed self.old.body (P.parts parts.now)))
             self.old.room }
         requires room { end + 6 + length (followed self.old.body (P.parts parts.now)) < 2 ^ 64 }
         requires gate { (D.state disk.old).honest → end < length (D.state disk.old).seen }

@@ -2,7 +2,7 @@
 ghost use Rattle.std.specs.Prelude.{◌≡◌, ◌+◌, ◌<◌, ◌≤◌, ◌++◌, [], ◌∷◌, length, true, false, OnOk, IfErr, if◌then◌else◌, is_ok};
 ghost use Rattle.tape_disk.specs.Disk.{Each, Keeps};
 ghost use Rattle.tape_disk.specs.Moments.{LeavesOnly};
-ghost use Rattle.gate_journal.specs.Followed.{HasRoomFor, KeepsRoom, followed};
+ghost use Rattle.gate_journal.specs.Followed.{FrameHasRoom, KeepsRoom, followed};
 ghost use Rattle.gate_journal.specs.Side.{IsBody, StandsFor};
 ghost use Rattle.gate_journal.specs.Answers.{Appended, Broke, IsFault, MatchWrite, NoneFailed};
 ghost use Rattle.gate_journal.specs.Crash.{WithOrWithout};
@@ -43,7 +43,7 @@ impl<D: Disk> Journal<D> {
         parts: &P,
     ) -> Result<(), JournalError>
         requires { IsBody (followed frame.old.body (P.parts parts.now))
-            × HasRoomFor (P.parts parts.now) (length (followed frame.old.body (P.parts parts.now))) frame.old.room }
+            × FrameHasRoom (P.parts parts.now) (length (followed frame.old.body (P.parts parts.now))) frame.old.room }
         ensures disk { Keeps (D.state self.old.disk) (D.state self.new.disk) }
         ensures front { self.new.front ≡ self.old.front }
         ensures frame { KeepsRoom (P.parts parts.now) frame.old.room frame.new.room × MatchWrite result
