@@ -15,6 +15,9 @@ use vtl_program::explaining::{asks, asks_of_lines, run_explained};
 use vtl_program::system_files::SystemFiles;
 use vtl_words::UnreadWord;
 
+// How many bytes are taken and freed at the start (own).
+const KEPT_FREED: usize = 33_000_000;
+
 // The words of the command line.
 fn words_of(rt: &HostRuntime) -> Result<Vec<String>, VtlFault> {
     let mut words = Vec::new(rt.alloc());
@@ -41,7 +44,15 @@ fn unread_of(rt: &HostRuntime, words: &Result<Vec<String>, VtlFault>) -> Option<
     }
 }
 
+// Takes memory and frees it at once, or does nothing where there is none. The C library's allocator keeps freed memory
+// up to twice the largest block that was freed, of blocks of up to 32 MiB. So the memory of blocks that were stored is
+// taken again for the next ones, and its pages stay. Without this a third of the time of WRITEs is page faults.
+fn keep_freed_memory(rt: &HostRuntime) {
+    drop(Vec::<u8>::with_capacity(rt.alloc(), KEPT_FREED));
+}
+
 fn main(rt: HostRuntime) -> ExitCode {
+    keep_freed_memory(&rt);
     let (stdout, stderr) = (rt.stdout(), rt.stderr());
     let mut errors = io::writer(&stderr);
     let (input, words) = match BufReader::new(rt.alloc(), rt.reader()) {
