@@ -2,11 +2,11 @@
 """How many bytes of memory the proved program asks for, and that they stay within these limits: by a file that stands
 before the C library and notes each call of malloc and realloc (faults.c, which takes `cc`).
 
-A block of 1,048,576 bytes that is written to a file through a script: once for its data, once for its frame, and for
-the line. Later such blocks and frames ask for no more than that, and their lines for nothing. Lines without data, of
-which a phase has more: nothing for each. A library of 16 drives, each with a cartridge and a store, at rest. The same
-block by a frame to `vtl serve`: its data and its frame in the file, once each; and a frame that is refused: nothing,
-whatever its header says.
+A block of 1,048,576 bytes that is written to a file through a script: once for its data, and for the line; its frame
+is written in the room that its drive has. Later such blocks ask for no more than that, and their lines for nothing.
+Lines without data, of which a phase has more: nothing for each. A library of 16 drives, each with a cartridge and a
+store, at rest: the room of each drive's longest frame, and 131,072 bytes. The same block by a frame to `vtl serve`: its
+data once; and a frame that is refused: nothing, whatever its header says.
 
 --program PATH: another program than the proved one; --tell: prints the figures alone."""
 import argparse
@@ -15,13 +15,14 @@ import subprocess
 import sys
 import tempfile
 
-from served import COMMAND, HEADER
+from front_end import COMMAND, HEADER
 
 TOP = os.path.dirname(os.path.dirname(os.path.abspath(__file__)))
 PROVED = os.path.join(TOP, "crates", "vtl", "out", "vtl")
 BLOCK = 1_048_576
-# gate and length of a frame, the next gate, and what stands before a block in its record
-FRAME = BLOCK + 4 + 10 + 1
+# the room of a drive for the longest frame that its buffer stores: 4 MiB of blocks, 256 heads of records, and 5 bytes
+# around them; what else a drive takes, and the index and the names of what is written
+FRAME, DRIVE, BESIDE = 4_194_304 + 256 * 10 + 5, 131_072, 131_072
 # the longest line, and the byte that shows that one is longer
 LINE = 2_200_001
 WRITE = f"1 1 0a00{BLOCK:06x}00 " + "5a" * BLOCK + "\n1 1 100000000000\n--\n"
@@ -75,17 +76,18 @@ def figures(program, shim, folder):
         subprocess.run([program, "create", "--config", name], cwd=folder, check=True, stdout=subprocess.DEVNULL)
     idle = run(READY, "all.toml")
     yield "calls for what is freed at the start", idle.count(FREED), 1
-    yield "a library of 16 drives at rest, in all beside it", sum(more_than(idle, [FREED])), 1_000_000
+    yield "a library of 16 drives at rest, in all beside it", sum(more_than(idle, [FREED])), 16 * (FRAME + DRIVE)
     rest, one, many = run(READY), run(READY + WRITE), run(READY + WRITE * 9)
     block = large(more_than(one, rest))
-    yield "a WRITE of a block of 1,048,576 bytes, in all", sum(block), BLOCK + FRAME + LINE
+    yield "a WRITE of a block of 1,048,576 bytes, in all", sum(block), BLOCK + LINE + BESIDE
     yield "its largest growth, of its line", block[0], LINE
-    yield "eight such WRITEs more, in all", sum(large(more_than(many, one))), 8 * (BLOCK + FRAME)
+    yield "eight such WRITEs more, in all", sum(large(more_than(many, one))), 8 * (BLOCK + BESIDE)
     few, lines = run(READY * 1_001), run(READY * 10_001)
     yield "growths of a phase's lines, 10,000 and not 1,000 of them, in calls", len(lines) - len(few), 20
     rest = serve(READY_FRAME)
     block = large(more_than(serve(READY_FRAME + WRITE_FRAMES), rest))
-    yield "such a WRITE by a frame, in all", sum(block), BLOCK + FRAME
+    yield "such a WRITE by a frame, in all", sum(block), BLOCK + BESIDE
+    rest = serve(READY_FRAME)
     for header in REFUSED:
         found = large(more_than(serve(READY_FRAME + header, 1), rest))
         yield f"a frame that begins with {header[:8].hex()}, and is refused, in all", sum(found), 0
