@@ -75,7 +75,7 @@ def figures(program, shim, folder):
             file.write(config(drives))
         subprocess.run([program, "create", "--config", name], cwd=folder, check=True, stdout=subprocess.DEVNULL)
     idle = run(READY, "all.toml")
-    yield "calls for what is freed at the start", idle.count(FREED), 1
+    yield "calls more or fewer than the one for what is freed at the start", abs(idle.count(FREED) - 1), 0
     yield "a library of 16 drives at rest, in all beside it", sum(more_than(idle, [FREED])), 16 * (FRAME + DRIVE)
     rest, one, many = run(READY), run(READY + WRITE), run(READY + WRITE * 9)
     block = large(more_than(one, rest))

@@ -46,7 +46,7 @@ fn unread_of(rt: &HostRuntime, words: &Result<Vec<String>, VtlFault>) -> Option<
 
 // Takes memory and frees it at once, or does nothing where there is none. The C library's allocator keeps freed memory
 // up to twice the largest block that was freed, of blocks of up to 32 MiB. So the memory of blocks that were stored is
-// taken again for the next ones, and its pages stay. Without this a third of the time of WRITEs is page faults.
+// taken again for the next ones, and its pages stay. Without this each page of each block is faulted in anew.
 fn keep_freed_memory(rt: &HostRuntime) {
     drop(Vec::<u8>::with_capacity(rt.alloc(), KEPT_FREED));
 }
