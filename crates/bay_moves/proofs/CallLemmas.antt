@@ -32,8 +32,8 @@ use Rattle.drive_commands.specs.Work.{Request}
 use Rattle.aptpl_store.specs.Contents.{latest}
 use Rattle.aptpl_store.specs.Kept.{core_of, store_below, store_kept, store_rules}
 use Rattle.aptpl_store.specs.State.{OpenStore}
-use Rattle.drive_commands.specs.Run.{Asked, Turned}
-use Rattle.bay_moves.specs.Reservations.{Call, CallDoes, ChangesBay, IsHolding, IsOrdered, IsOrderedIn, MayStand, Moved, Served}
+use Rattle.drive_commands.specs.Run.{Asked, Event, Turned}
+use Rattle.bay_moves.specs.Reservations.{CallDoes, ChangesBay, IsHolding, IsOrdered, IsOrderedIn, MayStand}
 use Rattle.bay_moves.proofs.MachineLemmas.{Goes, step_goes}
 use Rattle.bay_moves.proofs.StoreCoreLemmas.{none_torn}
 
@@ -73,7 +73,9 @@ module _ {M D : Type 0} (medium : M → MediumState) (below : Below M Change) (d
     (is_disk : (d : D) → (disk d).honest → IsDisk (disk d)) (keep : OrdersKeepRules)
     (due : SavesAreDueByChange) (lost : SavedAlikeAreLostAlike) where
   -- the store after a call, and what it is compared with
-  pub record CallGoes (old : DriveState M (OpenStore D)) (call : Call) (new : DriveState M (OpenStore D)) : Type 0 where
+  pub record CallGoes
+      (old : DriveState M (OpenStore D)) (call : Option Event) (new : DriveState M (OpenStore D)) : Type
+      0 where
     pub made : List PrState
     pub moves :
         CoreMoves store_rules (one_disk disk) old.keeper.disk new.keeper.disk (core_of old.keeper)
@@ -86,7 +88,7 @@ module _ {M D : Type 0} (medium : M → MediumState) (below : Below M Change) (d
     pub saved : power_loss (latest new.keeper.states) ≡ power_loss new.reservations
     pub at_rest : new.keeper.failed ≡ is_some new.keeper.torn
 
-  module _ (old new : DriveState M (OpenStore D)) (holding : IsHolding medium below disk old) (call : Call)
+  module _ (old new : DriveState M (OpenStore D)) (holding : IsHolding medium below disk old) (call : Option Event)
       (made : List PrState)
       (moves : CoreMoves store_rules (one_disk disk) old.keeper.disk new.keeper.disk
       (core_of old.keeper) (core_of new.keeper) made) where
@@ -195,21 +197,21 @@ module _ {M D : Type 0} (medium : M → MediumState) (below : Below M Change) (d
         → StandsOnceSaved saving keeper ordered.answer state ordered.established (machine_of medium store_kept old)
         answer
         (machine_of medium store_kept new)
-        → made.saved ≡ saved_by saving state → CallGoes old (Served (Asked request reply)) new
+        → made.saved ≡ saved_by saving state → CallGoes old (Some (Asked request reply)) new
     once_saved (Ok done) keeper saves stands made_is =
-        asked_to_save old new holding (Served (Asked request reply)) made.saved moves state ordered sound (Ok done)
+        asked_to_save old new holding (Some (Asked request reply)) made.saved moves state ordered sound (Ok done)
         keeper
         saves (ap (λ (m : Machine). m.keeper) stands.1) made_is (ap (λ (m : Machine). m.reservations) stands.1)
     once_saved (Err error) keeper saves stands made_is =
-        asked_to_save old new holding (Served (Asked request reply)) made.saved moves state ordered sound (Err error)
+        asked_to_save old new holding (Some (Asked request reply)) made.saved moves state ordered sound (Err error)
         keeper saves (ap (λ (m : Machine). m.keeper) stands.1) made_is (ap (λ (m : Machine). m.reservations) stands.1)
 
     stands_by : (needed : Bool) → needs_save old.reservations state ≡ needed
         → StandsBy needed ordered.answer state ordered.established (machine_of medium store_kept old) answer made
-        (machine_of medium store_kept new) → CallGoes old (Served (Asked request reply)) new
+        (machine_of medium store_kept new) → CallGoes old (Some (Asked request reply)) new
     stands_by false needed stands =
         let is : new.reservations ≡ state = ap (λ (m : Machine). m.reservations) stands.2 in
-        unsaved old new holding (Served (Asked request reply)) made.saved moves (ap (λ (m : Made). m.saved) stands.1)
+        unsaved old new holding (Some (Asked request reply)) made.saved moves (ap (λ (m : Made). m.saved) stands.1)
         (ap (λ (m : Machine). m.keeper) stands.2) (subst IsSound (sym is) sound)
         (ap power_loss is
         ∙ sym (lost old.reservations state ((due old.reservations state holding.sound sound).0 needed)))
@@ -219,15 +221,15 @@ module _ {M D : Type 0} (medium : M → MediumState) (below : Below M Change) (d
   -- a host is answered
   asked_goes : (old new : DriveState M (OpenStore D)) (request : Request) (reply : Reply)
       → IsHolding medium below disk old → Answers medium below store_kept (store_below disk) old request reply new
-      → CallGoes old (Served (Asked request reply)) new
+      → CallGoes old (Some (Asked request reply)) new
   asked_goes old new request reply holding answers =
       by (step_goes _ (machine_of medium store_kept old) request answers.answer answers.taken.made
       (machine_of medium store_kept new) answers.taken.step)
     where
       by : Goes (machine_of medium store_kept old) request answers.answer answers.taken.made
-          (machine_of medium store_kept new) → CallGoes old (Served (Asked request reply)) new
+          (machine_of medium store_kept new) → CallGoes old (Some (Asked request reply)) new
       by (inl none) =
-          unsaved old new holding (Served (Asked request reply)) answers.taken.made.saved answers.taken.saves.moved
+          unsaved old new holding (Some (Asked request reply)) answers.taken.made.saved answers.taken.saves.moved
           none.saved
           none.keeper (subst IsSound (sym none.reservations) holding.sound) (ap power_loss none.reservations)
       by (inr order) =
@@ -254,11 +256,11 @@ module _ {M D : Type 0} (medium : M → MediumState) (below : Below M Change) (d
 
   -- a flusher's turn
   turned_goes : (old new : DriveState M (OpenStore D)) (turn : Turn) → IsHolding medium below disk old
-      → CallDoes medium below disk old (Served (Turned turn)) new → CallGoes old (Served (Turned turn)) new
+      → CallDoes medium below disk old (Some (Turned turn)) new → CallGoes old (Some (Turned turn)) new
   turned_goes old new turn holding takes =
       let same = turn_leaves _ (machine_of medium store_kept old) takes.step.0 (machine_of medium store_kept new)
       takes.step.1 in
-      unsaved old new holding (Served (Turned turn)) []
+      unsaved old new holding (Some (Turned turn)) []
       (subst (λ (k : OpenStore D). CoreMoves store_rules (one_disk disk) old.keeper.disk k.disk
       (core_of old.keeper) (core_of k) []) (sym takes.keeper)
       (core_moves_nowhere store_rules (one_disk disk) (one_is_device disk) old.keeper.disk (core_of old.keeper)
@@ -267,10 +269,10 @@ module _ {M D : Type 0} (medium : M → MediumState) (below : Below M Change) (d
       (ap power_loss same)
 
   moved_goes : (old new : DriveState M (OpenStore D)) → IsHolding medium below disk old
-      → CallDoes medium below disk old Moved new → CallGoes old Moved new
+      → CallDoes medium below disk old None new → CallGoes old None new
   moved_goes old new holding carried =
       let stays = carried_stays medium below disk old new carried in
-      unsaved old new holding Moved []
+      unsaved old new holding None []
       (subst (λ (k : OpenStore D). CoreMoves store_rules (one_disk disk) old.keeper.disk k.disk
       (core_of old.keeper) (core_of k) []) (sym stays.0)
       (core_moves_nowhere store_rules (one_disk disk) (one_is_device disk) old.keeper.disk (core_of old.keeper)
@@ -278,8 +280,8 @@ module _ {M D : Type 0} (medium : M → MediumState) (below : Below M Change) (d
       refl (ap (λ (k : OpenStore D). store_kept k) stays.0) (subst IsSound (sym stays.1) holding.sound)
       (ap power_loss stays.1)
 
-  pub call_goes : (old new : DriveState M (OpenStore D)) (call : Call) → IsHolding medium below disk old
+  pub call_goes : (old new : DriveState M (OpenStore D)) (call : Option Event) → IsHolding medium below disk old
       → CallDoes medium below disk old call new → CallGoes old call new
-  call_goes old new (Served (Asked request reply)) holding does = asked_goes old new request reply holding does
-  call_goes old new (Served (Turned turn)) holding does = turned_goes old new turn holding does
-  call_goes old new Moved holding does = moved_goes old new holding does
+  call_goes old new (Some (Asked request reply)) holding does = asked_goes old new request reply holding does
+  call_goes old new (Some (Turned turn)) holding does = turned_goes old new turn holding does
+  call_goes old new None holding does = moved_goes old new holding does

@@ -20,8 +20,8 @@ use Rattle.accepted_changes.specs.Device.{one_disk}
 use Rattle.accepted_changes.specs.Events.{IsEvent, ShowsCore}
 use Rattle.aptpl_store.specs.Kept.{core_of, core_with, store_kept, store_rules}
 use Rattle.aptpl_store.specs.State.{OpenStore}
-use Rattle.drive_commands.specs.Run.{Asked, Turned}
-use Rattle.bay_moves.specs.Reservations.{Call, CallDoes, Calls, GivesHeld, HoldingGives, HoldingGoesOn, IsHolding, LeavesHeld, MayStand, Moved, OrdersStand, ReservationsOutlive, Served, SwitchedOnHolds, disk_of}
+use Rattle.drive_commands.specs.Run.{Asked, Event, Turned}
+use Rattle.bay_moves.specs.Reservations.{CallDoes, Calls, GivesHeld, HoldingGives, HoldingGoesOn, IsHolding, LeavesHeld, MayStand, OrdersStand, ReservationsOutlive, SwitchedOnHolds, disk_of}
 use Rattle.bay_moves.proofs.MachineLemmas.{step_goes}
 use Rattle.bay_moves.proofs.StandLemmas.{good_stands, step_stands}
 use Rattle.bay_moves.proofs.CallLemmas.{CallGoes, call_goes, carried_stays, turn_leaves}
@@ -31,7 +31,7 @@ module _ {M D : Type 0} (medium : M → MediumState) (below : Below M Change) (d
     (is_disk : (d : D) → (disk d).honest → IsDisk (disk d)) (keep : OrdersKeepRules)
     (due : SavesAreDueByChange) (lost : SavedAlikeAreLostAlike) where
   -- what one call leaves at each moment, and in the end
-  call_leaves : (old new : DriveState M (OpenStore D)) (call : Call)
+  call_leaves : (old new : DriveState M (OpenStore D)) (call : Option Event)
       → IsHolding medium below disk old → CallDoes medium below disk old call new
       → IsHolding medium below disk new
       × ((disk_of medium below disk old).honest
@@ -81,7 +81,8 @@ module _ {M D : Type 0} (medium : M → MediumState) (below : Below M Change) (d
             ap (λ (t : Option PrState). (core_with drive.keeper.heading drive.keeper.states t).accepted) one.1,
           )
 
-      opens : (drive : DriveState M (OpenStore D)) (call : Call) (later : DriveState M (OpenStore D)) (more : PrState)
+      opens : (drive : DriveState M (OpenStore D)) (call : Option Event) (later : DriveState M (OpenStore D))
+          (more : PrState)
           → IsHolding medium below disk drive
           → (power_loss more ≡ power_loss drive.reservations) ⊎ MayStand medium below disk drive call later more
           → (image : List ℕ) → GivesEither drive.keeper.heading drive.keeper.states more image
@@ -105,7 +106,7 @@ module _ {M D : Type 0} (medium : M → MediumState) (below : Below M Change) (d
           )
 
   -- after calls IsHolding holds, over a disk that is still honest
-  calls_leave : (old mid : DriveState M (OpenStore D)) (calls : List Call)
+  calls_leave : (old mid : DriveState M (OpenStore D)) (calls : List (Option Event))
       → IsHolding medium below disk old → Calls medium below disk old calls mid
       → IsHolding medium below disk mid
       × ((disk_of medium below disk old).honest → (disk_of medium below disk mid).honest)
@@ -169,13 +170,13 @@ module _ {M D : Type 0} (medium : M → MediumState) (below : Below M Change) (d
 
   -- the reservations after a call
   pub stand : OrdersStand medium below disk
-  stand old new (Served (Turned turn)) takes = (
+  stand old new (Some (Turned turn)) takes = (
     inl (turn_leaves medium below disk is_disk keep due lost _ (machine_of medium store_kept old) takes.step.0
         (machine_of medium store_kept new) takes.step.1),
     tt,
   )
-  stand old new Moved carried = (inl (carried_stays medium below disk old new carried).1, tt)
-  stand old new (Served (Asked request reply)) answers = (
+  stand old new None carried = (inl (carried_stays medium below disk old new carried).1, tt)
+  stand old new (Some (Asked request reply)) answers = (
     step_stands (machine_of medium store_kept old) request answers.answer answers.taken.made
         (machine_of medium store_kept new) (step_goes _ (machine_of medium store_kept old) request answers.answer
         answers.taken.made (machine_of medium store_kept new) answers.taken.step),

@@ -26,8 +26,8 @@ use Rattle.drive_commands.specs.State.{medium_in}
 use Rattle.drive_commands.specs.Work.{Request}
 use Rattle.bay_moves.specs.Accepted.{PrEvent, order_rules, orders_core, pr_after, pr_after_all}
 use Rattle.bay_moves.specs.Elements.{BayState}
-use Rattle.drive_commands.specs.Run.{Asked}
-use Rattle.bay_moves.specs.Reservations.{Call, GivesHeld, IsHolding, LeavesHeld, Served, disk_of}
+use Rattle.drive_commands.specs.Run.{Asked, Event}
+use Rattle.bay_moves.specs.Reservations.{GivesHeld, IsHolding, LeavesHeld, disk_of}
 
 module _ {D : Type 0} (state : D → DiskState) where
   -- a medium was opened before, or a crash leaves only what reads return (own)
@@ -93,7 +93,7 @@ module _ {D : Type 0} (state : D → DiskState) where
   -- and these states saved, each by the steps of one event. At each moment since, an image of the store's disk opens as
   -- what a loss of power leaves of the reservations before, or of a state that may stand in their place (own).
   pub record EveryMoment
-      (old : BayState D) (call : Call) (made : Made) (before after : Option (BufferState D)) (new : BayState D)
+      (old : BayState D) (call : Option Event) (made : Made) (before after : Option (BufferState D)) (new : BayState D)
       : Type 0 where
     pub cartridge : EventIn before after made.changes
     pub saves : SavesIn old.keeper new.keeper made.saved
@@ -108,7 +108,7 @@ module _ {D : Type 0} (state : D → DiskState) where
   pub record AnswersInEvent (old : BayState D) (request : Request) (reply : Reply) (new : BayState D) : Type 0 where
     pub step : Answers (state_of state) (buffer_below state) store_kept (store_below state) old request reply new
     pub moments :
-        EveryMoment old (Served (Asked request reply)) step.taken.made (medium_in old.bay) (medium_in new.bay) new
+        EveryMoment old (Some (Asked request reply)) step.taken.made (medium_in old.bay) (medium_in new.bay) new
 
   -- the same for a host that lends its data: this is left of them (own)
   pub record AnswersLentInEvent
@@ -116,7 +116,7 @@ module _ {D : Type 0} (state : D → DiskState) where
     pub step :
         AnswersLent (state_of state) (buffer_below state) store_kept (store_below state) old request reply new left
     pub moments :
-        EveryMoment old (Served (Asked request reply)) step.step.taken.made (medium_in old.bay) (medium_in new.bay) new
+        EveryMoment old (Some (Asked request reply)) step.step.taken.made (medium_in old.bay) (medium_in new.bay) new
 
   -- all that the medium in a drive has accepted is safe, if there is a medium (own)
   abbrev pub IsSafeIn : Option (BufferState D) → Type 0

@@ -1,5 +1,5 @@
 -- What a drive over a store of reservations leaves on the store's disk, at whatever moment it is stopped.
-use Rattle.std.specs.Prelude.{◌≡◌, ◌⊎◌, ℕ, List, [], ◌∷◌, Option, Some, is_some, Result, Ok}
+use Rattle.std.specs.Prelude.{◌≡◌, ◌⊎◌, ℕ, List, [], ◌∷◌, Option, None, Some, is_some, Result, Ok}
 use Rattle.vtl_base.specs.Below.{Below}
 use Rattle.scsi_sense.specs.declared.replies.Reply.{Reply}
 use Rattle.scsi_sense.specs.declared.replies.Status.TheVariants.{Good}
@@ -29,11 +29,6 @@ use Rattle.aptpl_store.specs.Contents.{OpensAs, ShowsStates, latest}
 use Rattle.aptpl_store.specs.Kept.{store_below, store_kept}
 use Rattle.aptpl_store.specs.State.{OpenStore}
 
--- a call of a drive: an event that it serves, or a cartridge in or out (own)
-pub data Call : Type 0 where
-  Served : (event : Event) → Call
-  Moved : Call
-
 -- the state after the order of a request, which has passed all checks (SPC-4, PERSISTENT RESERVE OUT)
 pub record IsOrdered (machine : Machine) (request : Request) (state : PrState) : Type 0 where
   pub action : PrAction
@@ -45,19 +40,20 @@ pub record IsOrdered (machine : Machine) (request : Request) (state : PrState) :
   pub list : list_decoded action request.sent ≡ Ok order
   pub ordered : Orders machine.reservations request.nexus order answer established state
 
--- the state after the order of a call, if it is one (own)
-abbrev pub IsOrderedIn : Machine → Call → PrState → Type 0
-IsOrderedIn machine (Served (Asked request reply)) state = IsOrdered machine request state
-IsOrderedIn machine (Served (Turned turn)) state = ⊥
-IsOrderedIn machine Moved state = ⊥
+-- The state after the order of a call, if it is one. A call of a drive is an event that it serves, or none, where a
+-- cartridge goes in or out (own).
+abbrev pub IsOrderedIn : Machine → Option Event → PrState → Type 0
+IsOrderedIn machine (Some (Asked request reply)) state = IsOrdered machine request state
+IsOrderedIn machine (Some (Turned turn)) state = ⊥
+IsOrderedIn machine None state = ⊥
 
 -- the state of an order with the reply GOOD is held (SPC-4, PERSISTENT RESERVE OUT)
-abbrev pub StandsWhereGood : Machine → Call → PrState → Type 0
-StandsWhereGood machine (Served (Asked request reply)) state =
+abbrev pub StandsWhereGood : Machine → Option Event → PrState → Type 0
+StandsWhereGood machine (Some (Asked request reply)) state =
     (action : PrAction) (bytes : ℕ) → verdict machine request ≡ Ok (PersistentReserveOut action bytes)
     → reply.status ≡ Good → IsOrdered machine request state
-StandsWhereGood machine (Served (Turned turn)) state = Unit {0}
-StandsWhereGood machine Moved state = Unit {0}
+StandsWhereGood machine (Some (Turned turn)) state = Unit {0}
+StandsWhereGood machine None state = Unit {0}
 
 module _ {M D : Type 0} (medium : M → MediumState) (below : Below M Change) (disk : D → DiskState) where
   -- a medium was loaded, or returned; or was put in, not loaded; or came out, or did not (own)
@@ -67,15 +63,15 @@ module _ {M D : Type 0} (medium : M → MediumState) (below : Below M Change) (d
       ⊎ (((given : M) × (new ≡ record old { bay = Unloaded given }))
       ⊎ ((result : Result M Reply) × GoesOut medium below old result new))
 
-  -- a drive before and after a call (own)
-  abbrev pub CallDoes : DriveState M (OpenStore D) → Call → DriveState M (OpenStore D) → Type 0
-  CallDoes old (Served (Asked request reply)) new =
+  -- a drive before and after a call: an event, or none, where a cartridge goes in or out (own)
+  abbrev pub CallDoes : DriveState M (OpenStore D) → Option Event → DriveState M (OpenStore D) → Type 0
+  CallDoes old (Some (Asked request reply)) new =
       Answers medium below store_kept (store_below disk) old request reply new
-  CallDoes old (Served (Turned turn)) new = TakesTurn medium below store_kept old turn new
-  CallDoes old Moved new = ChangesBay old new
+  CallDoes old (Some (Turned turn)) new = TakesTurn medium below store_kept old turn new
+  CallDoes old None new = ChangesBay old new
 
   -- calls one after another, each on the drive that the last one left (own)
-  abbrev pub Calls : DriveState M (OpenStore D) → List Call → DriveState M (OpenStore D) → Type 0
+  abbrev pub Calls : DriveState M (OpenStore D) → List (Option Event) → DriveState M (OpenStore D) → Type 0
   Calls old [] new = new ≡ old
   Calls old (call ∷ calls) new = (mid : DriveState M (OpenStore D)) × CallDoes old call mid × Calls mid calls new
 
@@ -96,7 +92,7 @@ module _ {M D : Type 0} (medium : M → MediumState) (below : Below M Change) (d
 
   -- A state that may be found in place of the held one: one whose save failed earlier, or the one that this call's
   -- order makes, where the drive holds it after the call or its save failed in the call (own).
-  abbrev pub MayStand : DriveState M (OpenStore D) → Call → DriveState M (OpenStore D) → PrState → Type 0
+  abbrev pub MayStand : DriveState M (OpenStore D) → Option Event → DriveState M (OpenStore D) → PrState → Type 0
   MayStand old call new state =
       (old.keeper.torn ≡ Some state)
       ⊎ (IsOrderedIn (machine_of medium store_kept old) call state
@@ -104,7 +100,7 @@ module _ {M D : Type 0} (medium : M → MediumState) (below : Below M Change) (d
 
   -- the image opens as what a loss of power leaves of the reservations before this call, or of a state that may stand
   -- in their place (own)
-  abbrev pub LeavesHeld : DriveState M (OpenStore D) → Call → DriveState M (OpenStore D) → List ℕ → Type 0
+  abbrev pub LeavesHeld : DriveState M (OpenStore D) → Option Event → DriveState M (OpenStore D) → List ℕ → Type 0
   LeavesHeld old call new image =
       OpensAs old.keeper.heading (power_loss old.reservations) image
       ⊎ ((state : PrState) × MayStand old call new state × OpensAs old.keeper.heading (power_loss state) image)
@@ -129,7 +125,7 @@ module _ {M D : Type 0} (medium : M → MediumState) (below : Below M Change) (d
   -- stays honest (own).
   abbrev pub ReservationsOutlive : Type 0
   ReservationsOutlive =
-      (old mid new : DriveState M (OpenStore D)) (calls : List Call) (last : Call)
+      (old mid new : DriveState M (OpenStore D)) (calls : List (Option Event)) (last : Option Event)
       → (disk_of old).honest → IsHolding old → Calls old calls mid → CallDoes mid last new
       → LeavesOnly (disk_of mid) (disk_of new) (LeavesHeld mid last new) × Each (disk_of new) (GivesHeld new)
       × (disk_of new).honest × IsHolding new
@@ -138,7 +134,7 @@ module _ {M D : Type 0} (medium : M → MediumState) (below : Below M Change) (d
   -- and each image that a crash may leave opens as said there, inside the call and after it (own).
   abbrev pub HoldingGoesOn : Type 0
   HoldingGoesOn =
-      (old new : DriveState M (OpenStore D)) (call : Call) → IsHolding old → CallDoes old call new
+      (old new : DriveState M (OpenStore D)) (call : Option Event) → IsHolding old → CallDoes old call new
       → IsHolding new
       × ((disk_of old).honest
       → (disk_of new).honest
@@ -156,6 +152,6 @@ module _ {M D : Type 0} (medium : M → MediumState) (below : Below M Change) (d
   -- else changes the reservations (own).
   abbrev pub OrdersStand : Type 0
   OrdersStand =
-      (old new : DriveState M (OpenStore D)) (call : Call) → CallDoes old call new
+      (old new : DriveState M (OpenStore D)) (call : Option Event) → CallDoes old call new
       → ((new.reservations ≡ old.reservations) ⊎ IsOrderedIn (machine_of medium store_kept old) call new.reservations)
       × StandsWhereGood (machine_of medium store_kept old) call new.reservations

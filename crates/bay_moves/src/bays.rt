@@ -1,5 +1,5 @@
 //! A drive of a library.
-ghost use Rattle.std.specs.Prelude.{[], Some, ◌≡◌, ◌↔◌, IsTrue, IfOk, IfErr, IfSome, Err, false, is_some, option_map};
+ghost use Rattle.std.specs.Prelude.{[], Some, ◌≡◌, ◌↔◌, IsTrue, IfOk, IfErr, IfSome, Err, false, is_some, option_map, None};
 ghost use Rattle.tape_disk.specs.Disk.{Each};
 ghost use Rattle.drive_commands.specs.declared.bays.Bay.TheVariants as Bays;
 ghost use Rattle.drive_commands.specs.State.{IsBayPositioned, left_of, machine_of, medium_in};
@@ -14,7 +14,7 @@ ghost use Rattle.aptpl_store.specs.Kept.{store_below, store_kept};
 ghost use Rattle.bay_moves.specs.Bays.{AnswersInEvent, AnswersLentInEvent, EveryMoment, EveryMomentOff, EveryMomentOn, IsSafeIn, KeepsBoth, KeepsCartridgeIn, ShowsOrders, loaded_or_back, out_or_in};
 ghost use Rattle.bay_moves.specs.Inner.Going.{IsAwakeIn};
 ghost use Rattle.drive_commands.specs.Run.{Turned};
-ghost use Rattle.bay_moves.specs.Reservations.{GivesHeld, Moved, Served};
+ghost use Rattle.bay_moves.specs.Reservations.{GivesHeld};
 
 use crate::laws::reservations::reservations_outlive_each_stop;
 use crate::parked::Parked;
@@ -190,7 +190,7 @@ impl<D: Disk> Bay<D> {
     /// allocates no memory.
     pub fn turn(&mut self) -> Turn
         ensures turned { TakesTurn (state_of D.state) (buffer_below D.state) store_kept self.old result self.new }
-        ensures moments { EveryMoment D.state self.old (Served (Turned result)) made_nothing (medium_in self.old.bay)
+        ensures moments { EveryMoment D.state self.old (Some (Turned result)) made_nothing (medium_in self.old.bay)
             (medium_in self.new.bay) self.new }
     {
         reservations_outlive_each_stop::<Cataloged<D>, D>();
@@ -205,7 +205,7 @@ impl<D: Disk> Bay<D> {
     pub fn load(&mut self, cartridge: Parked<D>) -> Result<(), (Parked<D>, Reply)>
         requires empty { self.old.bay ≡ Bays.Empty }
         ensures taken { TakesIn (state_of D.state) (buffer_below D.state) self.old cartridge result self.new }
-        ensures moments { EveryMoment D.state self.old Moved made_nothing (Some cartridge)
+        ensures moments { EveryMoment D.state self.old None made_nothing (Some cartridge)
             (loaded_or_back D.state result self.new) self.new }
     {
         reservations_outlive_each_stop::<Cataloged<D>, D>();
@@ -223,7 +223,7 @@ impl<D: Disk> Bay<D> {
     pub fn insert(&mut self, cartridge: Parked<D>)
         requires empty { self.old.bay ≡ Bays.Empty }
         ensures inserted { self.new ≡ record self.old { bay = Bays.Unloaded cartridge } }
-        ensures moments { EveryMoment D.state self.old Moved made_nothing (Some cartridge) (medium_in self.new.bay)
+        ensures moments { EveryMoment D.state self.old None made_nothing (Some cartridge) (medium_in self.new.bay)
             self.new }
     {
         reservations_outlive_each_stop::<Cataloged<D>, D>();
@@ -238,7 +238,7 @@ impl<D: Disk> Bay<D> {
     pub fn unload(&mut self) -> Result<Parked<D>, Reply>
         ensures out { GoesOut (state_of D.state) (buffer_below D.state) self.old result self.new }
         ensures awake { IsAwakeIn D.state self.old.bay }
-        ensures moments { EveryMoment D.state self.old Moved made_nothing (medium_in self.old.bay)
+        ensures moments { EveryMoment D.state self.old None made_nothing (medium_in self.old.bay)
             (out_or_in D.state result self.new) self.new }
     {
         reservations_outlive_each_stop::<Cataloged<D>, D>();

@@ -14,8 +14,7 @@ use Rattle.drive_commands.specs.Load.{Inserts, Loads, PowersOn}
 use Rattle.drive_commands.specs.LoadUnload.{TakesOut}
 
 -- what a drive is asked: to carry a command out, to take a flusher's turn, to take a medium in, to have a parked one
--- put
--- into it, to give its medium out, to switch on with this medium in it, if any, and with this keeper (SAM-5; SMC-3;
+-- put into it, to give its medium out, to switch on with this medium in it, if any, and with this keeper (SAM-5; SMC-3;
 -- SPC-4; turn and keeper own)
 pub data Input : Type 0 where
   Execute : (request : Request) → Input

@@ -15,11 +15,12 @@ use Rattle.drive_commands.specs.Alone.{AnswersAlone, alone_in, needs_disk_as, re
 use Rattle.drive_commands.specs.Apart.{RestState, drive_with}
 use Rattle.drive_commands.specs.Checks.{verdict}
 use Rattle.drive_commands.specs.Execute.{AdvancesIn, Answers, HonestIn, StoresIn}
+use Rattle.drive_commands.specs.Run.{Event}
 use Rattle.drive_commands.specs.State.{DriveState, IsBayPositioned, Machine, bay_of, has_failed_in, machine_of, medium_in}
 use Rattle.drive_commands.specs.Step.{Answered, Execute, Step}
 use Rattle.drive_commands.specs.Work.{Request}
 use Rattle.aptpl_store.specs.State.{OpenStore}
-use Rattle.bay_moves.specs.Reservations.{Call, IsHolding, LeavesHeld}
+use Rattle.bay_moves.specs.Reservations.{IsHolding, LeavesHeld}
 use Rattle.split_bay.specs.declared.hosts.Hosts.{Hosts}
 use Rattle.split_bay.specs.declared.hosts.Hosts.TheVariants.{Apart, Whole}
 use Rattle.split_bay.specs.Fronts.{FrontState, HasEnd, KeepsHostsHalf, KeepsOrders, end_of}
@@ -239,7 +240,8 @@ module _ {M D : Type 0} (state : M → MediumState) (below : Below M Change) (di
 
 module _ {M D : Type 0} (state : M → MediumState) (below : Below M Change) (disk : D → DiskState) where
   -- and what an image of its store's disk may give
-  pub leaves_with : (a b : DiskState) (bay : Bay (Hosts SendingState M)) (rest : RestState (OpenStore D)) (call : Call)
+  pub leaves_with : (a b : DiskState) (bay : Bay (Hosts SendingState M)) (rest : RestState (OpenStore D))
+      (call : Option Event)
       (new : DriveState (Hosts SendingState M) (OpenStore D)) → IsApartIn bay
       → LeavesOnly a b (LeavesHeld (state_hosts state) (hosts_below below) disk (drive_with bay rest) call new)
       → LeavesOnly a b
