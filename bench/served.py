@@ -13,16 +13,16 @@ one that a word names."""
 import argparse
 import os
 import statistics
-import struct
 import subprocess
 import sys
 import tempfile
 import threading
 import time
 
+from peers import Peer, compiled
+
 TOP = os.path.dirname(os.path.dirname(os.path.abspath(__file__)))
 PROVED = os.path.join(TOP, "crates", "vtl", "out", "vtl")
-HEADER = struct.Struct(">BBBBII4x")
 READY, REWIND = bytes(6), bytes.fromhex("010000000000")
 BLOCK, BLOCKS, GROUP, TRIPS, ROUNDS, HOSTS = 262_144, 2_048, 256, 20_000, 5, 64
 # a slow sync, in milliseconds, and so many blocks are written where each is
@@ -35,49 +35,6 @@ UNLOAD, LOAD, MARK = bytes.fromhex("1b0000000000"), bytes.fromhex("1b0000000100"
 LOADS, SHORT_BLOCKS, SHORT_BLOCK = 20, 20_000, b"\x0a\x00\x00\x04\x00\x00"
 SHORT_WRITE = b"\x0a\x00\x00\x02\x00\x00"
 DATA = os.urandom(BLOCK)
-
-
-class Peer:
-    """A process at the other end of two pipes. Answers are read to their end, and GOOD has to be their status."""
-    pipe = -1
-
-    def __init__(self, words, folder, **environment):
-        self.process = subprocess.Popen(words, cwd=folder, stdin=subprocess.PIPE, stdout=subprocess.PIPE,
-                                        pipesize=Peer.pipe, env={**os.environ, **environment})
-        self.answers = self.process.stdout
-
-    def send(self, block, data=b"", host=1, drive=1):
-        self.process.stdin.write(HEADER.pack(1, host, drive, len(block), len(data), 0) + block + data)
-
-    def flush(self):
-        self.process.stdin.flush()
-
-    def answer(self):
-        _, _, status, sense, length, _ = HEADER.unpack(self.answers.read(HEADER.size))
-        self.answers.read(sense)
-        return status, self.answers.read(length)
-
-    def exchange(self, block, data=b"", host=1, drive=1):
-        self.send(block, data, host, drive)
-        self.flush()
-        return self.answer()
-
-    def memory(self):
-        with open(f"/proc/{self.process.pid}/status", encoding="utf-8") as file:
-            return next(int(line.split()[1]) * 1024 for line in file if line.startswith("VmRSS"))
-
-    def end(self):
-        self.process.stdin.close()
-        self.answers.close()
-        if self.process.wait():
-            sys.exit(f"status {self.process.returncode}")
-
-
-def compiled(folder, source, *flags):
-    path = os.path.join(folder, source.removesuffix(".c"))
-    path += ".so" if "-shared" in flags else ""
-    subprocess.run(["cc", "-O2", *flags, "-o", path, os.path.join(TOP, "bench", source)], check=True)
-    return path
 
 
 def timed(work):

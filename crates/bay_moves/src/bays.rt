@@ -278,8 +278,7 @@ impl<D: Disk> Bay<D> {
     pub fn known(&self)
         ensures keeps { KeepsBoth D.state self.now }
 
-        // How an image of the store's disk opens, and what it gives of the orders that led to the
-        // reservations.
+        // How an image of the store's disk opens, and what it gives of the orders that led to the reservations.
         ensures opens { (D.state self.now.keeper.disk).honest → Each (D.state self.now.keeper.disk)
             (GivesHeld (state_of D.state) (buffer_below D.state) D.state self.now) }
         ensures orders { ShowsOrders D.state self.now }
@@ -288,7 +287,6 @@ impl<D: Disk> Bay<D> {
         ensures positioned { IsBayPositioned (state_of D.state) self.now.bay self.now.position }
     {
         reservations_outlive_each_stop::<Cataloged<D>, D>();
-        // Read for the proof: the facts are the type's invariant.
         let _ = self.drive.medium();
     }
 
