@@ -5,6 +5,7 @@ ghost use Rattle.library.specs.Counts.{count_of_drive};
 
 use bay_moves::Bay;
 use std::marker::Model;
+use std::mem::replace;
 use tape_disk::Disk;
 
 /// One place for each drive number, from 1 to 16, with the drive if there is one.
@@ -55,7 +56,7 @@ impl<D: Disk + Drop> Row<D> {
         requires { place < DRIVES }
         ensures { self.new ≡ slice_set self.old place bay }
     {
-        self.places[place] = bay;
+        drop(replace(&mut self.places[place], bay));
     }
 
     // The count of changes of the drive in this place; None where there is no drive.

@@ -161,8 +161,8 @@ impl<D: Disk + Drop, B: Parties + Rings> FrontPlace<D, B> {
         fit(rt, &hosts, &disks);
         let share = &mut self.share;
         let (reply, hosts, disks) = answer_both(rt, tally, hosts, disks, share, seat, cdb, sent);
-        self.half = Some(hosts);
-        back.half = Some(disks);
+        self.half.insert(hosts);
+        back.half.insert(disks);
         reply
     }
 
@@ -179,8 +179,8 @@ impl<D: Disk + Drop, B: Parties + Rings> FrontPlace<D, B> {
         };
         fit(rt, &hosts, &disks);
         let (hosts, disks) = report_to_hosts(hosts, disks);
-        self.half = Some(hosts);
-        back.half = Some(disks);
+        self.half.insert(hosts);
+        back.half.insert(disks);
     }
 
     /// Joins the halves and splits them again. After that the hosts' half may again send as many changes as may be

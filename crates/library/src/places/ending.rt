@@ -39,6 +39,8 @@ impl<D: Disk + Drop, B: Parties + Rings> FrontPlace<D, B> {
         known_drive(&bay);
         let written = bay.write_out();
         known_drive(&bay);
+        drop(half);
+        drop(other);
         EndedPlace {
             bay,
             share,

@@ -58,6 +58,6 @@ pub(super) fn part_held<D: Disk + Drop, B: Rings>(
     ensures { PartsHeld D.state bay ends front.new back.new }
 {
     let (hosts, disks) = part(bay, ends);
-    *front = Some(hosts);
-    *back = Some(disks);
+    front.insert(hosts);
+    back.insert(disks);
 }
