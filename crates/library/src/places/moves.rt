@@ -100,7 +100,12 @@ fn move_to<D: Disk + Drop, B: Parties + Rings, R: Wait>(
         ) => front.move_in(&mut back, source, rt, alloc, slots, from, to),
         None => {
             let mut none = None;
-            move_known(alloc, slots, source, &mut none, from, to)
+            let reply = {
+                // No drive is at the destination.
+                move_known(alloc, slots, source, &mut none, from, to)
+            };
+            drop(none);
+            reply
         }
     }
 }
@@ -132,7 +137,9 @@ pub(crate) fn move_locked<D: Disk + Drop, B: Parties + Rings, R: Wait>(
         ) => front.move_out(&mut back, destination, rt, alloc, slots, from, to),
         None => {
             let mut none = None;
-            move_to(&mut none, destination, rt, alloc, slots, from, to)
+            let reply = move_to(&mut none, destination, rt, alloc, slots, from, to);
+            drop(none);
+            reply
         }
     }
 }
