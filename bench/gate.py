@@ -5,7 +5,7 @@ docs/GATE.md.
 gate.py [--log FILE] [CRATE..]         with names: these crates and those below them alone; what rt ci prints goes to
                                        the file
 gate.py [--log FILE] [--write] --here  runs the gate itself, .ci/run, where it stands; with --write, if it passes, the
-                                       table and the line over it replace those of docs/GATE.md
+                                       table and the paragraph over it replace those of docs/GATE.md
 
 A processor minute is user and system time. The gate's processes are looked at ten times a second. Each counts for the
 crate that its command line names: as proofs, as tests, or, on a copy, as edits. The rest of the whole time is the row
@@ -123,11 +123,11 @@ def measurement(whole, seconds, ended):
 
 
 def write(made, line):
-    """Replaces the table of docs/GATE.md and the line over it."""
+    """Replaces the table of docs/GATE.md and the paragraph over it."""
     path = os.path.join(TOP, "docs", "GATE.md")
     with open(path, encoding="utf-8") as file:
         text = file.read()
-    text = re.sub(r"(?m)^Measured on .*$", lambda _: line, text, count=1)
+    text = re.sub(r"(?m)^Measured on .*(\n.+)*", lambda _: line, text, count=1)
     text = re.sub(r"(?m)^\| Crate \|.*\n(\|.*\n)*", lambda _: made + "\n", text, count=1)
     with open(path, "w", encoding="utf-8") as file:
         file.write(text)

@@ -100,10 +100,7 @@ fn move_to<D: Disk + Drop, B: Parties + Rings, R: Wait>(
         ) => front.move_in(&mut back, source, rt, alloc, slots, from, to),
         None => {
             let mut none = None;
-            let reply = {
-                // No drive is at the destination.
-                move_known(alloc, slots, source, &mut none, from, to)
-            };
+            let reply = move_known(alloc, slots, source, &mut none, from, to);
             drop(none);
             reply
         }
