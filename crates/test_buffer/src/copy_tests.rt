@@ -1,5 +1,5 @@
 //! A reclaimed cartridge: its second side counts.
-use crate::drives::Tape;
+use crate::drives::{Tape, switch_off};
 use crate::samples::{
     GOOD, LOAD, NO_MEDIUM, NONE, READ_1, REWIND, Row, TEST_UNIT_READY, WRITE_1, WRITE_OUT, answers,
     asks, greeted, reads,
@@ -82,5 +82,7 @@ fn appends(rt: &impl Abort, drive: &mut Tape<OnceDisk<MemDisk>>) -> Result<(), F
 #[test]
 fn an_open_cartridge_calls_the_disk_that_counts_alone(rt: HostRuntime) -> Result<(), Fail> {
     let mut drive = reclaimed(&rt, rt.alloc(), CHOOSING)?;
-    appends(&rt, &mut drive)
+    let done = appends(&rt, &mut drive);
+    switch_off(drive);
+    done
 }

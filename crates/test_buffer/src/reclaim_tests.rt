@@ -1,6 +1,6 @@
 //! A closed cartridge is reclaimed below a drive: it is returned with the copy, or unchanged.
 use crate::copy_tests::{APPENDED, FIRST, MORE, SECOND};
-use crate::drives::Tape;
+use crate::drives::{Tape, switch_off};
 use crate::samples::{asks, greeted, reads};
 use cartridge::{CartridgeError, ReclaimError, Shelved};
 use std::alloc::Global;
@@ -47,7 +47,9 @@ fn reclaimed(
 // The reclaimed cartridge goes on in a drive.
 fn goes_on(rt: &impl Abort, alloc: Global, shelved: Shelved<MemDisk>) -> Result<(), Fail> {
     let mut drive = reclaimed(rt, alloc, shelved)?;
-    appends(rt, &mut drive)
+    let done = appends(rt, &mut drive);
+    switch_off(drive);
+    done
 }
 
 #[test]

@@ -1,6 +1,6 @@
 //! Which commands cost a sync, step by step, with each reply to the byte, whether their data are borrowed or
 //! lent.
-use crate::drives::Tape;
+use crate::drives::{Tape, switch_off};
 use crate::samples::{
     EMPTY, ERASE, GOOD, LOCATE_1, MARK_AT_ONCE, MODE_0, MODE_1, NONE, Row, SELECT_4, Sending,
     WRITE_1, WRITE_OUT, ask_by, assert_turn, found, greeted, syncs, write,
@@ -215,7 +215,9 @@ fn course_by(
 ) -> Result<(), Fail> {
     let mut drive = fresh(rt, alloc)?;
     goes(rt, alloc, &mut drive, way, steps);
-    left(rt, alloc, &drive, wanted)
+    let done = left(rt, alloc, &drive, wanted);
+    switch_off(drive);
+    done
 }
 
 // The same for each way to send the data.
@@ -260,6 +262,7 @@ fn an_unbuffered_write_is_stored_at_once(rt: HostRuntime) -> Result<(), Fail> {
 fn goes_by(rt: &impl Abort, alloc: Global, way: Sending, steps: &[Step]) -> Result<(), Fail> {
     let mut drive = fresh(rt, alloc)?;
     goes(rt, alloc, &mut drive, way, steps);
+    switch_off(drive);
     Ok(())
 }
 
