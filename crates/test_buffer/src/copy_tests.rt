@@ -1,8 +1,8 @@
 //! A reclaimed cartridge: its second side counts.
-use crate::drives::Tape;
+use crate::drives::{Tape, switch_off};
 use crate::samples::{
-    GOOD, LOAD, NO_MEDIUM, NONE, READ_1, REWIND, Row, TEST_UNIT_READY, WRITE_1, WRITE_OUT, asks,
-    greeted, reads,
+    GOOD, LOAD, NO_MEDIUM, NONE, READ_1, REWIND, Row, TEST_UNIT_READY, WRITE_1, WRITE_OUT, answers,
+    asks, greeted, reads,
 };
 use std::alloc::Global;
 use std::process::Abort;
@@ -56,9 +56,7 @@ static LOADED_LATE: &'static [Row<'static>] = &[
 ];
 
 fn chosen_late(rt: &impl Abort, alloc: Global, calls: u64) -> Result<(), Fail> {
-    let mut drive = reclaimed(rt, alloc, calls)?;
-    asks(rt, &mut drive, LOADED_LATE);
-    reads(rt, &mut drive, b"x");
+    answers(rt, reclaimed(rt, alloc, calls)?, LOADED_LATE, b"x");
     Ok(())
 }
 
@@ -70,14 +68,21 @@ fn a_fault_of_the_first_disk_as_a_side_is_chosen(rt: HostRuntime) -> Result<(), 
     Ok(())
 }
 
-#[test]
-fn an_open_cartridge_calls_the_disk_that_counts_alone(rt: HostRuntime) -> Result<(), Fail> {
-    let mut drive = reclaimed(&rt, rt.alloc(), CHOOSING)?;
-    asks(&rt, &mut drive, APPENDED);
-    reads(&rt, &mut drive, b"xy");
+// The block of the copy is read and one more is stored, on the second side.
+fn appends(rt: &impl Abort, drive: &mut Tape<OnceDisk<MemDisk>>) -> Result<(), Fail> {
+    asks(rt, drive, APPENDED);
+    reads(rt, drive, b"xy");
     let Some(medium) = drive.medium() else {
         return Err(Fail::from("no medium"));
     };
     assert_equal!(rt; medium.disk().inner().bytes(), MORE);
     Ok(())
+}
+
+#[test]
+fn an_open_cartridge_calls_the_disk_that_counts_alone(rt: HostRuntime) -> Result<(), Fail> {
+    let mut drive = reclaimed(&rt, rt.alloc(), CHOOSING)?;
+    let done = appends(&rt, &mut drive);
+    switch_off(drive);
+    done
 }

@@ -14,3 +14,6 @@ pub fn switched_on<D: Disk + Drop>(alloc: Global, first: D, second: D) -> Option
     let medium = Buffered::parked(alloc, Shelved::of(first, second));
     Drive::power_on(alloc, NoKeeper, Reservations::empty(), Some(medium)).ok()
 }
+
+/// Switches a drive off, which drops it. It is proved once, for every disk.
+pub fn switch_off<D: Disk + Drop>(_drive: Tape<D>) {}

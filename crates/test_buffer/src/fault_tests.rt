@@ -3,7 +3,7 @@ use crate::drives::Tape;
 use crate::samples::{
     EMPTY, END, ERASE, FAILED, GOOD, INQUIRED, INQUIRY, LATE_ERROR, LOAD, LOCATE_0, MARK, MODE_0,
     NO_MEDIUM, NONE, READ_1, READ_POSITION, REQUEST_SENSE, REWIND, Row, SELECT_4, TEST_UNIT_READY,
-    UNLOAD, WRITE_1, WRITE_ERROR, WRITE_OUT, Wanted, ask, asks, assert_turn, greeted, reads,
+    UNLOAD, WRITE_1, WRITE_ERROR, WRITE_OUT, Wanted, answers, ask, asks, assert_turn, greeted,
 };
 use std::alloc::Global;
 use std::process::Abort;
@@ -106,32 +106,34 @@ static FOUND_AGAIN: &'static [Row<'static>] = &[
 ];
 
 // A command meets the fault, and the tape is then found to hold this.
-fn fails<D: Disk + Drop>(rt: &impl Abort, drive: &mut Tape<D>, case: &Case, holds: &[u8]) {
+fn fails<D: Disk + Drop>(rt: &impl Abort, mut drive: Tape<D>, case: &Case, holds: &[u8]) {
     let (before, cdb, sent, _, _, _) = *case;
-    asks(rt, drive, before);
-    ask(rt, drive, (1, cdb, sent, WRITE_ERROR), 0);
-    asks(rt, drive, FOUND_AGAIN);
-    reads(rt, drive, holds);
+    asks(rt, &mut drive, before);
+    ask(rt, &mut drive, (1, cdb, sent, WRITE_ERROR), 0);
+    answers(rt, drive, FOUND_AGAIN, holds);
 }
 
 // A command meets no fault.
-fn passes<D: Disk + Drop>(rt: &impl Abort, drive: &mut Tape<D>, case: &Case) {
+fn passes<D: Disk + Drop>(rt: &impl Abort, mut drive: Tape<D>, case: &Case) {
     let (before, cdb, sent, wanted, _, _) = *case;
-    asks(rt, drive, before);
-    ask(rt, drive, (1, cdb, sent, wanted), 0);
+    asks(rt, &mut drive, before);
+    ask(rt, &mut drive, (1, cdb, sent, wanted), 0);
 }
 
-// A case with a fault at one call of its disk. A write, a sync, the write of the gate and a sync store a
-// frame. A failed call does nothing, so the frame is there where the last call failed. The call after them
-// does not belong to the case.
-fn storing(rt: &impl Abort, alloc: Global, case: &Case, calls: u64) -> Result<(), Fail> {
+// A write, a sync, the write of the gate and a sync store a frame. A failed call does nothing, so the frame is
+// there where the last call failed. The call after them does not belong to the case.
+fn meets<D: Disk + Drop>(rt: &impl Abort, drive: Tape<D>, case: &Case, calls: u64) {
     let (_, _, _, _, without, with) = *case;
-    let mut drive = failing(rt, alloc, EMPTY, calls, NEVER)?;
     match calls {
-        14 => passes(rt, &mut drive, case),
-        13 => fails(rt, &mut drive, case, with),
-        _ => fails(rt, &mut drive, case, without),
+        14 => passes(rt, drive, case),
+        13 => fails(rt, drive, case, with),
+        _ => fails(rt, drive, case, without),
     }
+}
+
+// A case with a fault at one call of its disk.
+fn storing(rt: &impl Abort, alloc: Global, case: &Case, calls: u64) -> Result<(), Fail> {
+    meets(rt, failing(rt, alloc, EMPTY, calls, NEVER)?, case, calls);
     Ok(())
 }
 
@@ -186,22 +188,26 @@ static WAITING: &'static [Row<'static>] = ONE_WAITS;
 // A turn fails, which is reported to hosts, and the tape is found to hold this.
 fn turn_fails<D: Disk + Drop>(
     rt: &impl Abort,
-    drive: &mut Tape<D>,
+    mut drive: Tape<D>,
     wanted_of: &[Row],
     holds: &[u8],
 ) {
-    asks(rt, drive, WAITING);
-    assert_turn(rt, drive, Turn::Device);
-    assert_turn(rt, drive, Turn::Idle);
-    asks(rt, drive, wanted_of);
-    asks(rt, drive, FOUND_AGAIN);
-    reads(rt, drive, holds);
+    asks(rt, &mut drive, WAITING);
+    assert_turn(rt, &mut drive, Turn::Device);
+    assert_turn(rt, &mut drive, Turn::Idle);
+    asks(rt, &mut drive, wanted_of);
+    answers(rt, drive, FOUND_AGAIN, holds);
 }
 
+// The same for a new drive with a fault at one call of its first disk.
 fn turns(rt: &impl Abort, alloc: Global, calls: u64, wanted_of: &[Row]) -> Result<(), Fail> {
-    let mut drive = failing(rt, alloc, EMPTY, calls, NEVER)?;
     let holds: &[u8] = if calls == 13 { b"ab" } else { b"a" };
-    turn_fails(rt, &mut drive, wanted_of, holds);
+    turn_fails(
+        rt,
+        failing(rt, alloc, EMPTY, calls, NEVER)?,
+        wanted_of,
+        holds,
+    );
     Ok(())
 }
 

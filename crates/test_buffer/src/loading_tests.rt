@@ -1,13 +1,14 @@
 //! A fault at each call of either disk in a loading, and sides that are refused.
+use crate::drives::Tape;
 use crate::fault_tests::{NEVER, failing};
 use crate::samples::{
     CHANGED, FAILED, GOOD, LOAD, NO_MEDIUM, NONE, ONE, READ_1, READ_ERROR, Row, TEST_UNIT_READY,
-    UNLOAD, asks, greeted, reads,
+    UNLOAD, answers, asks, greeted,
 };
 use std::alloc::Global;
 use std::process::Abort;
 use std::test::Fail;
-use tape_disk::MemDisk;
+use tape_disk::{Disk, MemDisk};
 
 // The tape was not loaded at power on, but it is at the second command.
 static LOADED_LATE: &'static [Row<'static>] = &[
@@ -44,9 +45,7 @@ fn loading(
     second: u64,
     rows: &[Row],
 ) -> Result<(), Fail> {
-    let mut drive = failing(rt, alloc, ONE, first, second)?;
-    asks(rt, &mut drive, rows);
-    reads(rt, &mut drive, b"a");
+    answers(rt, failing(rt, alloc, ONE, first, second)?, rows, b"a");
     Ok(())
 }
 
@@ -93,9 +92,14 @@ fn changed(alloc: Global, place: usize, value: u8) -> Result<MemDisk, Fail> {
     Ok(MemDisk::from_bytes(alloc, &side)?)
 }
 
-fn refused(rt: &impl Abort, alloc: Global, disk: MemDisk) -> Result<(), Fail> {
-    let mut drive = greeted(rt, alloc, disk, MemDisk::new(alloc))?;
+// The tape of a drive is refused.
+fn refuses<D: Disk + Drop>(rt: &impl Abort, mut drive: Tape<D>) {
     asks(rt, &mut drive, UNREADABLE);
+}
+
+// The same for a drive over this first disk.
+fn refused(rt: &impl Abort, alloc: Global, disk: MemDisk) -> Result<(), Fail> {
+    refuses(rt, greeted(rt, alloc, disk, MemDisk::new(alloc))?);
     Ok(())
 }
 

@@ -1,5 +1,6 @@
 //! A closed cartridge is reclaimed below a drive: it is returned with the copy, or unchanged.
 use crate::copy_tests::{APPENDED, FIRST, MORE, SECOND};
+use crate::drives::{Tape, switch_off};
 use crate::samples::{asks, greeted, reads};
 use cartridge::{CartridgeError, ReclaimError, Shelved};
 use std::alloc::Global;
@@ -20,23 +21,44 @@ fn closed(alloc: Global, first: &[u8]) -> Result<Shelved<MemDisk>, NoMemory> {
     Ok(Shelved::of(MemDisk::from_bytes(alloc, first)?, MemDisk::new(alloc)))
 }
 
-#[test]
-fn what_was_reclaimed_goes_on(rt: HostRuntime) -> Result<(), Fail> {
-    let alloc = rt.alloc();
-    let Ok(shelved) = reclaim(alloc, closed(alloc, BEFORE)?) else {
-        return Err(Fail::from("not reclaimed"));
-    };
-    assert_equal!(rt; shelved.epoch(), 1);
-    let (first, second) = shelved.into_disks();
-    assert_equal!(rt; (first.bytes(), second.bytes()), (FIRST, SECOND));
-    let mut drive = greeted(&rt, alloc, first, second)?;
-    asks(&rt, &mut drive, APPENDED);
-    reads(&rt, &mut drive, b"xy");
+// The block of the copy is read and one more is stored, on the second side.
+fn appends(rt: &impl Abort, drive: &mut Tape<MemDisk>) -> Result<(), Fail> {
+    asks(rt, drive, APPENDED);
+    reads(rt, drive, b"xy");
     let Some(medium) = drive.medium() else {
         return Err(Fail::from("no medium"));
     };
     assert_equal!(rt; medium.disk().bytes(), MORE);
     Ok(())
+}
+
+// A drive with the reclaimed cartridge, whose disks have these bytes.
+fn reclaimed(
+    rt: &impl Abort,
+    alloc: Global,
+    shelved: Shelved<MemDisk>,
+) -> Result<Tape<MemDisk>, Fail> {
+    assert_equal!(rt; shelved.epoch(), 1);
+    let (first, second) = shelved.into_disks();
+    assert_equal!(rt; (first.bytes(), second.bytes()), (FIRST, SECOND));
+    greeted(rt, alloc, first, second)
+}
+
+// The reclaimed cartridge goes on in a drive.
+fn goes_on(rt: &impl Abort, alloc: Global, shelved: Shelved<MemDisk>) -> Result<(), Fail> {
+    let mut drive = reclaimed(rt, alloc, shelved)?;
+    let done = appends(rt, &mut drive);
+    switch_off(drive);
+    done
+}
+
+#[test]
+fn what_was_reclaimed_goes_on(rt: HostRuntime) -> Result<(), Fail> {
+    let alloc = rt.alloc();
+    match reclaim(alloc, closed(alloc, BEFORE)?) {
+        Ok(shelved) => goes_on(&rt, alloc, shelved),
+        Err(_) => Err(Fail::from("not reclaimed")),
+    }
 }
 
 // It is not reclaimed for this cause, and no byte has changed.

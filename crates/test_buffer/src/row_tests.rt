@@ -1,6 +1,6 @@
 //! Which commands cost a sync, step by step, with each reply to the byte, whether their data are borrowed or
 //! lent.
-use crate::drives::Tape;
+use crate::drives::{Tape, switch_off};
 use crate::samples::{
     EMPTY, ERASE, GOOD, LOCATE_1, MARK_AT_ONCE, MODE_0, MODE_1, NONE, Row, SELECT_4, Sending,
     WRITE_1, WRITE_OUT, ask_by, assert_turn, found, greeted, syncs, write,
@@ -131,23 +131,35 @@ fn repeats(
     }
 }
 
+// Does a step; returns how many syncs it takes.
+fn steps_on(
+    rt: &impl Abort,
+    alloc: Global,
+    drive: &mut Tape<MemDisk>,
+    way: Sending,
+    step: Step,
+) -> u64 {
+    match step {
+        Step::Asks(count, row, wanted) => {
+            repeats(rt, alloc, drive, way, row, count);
+            wanted
+        }
+        Step::Writes(count, size, wanted) => {
+            writes(rt, alloc, drive, way, count, size);
+            wanted
+        }
+        Step::Turns(turn, wanted) => {
+            assert_turn(rt, drive, turn);
+            wanted
+        }
+    }
+}
+
+// Each step takes as many syncs as it says.
 fn goes(rt: &impl Abort, alloc: Global, drive: &mut Tape<MemDisk>, way: Sending, steps: &[Step]) {
     for (at, step) in steps.iter().enumerate() {
         let before = syncs(drive);
-        let wanted = match *step {
-            Step::Asks(count, row, wanted) => {
-                repeats(rt, alloc, drive, way, row, count);
-                wanted
-            }
-            Step::Writes(count, size, wanted) => {
-                writes(rt, alloc, drive, way, count, size);
-                wanted
-            }
-            Step::Turns(turn, wanted) => {
-                assert_turn(rt, drive, turn);
-                wanted
-            }
-        };
+        let wanted = steps_on(rt, alloc, drive, way, *step);
         let taken = syncs(drive).saturating_sub(before);
         assert_equal!(rt; taken, wanted; (way, at));
     }
@@ -187,17 +199,31 @@ fn left(rt: &impl Abort, alloc: Global, drive: &Tape<MemDisk>, wanted: &[u8]) ->
     Ok(())
 }
 
+// A drive with an empty tape.
+fn fresh(rt: &impl Abort, alloc: Global) -> Result<Tape<MemDisk>, Fail> {
+    let disk = MemDisk::from_bytes(alloc, EMPTY)?;
+    greeted(rt, alloc, disk, MemDisk::new(alloc))
+}
+
 // Steps from an empty tape, and what a crash leaves after them.
+fn course_by(
+    rt: &impl Abort,
+    alloc: Global,
+    way: Sending,
+    steps: &[Step],
+    wanted: &[u8],
+) -> Result<(), Fail> {
+    let mut drive = fresh(rt, alloc)?;
+    goes(rt, alloc, &mut drive, way, steps);
+    let done = left(rt, alloc, &drive, wanted);
+    switch_off(drive);
+    done
+}
+
+// The same for each way to send the data.
 fn course(rt: &impl Abort, alloc: Global, steps: &[Step], wanted: &[u8]) -> Result<(), Fail> {
     for way in WAYS {
-        let mut drive = greeted(
-            rt,
-            alloc,
-            MemDisk::from_bytes(alloc, EMPTY)?,
-            MemDisk::new(alloc),
-        )?;
-        goes(rt, alloc, &mut drive, *way, steps);
-        left(rt, alloc, &drive, wanted)?;
+        course_by(rt, alloc, *way, steps, wanted)?;
     }
     Ok(())
 }
@@ -233,15 +259,17 @@ fn an_unbuffered_write_is_stored_at_once(rt: HostRuntime) -> Result<(), Fail> {
 }
 
 // Steps from an empty tape.
+fn goes_by(rt: &impl Abort, alloc: Global, way: Sending, steps: &[Step]) -> Result<(), Fail> {
+    let mut drive = fresh(rt, alloc)?;
+    goes(rt, alloc, &mut drive, way, steps);
+    switch_off(drive);
+    Ok(())
+}
+
+// The same for each way to send the data.
 fn goes_alone(rt: &impl Abort, alloc: Global, steps: &[Step]) -> Result<(), Fail> {
     for way in WAYS {
-        let mut drive = greeted(
-            rt,
-            alloc,
-            MemDisk::from_bytes(alloc, EMPTY)?,
-            MemDisk::new(alloc),
-        )?;
-        goes(rt, alloc, &mut drive, *way, steps);
+        goes_by(rt, alloc, *way, steps)?;
     }
     Ok(())
 }

@@ -231,6 +231,12 @@ pub fn reads<D: Disk + Drop>(rt: &impl Abort, drive: &mut Tape<D>, objects: &[u8
     ask(rt, drive, (1, READ_1, NONE, END), objects.len());
 }
 
+/// A drive, which is not used afterwards, has these answers, and its tape then has these objects.
+pub fn answers<D: Disk + Drop>(rt: &impl Abort, mut drive: Tape<D>, rows: &[Row], objects: &[u8]) {
+    asks(rt, &mut drive, rows);
+    reads(rt, &mut drive, objects);
+}
+
 /// The syncs of the disk with the side that counts.
 pub fn syncs(drive: &Tape<MemDisk>) -> u64 {
     match drive.medium() {

@@ -1,5 +1,5 @@
 //! A stop at each call of the disk.
-use crate::drives::{Tape, switched_on};
+use crate::drives::{Tape, switch_off, switched_on};
 use crate::samples::{
     EMPTY, GOOD, LOCATE_1, NONE, POWERED_ON, Row, TEST_UNIT_READY, WRITE_1, WRITE_OUT, answered,
     found,
@@ -40,14 +40,21 @@ fn reached(alloc: Global, drive: &Tape<FuseDisk<MemDisk>>) -> MemDisk {
     }
 }
 
+// The disk after the commands, and whether each had its reply.
+fn rewrites(alloc: Global, mut drive: Tape<FuseDisk<MemDisk>>) -> (MemDisk, bool) {
+    let ended = answered(&mut drive, REWRITING);
+    let disk = reached(alloc, &drive);
+    switch_off(drive);
+    (disk, ended)
+}
+
 impl Run for Rewriting {
     fn run(&self, alloc: Global, disk: FuseDisk<MemDisk>) -> (MemDisk, bool) {
         let second = FuseDisk::new(MemDisk::new(alloc), NEVER);
-        let Some(mut drive) = switched_on(alloc, disk, second) else {
-            return (MemDisk::new(alloc), false);
-        };
-        let ended = answered(&mut drive, REWRITING);
-        (reached(alloc, &drive), ended)
+        match switched_on(alloc, disk, second) {
+            Some(drive) => rewrites(alloc, drive),
+            None => (MemDisk::new(alloc), false),
+        }
     }
 }
 
