@@ -7,6 +7,7 @@ use std::test::Fail;
 use tape_disk::{Disk, MemDisk};
 use test_assertions::assert_equal;
 use test_known::Known;
+use volume_core::Change;
 use vtl_base::PartNo;
 
 // A frame of blocks of one byte and of the longest block, three marks and a block; then a block in the
@@ -101,14 +102,19 @@ fn store_marks(rt: &impl Abort, alloc: Global, known: &mut Known<MemDisk>) {
     }
 }
 
-// Eight records of 1,048,576 bytes, of which ten are the head: 8,388,608.
-fn store_longest(alloc: Global, known: &mut Known<MemDisk>, long: &[u8]) -> Result<(), Fail> {
-    let mut changes = Vec::new(alloc);
+// Adds eight blocks.
+fn add_blocks(alloc: Global, changes: &mut Vec<Change>, long: &[u8]) -> Result<(), Fail> {
     for at in 300..308 {
         changes.push(block(alloc, 0, at, long)?)?;
     }
-    known.store(alloc, changes.as_slice())?;
     Ok(())
+}
+
+// Eight records of 1,048,576 bytes, of which ten are the head: 8,388,608.
+fn store_longest(alloc: Global, known: &mut Known<MemDisk>, long: &[u8]) -> Result<(), Fail> {
+    let mut changes = Vec::new(alloc);
+    add_blocks(alloc, &mut changes, long)?;
+    Ok(known.store(alloc, changes.as_slice())?)
 }
 
 fn holds_all(rt: &impl Abort, alloc: Global, cartridge: &mut Cartridge<MemDisk>, long: &[u8]) {

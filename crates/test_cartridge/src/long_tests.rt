@@ -1,10 +1,10 @@
 //! Blocks that are long enough to be written where they stand, and not copied into their frame first.
-use crate::samples::{block, found, has, marks, spare};
+use crate::samples::{block, found, has, made, marks, spare};
 use cartridge::{Cartridge, CartridgeError};
 use std::alloc::Global;
 use std::process::Abort;
 use std::test::Fail;
-use tape_disk::{FuseDisk, MemDisk};
+use tape_disk::{Disk, FuseDisk, MemDisk};
 use test_assertions::{assert_equal, assert_holds};
 use test_crashes::{Run, Stop, stop_at_each_call};
 use test_known::Known;
@@ -29,6 +29,15 @@ fn changes(alloc: Global, bytes: &[u8]) -> Result<[Change; 3], NoMemory> {
     ])
 }
 
+// Stores these changes as one frame.
+fn store<D: Disk + Drop>(
+    alloc: Global,
+    known: &mut Known<D>,
+    bytes: &[u8],
+) -> Result<(), CartridgeError> {
+    known.store(alloc, &changes(alloc, bytes)?)
+}
+
 // A cartridge is made, opened, and stores these changes as one frame.
 #[derive(Drop)]
 struct Work<'a> {
@@ -39,10 +48,7 @@ impl Run for Work<'_> {
     fn run(&self, alloc: Global, disk: FuseDisk<MemDisk>) -> (MemDisk, bool) {
         match Known::made(alloc, disk, spare(alloc), &[CAPACITY]) {
             Ok(mut known) => {
-                let stored = match changes(alloc, self.bytes) {
-                    Ok(changes) => known.store(alloc, &changes).is_ok(),
-                    Err(_) => false,
-                };
+                let stored = store(alloc, &mut known, self.bytes).is_ok();
                 (known.into_disks().0.into_inner(), stored)
             }
             Err(refused) => (refused.first.into_inner(), false),
@@ -133,49 +139,73 @@ fn record(text: &mut Vec<u8>, kind: u8, at: u8, count: u32, bytes: &[u8]) -> Res
     Ok(())
 }
 
-// A frame of these changes behind a front, with the gate behind it.
-fn spelled(alloc: Global, front: &[u8], bytes: &[u8]) -> Result<Vec<u8>, NoMemory> {
-    let mut text = Vec::new(alloc);
-    text.extend_from_slice(front)?;
+// Adds a frame of these changes, with the gate behind it.
+fn spell(text: &mut Vec<u8>, bytes: &[u8]) -> Result<(), NoMemory> {
     text.extend_from_slice(&[0xa5])?;
     let Ok(length) = u32::try_from(bytes.len()) else {
         return Err(NoMemory);
     };
     text.extend_from_slice(&length.saturating_mul(2).saturating_add(30).to_be_bytes())?;
-    record(&mut text, 1, 0, length, bytes)?;
-    record(&mut text, 2, 1, 1, b"")?;
-    record(&mut text, 1, 2, length, bytes)?;
+    record(text, 1, 0, length, bytes)?;
+    record(text, 2, 1, 1, b"")?;
+    record(text, 1, 2, length, bytes)?;
     text.extend_from_slice(&[0])?;
+    Ok(())
+}
+
+// The same behind a front.
+fn spelled(alloc: Global, front: &[u8], bytes: &[u8]) -> Result<Vec<u8>, NoMemory> {
+    let mut text = Vec::from_slice(alloc, front)?;
+    spell(&mut text, bytes)?;
     Ok(text)
 }
 
 // How many bytes a block has.
 static LENGTHS: &'static [usize] = &[1, LONG - 1, LONG, LONG + 1, 65_536];
 
-fn is_stored(rt: &impl Abort, alloc: Global, length: usize) -> Result<(), Fail> {
+// The bytes of a block, of which the last one is not as the others.
+fn bytes_of(alloc: Global, length: usize) -> Result<Vec<u8>, NoMemory> {
     let mut bytes = vec![in alloc; 0x5a; length]?;
     if let Some(last) = bytes.last_mut() {
         *last = 0x17;
     }
-    let Ok(mut known) = Known::made(alloc, MemDisk::new(alloc), MemDisk::new(alloc), &[CAPACITY])
-    else {
-        return Err(Fail::from("not made"));
-    };
-    known.store(alloc, &changes(alloc, bytes.as_slice())?)?;
-    let mut cartridge: Cartridge<MemDisk> = known.into_cartridge();
-    let side = cartridge.disk().bytes();
-    let wanted = spelled(alloc, &side[..side.len().min(35)], bytes.as_slice())?;
-    assert_equal!(rt; side == wanted.as_slice(), true; length);
+    Ok(bytes)
+}
+
+// A new cartridge that stored the changes.
+fn stored(alloc: Global, bytes: &[u8]) -> Result<Cartridge<MemDisk>, Fail> {
+    let mut known = made(alloc, &[CAPACITY])?;
+    store(alloc, &mut known, bytes)?;
+    Ok(known.into_cartridge())
+}
+
+// A disk has the front of its side, and then the changes.
+fn is_spelled(rt: &impl Abort, alloc: Global, side: &[u8], bytes: &[u8]) -> Result<(), NoMemory> {
+    let wanted = spelled(alloc, &side[..side.len().min(35)], bytes)?;
+    assert_equal!(rt; side == wanted.as_slice(), true; bytes.len());
+    Ok(())
+}
+
+// Both blocks can be read.
+fn are_there(rt: &impl Abort, alloc: Global, cartridge: &mut Cartridge<MemDisk>, bytes: &[u8]) {
     for at in [0, 2] {
-        assert_equal!(rt; has(alloc, &mut cartridge, 0, at, bytes.as_slice()), Ok(true); length);
+        assert_equal!(rt; has(alloc, cartridge, 0, at, bytes), Ok(true); bytes.len());
     }
+}
+
+// Such a cartridge holds two of this block.
+fn is_stored(rt: &impl Abort, alloc: Global, bytes: &[u8]) -> Result<(), Fail> {
+    let mut cartridge = stored(alloc, bytes)?;
+    is_spelled(rt, alloc, cartridge.disk().bytes(), bytes)?;
+    are_there(rt, alloc, &mut cartridge, bytes);
     Ok(())
 }
 
 #[test]
 fn blocks_about_as_long_as_a_long_one(rt: HostRuntime) -> Result<(), Fail> {
     for length in LENGTHS {
-        is_stored(&rt, rt.alloc(), *length)?;
+        let bytes = bytes_of(rt.alloc(), *length)?;
+        is_stored(&rt, rt.alloc(), bytes.as_slice())?;
     }
     Ok(())
 }

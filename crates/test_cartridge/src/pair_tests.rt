@@ -1,5 +1,5 @@
 //! Which of two sides counts, and that a cartridge calls only the disk of that side.
-use crate::samples::{FAULT, SIDE, erased, extent_of, opened};
+use crate::samples::{FAULT, SIDE, erased, extent_of, opened, opening};
 use cartridge::{Cartridge, CartridgeError};
 use cartridge_sides::Which;
 use std::alloc::Global;
@@ -125,17 +125,26 @@ fn disk_of(alloc: Global, side: Side) -> Result<MemDisk, NoMemory> {
     MemDisk::from_bytes(alloc, changed.as_slice())
 }
 
-fn found(alloc: Global, first: MemDisk, second: MemDisk) -> Found {
-    let cartridge = opened(alloc, first, second)?;
-    let (frames, count, used) = extent_of(&cartridge);
-    Ok((cartridge.which(), frames, count, used))
+// What an open cartridge reports.
+fn found_in(cartridge: &Cartridge<MemDisk>) -> (Which, usize, ObjNo, u64) {
+    let (frames, count, used) = extent_of(cartridge);
+    (cartridge.which(), frames, count, used)
+}
+
+// What is found on disks with these bytes.
+fn found(alloc: Global, one: Side, two: Side) -> Result<Found, NoMemory> {
+    let first = disk_of(alloc, one)?;
+    let second = disk_of(alloc, two)?;
+    match opened(alloc, first, second) {
+        Ok(cartridge) => Ok(Ok(found_in(&cartridge))),
+        Err(error) => Ok(Err(error)),
+    }
 }
 
 #[test]
 fn which_side_counts(rt: HostRuntime) -> Result<(), Fail> {
-    let alloc = rt.alloc();
     for &(one, two, expected) in PAIRS {
-        let found = found(alloc, disk_of(alloc, one)?, disk_of(alloc, two)?);
+        let found = found(rt.alloc(), one, two)?;
         assert_equal!(rt; found, expected; (one.1, one.2, two.1, two.2));
     }
     Ok(())
@@ -185,35 +194,45 @@ fn are_shelved(rt: &impl Abort, cartridge: Cartridge<MemDisk>, first: &[u8], sec
     assert_equal!(rt; two.bytes(), second);
 }
 
+// A store in a cartridge, with the bytes of both disks before it, and those of the side that counts after it.
+fn stores(
+    rt: &impl Abort,
+    cartridge: Cartridge<MemDisk>,
+    first: &[u8],
+    second: &[u8],
+    after: &[u8],
+) {
+    let mut cartridge = cartridge;
+    let (other, one, two) = match cartridge.which() {
+        Which::First => (second, after, second),
+        Which::Second => (first, first, after),
+    };
+    erases(rt, &mut cartridge, other, after);
+    are_shelved(rt, cartridge, one, two);
+}
+
+// The cartridge on copies of both disks.
+fn on_copies(alloc: Global, first: &MemDisk, second: &MemDisk) -> Result<Cartridge<MemDisk>, Fail> {
+    Ok(opened(alloc, first.copy()?, second.copy()?)?)
+}
+
 #[test]
 fn a_store_calls_one_disk(rt: HostRuntime) -> Result<(), Fail> {
     let alloc = rt.alloc();
     for &(one, two, after) in ERASED {
         let first = disk_of(alloc, one)?;
         let second = disk_of(alloc, two)?;
-        let mut cartridge = opened(alloc, first.copy()?, second.copy()?)?;
-        match cartridge.which() {
-            Which::First => {
-                erases(&rt, &mut cartridge, second.bytes(), after);
-                are_shelved(&rt, cartridge, after, second.bytes());
-            }
-            Which::Second => {
-                erases(&rt, &mut cartridge, first.bytes(), after);
-                are_shelved(&rt, cartridge, first.bytes(), after);
-            }
-        }
+        let cartridge = on_copies(alloc, &first, &second)?;
+        stores(&rt, cartridge, first.bytes(), second.bytes(), after);
     }
     Ok(())
 }
 
 // The result of an opening where one call of each disk fails, the first after this many.
 fn opened_over(alloc: Global, one: u64, two: u64) -> Result<Result<(), CartridgeError>, NoMemory> {
-    let first = OnceDisk::new(disk_of(alloc, (SIDE, 9, 0xa5))?, one);
-    let second = OnceDisk::new(disk_of(alloc, (COPY, 0, 0xa5))?, two);
-    match opened(alloc, first, second) {
-        Ok(_) => Ok(Ok(())),
-        Err(error) => Ok(Err(error)),
-    }
+    let first = disk_of(alloc, (SIDE, 9, 0xa5))?;
+    let second = disk_of(alloc, (COPY, 0, 0xa5))?;
+    Ok(opening(alloc, OnceDisk::new(first, one), OnceDisk::new(second, two)))
 }
 
 // The first disk gets a sync and a read. The second, whose side counts, gets the same, then a sync, two reads

@@ -43,6 +43,14 @@ pub fn opened<D: Disk + Drop>(
     }
 }
 
+/// The result of an opening.
+pub fn opening<D: Disk + Drop>(alloc: Global, first: D, second: D) -> Result<(), CartridgeError> {
+    match opened(alloc, first, second) {
+        Ok(_) => Ok(()),
+        Err(error) => Err(error),
+    }
+}
+
 /// Stores a frame of one block.
 pub fn store_block<D: Disk + Drop>(
     alloc: Global,

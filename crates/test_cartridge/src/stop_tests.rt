@@ -19,6 +19,18 @@ type Found = Result<(usize, u32, u64), CartridgeError>;
 // again before the last frame and at the end.
 struct Work;
 
+// Stores the third frame, and opens it again. Returns whether both succeeded, and the cartridge that was reached.
+fn stored_third<D: Disk + Drop>(
+    alloc: Global,
+    known: Known<D>,
+) -> Result<(Known<D>, bool), NotCreated<D>> {
+    let mut known = known;
+    if store_two(alloc, &mut known).is_err() {
+        return Ok((known, false));
+    }
+    Ok((known.opened_again(alloc)?, true))
+}
+
 // Stores the three frames. Returns whether all succeeded, and the cartridge that was reached.
 fn stored<D: Disk + Drop>(
     alloc: Global,
@@ -28,11 +40,7 @@ fn stored<D: Disk + Drop>(
     if store_side(alloc, &mut known).is_err() {
         return Ok((known, false));
     }
-    let mut known = known.opened_again(alloc)?;
-    if store_two(alloc, &mut known).is_err() {
-        return Ok((known, false));
-    }
-    Ok((known.opened_again(alloc)?, true))
+    stored_third(alloc, known.opened_again(alloc)?)
 }
 
 impl Run for Work {
@@ -193,15 +201,27 @@ fn is_refused(
     assert_equal!(rt; found(alloc, disk), Err(error); (calls, error));
 }
 
+// All stops of the opening of these bytes.
+fn are_refused(
+    rt: &impl Abort,
+    alloc: Global,
+    bytes: &[u8],
+    end: (u64, CartridgeError),
+) -> Result<(), NoMemory> {
+    let (total, error) = end;
+    let stops = stops_of(alloc, bytes, &Refusal)?;
+    assert_equal!(rt; stops.len() as u64 / 9, total.saturating_add(1); error);
+    for stop in stops {
+        is_refused(rt, alloc, stop, bytes, end);
+    }
+    Ok(())
+}
+
 #[test]
 fn a_stop_of_an_opening_that_is_refused(rt: HostRuntime) -> Result<(), Fail> {
     for &(len, place, value, total, error) in REFUSED {
         let bytes = damaged(rt.alloc(), len, place, value)?;
-        let stops = stops_of(rt.alloc(), bytes.as_slice(), &Refusal)?;
-        assert_equal!(rt; stops.len() as u64 / 9, total.saturating_add(1); error);
-        for stop in stops {
-            is_refused(&rt, rt.alloc(), stop, bytes.as_slice(), (total, error));
-        }
+        are_refused(&rt, rt.alloc(), bytes.as_slice(), (total, error))?;
     }
     Ok(())
 }
