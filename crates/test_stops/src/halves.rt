@@ -51,7 +51,7 @@ impl<D: Disk + Drop, R: Rings> Parted<D, R> {
 
     // Puts both halves in their place.
     fn put_both(&mut self, both: (Front<D, R>, Back<D, R>)) {
-        self.halves = Some(both);
+        drop(self.halves.replace(both));
     }
 
     // Answers a command by both halves.

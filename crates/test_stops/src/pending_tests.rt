@@ -49,6 +49,7 @@ fn halves_are_asked<D: TestDisk, R: Rings>(
     let bay = failing::<D>(alloc, &LATE, NEVER)?;
     let mut drive = Parted::of(alloc, bay, ring.into_ends::<R>(number));
     are_counted(rt, &mut drive);
+    drop(drive);
     Ok(())
 }
 
