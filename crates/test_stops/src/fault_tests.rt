@@ -67,24 +67,30 @@ fn is_found<D: TestDisk, S: TestDrive<D>>(
     are_left::<D>(rt, alloc, &disks, &[left], &at)
 }
 
+// Another drive, which was just switched on, finds this, and it survives each crash.
+fn is_found_again<D: TestDisk>(
+    rt: &impl Abort,
+    alloc: Global,
+    drive: &mut Bay<D>,
+    left: Left,
+    at: At,
+) -> Result<(), Fail> {
+    let ready = (1, READY, NONE, POWERED_ON);
+    ask(rt, drive, ready, POWERED_ON, &at);
+    is_found(rt, alloc, drive, left, at)
+}
+
 // This is found by another drive, and survives each crash.
 fn is_found_by_another<D: TestDisk>(
     rt: &impl Abort,
     alloc: Global,
-    disks: Disks,
+    disks: &Disks,
     left: Left,
     at: At,
 ) -> Result<(), Fail> {
     assert_holds!(rt; has::<D>(alloc, disks.copy()?, left)?; at);
-    let mut drive = restarted::<D>(alloc, disks)?;
-    ask(
-        rt,
-        &mut drive,
-        (1, READY, NONE, POWERED_ON),
-        POWERED_ON,
-        &at,
-    );
-    is_found(rt, alloc, &mut drive, left, at)
+    let mut drive = restarted::<D>(alloc, disks.copy()?)?;
+    is_found_again(rt, alloc, &mut drive, left, at)
 }
 
 /// After the deed has failed nothing is accepted; what crashes leave, and what is found again.
@@ -107,7 +113,7 @@ pub fn is_over<D: TestDisk, S: TestDrive<D>>(
             asks(rt, drive, rows, &at);
             is_found(rt, alloc, drive, left, at)
         }
-        Again::Restarted => is_found_by_another::<D>(rt, alloc, disks, left, at),
+        Again::Restarted => is_found_by_another::<D>(rt, alloc, &disks, left, at),
     }
 }
 

@@ -1,5 +1,5 @@
 //! A drive that stands in two halves, as the tests use it.
-ghost use Rattle.std.specs.Prelude.{IfSome};
+ghost use Rattle.std.specs.Prelude.{IfSome, IsTrue};
 ghost use Rattle.split_bay.specs.Fronts.{end_of};
 ghost use Rattle.split_bay.specs.Rings.{AreEnds};
 
@@ -12,22 +12,30 @@ use tape_disk::Disk;
 use volume_core::Turn;
 use vtl_base::{Bytes, Nexus};
 
-/// The two halves of a drive. Where they do not fit they are gone, and nothing is answered from then on.
+/// The two halves of a drive. Where they are not those of one drive, nothing is answered.
 #[derive(Drop)]
 pub struct Parted<D: Disk, R: Rings> {
     alloc: Global,
-    front: Option<Front<D, R>>,
-    back: Option<Back<D, R>>,
+    halves: Option<(Front<D, R>, Back<D, R>)>,
 }
 
 impl<D: Disk + Drop, R: Rings> Parted<D, R> {
     /// A drive parts into its halves.
     pub fn of(alloc: Global, bay: Bay<D>, ends: Ends<R>) -> Parted<D, R> {
-        let (front, back) = part(bay, ends);
         Parted {
             alloc,
-            front: Some(front),
-            back: Some(back),
+            halves: Some(part(bay, ends)),
+        }
+    }
+
+    // Whether there are two halves of one drive.
+    fn fit(&self) -> bool
+        ensures { IsTrue result → IfSome self.now.halves (λ both.
+            AreEnds (end_of both.0) both.1.number both.1.received) }
+    {
+        match &self.halves {
+            Some((front, back)) => front.fits(back),
+            None => false,
         }
     }
 
@@ -35,21 +43,15 @@ impl<D: Disk + Drop, R: Rings> Parted<D, R> {
     fn take_both(&mut self) -> Option<(Front<D, R>, Back<D, R>)>
         ensures { IfSome result (λ both. AreEnds (end_of both.0) both.1.number both.1.received) }
     {
-        match (self.front.take(), self.back.take()) {
-            (Some(front), Some(back)) => {
-                if !front.fits(&back) {
-                    return None;
-                }
-                Some((front, back))
-            }
-            _ => None,
+        if !self.fit() {
+            return None;
         }
+        self.halves.take()
     }
 
-    // Puts both halves in their places.
-    fn put_both(&mut self, front: Front<D, R>, back: Back<D, R>) {
-        self.front = Some(front);
-        self.back = Some(back);
+    // Puts both halves in their place.
+    fn put_both(&mut self, both: (Front<D, R>, Back<D, R>)) {
+        drop(self.halves.replace(both));
     }
 
     // Answers a command by both halves.
@@ -57,7 +59,7 @@ impl<D: Disk + Drop, R: Rings> Parted<D, R> {
         match self.take_both() {
             Some((front, back)) => {
                 let (reply, front, back) = execute_both(front, back, host, cdb, sent);
-                self.put_both(front, back);
+                self.put_both((front, back));
                 Some(reply)
             }
             None => None,
@@ -69,8 +71,7 @@ impl<D: Disk + Drop, R: Rings> Parted<D, R> {
         match self.take_both() {
             Some((front, back)) => {
                 let (bay, ends) = join(front, back);
-                let (front, back) = part(bay, ends);
-                self.put_both(front, back);
+                self.put_both(part(bay, ends));
                 true
             }
             None => false,
@@ -79,8 +80,8 @@ impl<D: Disk + Drop, R: Rings> Parted<D, R> {
 
     /// How many changes are pending, as the hosts' half says.
     pub fn pending(&self) -> Option<usize> {
-        match &self.front {
-            Some(front) => Some(front.pending()),
+        match &self.halves {
+            Some((front, _)) => Some(front.pending()),
             None => None,
         }
     }
@@ -89,8 +90,7 @@ impl<D: Disk + Drop, R: Rings> Parted<D, R> {
     fn report(&mut self) -> bool {
         match self.take_both() {
             Some((front, back)) => {
-                let (front, back) = report_fault(front, back);
-                self.put_both(front, back);
+                self.put_both(report_fault(front, back));
                 true
             }
             None => false,
@@ -104,7 +104,7 @@ impl<D: Disk + Drop, R: Rings> TestDrive<D> for Parted<D, R> {
         let Ok(mut lent) = Bytes::from_slice(self.alloc, sent) else {
             return None;
         };
-        let Some(front) = &mut self.front else {
+        let Some((front, _)) = &mut self.halves else {
             return None;
         };
         match front.execute_lent(host, cdb, &mut lent) {
@@ -114,8 +114,8 @@ impl<D: Disk + Drop, R: Rings> TestDrive<D> for Parted<D, R> {
     }
 
     fn take_turn(&mut self) -> Option<Turn> {
-        match &mut self.back {
-            Some(back) => Some(back.turn()),
+        match &mut self.halves {
+            Some((_, back)) => Some(back.turn()),
             None => None,
         }
     }
@@ -129,15 +129,15 @@ impl<D: Disk + Drop, R: Rings> TestDrive<D> for Parted<D, R> {
     }
 
     fn tape(&self) -> Option<&D> {
-        match &self.back {
-            Some(back) => back.disk(),
+        match &self.halves {
+            Some((_, back)) => back.disk(),
             None => None,
         }
     }
 
     fn store(&self) -> Option<&D> {
-        match &self.front {
-            Some(front) => Some(front.keeper().disk()),
+        match &self.halves {
+            Some((front, _)) => Some(front.keeper().disk()),
             None => None,
         }
     }

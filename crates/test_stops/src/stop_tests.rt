@@ -15,16 +15,22 @@ const GATE_OPEN: &'static [u8] = &[0xa5];
 // A run, by its name, the way in which its drive stands, and how many calls passed before the stop.
 type At = (&'static str, Way, u64);
 
-// The disk of this side.
-pub fn disk_of(alloc: Global, side: Side) -> Result<MemDisk, Fail> {
-    let (bytes, gate) = side;
-    let mut disk = MemDisk::from_bytes(alloc, bytes)?;
+// Opens the gate at this place of a disk, if there is one.
+fn open_gate(disk: &mut MemDisk, gate: Option<u64>) -> Result<(), Fail> {
     let Some(gate) = gate else {
-        return Ok(disk);
+        return Ok(());
     };
     if gate > disk.len() || disk.write_at(gate, GATE_OPEN).is_err() {
         return Err(Fail::from("not written"));
     }
+    Ok(())
+}
+
+// The disk of this side.
+pub fn disk_of(alloc: Global, side: Side) -> Result<MemDisk, Fail> {
+    let (bytes, gate) = side;
+    let mut disk = MemDisk::from_bytes(alloc, bytes)?;
+    open_gate(&mut disk, gate)?;
     Ok(disk)
 }
 

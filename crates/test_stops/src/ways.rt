@@ -40,7 +40,9 @@ fn done_over<D: Disk + Drop, R: Rings, T: Deeds<D>, A: Abort>(
 {
     let ends = ring.into_ends::<R>(number);
     let mut drive = Parted::of(alloc, bay, ends);
-    deeds.done(rt, &mut drive)
+    let done = deeds.done(rt, &mut drive);
+    drop(drive);
+    done
 }
 
 // It is done with a drive in halves.
