@@ -40,27 +40,30 @@ static REFUSED: &'static [&'static str] = &[
     "03 00 00 00 00000000 0000000c 00000000",
 ];
 
-// What a drive writes for an input, and how that ends.
+// What a drive writes for an input, how that ends, and how many changes it then has accepted.
 fn serving<D: Disk + Drop>(
     alloc: Global,
-    served: &mut OneBay<D>,
+    mut served: OneBay<D>,
     input: &[u8],
-) -> (Result<(), WireFault>, Vec<u8>) {
+) -> (Result<(), WireFault>, Vec<u8>, u64) {
     let mut reader = input;
     let mut written = Vec::new(alloc);
-    let end = serve_bay(alloc, served, &mut reader, &mut written);
-    (end, written)
+    let end = serve_bay(alloc, &mut served, &mut reader, &mut written);
+    let bay = served.into_bay();
+    let accepted = bay.accepted();
+    drop(bay);
+    (end, written, accepted)
 }
 
 #[test]
 fn a_drive_is_served(rt: HostRuntime) -> Result<(), Fail> {
     let (input, output) = exchange(rt.alloc(), EXCHANGE)?;
     let number = drive_no(2)?;
-    let mut served = OneBay::new(number, bay(rt.alloc(), number)?);
-    let (end, written) = serving(rt.alloc(), &mut served, input.as_slice());
+    let served = OneBay::new(number, bay(rt.alloc(), number)?);
+    let (end, written, accepted) = serving(rt.alloc(), served, input.as_slice());
     assert_equal!(rt; end, Ok(()));
     assert_equal!(rt; written.as_slice(), output.as_slice());
-    assert_equal!(rt; served.into_bay().accepted(), 1);
+    assert_equal!(rt; accepted, 1);
     Ok(())
 }
 
@@ -70,10 +73,11 @@ fn a_frame_of_another_drive_is_refused(rt: HostRuntime) -> Result<(), Fail> {
         let (mut input, output) = exchange(rt.alloc(), EXCHANGE)?;
         add_bytes(rt.alloc(), &mut input, frame)?;
         let number = drive_no(2)?;
-        let mut served = OneBay::new(number, bay(rt.alloc(), number)?);
-        let (end, written) = serving(rt.alloc(), &mut served, input.as_slice());
+        let served = OneBay::new(number, bay(rt.alloc(), number)?);
+        let (end, written, accepted) = serving(rt.alloc(), served, input.as_slice());
         assert_equal!(rt; end, Err(WireFault::BadFrame { frame: 6 }); frame);
         assert_equal!(rt; written.as_slice(), output.as_slice(); frame);
+        assert_equal!(rt; accepted, 1; frame);
     }
     Ok(())
 }
