@@ -28,6 +28,8 @@ AT = re.compile(r"(note: )?(?:\./)?((?:src|specs|proofs)/\S+?):(\d+):\d+: ?(.*)"
 ANSWERS = ("Answers.antt", "Invariants.antt", "Proof.antt")
 # an answer that cites what the edit took away
 BY_NAME = re.compile(r"has no field|is not in scope|has no `|was not admitted")
+# the same, where a long name fills the line before
+GOES_ON = re.compile(r"\s+has no (?:field|`)")
 # what a function's line says beside its own goals: that others aren't proved
 REMARKS = ("no proof", "not proved", "`search` did not prove ", "it calls ", "it passes the block ")
 END = re.compile(r"logic=(not-)?proved\b")
@@ -144,14 +146,18 @@ def is_within(name, owner):
 
 def goals_left(crate, lines):
     """The goals that a check left open, with what it said, by the name of their function."""
-    found, notes = {}, []
+    found, notes, last = {}, [], None
     for line in lines:
         at, fn = AT.match(line), FN.match(line)
+        if last and GOES_ON.match(line):
+            found[last].pop()
+        last = None
         if at and at[2].startswith("proofs/") and at[2].endswith(ANSWERS) and at[4].startswith("error: "):
             goal = re.match(r"error: `([^`]*)`: ", at[4])
             if goal and not BY_NAME.search(at[4]):
                 name = "::".join([crate.name, *at[2].split("/")[1:-1]])
                 found.setdefault(name, []).append((goal[1], at[4][len(goal[0]):]))
+                last = name
         elif at and at[1] and at[2].startswith("src/") and "is not proved" in at[4]:
             goal = re.search(r"\(`([^`]*)`\)", at[4])
             notes.append((goal[1] if goal else "a goal", at[4]))

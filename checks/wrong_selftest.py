@@ -64,11 +64,14 @@ SAID = """rt: chose --jobs 1 for box
 ./proofs/more/low/Answers.antt:6:29: error: `returns`: expected type `x ≡ 1`, but this has type `x ≡ 2`
   both types are shown computed
 ./proofs/more/high/Answers.antt:5:15: error: `returns`: module `Goals` has no `returns` that can be named from here
+./proofs/more/wide/Answers.antt:7:3: error: `returns`: record `Rattle.box.proofs.more.wide.Lts.View.In-After-self-1`
+  has no field `sum` (nearest: .sum-2)
 impl box::more::BoxedShape: not proved; it waits for the proof of `area`
 note: src/more.rt:15:5: it is not proved that what the function ensures holds when it returns (`returns-clause-twelve`)
 fn box::more::BoxedShape::area: no proof: expected answers in ./proofs/area/Answers.antt; `search` did not prove `a`
 fn box::more::low: not proved; it calls `box::more::high`, which is not proved
 fn box::more::high: not proved
+fn box::more::wide: not proved
 note: src/more.rt:40:5: a note on what is proved
 fn box::more::fn::low::inner: proved
 fn box::more::mid: no proof: it calls `box::more::low`, which is not proved
