@@ -1,4 +1,4 @@
--- What a call does to the reservations of a drive, and to the store that saves them.
+-- What an event does to the reservations of a drive, and to the store that saves them.
 use Rattle.std.proofs.Common.{◌≡◌, ◌⊎◌, inl, inr, List, [], ◌∷◌, Bool, true, false, Option, None, Some, is_some, Result, Ok, Err, refl, sym, ◌∙◌, ap, subst}
 use Rattle.std.specs.Prelude.{unwrap_or}
 use Rattle.vtl_base.specs.Below.{Below}
@@ -26,16 +26,23 @@ use Rattle.drive_commands.specs.Relations.{Made}
 use Rattle.drive_commands.specs.ReserveOut.{StandsBy, StandsOnceSaved}
 use Rattle.drive_commands.specs.State.{DriveState, Machine, loaded, machine_of}
 use Rattle.drive_commands.specs.LoadUnload.{emptied}
-use Rattle.drive_commands.specs.Media.{GoesOutOf, TakesIn}
+use Rattle.drive_commands.specs.Media.{GoesOutOf, TakesIn, TakesTurn}
 use Rattle.drive_commands.specs.Turn.{TurnsIn}
 use Rattle.drive_commands.specs.Work.{Request}
 use Rattle.aptpl_store.specs.Contents.{latest}
 use Rattle.aptpl_store.specs.Kept.{core_of, store_below, store_kept, store_rules}
 use Rattle.aptpl_store.specs.State.{OpenStore}
-use Rattle.drive_commands.specs.Run.{Asked, Event, Turned}
-use Rattle.bay_moves.specs.Reservations.{CallDoes, ChangesBay, IsHolding, IsOrdered, IsOrderedIn, MayStand}
+use Rattle.drive_commands.specs.Events.{Event, Execute, FlushTurn, Insert, Load, OfDrive, PowerOn, Unload}
+use Rattle.bay_moves.specs.Reservations.{GoesBy, IsHolding, IsOrdered, IsOrderedIn, MayStand}
 use Rattle.bay_moves.proofs.MachineLemmas.{Goes, step_goes}
 use Rattle.bay_moves.proofs.StoreCoreLemmas.{none_torn}
+
+-- a medium comes into the drive, or goes out
+abbrev pub ChangesBay : Event OfDrive → Type 0
+ChangesBay (Load medium) = Unit {0}
+ChangesBay (Insert medium) = Unit {0}
+ChangesBay Unload = Unit {0}
+ChangesBay _ = ⊥
 
 module _ {M D : Type 0} (medium : M → MediumState) (below : Below M Change) (disk : D → DiskState) where
   -- equal drives have the same keeper and reservations
@@ -63,38 +70,41 @@ module _ {M D : Type 0} (medium : M → MediumState) (below : Below M Change) (d
   in_stays old given (Ok done) new takes = both (loaded old takes.0) new takes.2
   in_stays old given (Err back) new takes = both old new takes.3
 
-  pub carried_stays : (old new : DriveState M (OpenStore D)) → ChangesBay medium below disk old new
-      → (new.keeper ≡ old.keeper) × (new.reservations ≡ old.reservations)
-  carried_stays old new (inl takes) = in_stays old takes.0 takes.1 new takes.2
-  carried_stays old new (inr (inl put)) = both (record old { bay = Unloaded put.0 }) new put.1
-  carried_stays old new (inr (inr out)) = out_stays old.bay old out.0 new out.1
+  pub bay_stays : (old new : DriveState M (OpenStore D)) (event : Event OfDrive) → ChangesBay event
+      → GoesBy medium below disk old event new → (new.keeper ≡ old.keeper) × (new.reservations ≡ old.reservations)
+  bay_stays old new (Load loaded) changes goes = in_stays old goes.0 goes.2 new goes.3
+  bay_stays old new (Insert put) changes goes = both (record old { bay = Unloaded goes.0 }) new goes.2
+  bay_stays old new Unload changes goes = out_stays old.bay old goes.0 new goes.1
+  bay_stays old new (Execute request) changes goes = absurd changes
+  bay_stays old new FlushTurn changes goes = absurd changes
+  bay_stays old new (PowerOn given keeper) changes goes = absurd changes
 
 module _ {M D : Type 0} (medium : M → MediumState) (below : Below M Change) (disk : D → DiskState)
     (is_disk : (d : D) → (disk d).honest → IsDisk (disk d)) (keep : OrdersKeepRules)
     (due : SavesAreDueByChange) (lost : SavedAlikeAreLostAlike) where
-  -- the store after a call, and what it is compared with
-  pub record CallGoes
-      (old : DriveState M (OpenStore D)) (call : Option Event) (new : DriveState M (OpenStore D)) : Type
+  -- the store after an event, and what it is compared with
+  pub record EventGoes
+      (old : DriveState M (OpenStore D)) (event : Event OfDrive) (new : DriveState M (OpenStore D)) : Type
       0 where
     pub made : List PrState
     pub moves :
         CoreMoves store_rules (one_disk disk) old.keeper.disk new.keeper.disk (core_of old.keeper)
         (core_of new.keeper) made
     pub more : PrState
-    pub stands : (power_loss more ≡ power_loss old.reservations) ⊎ MayStand medium below disk old call new more
+    pub stands : (power_loss more ≡ power_loss old.reservations) ⊎ MayStand medium below disk old event new more
     pub fits : (made ≡ []) ⊎ ((made ≡ more ∷ []) × (old.keeper.torn ≡ None))
     pub torn : (old.keeper.torn ≡ None) ⊎ (old.keeper.torn ≡ Some more)
     pub sound : IsSound new.reservations
     pub saved : power_loss (latest new.keeper.states) ≡ power_loss new.reservations
     pub at_rest : new.keeper.failed ≡ is_some new.keeper.torn
 
-  module _ (old new : DriveState M (OpenStore D)) (holding : IsHolding medium below disk old) (call : Option Event)
+  module _ (old new : DriveState M (OpenStore D)) (holding : IsHolding medium below disk old) (event : Event OfDrive)
       (made : List PrState)
       (moves : CoreMoves store_rules (one_disk disk) old.keeper.disk new.keeper.disk
       (core_of old.keeper) (core_of new.keeper) made) where
     -- nothing was saved
     unsaved : made ≡ [] → store_kept new.keeper ≡ store_kept old.keeper → IsSound new.reservations
-        → power_loss new.reservations ≡ power_loss old.reservations → CallGoes old call new
+        → power_loss new.reservations ≡ power_loss old.reservations → EventGoes old event new
     unsaved none stays sound same = by old.keeper.torn refl
       where
         saved : power_loss (latest new.keeper.states) ≡ power_loss new.reservations
@@ -106,7 +116,7 @@ module _ {M D : Type 0} (medium : M → MediumState) (below : Below M Change) (d
             ap (λ (k : KeeperState). k.failed) stays ∙ holding.at_rest
             ∙ sym (ap (λ (k : KeeperState). is_some k.torn) stays)
 
-        by : (torn : Option PrState) → old.keeper.torn ≡ torn → CallGoes old call new
+        by : (torn : Option PrState) → old.keeper.torn ≡ torn → EventGoes old event new
         by None is = record {
           made = made;
           moves = moves;
@@ -135,7 +145,7 @@ module _ {M D : Type 0} (medium : M → MediumState) (below : Below M Change) (d
         → (saving : Result Unit KeeperError) (keeper : KeeperState) → Saves (store_kept old.keeper) state saving keeper
         → store_kept new.keeper ≡ keeper → made ≡ saved_by saving state
         → new.reservations ≡ (elim saving as (λ x. PrState) [ Ok done ↦ state | Err error ↦ old.reservations ])
-        → CallGoes old call new
+        → EventGoes old event new
     asked_to_save state ordered sound (Ok done) keeper saves stays made_is is = record {
       made = made;
       moves = moves;
@@ -197,21 +207,21 @@ module _ {M D : Type 0} (medium : M → MediumState) (below : Below M Change) (d
         → StandsOnceSaved saving keeper ordered.answer state ordered.established (machine_of medium store_kept old)
         answer
         (machine_of medium store_kept new)
-        → made.saved ≡ saved_by saving state → CallGoes old (Some (Asked request reply)) new
+        → made.saved ≡ saved_by saving state → EventGoes old (Execute request) new
     once_saved (Ok done) keeper saves stands made_is =
-        asked_to_save old new holding (Some (Asked request reply)) made.saved moves state ordered sound (Ok done)
+        asked_to_save old new holding (Execute request) made.saved moves state ordered sound (Ok done)
         keeper
         saves (ap (λ (m : Machine). m.keeper) stands.1) made_is (ap (λ (m : Machine). m.reservations) stands.1)
     once_saved (Err error) keeper saves stands made_is =
-        asked_to_save old new holding (Some (Asked request reply)) made.saved moves state ordered sound (Err error)
+        asked_to_save old new holding (Execute request) made.saved moves state ordered sound (Err error)
         keeper saves (ap (λ (m : Machine). m.keeper) stands.1) made_is (ap (λ (m : Machine). m.reservations) stands.1)
 
     stands_by : (needed : Bool) → needs_save old.reservations state ≡ needed
         → StandsBy needed ordered.answer state ordered.established (machine_of medium store_kept old) answer made
-        (machine_of medium store_kept new) → CallGoes old (Some (Asked request reply)) new
+        (machine_of medium store_kept new) → EventGoes old (Execute request) new
     stands_by false needed stands =
         let is : new.reservations ≡ state = ap (λ (m : Machine). m.reservations) stands.2 in
-        unsaved old new holding (Some (Asked request reply)) made.saved moves (ap (λ (m : Made). m.saved) stands.1)
+        unsaved old new holding (Execute request) made.saved moves (ap (λ (m : Made). m.saved) stands.1)
         (ap (λ (m : Machine). m.keeper) stands.2) (subst IsSound (sym is) sound)
         (ap power_loss is
         ∙ sym (lost old.reservations state ((due old.reservations state holding.sound sound).0 needed)))
@@ -221,15 +231,15 @@ module _ {M D : Type 0} (medium : M → MediumState) (below : Below M Change) (d
   -- a host is answered
   asked_goes : (old new : DriveState M (OpenStore D)) (request : Request) (reply : Reply)
       → IsHolding medium below disk old → Answers medium below store_kept (store_below disk) old request reply new
-      → CallGoes old (Some (Asked request reply)) new
+      → EventGoes old (Execute request) new
   asked_goes old new request reply holding answers =
       by (step_goes _ (machine_of medium store_kept old) request answers.answer answers.taken.made
       (machine_of medium store_kept new) answers.taken.step)
     where
       by : Goes (machine_of medium store_kept old) request answers.answer answers.taken.made
-          (machine_of medium store_kept new) → CallGoes old (Some (Asked request reply)) new
+          (machine_of medium store_kept new) → EventGoes old (Execute request) new
       by (inl none) =
-          unsaved old new holding (Some (Asked request reply)) answers.taken.made.saved answers.taken.saves.moved
+          unsaved old new holding (Execute request) answers.taken.made.saved answers.taken.saves.moved
           none.saved
           none.keeper (subst IsSound (sym none.reservations) holding.sound) (ap power_loss none.reservations)
       by (inr order) =
@@ -256,11 +266,11 @@ module _ {M D : Type 0} (medium : M → MediumState) (below : Below M Change) (d
 
   -- a flusher's turn
   turned_goes : (old new : DriveState M (OpenStore D)) (turn : Turn) → IsHolding medium below disk old
-      → CallDoes medium below disk old (Some (Turned turn)) new → CallGoes old (Some (Turned turn)) new
+      → TakesTurn medium below store_kept old turn new → EventGoes old FlushTurn new
   turned_goes old new turn holding takes =
       let same = turn_leaves _ (machine_of medium store_kept old) takes.step.0 (machine_of medium store_kept new)
       takes.step.1 in
-      unsaved old new holding (Some (Turned turn)) []
+      unsaved old new holding FlushTurn []
       (subst (λ (k : OpenStore D). CoreMoves store_rules (one_disk disk) old.keeper.disk k.disk
       (core_of old.keeper) (core_of k) []) (sym takes.keeper)
       (core_moves_nowhere store_rules (one_disk disk) (one_is_device disk) old.keeper.disk (core_of old.keeper)
@@ -268,11 +278,12 @@ module _ {M D : Type 0} (medium : M → MediumState) (below : Below M Change) (d
       refl (ap (λ (k : OpenStore D). store_kept k) takes.keeper) (subst IsSound (sym same) holding.sound)
       (ap power_loss same)
 
-  moved_goes : (old new : DriveState M (OpenStore D)) → IsHolding medium below disk old
-      → CallDoes medium below disk old None new → CallGoes old None new
-  moved_goes old new holding carried =
-      let stays = carried_stays medium below disk old new carried in
-      unsaved old new holding None []
+  -- a medium that comes in or goes out
+  bay_goes : (old new : DriveState M (OpenStore D)) (event : Event OfDrive) → ChangesBay event
+      → IsHolding medium below disk old → GoesBy medium below disk old event new → EventGoes old event new
+  bay_goes old new event changes holding goes =
+      let stays = bay_stays medium below disk old new event changes goes in
+      unsaved old new holding event []
       (subst (λ (k : OpenStore D). CoreMoves store_rules (one_disk disk) old.keeper.disk k.disk
       (core_of old.keeper) (core_of k) []) (sym stays.0)
       (core_moves_nowhere store_rules (one_disk disk) (one_is_device disk) old.keeper.disk (core_of old.keeper)
@@ -280,8 +291,11 @@ module _ {M D : Type 0} (medium : M → MediumState) (below : Below M Change) (d
       refl (ap (λ (k : OpenStore D). store_kept k) stays.0) (subst IsSound (sym stays.1) holding.sound)
       (ap power_loss stays.1)
 
-  pub call_goes : (old new : DriveState M (OpenStore D)) (call : Option Event) → IsHolding medium below disk old
-      → CallDoes medium below disk old call new → CallGoes old call new
-  call_goes old new (Some (Asked request reply)) holding does = asked_goes old new request reply holding does
-  call_goes old new (Some (Turned turn)) holding does = turned_goes old new turn holding does
-  call_goes old new None holding does = moved_goes old new holding does
+  pub event_goes : (old new : DriveState M (OpenStore D)) (event : Event OfDrive) → IsHolding medium below disk old
+      → GoesBy medium below disk old event new → EventGoes old event new
+  event_goes old new (Execute request) holding goes = asked_goes old new request goes.0 holding goes.1
+  event_goes old new FlushTurn holding goes = turned_goes old new goes.0 holding goes.1
+  event_goes old new (Load loaded) holding goes = bay_goes old new (Load loaded) tt holding goes
+  event_goes old new (Insert put) holding goes = bay_goes old new (Insert put) tt holding goes
+  event_goes old new Unload holding goes = bay_goes old new Unload tt holding goes
+  event_goes old new (PowerOn given keeper) holding goes = absurd goes

@@ -5,6 +5,7 @@ use Rattle.std.proofs.lemmas.List.{append-nil}
 use Rattle.vtl_base.specs.Below.{Below}
 use Rattle.tape_disk.specs.Disk.{DiskState, IsDisk}
 use Rattle.tape_disk.specs.TwoDisks.{AreHonest, EachOfTwo, TwoDisks, TwoLeave}
+use Rattle.scsi_sense.specs.declared.replies.Reply.{Reply}
 use Rattle.pr_core.specs.declared.states.PrState.{PrState}
 use Rattle.pr_core.specs.Keepers.{KeeperState}
 use Rattle.volume_core.specs.declared.changes.Change.{Change}
@@ -25,7 +26,7 @@ use Rattle.drive_commands.specs.declared.bays.Bay.TheVariants.{Empty, Unloaded, 
 use Rattle.drive_commands.specs.State.{DriveState, IsBayPositioned, machine_of, medium_in}
 use Rattle.drive_commands.specs.Relations.{Made}
 use Rattle.drive_commands.specs.Execute.{AdvancesIn, HonestIn, is_device_fault}
-use Rattle.drive_commands.specs.Run.{Asked, Event, Turned}
+use Rattle.drive_commands.specs.Events.{Event, Execute, FlushTurn, Insert, Load, OfDrive, PowerOn, Unload}
 use Rattle.drive_commands.specs.Synchronize.{NothingPending}
 use Rattle.bay_moves.specs.Cartridges.{IsKnown, KeepsIn, StopsKeepChanges}
 use Rattle.bay_moves.specs.Doings.{Does, DoesAll}
@@ -62,30 +63,39 @@ module _ {D : Type 0} (state : D → DiskState) (is_disk : (disk : D) → (state
   moved_as a b made more same moved = subst (λ (l : List Change). Moved a b l) (sym same) moved
 
   module _ {K : Type 0} (kept : K → KeeperState) (keeps : Below K PrState) where
-    pub moved_event : (old new : DriveState (BufferState D) K) (event : Event) (made : Made)
-        → Does (state_of state) (buffer_below state) kept keeps old event made new
+    pub moved_event : (old new : DriveState (BufferState D) K) (event : Event OfDrive) (reply : Option Reply)
+        (made : Made) → Does (state_of state) (buffer_below state) kept keeps old event reply made new
         → Moved (medium_in old.bay) (medium_in new.bay) made.changes
-    moved_event old new (Asked request reply) made (answers, same) =
+    moved_event old new (Execute request) (Some reply) made (answers, same) =
         moved_as (medium_in old.bay) (medium_in new.bay) answers.taken.made.changes made.changes
         (ap (λ (m : Made). m.changes) same)
         (moved_by (medium_in old.bay) (medium_in new.bay) answers.taken.made.changes (is_device_fault answers.answer)
         answers.taken.advances)
-    moved_event old new (Turned turn) made (takes, same) =
+    moved_event old new FlushTurn None made (turn, takes, same) =
         moved_as (medium_in old.bay) (medium_in new.bay) [] made.changes (ap (λ (m : Made). m.changes) same)
         (moved_by (medium_in old.bay) (medium_in new.bay) [] (turn_met_fault turn) takes.advances)
+    moved_event old new (Execute request) None made does = absurd does
+    moved_event old new FlushTurn (Some reply) made does = absurd does
+    moved_event old new (Load medium) reply made does = absurd does
+    moved_event old new (Insert medium) reply made does = absurd does
+    moved_event old new Unload reply made does = absurd does
+    moved_event old new (PowerOn medium keeper) reply made does = absurd does
 
-    moved_all : (old new : DriveState (BufferState D) K) (events : List Event) (made : Made)
-        → DoesAll (state_of state) (buffer_below state) kept keeps old events made new
+    moved_all : (old new : DriveState (BufferState D) K) (events : List (Event OfDrive))
+        (replies : List (Option Reply)) (made : Made)
+        → DoesAll (state_of state) (buffer_below state) kept keeps old events replies made new
         → Moved (medium_in old.bay) (medium_in new.bay) made.changes
-    moved_all old new [] made (same, is) =
+    moved_all old new [] [] made (same, is) =
         moved_as (medium_in old.bay) (medium_in new.bay) [] made.changes (ap (λ (m : Made). m.changes) same)
         (subst (λ (d : DriveState (BufferState D) K). Moved (medium_in old.bay) (medium_in d.bay) []) (sym is)
         (moved_nowhere (medium_in old.bay)))
-    moved_all old new (event ∷ events) made (mid, first, rest, one, others, same) =
+    moved_all old new (event ∷ events) (reply ∷ replies) made (mid, first, rest, one, others, same) =
         moved_as (medium_in old.bay) (medium_in new.bay) (first.changes ++ rest.changes) made.changes
         (ap (λ (m : Made). m.changes) same)
         (moved_on (medium_in old.bay) (medium_in mid.bay) (medium_in new.bay) first.changes rest.changes
-        (moved_event old mid event first one) (moved_all mid new events rest others))
+        (moved_event old mid event reply first one) (moved_all mid new events replies rest others))
+    moved_all old new [] (reply ∷ replies) made does = absurd does
+    moved_all old new (event ∷ events) [] made does = absurd does
 
   -- where nothing is pending, all that was accepted is safe: for an open cartridge, and for one that is not loaded
   safe_open : (c : OpenCartridge D) (pending : List Change) → c.failed ≡ false → pending ≡ []
@@ -197,11 +207,12 @@ module _ {D : Type 0} (state : D → DiskState) (is_disk : (disk : D) → (state
           subst (HonestOn state) (sym known_a.disks_are) known_a.honest
 
       pub stops_keep_changes : StopsKeepChanges state kept keeps
-      stops_keep_changes old acked new medium request reply events made at known answers sure told nothing on event =
+      stops_keep_changes old acked new medium request reply events replies made at known answers sure told nothing on
+          does =
           keep_media (medium_in old.bay) (medium_in acked.bay) (medium_in new.bay) medium answers.taken.made.changes
           made.changes at known
           (moved_by (medium_in old.bay) (medium_in acked.bay) answers.taken.made.changes
           (is_device_fault answers.answer) answers.taken.advances)
-          (moved_all kept keeps acked new events made event)
+          (moved_all kept keeps acked new events replies made does)
           (λ left is. safe_in kept (HonestIn (buffer_below state) (medium_in old.bay)) acked acked.bay left refl is
           (honest_in (medium_in old.bay) medium at known) on nothing)

@@ -14,12 +14,12 @@ use Rattle.aptpl_store.specs.Kept.{store_below, store_kept}
 use Rattle.drive_commands.specs.Relations.{made_nothing}
 use Rattle.drive_commands.specs.State.{medium_in}
 use Rattle.drive_commands.specs.Execute.{is_device_fault}
-use Rattle.drive_commands.specs.Run.{Turned}
+use Rattle.drive_commands.specs.Events.{Carry, Event, FlushTurn, InDrive, OfLibrary, WriteOut}
 use Rattle.element_slots.specs.Slots.{held_at, is_slot}
 use Rattle.bay_moves.specs.Bays.{IsSafeIn}
 use Rattle.bay_moves.specs.Elements.{BayState, HeldState, bay_at, cartridge_at, cartridge_in}
 use Rattle.bay_moves.specs.Finish.{TurnsAt}
-use Rattle.bay_moves.specs.Journeys.{Deed, Finishing, GoesWith, GoesWithAll, InDrive, IsThen, KeepsWhatIsSafe, Moving, StopsKeepWhatIsMoved}
+use Rattle.bay_moves.specs.Journeys.{GoesWith, GoesWithAll, IsThen, KeepsWhatIsSafe, StopsKeepWhatIsMoved}
 use Rattle.bay_moves.specs.Moves.{IsSameAt, KeepsCartridges, StaysAt}
 use Rattle.bay_moves.proofs.CartridgeLemmas.{Moved, honest_in, keep_media, moved_as, moved_by, moved_event, moved_nowhere, moved_on}
 use Rattle.bay_moves.proofs.PlaceLemmas.{bay_elsewhere, bay_here, in_bay, same_or_not}
@@ -96,7 +96,8 @@ module _ {D : Type 0} (state : D → DiskState) (is_disk : (disk : D) → (state
   turned None (Some new) turns = absurd turns
   turned (Some old) None turns = absurd turns
   turned (Some old) (Some new) turns =
-      moved_event state is_disk store_kept (store_below state) old new (Turned turns.0) made_nothing (turns.1, refl)
+      moved_event state is_disk store_kept (store_below state) old new FlushTurn None made_nothing
+      (turns.0, turns.1, refl)
 
   -- a cartridge while all is written out
   written : (old new : HeldState D) (place : ℕ)
@@ -119,48 +120,57 @@ module _ {D : Type 0} (state : D → DiskState) (is_disk : (disk : D) → (state
           (ap (λ (b : Bool). at b old) is) (ap (λ (b : Bool). at b new) is)
           (turned (bay_at old.bays place) (bay_at new.bays place) (turns place))
 
-  -- a cartridge through a deed
-  moved_with : (old new : HeldState D) (place after : ℕ) (deed : Deed) (changes : List Change) (medium : BufferState D)
-      → cartridge_at old place ≡ Some medium → GoesWith state old place deed changes new after
+  -- a cartridge through an event
+  moved_with : (old new : HeldState D) (place after : ℕ) (event : Event OfLibrary) (reply : Option Reply)
+      (changes : List Change) (medium : BufferState D) → cartridge_at old place ≡ Some medium
+      → GoesWith state old place event reply changes new after
       → Moved state is_disk (cartridge_at old place) (cartridge_at new after) changes
-  moved_with old new place after (InDrive number event) changes medium there (made, did, is, inl (here, same)) =
+  moved_with old new place after (InDrive number event) reply changes medium there
+      (made, did, is, inl (here, same)) =
       between (medium_in did.bay.bay) (cartridge_at old place) (medium_in did.left.bay) (cartridge_at new after) changes
       (ap (λ (n : ℕ). cartridge_at old n) (sym here) ∙ in_bay number did.bay old did.number_is did.is)
       (ap (λ (n : ℕ). cartridge_at new n) (is ∙ sym here) ∙ bay_here number did.left old new did.number_is did.now)
       (moved_as state is_disk (medium_in did.bay.bay) (medium_in did.left.bay) made.changes changes same
-      (moved_event state is_disk store_kept (store_below state) did.bay did.left event made did.does))
-  moved_with old new place after (InDrive number event) changes medium there (made, did, is, inr (apart, none)) =
+      (moved_event state is_disk store_kept (store_below state) did.bay did.left event reply made did.does))
+  moved_with old new place after (InDrive number event) reply changes medium there
+      (made, did, is, inr (apart, none)) =
       moved_as state is_disk (cartridge_at old place) (cartridge_at new after) [] changes none
       (unmoved (cartridge_at old place) (cartridge_at new after)
       (ap (λ (n : ℕ). cartridge_at new n) is
       ∙ bay_elsewhere number did.left old new did.now place (λ same. apart (sym same))))
-  moved_with old new place after (Moving from to reply) changes medium there (moves, kept, is, none) =
+  moved_with old new place after (Carry from to) (Some reply) changes medium there (moves, kept, is, none) =
       moved_as state is_disk (cartridge_at old place) (cartridge_at new after) [] changes none
       (moved_along old new from to place after reply medium there kept is)
-  moved_with old new place after (Finishing result) changes medium there (writes, is, none) =
+  moved_with old new place after WriteOut None changes medium there (result, writes, is, none) =
       moved_as state is_disk (cartridge_at old place) (cartridge_at new after) [] changes none
       (between (cartridge_at old place) (cartridge_at old place) (cartridge_at new place) (cartridge_at new after) []
       refl (ap (λ (n : ℕ). cartridge_at new n) is) (written old new place writes.turns writes.slots))
+  moved_with old new place after (Carry from to) None changes medium there goes = absurd goes
+  moved_with old new place after WriteOut (Some reply) changes medium there goes = absurd goes
 
-  moved_with_all : (old new : HeldState D) (place after : ℕ) (deeds : List Deed) (changes : List Change)
+  moved_with_all : (old new : HeldState D) (place after : ℕ) (events : List (Event OfLibrary))
+      (replies : List (Option Reply)) (changes : List Change)
       (medium : BufferState D) → cartridge_at old place ≡ Some medium
-      → GoesWithAll state old place deeds changes new after
+      → GoesWithAll state old place events replies changes new after
       → Moved state is_disk (cartridge_at old place) (cartridge_at new after) changes
-  moved_with_all old new place after [] changes medium there (none, same, is) =
+  moved_with_all old new place after [] [] changes medium there (none, same, is) =
       moved_as state is_disk (cartridge_at old place) (cartridge_at new after) [] changes none
       (unmoved (cartridge_at old place) (cartridge_at new after)
       (ap (λ (n : ℕ). cartridge_at new n) is ∙ ap (λ (h : HeldState D). cartridge_at h place) same))
-  moved_with_all old new place after (deed ∷ deeds) changes medium there (mid, at, first, rest, one, others, same) =
-      let here = moved_with old mid place at deed first medium there one in
+  moved_with_all old new place after (event ∷ events) (reply ∷ replies) changes medium there
+      (mid, at, first, rest, one, others, same) =
+      let here = moved_with old mid place at event reply first medium there one in
       let later = still_there (cartridge_at old place) (cartridge_at mid at) first medium there here in
       moved_as state is_disk (cartridge_at old place) (cartridge_at new after) (first ++ rest) changes same
       (moved_on state is_disk (cartridge_at old place) (cartridge_at mid at) (cartridge_at new after) first rest here
-      (moved_with_all mid new at after deeds rest later.0 later.1 others))
+      (moved_with_all mid new at after events replies rest later.0 later.1 others))
+  moved_with_all old new place after [] (reply ∷ replies) changes medium there goes = absurd goes
+  moved_with_all old new place after (event ∷ events) [] changes medium there goes = absurd goes
 
   module _ (crash : CrashesKeepAcknowledged medium_rules (two_disks state)) (cores : StepsKeepCores medium_rules) where
     pub stops_keep_what_is_moved : StopsKeepWhatIsMoved state
-    stops_keep_what_is_moved old acked new number after medium request reply deeds changes at known answers sure told
-        goes =
+    stops_keep_what_is_moved old acked new number after medium request reply events replies changes at known answers
+        sure told goes =
         let taken = answers.step.taken in
         let was : cartridge_at old number ≡ medium_in answers.bay.bay =
         in_bay number answers.bay old answers.number_is answers.is in
@@ -178,14 +188,14 @@ module _ {D : Type 0} (state : D → DiskState) (is_disk : (disk : D) → (state
         inside known) in
         keep_media state is_disk crash cores (cartridge_at old number) (cartridge_at acked number)
         (cartridge_at new after) medium taken.made.changes changes at known first
-        (moved_with_all acked new number after deeds changes later.0 later.1 goes)
+        (moved_with_all acked new number after events replies changes later.0 later.1 goes)
         (λ left there. subst (λ (m : Option (BufferState D)). IsSafeIn state m) (sym is ∙ there) safe)
 
     pub keeps_what_is_safe : KeepsWhatIsSafe state
-    keeps_what_is_safe old new place after medium deeds changes at known safe goes =
+    keeps_what_is_safe old new place after medium events replies changes at known safe goes =
         keep_media state is_disk crash cores (cartridge_at old place) (cartridge_at old place)
         (cartridge_at new after) medium [] changes at known
         (unmoved (cartridge_at old place) (cartridge_at old place) refl)
-        (moved_with_all old new place after deeds changes medium at goes)
+        (moved_with_all old new place after events replies changes medium at goes)
         (λ left there. let same : medium ≡ left = cc in
         subst (λ (m : BufferState D). CanAcknowledge (medium_core state m)) same safe)

@@ -1,4 +1,4 @@
--- What a call of a drive leaves at each moment inside it, of its cartridge and of its store.
+-- What an event of a drive leaves at each moment inside it, of its cartridge and of its store.
 use Rattle.std.proofs.Common.{◌≡◌, ap, inl, inr, ℕ, List, [], Option, None, Some, Result, Ok, Err, refl, sym, subst}
 use Rattle.tape_disk.specs.Disk.{DiskState, Each, IsDisk}
 use Rattle.tape_disk.specs.Moments.{LeavesOnly, no_call}
@@ -31,10 +31,10 @@ use Rattle.drive_commands.specs.State.{medium_in}
 use Rattle.drive_commands.specs.Work.{Request}
 use Rattle.bay_moves.specs.Bays.{AnswersInEvent, AnswersLentInEvent, EventIn, EventOn, EveryMoment, EveryMomentOff, EveryMomentOn, IsSafeIn, KeepsBoth, KeepsCartridge, KeepsCartridgeIn, SavesIn, loaded_or_back, out_or_in}
 use Rattle.bay_moves.specs.Elements.{BayState}
-use Rattle.drive_commands.specs.Run.{Asked, Event, Turned}
-use Rattle.bay_moves.specs.Reservations.{CallDoes, ChangesBay, GivesHeld, HoldingGives, HoldingGoesOn, IsHolding, disk_of}
+use Rattle.drive_commands.specs.Events.{Event, Execute, FlushTurn, Insert, Load, OfDrive, Unload}
+use Rattle.bay_moves.specs.Reservations.{GivesHeld, GoesBy, HoldingGives, HoldingGoesOn, IsHolding, disk_of}
 use Rattle.bay_moves.specs.Reservations as call
-use Rattle.bay_moves.proofs.CallLemmas.{carried_stays}
+use Rattle.bay_moves.proofs.CallLemmas.{ChangesBay, bay_stays}
 use Rattle.bay_moves.proofs.CartridgeLemmas.{Moved, moved_by, moved_nowhere}
 use Rattle.bay_moves.proofs.StoreCoreLemmas.{to_core}
 
@@ -186,33 +186,33 @@ module _ {D : Type 0} (state : D → DiskState) (is_disk : (disk : D) → (state
   safe_where (Some medium) each = each medium refl
 
   module _ (goes_on : HoldingGoesOn (state_of state) (buffer_below state) state) where
-    -- the invariant of both holds after a call
-    pub call_keeps : (old new : BayState D) (call : Option Event) → KeepsBoth state old
-        → CallDoes (state_of state) (buffer_below state) state old call new → KeepsCartridgeIn state (medium_in new.bay)
+    -- the invariant of both holds after an event
+    pub event_keeps : (old new : BayState D) (event : Event OfDrive) → KeepsBoth state old
+        → GoesBy (state_of state) (buffer_below state) state old event new → KeepsCartridgeIn state (medium_in new.bay)
         → KeepsBoth state new
-    call_keeps old new call keeps does known =
-        record { cartridge = known; reservations = (goes_on old new call keeps.reservations does).0 }
+    event_keeps old new event keeps does known =
+        record { cartridge = known; reservations = (goes_on old new event keeps.reservations does).0 }
 
-    -- at each moment inside the call a crash leaves what this says
-    every_moment : (old new : BayState D) (call : Option Event) (made : Made) (before after : Option (BufferState D))
-        → KeepsBoth state old → CallDoes (state_of state) (buffer_below state) state old call new
+    -- at each moment inside the event a crash leaves what this says
+    every_moment : (old new : BayState D) (event : Event OfDrive) (made : Made) (before after : Option (BufferState D))
+        → KeepsBoth state old → GoesBy (state_of state) (buffer_below state) state old event new
         → KeepsCartridgeIn state before → Moved state is_disk before after made.changes
-        → StoreMoves state old.keeper made.saved new.keeper → EveryMoment state old call made before after new
-    every_moment old new call made before after keeps does known moved saves =
+        → StoreMoves state old.keeper made.saved new.keeper → EveryMoment state old event made before after new
+    every_moment old new event made before after keeps does known moved saves =
         record {
           cartridge = event_in before after made.changes known moved;
           saves = saves_in old new.keeper made.saved keeps.reservations saves;
-          reservations = λ honest. ((goes_on old new call keeps.reservations does).1 honest).1;
+          reservations = λ honest. ((goes_on old new event keeps.reservations does).1 honest).1;
         }
 
     asked_moments : (old new : BayState D) (request : Request) (reply : Reply) → KeepsBoth state old
         → (answers : Answers (state_of state) (buffer_below state) store_kept (store_below state) old request reply new)
-        → EveryMoment state old (Some (Asked request reply)) answers.taken.made (medium_in old.bay)
+        → EveryMoment state old (Execute request) answers.taken.made (medium_in old.bay)
         (medium_in new.bay) new
     asked_moments old new request reply keeps answers =
-        every_moment old new (Some (Asked request reply)) answers.taken.made (medium_in old.bay)
+        every_moment old new (Execute request) answers.taken.made (medium_in old.bay)
         (medium_in new.bay) keeps
-        answers keeps.cartridge
+        (reply, answers) keeps.cartridge
         (moved_by state is_disk (medium_in old.bay) (medium_in new.bay) answers.taken.made.changes
         (is_device_fault answers.answer) answers.taken.advances)
         answers.taken.saves.moved
@@ -232,41 +232,44 @@ module _ {D : Type 0} (state : D → DiskState) (is_disk : (disk : D) → (state
 
     pub turn_moments : (old new : BayState D) (turn : Turn) → KeepsBoth state old
         → TakesTurn (state_of state) (buffer_below state) store_kept old turn new
-        → EveryMoment state old (Some (Turned turn)) made_nothing (medium_in old.bay) (medium_in new.bay) new
+        → EveryMoment state old FlushTurn made_nothing (medium_in old.bay) (medium_in new.bay) new
     turn_moments old new turn keeps takes =
-        every_moment old new (Some (Turned turn)) made_nothing (medium_in old.bay) (medium_in new.bay) keeps takes
+        every_moment old new FlushTurn made_nothing (medium_in old.bay) (medium_in new.bay) keeps (turn, takes)
         keeps.cartridge
         (moved_by state is_disk (medium_in old.bay) (medium_in new.bay) [] (turn_met_fault turn) takes.advances)
         (saves_nothing old.keeper new.keeper takes.keeper)
 
     -- of a cartridge that is loaded or unloaded
-    moved_moments : (old new : BayState D) (before after : Option (BufferState D)) → KeepsBoth state old
-        → ChangesBay (state_of state) (buffer_below state) state old new → KeepsCartridgeIn state before
-        → Moved state is_disk before after [] → EveryMoment state old None made_nothing before after new
-    moved_moments old new before after keeps does known moved =
-        every_moment old new None made_nothing before after keeps does known moved
+    bay_moments : (old new : BayState D) (event : Event OfDrive) (before after : Option (BufferState D))
+        → ChangesBay event → KeepsBoth state old
+        → GoesBy (state_of state) (buffer_below state) state old event new → KeepsCartridgeIn state before
+        → Moved state is_disk before after [] → EveryMoment state old event made_nothing before after new
+    bay_moments old new event before after changes keeps goes known moved =
+        every_moment old new event made_nothing before after keeps goes known moved
         (saves_nothing old.keeper new.keeper
-        (carried_stays (state_of state) (buffer_below state) state old new does).0)
+        (bay_stays (state_of state) (buffer_below state) state old new event changes goes).0)
 
     pub load_moments : (old new : BayState D) (given : BufferState D) (result : Result Unit (BufferState D × Reply))
         → KeepsBoth state old → KeepsCartridge state given
         → TakesIn (state_of state) (buffer_below state) old given result new
-        → EveryMoment state old None made_nothing (Some given) (loaded_or_back state result new) new
+        → EveryMoment state old (Load (state_of state given)) made_nothing (Some given)
+        (loaded_or_back state result new) new
     load_moments old new given result keeps known takes =
-        moved_moments old new (Some given) (loaded_or_back state result new) keeps (inl (given, result, takes)) known
-        (taken_moved old given result new takes)
+        bay_moments old new (Load (state_of state given)) (Some given) (loaded_or_back state result new) tt keeps
+        (given, refl, result, takes) known (taken_moved old given result new takes)
 
     pub insert_moments : (old new : BayState D) (given : BufferState D) → KeepsBoth state old
         → KeepsCartridge state given → new ≡ record old { bay = Unloaded given }
-        → EveryMoment state old None made_nothing (Some given) (medium_in new.bay) new
+        → EveryMoment state old (Insert (state_of state given)) made_nothing (Some given) (medium_in new.bay) new
     insert_moments old new given keeps known is =
-        moved_moments old new (Some given) (medium_in new.bay) keeps (inr (inl (given, is))) known
+        bay_moments old new (Insert (state_of state given)) (Some given) (medium_in new.bay) tt keeps
+        (given, refl, is) known
         (subst (λ (d : BayState D). Moved state is_disk (Some given) (medium_in d.bay) []) (sym is)
         (moved_nowhere state is_disk (Some given)))
 
     pub out_moments : (old new : BayState D) (result : Result (BufferState D) Reply) → KeepsBoth state old
         → GoesOutOf (state_of state) (buffer_below state) old.bay old result new
-        → EveryMoment state old None made_nothing (medium_in old.bay) (out_or_in state result new) new
+        → EveryMoment state old Unload made_nothing (medium_in old.bay) (out_or_in state result new) new
     out_moments old new result keeps goes =
-        moved_moments old new (medium_in old.bay) (out_or_in state result new) keeps (inr (inr (result, goes)))
+        bay_moments old new Unload (medium_in old.bay) (out_or_in state result new) tt keeps (result, goes)
         keeps.cartridge (out_moved old.bay old result new refl goes)

@@ -8,13 +8,14 @@ use Rattle.tape_disk.specs.Disk.{DiskState}
 use Rattle.scsi_sense.specs.declared.replies.Reply.{Reply}
 use Rattle.volume_core.specs.declared.changes.Change.{Change}
 use Rattle.drive_commands.specs.declared.faults.Fault.{Fault}
-use Rattle.drive_commands.specs.Determined.{AllAskAlike, BringsSure, HonestStepsAreSteps, InRun, IsCalm, IsSureDrive, IsSureInput, RunsAreDetermined, RunsStaySure, seen_of, without_turns}
+use Rattle.drive_commands.specs.Determined.{AllAskAlike, BringsSure, HonestStepsAreSteps, InRun, IsCalm, IsSureDrive, IsSureEvent, RunsAreDetermined, RunsStaySure, seen_of, without_turns}
 use Rattle.drive_commands.specs.Execute.{HonestIn}
 use Rattle.drive_commands.specs.Faults.{reply_of}
 use Rattle.drive_commands.specs.Relations.{Made}
 use Rattle.drive_commands.specs.Run.{Run, ServedByRuns}
 use Rattle.drive_commands.specs.State.{Machine, medium_in}
-use Rattle.drive_commands.specs.Step.{Input, Execute, Output, Answered, replies_of}
+use Rattle.drive_commands.specs.Events.{Event, Execute, OfDrive, OfLibrary}
+use Rattle.drive_commands.specs.Step.{Output, Answered, replies_of}
 use Rattle.drive_commands.specs.Work.{Request}
 use Rattle.tape_buffer.specs.Moves.{buffer_below}
 use Rattle.tape_buffer.specs.State.{state_of}
@@ -28,7 +29,7 @@ use Rattle.vtl_script.specs.Runs.{RunsScript}
 use Rattle.vtl_script.specs.Text.{text_of}
 use Rattle.bay_moves.specs.Elements.{BayState, HeldState, bay_at}
 use Rattle.bay_moves.specs.OneHost.{AnswersLines, LibraryAnswersHost, IsHonestBay, MayReply, RunsTo, beside, machine_in, requests_at}
-use Rattle.bay_moves.specs.Runs.{AnswersOrders, Command, LibraryAnswers, Order, is_configured_in, line_request, orders_of}
+use Rattle.bay_moves.specs.Runs.{AnswersEvents, LibraryAnswers, events_of, is_configured_in, line_event, line_request}
 use Rattle.bay_moves.proofs.BesideLemmas.{beside_map, beside_nothing, dealt, same_beside}
 use Rattle.bay_moves.proofs.ServedLemmas.{counted, found_same, none_asked, orders_are, served_at}
 
@@ -40,7 +41,7 @@ ask_alike (request ∷ requests) = (refl, ask_alike requests)
 -- there is no flusher's turn among requests
 no_turns : (requests : List Request) → without_turns (map Execute requests) ≡ map Execute requests
 no_turns [] = refl
-no_turns (request ∷ requests) = ap (λ (rest : List Input). Execute request ∷ rest) (no_turns requests)
+no_turns (request ∷ requests) = ap (λ (rest : List (Event OfDrive)). Execute request ∷ rest) (no_turns requests)
 
 -- replies without a fault are the replies of the outputs
 replies_among : (replies : List Reply) → replies_of (map Answered (map Ok replies)) ≡ replies
@@ -63,27 +64,27 @@ bring_nothing requests = All-map BringsSure Execute requests (λ k d h. tt)
 
 -- a run over a medium that is honest is a run of the machine
 run_over : {M : Type 0} (honest : M → Type 0) → HonestStepsAreSteps honest → (medium : M) → honest medium
-    → (old : Machine) (inputs : List Input) (outputs : List Output) (made : Made) (new : Machine)
-    → Run (honest medium) old inputs outputs made new → Run (Unit {0}) old inputs outputs made new
+    → (old : Machine) (events : List (Event OfDrive)) (outputs : List Output) (made : Made) (new : Machine)
+    → Run (honest medium) old events outputs made new → Run (Unit {0}) old events outputs made new
 run_over honest steps medium is old [] [] made new run = run
-run_over honest steps medium is old (input ∷ inputs) (output ∷ outputs) made new run = (
+run_over honest steps medium is old (event ∷ events) (output ∷ outputs) made new run = (
   run.0,
   run.1,
   run.2,
-  steps medium old input output run.1 run.0 is run.3,
-  run_over honest steps medium is run.0 inputs outputs run.2 new run.4,
+  steps medium old event output run.1 run.0 is run.3,
+  run_over honest steps medium is run.0 events outputs run.2 new run.4,
   run.5,
 )
 run_over honest steps medium is old [] (output ∷ outputs) made new run = absurd run
-run_over honest steps medium is old (input ∷ inputs) [] made new run = absurd run
+run_over honest steps medium is old (event ∷ events) [] made new run = absurd run
 
 run_in : {M : Type 0} (below : Below M Change) → HonestStepsAreSteps below.honest → (medium : Option M)
     → HonestIn below medium
-    → (old : Machine) (inputs : List Input) (outputs : List Output) (made : Made) (new : Machine)
-    → Run (HonestIn below medium) old inputs outputs made new → Run (Unit {0}) old inputs outputs made new
-run_in below steps None is old inputs outputs made new run = run
-run_in below steps (Some medium) is old inputs outputs made new run =
-    run_over below.honest steps medium is old inputs outputs made new run
+    → (old : Machine) (events : List (Event OfDrive)) (outputs : List Output) (made : Made) (new : Machine)
+    → Run (HonestIn below medium) old events outputs made new → Run (Unit {0}) old events outputs made new
+run_in below steps None is old events outputs made new run = run
+run_in below steps (Some medium) is old events outputs made new run =
+    run_over below.honest steps medium is old events outputs made new run
 
 -- the laws of the machine and of scripts
 pub record Laws {D : Type 0} (state : D → DiskState) : Type 0 where
@@ -103,17 +104,17 @@ module _ {D : Type 0} (state : D → DiskState) (laws : Laws state) where
       → MayReply state requests others bay → silent ≡ others
   shown_alike bay requests silent others made end honest sure run may =
       let own = map Execute requests in
-      let alike : AllAskAlike (without_turns own) (without_turns may.inputs) =
-      subst (λ (xs : List Input). AllAskAlike (without_turns own) xs) (sym may.asked)
-      (subst (λ (xs : List Input). AllAskAlike xs own) (sym (no_turns requests)) (ask_alike requests)) in
+      let alike : AllAskAlike (without_turns own) (without_turns may.events) =
+      subst (λ (xs : List (Event OfDrive)). AllAskAlike (without_turns own) xs) (sym may.asked)
+      (subst (λ (xs : List (Event OfDrive)). AllAskAlike xs own) (sym (no_turns requests)) (ask_alike requests)) in
       let answered = map Answered (map Ok silent) in
       let taken : Run (Unit {0}) (machine_in state bay) own answered made end =
       run_in (buffer_below state) laws.steps (medium_in bay.bay) honest (machine_in state bay) own answered made end
       run in
-      let opens : InRun IsSureInput (machine_in state bay) own answered made end taken =
+      let opens : InRun IsSureEvent (machine_in state bay) own answered made end taken =
       laws.stay (machine_in state bay) own answered made end sure (bring_nothing requests) (all_calm silent) taken in
       let same =
-      laws.determined (machine_in state bay) (machine_in state bay) own may.inputs answered may.outputs made may.made
+      laws.determined (machine_in state bay) (machine_in state bay) own may.events answered may.outputs made may.made
       end
       may.end refl alike (all_calm silent) may.calm taken opens may.run in
       sym (replies_among silent) ∙ same.outputs ∙ sym may.replied
@@ -128,7 +129,7 @@ module _ {D : Type 0} (state : D → DiskState) (laws : Laws state) where
         → RunsTo state number (requests_at number lines) answers bay new
 
   hand_of : (number : ℕ) (lines : List Line) (replies : List Reply) (old new : HeldState D)
-      → AnswersOrders state old (map Command lines) replies new
+      → AnswersEvents state old (map line_event lines) replies new
       → (found : Option (BayState D)) → bay_at old.bays number ≡ found → Hand number lines replies old new
   hand_of number lines replies old new ran None none = record {
     answers = [];
@@ -151,7 +152,7 @@ module _ {D : Type 0} (state : D → DiskState) (laws : Laws state) where
   -- two lists of replies that each drive may have given are the same for its lines
   agree : (number : ℕ) (lines : List Line) (replies silent others : List Reply) (old new : HeldState D)
       (answers : List (Result Reply Fault))
-      → AnswersOrders state old (map Command lines) replies new → answers ≡ map Ok silent
+      → AnswersEvents state old (map line_event lines) replies new → answers ≡ map Ok silent
       → ((bay : BayState D) → bay_at old.bays number ≡ Some bay
       → RunsTo state number (requests_at number lines) (beside number lines answers) bay new)
       → ((bay : BayState D) → bay_at old.bays number ≡ Some bay → requests_at number lines ≢ []
@@ -185,7 +186,7 @@ module _ {D : Type 0} (state : D → DiskState) (laws : Laws state) where
 
   -- commands that were answered one after another
   lines_answered : (lines : List Line) (replies : List Reply) (old new : HeldState D) (before now : Option (List ℕ))
-      → AnswersOrders state old (map Command lines) replies new → Appends before now (text_of replies)
+      → AnswersEvents state old (map line_event lines) replies new → Appends before now (text_of replies)
       → AnswersLines state lines old before new now
   lines_answered lines replies old new before now ran written =
       let hands : (number : ℕ) → Hand number lines replies old new =
@@ -225,13 +226,13 @@ module _ {D : Type 0} (state : D → DiskState) (laws : Laws state) where
         text = runs.text;
         known = runs.known;
         answered = λ host alone.
-            let orders : flat_map orders_of runs.items ≡ map Command (commands_in parsed_list) =
-            ap (flat_map orders_of) runs.ended.2
+            let events : flat_map events_of runs.items ≡ map line_event (commands_in parsed_list) =
+            ap (flat_map events_of) runs.ended.2
             ∙ orders_are (items_to_run parsed_list) (laws.no_moves parsed_list alone.no_move)
-            ∙ ap (map Command) (laws.in_order host parsed_list alone.commands runs.ended.1) in
-            let ran : AnswersOrders state old (map Command (commands_in parsed_list)) runs.replies new =
-            subst (λ (os : List Order). AnswersOrders state old os runs.replies new) orders
-            (subst (λ (held : HeldState D). AnswersOrders state old (flat_map orders_of runs.items) runs.replies held)
+            ∙ ap (map line_event) (laws.in_order host parsed_list alone.commands runs.ended.1) in
+            let ran : AnswersEvents state old (map line_event (commands_in parsed_list)) runs.replies new =
+            subst (λ (os : List (Event OfLibrary)). AnswersEvents state old os runs.replies new) events
+            (subst (λ (held : HeldState D). AnswersEvents state old (flat_map events_of runs.items) runs.replies held)
             (sym runs.ended.3.0) runs.answered) in
             lines_answered (commands_in parsed_list) runs.replies old new before now ran runs.ended.3.1;
       }

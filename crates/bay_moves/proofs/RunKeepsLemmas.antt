@@ -1,5 +1,5 @@
--- What survives a run of orders over a library.
-use Rattle.std.proofs.Common.{◌≡◌, ◌≢◌, ◌⊎◌, ◌++◌, ◌∙◌, inl, inr, ℕ, Bool, true, List, [], ◌∷◌, Option, Some, Result, Ok, Err, flat_map, refl, sym, ap, subst}
+-- What survives while a library is asked one thing after another.
+use Rattle.std.proofs.Common.{◌≡◌, ◌≢◌, ◌⊎◌, ◌++◌, ◌∙◌, inl, inr, ℕ, Bool, true, List, [], ◌∷◌, Option, Some, Result, Ok, Err, flat_map, map, refl, sym, ap, subst}
 use Rattle.tape_disk.specs.Disk.{DiskState}
 use Rattle.tape_disk.specs.TwoDisks.{AreHonest, TwoDisks}
 use Rattle.scsi_sense.specs.declared.replies.Reply.{Reply}
@@ -15,31 +15,31 @@ use Rattle.aptpl_store.specs.Kept.{store_kept}
 use Rattle.drive_commands.specs.declared.bays.Bay.{Bay}
 use Rattle.drive_commands.specs.declared.bays.Bay.TheVariants.{Loaded}
 use Rattle.drive_commands.specs.State.{IsBayPositioned, machine_of, medium_in}
-use Rattle.drive_commands.specs.Run.{Asked}
+use Rattle.drive_commands.specs.Events.{Carry, Event, Execute, FlushTurn, InDrive, Insert, Load, OfLibrary, PowerOn, Unload, WriteOut}
+use Rattle.drive_commands.specs.Work.{Request}
 use Rattle.drive_commands.specs.Synchronize.{IsSynchronizing}
 use Rattle.vtl_script.specs.declared.faults.ScriptFault.{ScriptFault}
 use Rattle.vtl_script.specs.declared.faults.ScriptFault.TheVariants as faults
 use Rattle.vtl_script.specs.declared.items.Item.{Item}
-use Rattle.vtl_script.specs.declared.lines.Line.{Line}
 use Rattle.vtl_script.specs.Runs.{RunsScript, ScriptEnds}
 use Rattle.vtl_script.specs.declared.lines.ParsedLine.{ParsedLine}
 use Rattle.bay_moves.specs.Bays.{KeepsCartridge, KeepsCartridgeIn}
 use Rattle.bay_moves.specs.Cartridges.{IsKnown}
 use Rattle.bay_moves.specs.Commands.{Commands}
 use Rattle.bay_moves.specs.Elements.{BayState, HeldState}
-use Rattle.bay_moves.specs.Inner.RunsOn.{orders_on}
+use Rattle.bay_moves.specs.Inner.RunsOn.{held_on}
 use Rattle.bay_moves.specs.Journeys.{DriveDoes, GoesWith, GoesWithAll, KeepsWhatIsSafe, StopsKeepWhatIsMoved}
-use Rattle.bay_moves.specs.RunKeeps.{AnswersKeeping, KeptSince, RunKeeps, deed_of, deeds_of}
-use Rattle.bay_moves.specs.Runs.{AnswersOrder, AnswersOrders, Carry, Command, LibraryAnswers, Order, line_request, orders_of}
+use Rattle.bay_moves.specs.RunKeeps.{AnswersKeeping, KeptSince, RunKeeps}
+use Rattle.bay_moves.specs.Runs.{AnswersEvent, AnswersEvents, LibraryAnswers, events_of}
 use Rattle.bay_moves.proofs.PlaceLemmas.{in_bay, same_or_not}
 use Rattle.bay_moves.proofs.ServedLemmas.{found_same}
 
 module _ {D : Type 0} (state : D → DiskState) where
-  -- a command is one use of its drive
-  does : (old mid : HeldState D) (line : Line) (reply : Reply)
-      → (one : Commands state line.drive (line_request line) old reply mid)
-      → DriveDoes state line.drive (Asked (line_request line) reply) one.step.taken.made old mid
-  does old mid line reply one =
+  -- a command is an event of its drive
+  does : (old mid : HeldState D) (number : ℕ) (request : Request) (reply : Reply)
+      → (one : Commands state number request old reply mid)
+      → DriveDoes state number (Execute request) (Some reply) one.step.taken.made old mid
+  does old mid number request reply one =
       record {
         number_is = one.number_is;
         bay = one.bay;
@@ -49,41 +49,48 @@ module _ {D : Type 0} (state : D → DiskState) where
         now = one.now;
       }
 
-  -- a cartridge through an order
-  goes_one : (old mid : HeldState D) (place : ℕ) (order : Order) (reply : Reply)
-      → AnswersOrder state old order reply mid
-      → (after : ℕ) × (changes : List Change) × GoesWith state old place (deed_of order reply) changes mid after
-  goes_one old mid place (Command line) reply one = by (same_or_not line.drive place)
+  -- a cartridge through an event that is answered
+  goes_one : (old mid : HeldState D) (place : ℕ) (event : Event OfLibrary) (reply : Reply)
+      → AnswersEvent state old event reply mid
+      → (after : ℕ) × (changes : List Change) × GoesWith state old place event (Some reply) changes mid after
+  goes_one old mid place (InDrive number (Execute request)) reply one = by (same_or_not number place)
     where
-      by : (line.drive ≡ place) ⊎ (line.drive ≢ place)
+      by : (number ≡ place) ⊎ (number ≢ place)
           → (after : ℕ) × (changes : List Change)
-          × GoesWith state old place (deed_of (Command line) reply) changes mid after
+          × GoesWith state old place (InDrive number (Execute request)) (Some reply) changes mid after
       by (inl here) = (
         place,
         one.step.taken.made.changes,
-        (one.step.taken.made, does old mid line reply one, refl, inl (here, refl)),
+        (one.step.taken.made, does old mid number request reply one, refl, inl (here, refl)),
       )
-      by (inr apart) = (place, [], (one.step.taken.made, does old mid line reply one, refl, inr (apart, refl)))
+      by (inr apart) =
+          (place, [], (one.step.taken.made, does old mid number request reply one, refl, inr (apart, refl)))
   goes_one old mid place (Carry from to) reply (moves, inl (good, moved)) = by (same_or_not place from)
     where
       by : (place ≡ from) ⊎ (place ≢ from)
           → (after : ℕ) × (changes : List Change)
-          × GoesWith state old place (deed_of (Carry from to) reply) changes mid after
+          × GoesWith state old place (Carry from to) (Some reply) changes mid after
       by (inl here) = (to, [], (moves, inl (good, moved), inl (good, here, refl), refl))
       by (inr apart) = (place, [], (moves, inl (good, moved), inr (inr apart, refl), refl))
   goes_one old mid place (Carry from to) reply (moves, inr (not_good, stays)) =
       (place, [], (moves, inr (not_good, stays), inr (inl not_good, refl), refl))
+  goes_one old mid place (InDrive number FlushTurn) reply one = absurd one
+  goes_one old mid place (InDrive number (Load medium)) reply one = absurd one
+  goes_one old mid place (InDrive number (Insert medium)) reply one = absurd one
+  goes_one old mid place (InDrive number Unload) reply one = absurd one
+  goes_one old mid place (InDrive number (PowerOn medium keeper)) reply one = absurd one
+  goes_one old mid place WriteOut reply one = absurd one
 
-  goes_all : (old new : HeldState D) (place : ℕ) (orders : List Order) (replies : List Reply)
-      → AnswersOrders state old orders replies new
+  goes_all : (old new : HeldState D) (place : ℕ) (events : List (Event OfLibrary)) (replies : List Reply)
+      → AnswersEvents state old events replies new
       → (after : ℕ) × (changes : List Change)
-      × GoesWithAll state old place (deeds_of orders replies) changes new after
+      × GoesWithAll state old place events (map Some replies) changes new after
   goes_all old new place [] [] is = (place, [], (refl, is, refl))
   goes_all old new place [] (reply ∷ replies) is = absurd is
-  goes_all old new place (order ∷ orders) [] is = absurd is
-  goes_all old new place (order ∷ orders) (reply ∷ replies) (mid, one, others) =
-      let first = goes_one old mid place order reply one in
-      let rest = goes_all mid new first.0 orders replies others in
+  goes_all old new place (event ∷ events) [] is = absurd is
+  goes_all old new place (event ∷ events) (reply ∷ replies) (mid, one, others) =
+      let first = goes_one old mid place event reply one in
+      let rest = goes_all mid new first.0 events replies others in
       (rest.0, first.1 ++ rest.1, (mid, first.0, first.1, rest.1, first.2, rest.2, refl))
 
   -- the side of an awake cartridge gave a volume
@@ -111,10 +118,10 @@ module _ {D : Type 0} (state : D → DiskState) where
       }
 
   module _ (moved : StopsKeepWhatIsMoved state) where
-    since : (old mid new : HeldState D) (order : Order) (reply : Reply) (orders : List Order) (replies : List Reply)
-        → AnswersOrder state old order reply mid → AnswersOrders state mid orders replies new
-        → KeptSince state old order reply mid orders replies new
-    since old mid new (Command line) reply orders replies one others =
+    since : (old mid new : HeldState D) (event : Event OfLibrary) (reply : Reply) (events : List (Event OfLibrary))
+        (replies : List Reply) → AnswersEvent state old event reply mid → AnswersEvents state mid events replies new
+        → KeptSince state old event reply mid events replies new
+    since old mid new (InDrive number (Execute request)) reply events replies one others =
         λ bay medium disks is loaded disks_are honest synchronizing told.
         let same : one.bay ≡ bay = found_same one.bay bay (sym one.is ∙ is) in
         let at : one.bay.bay ≡ Loaded medium = ap (λ (b : BayState D). b.bay) same ∙ loaded in
@@ -123,65 +130,69 @@ module _ {D : Type 0} (state : D → DiskState) where
         let on =
         subst (λ (b : Bay (BufferState D)). IsBayPositioned (state_of state) b one.bay.position) at one.positioned
         in
-        let goes = goes_all mid new line.drive orders replies others in (
+        let goes = goes_all mid new number events replies others in (
           goes.0,
           goes.1,
           goes.2,
-          moved old mid new line.drive goes.0 medium (line_request line) reply (deeds_of orders replies) goes.1
-              (in_bay line.drive one.bay old one.number_is one.is ∙ there)
+          moved old mid new number goes.0 medium request reply events (map Some replies) goes.1
+              (in_bay number one.bay old one.number_is one.is ∙ there)
               (known_of medium disks kept disks_are honest on.awake) one
-              (subst (λ (b : BayState D). IsSynchronizing (machine_of (state_of state) store_kept b) line.cdb)
+              (subst (λ (b : BayState D). IsSynchronizing (machine_of (state_of state) store_kept b) request.cdb)
               (sym same) synchronizing)
               told goes.2,
         )
-    since old mid new (Carry from to) reply orders replies one others = tt
+    since old mid new (Carry from to) reply events replies one others = tt
+    since old mid new (InDrive number FlushTurn) reply events replies one others = tt
+    since old mid new (InDrive number (Load medium)) reply events replies one others = tt
+    since old mid new (InDrive number (Insert medium)) reply events replies one others = tt
+    since old mid new (InDrive number Unload) reply events replies one others = tt
+    since old mid new (InDrive number (PowerOn medium keeper)) reply events replies one others = tt
+    since old mid new WriteOut reply events replies one others = tt
 
-    answers_keeping : (old new : HeldState D) (orders : List Order) (replies : List Reply)
-        → AnswersOrders state old orders replies new → AnswersKeeping state old orders replies new
+    answers_keeping : (old new : HeldState D) (events : List (Event OfLibrary)) (replies : List Reply)
+        → AnswersEvents state old events replies new → AnswersKeeping state old events replies new
     answers_keeping old new [] [] is = is
     answers_keeping old new [] (reply ∷ replies) is = absurd is
-    answers_keeping old new (order ∷ orders) [] is = absurd is
-    answers_keeping old new (order ∷ orders) (reply ∷ replies) (mid, one, others) = (
+    answers_keeping old new (event ∷ events) [] is = absurd is
+    answers_keeping old new (event ∷ events) (reply ∷ replies) (mid, one, others) = (
       mid,
       one,
-      since old mid new order reply orders replies one others,
-      answers_keeping mid new orders replies others,
+      since old mid new event reply events replies one others,
+      answers_keeping mid new events replies others,
     )
 
     module _ (safe : KeepsWhatIsSafe state) where
-      orders_keep : (old new : HeldState D) (orders : List Order) (replies : List Reply)
-          → AnswersOrders state old orders replies new → RunKeeps state old new
-      orders_keep old new orders replies answered =
+      items_keep : (old new : HeldState D) (items : List Item) (replies : List Reply)
+          → LibraryAnswers state old items replies new → RunKeeps state old new
+      items_keep old new items replies answered =
           record {
-            orders = orders;
+            items = items;
             replies = replies;
-            acknowledged = answers_keeping old new orders replies answered;
+            acknowledged = answers_keeping old new (flat_map events_of items) replies answered;
             safe = λ place medium at known can.
-                let goes = goes_all old new place orders replies answered in (
+                let goes = goes_all old new place (flat_map events_of items) replies answered in (
                   goes.0,
                   goes.1,
                   goes.2,
-                  safe old new place goes.0 medium (deeds_of orders replies) goes.1 at known can
+                  safe old new place goes.0 medium (flat_map events_of items) (map Some replies) goes.1 at known can
                       goes.2,
                 );
           }
 
-      -- no more orders were run
+      -- no more items were answered
       stays : (old mid new : HeldState D) (items : List Item) (replies : List Reply) → new ≡ mid
           → LibraryAnswers state old items replies mid → RunKeeps state old new
       stays old mid new items replies same answered =
-          orders_keep old new (flat_map orders_of items) replies
-          (subst (λ (h : HeldState D). AnswersOrders state old (flat_map orders_of items) replies h) (sym same)
-          answered)
+          items_keep old new items replies
+          (subst (λ (h : HeldState D). LibraryAnswers state old items replies h) (sym same) answered)
 
-      -- some orders were run
+      -- some more items were answered
       more : (old mid new : HeldState D) (items others : List Item) (replies more_replies : List Reply)
           → LibraryAnswers state old items replies mid → LibraryAnswers state mid others more_replies new
           → RunKeeps state old new
       more old mid new items others replies more_replies one two =
-          orders_keep old new (flat_map orders_of items ++ flat_map orders_of others) (replies ++ more_replies)
-          (orders_on state old mid new (flat_map orders_of items) (flat_map orders_of others) replies more_replies one
-          two)
+          items_keep old new (items ++ others) (replies ++ more_replies)
+          (held_on state old mid new items others replies more_replies one two)
 
       by_end : (size : ℕ) (parsed_list : List ParsedLine) (items : List Item) (text : List ℕ)
           (old mid new : HeldState D) (before now : Option (List ℕ)) (replies : List Reply)

@@ -19,7 +19,8 @@ use Rattle.bay_moves.specs.Commands.{Commands}
 use Rattle.bay_moves.specs.Elements.{BayState, HeldState, bay_at}
 use Rattle.bay_moves.specs.Moves.{KeepsBays}
 use Rattle.bay_moves.specs.OneHost.{beside, requests_at}
-use Rattle.bay_moves.specs.Runs.{AnswersOrders, Command, Order, orders_of, line_request}
+use Rattle.drive_commands.specs.Events.{Event, OfLibrary}
+use Rattle.bay_moves.specs.Runs.{AnswersEvents, events_of, line_event, line_request}
 
 -- two lookups of one value are the same
 pub found_same : {X : Type 0} (x y : X) → Some x ≡ Some y → x ≡ y
@@ -31,11 +32,11 @@ found_same {X} x y is = ap (λ (found : Option X). value found) is
 
 -- items without moves are their commands
 pub orders_are : (items : List Item) → list_all is_phase items ≡ true
-    → flat_map orders_of items ≡ map Command (commands_to_run items)
+    → flat_map events_of items ≡ map line_event (commands_to_run items)
 orders_are [] all = refl
 orders_are (Phase lines ∷ items) all =
-    ap (λ (rest : List Order). map Command lines ++ rest) (orders_are items all)
-    ∙ sym (map-append Command lines (commands_to_run items))
+    ap (λ (rest : List (Event OfLibrary)). map line_event lines ++ rest) (orders_are items all)
+    ∙ sym (map-append line_event lines (commands_to_run items))
 orders_are (Move from to ∷ items) all = absurd (cc)
 
 module _ {D : Type 0} (state : D → DiskState) where
@@ -89,7 +90,7 @@ module _ {D : Type 0} (state : D → DiskState) where
       }
 
   pub served_at : (number : ℕ) (bay : BayState D) (old new : HeldState D) (lines : List Line) (replies : List Reply)
-      → AnswersOrders state old (map Command lines) replies new → bay_at old.bays number ≡ Some bay
+      → AnswersEvents state old (map line_event lines) replies new → bay_at old.bays number ≡ Some bay
       → ServedAt number lines replies bay new
   served_at number bay old new [] [] ran is =
       record { left = bay; is = ap (λ (held : HeldState D). bay_at held.bays number) ran ∙ is; serves = refl }
@@ -101,7 +102,7 @@ module _ {D : Type 0} (state : D → DiskState) where
 
   -- each command has one reply
   pub counted : (old new : HeldState D) (lines : List Line) (replies : List Reply)
-      → AnswersOrders state old (map Command lines) replies new → length replies ≡ length lines
+      → AnswersEvents state old (map line_event lines) replies new → length replies ≡ length lines
   counted old new [] [] ran = refl
   counted old new (line ∷ lines) (reply ∷ replies) ran =
       let rest = counted ran.0 new lines replies ran.2 in omega (arith, rest)
@@ -123,7 +124,7 @@ module _ {D : Type 0} (state : D → DiskState) where
       more (commands.now.bays.elsewhere number apart ∙ none)
 
   pub none_asked : (number : ℕ) (old new : HeldState D) (lines : List Line) (replies : List Reply)
-      → AnswersOrders state old (map Command lines) replies new → bay_at old.bays number ≡ None
+      → AnswersEvents state old (map line_event lines) replies new → bay_at old.bays number ≡ None
       → filter (λ line. line.drive == number) lines ≡ []
   none_asked number old new [] [] ran none = refl
   none_asked number old new (line ∷ lines) (reply ∷ replies) ran none =

@@ -1,4 +1,4 @@
--- What a drive over a store leaves on the store's disk at each moment of its calls.
+-- What a drive over a store leaves on the store's disk at each moment of its events.
 use Rattle.std.proofs.Common.{◌≡◌, ◌⊎◌, inl, inr, ℕ, List, [], ◌∷◌, ◌++◌, Option, None, Some, is_some, refl, sym, ◌∙◌, ap, subst}
 use Rattle.std.specs.Prelude.{option_to_list}
 use Rattle.std.proofs.lemmas.List.{append-nil}
@@ -20,25 +20,25 @@ use Rattle.accepted_changes.specs.Device.{one_disk}
 use Rattle.accepted_changes.specs.Events.{IsEvent, ShowsCore}
 use Rattle.aptpl_store.specs.Kept.{core_of, core_with, store_kept, store_rules}
 use Rattle.aptpl_store.specs.State.{OpenStore}
-use Rattle.drive_commands.specs.Run.{Asked, Event, Turned}
-use Rattle.bay_moves.specs.Reservations.{CallDoes, Calls, GivesHeld, HoldingGives, HoldingGoesOn, IsHolding, LeavesHeld, MayStand, OrdersStand, ReservationsOutlive, SwitchedOnHolds, disk_of}
+use Rattle.drive_commands.specs.Events.{Event, Execute, FlushTurn, Insert, Load, OfDrive, PowerOn, Unload}
+use Rattle.bay_moves.specs.Reservations.{GivesHeld, GoesBy, GoesByAll, HoldingGives, HoldingGoesOn, IsHolding, IsOrderedIn, LeavesHeld, MayStand, OrdersStand, ReservationsOutlive, SwitchedOnHolds, disk_of}
 use Rattle.bay_moves.proofs.MachineLemmas.{step_goes}
 use Rattle.bay_moves.proofs.StandLemmas.{good_stands, step_stands}
-use Rattle.bay_moves.proofs.CallLemmas.{CallGoes, call_goes, carried_stays, turn_leaves}
+use Rattle.bay_moves.proofs.CallLemmas.{EventGoes, bay_stays, event_goes, turn_leaves}
 use Rattle.bay_moves.proofs.StoreCoreLemmas.{GivesEither, core_within, event_leaves, from_core, given_as, last_more, to_core}
 
 module _ {M D : Type 0} (medium : M → MediumState) (below : Below M Change) (disk : D → DiskState)
     (is_disk : (d : D) → (disk d).honest → IsDisk (disk d)) (keep : OrdersKeepRules)
     (due : SavesAreDueByChange) (lost : SavedAlikeAreLostAlike) where
-  -- what one call leaves at each moment, and in the end
-  call_leaves : (old new : DriveState M (OpenStore D)) (call : Option Event)
-      → IsHolding medium below disk old → CallDoes medium below disk old call new
+  -- what one event leaves at each moment, and in the end
+  one_leaves : (old new : DriveState M (OpenStore D)) (event : Event OfDrive)
+      → IsHolding medium below disk old → GoesBy medium below disk old event new
       → IsHolding medium below disk new
       × ((disk_of medium below disk old).honest
       → (disk_of medium below disk new).honest
       × LeavesOnly (disk_of medium below disk old) (disk_of medium below disk new)
-      (LeavesHeld medium below disk old call new))
-  call_leaves old new call holding does = (
+      (LeavesHeld medium below disk old event new))
+  one_leaves old new event holding does = (
     record {
       sound = goes.sound;
       saved = goes.saved;
@@ -50,17 +50,17 @@ module _ {M D : Type 0} (medium : M → MediumState) (below : Below M Change) (d
     λ honest. (
       goes.moves.keeps.stays_honest honest,
       weakened (disk_of medium below disk old) (disk_of medium below disk new)
-          (GivesEither old.keeper.heading old.keeper.states goes.more) (LeavesHeld medium below disk old call new)
+          (GivesEither old.keeper.heading old.keeper.states goes.more) (LeavesHeld medium below disk old event new)
           (event_leaves disk old.keeper.disk new.keeper.disk old.keeper.heading old.keeper.states goes.more
           (core_of old.keeper) (core_of new.keeper) goes.made
           (core_within old.keeper.heading old.keeper.states old.keeper.torn goes.more goes.torn)
           (accepts old goes.more goes.made goes.fits) (went honest).0)
-          (opens old call new goes.more holding goes.stands),
+          (opens old event new goes.more holding goes.stands),
     ),
   )
     where
-      goes : CallGoes medium below disk is_disk keep due lost old call new
-      goes = call_goes medium below disk is_disk keep due lost old new call holding does
+      goes : EventGoes medium below disk is_disk keep due lost old event new
+      goes = event_goes medium below disk is_disk keep due lost old new event holding does
 
       went : (disk_of medium below disk old).honest
           → IsEvent store_rules (one_disk disk) old.keeper.disk new.keeper.disk (core_of old.keeper)
@@ -81,20 +81,20 @@ module _ {M D : Type 0} (medium : M → MediumState) (below : Below M Change) (d
             ap (λ (t : Option PrState). (core_with drive.keeper.heading drive.keeper.states t).accepted) one.1,
           )
 
-      opens : (drive : DriveState M (OpenStore D)) (call : Option Event) (later : DriveState M (OpenStore D))
+      opens : (drive : DriveState M (OpenStore D)) (event : Event OfDrive) (later : DriveState M (OpenStore D))
           (more : PrState)
           → IsHolding medium below disk drive
-          → (power_loss more ≡ power_loss drive.reservations) ⊎ MayStand medium below disk drive call later more
+          → (power_loss more ≡ power_loss drive.reservations) ⊎ MayStand medium below disk drive event later more
           → (image : List ℕ) → GivesEither drive.keeper.heading drive.keeper.states more image
-          → LeavesHeld medium below disk drive call later image
-      opens drive call later more holds stands image (inl gives) = inl (drive.keeper.states, gives, sym holds.saved)
-      opens drive call later more holds (inl same) image (inr gives) =
+          → LeavesHeld medium below disk drive event later image
+      opens drive event later more holds stands image (inl gives) = inl (drive.keeper.states, gives, sym holds.saved)
+      opens drive event later more holds (inl same) image (inr gives) =
           inl (
             drive.keeper.states ++ more ∷ [],
             gives,
             sym same ∙ ap power_loss (sym (last_more empty_state drive.keeper.states more)),
           )
-      opens drive call later more holds (inr may) image (inr gives) =
+      opens drive event later more holds (inr may) image (inr gives) =
           inr (
             more,
             may,
@@ -105,21 +105,21 @@ module _ {M D : Type 0} (medium : M → MediumState) (below : Below M Change) (d
             ),
           )
 
-  -- after calls IsHolding holds, over a disk that is still honest
-  calls_leave : (old mid : DriveState M (OpenStore D)) (calls : List (Option Event))
-      → IsHolding medium below disk old → Calls medium below disk old calls mid
+  -- after events IsHolding holds, over a disk that is still honest
+  events_leave : (old mid : DriveState M (OpenStore D)) (events : List (Event OfDrive))
+      → IsHolding medium below disk old → GoesByAll medium below disk old events mid
       → IsHolding medium below disk mid
       × ((disk_of medium below disk old).honest → (disk_of medium below disk mid).honest)
-  calls_leave old mid [] holding did = (
+  events_leave old mid [] holding did = (
     subst (λ (d : DriveState M (OpenStore D)). IsHolding medium below disk d) (sym did) holding,
     λ honest. subst (λ (d : DriveState M (OpenStore D)). (disk_of medium below disk d).honest) (sym did) honest,
   )
-  calls_leave old mid (call ∷ calls) holding did =
-      let next = call_leaves old did.0 call holding did.1 in
-      let rest = calls_leave did.0 mid calls next.0 did.2 in
+  events_leave old mid (event ∷ events) holding did =
+      let next = one_leaves old did.0 event holding did.1 in
+      let rest = events_leave did.0 mid events next.0 did.2 in
       (rest.0, λ honest. rest.1 (next.1 honest).0)
 
-  -- between two calls an image gives what is held, or the state whose save failed
+  -- between two events an image gives what is held, or the state whose save failed
   gives_held : (drive : DriveState M (OpenStore D)) → IsHolding medium below disk drive → (image : List ℕ)
       → ShowsStates drive.keeper.heading drive.keeper.states drive.keeper.torn image
       → GivesHeld medium below disk drive image
@@ -151,8 +151,8 @@ module _ {M D : Type 0} (medium : M → MediumState) (below : Below M Change) (d
   held_gives drive holding honest = λ image may. gives_held drive holding image (holding.shows honest image may)
 
   pub goes_on : HoldingGoesOn medium below disk
-  goes_on old new call holding does =
-      let left = call_leaves old new call holding does in (
+  goes_on old new event holding does =
+      let left = one_leaves old new event holding does in (
         left.0,
         λ honest. (
           (left.1 honest).0,
@@ -162,26 +162,34 @@ module _ {M D : Type 0} (medium : M → MediumState) (below : Below M Change) (d
       )
 
   pub outlive : ReservationsOutlive medium below disk
-  outlive old mid new calls last honest holding did does =
-      let there = calls_leave old mid calls holding did in
+  outlive old mid new events last honest holding did does =
+      let there = events_leave old mid events holding did in
       let left = goes_on mid new last there.0 does in
       let found = left.1 (there.1 honest) in
       (found.1, found.2, found.0, left.0)
 
-  -- the reservations after a call
+  -- the reservations after an event
+  stays_or_ordered : (old new : DriveState M (OpenStore D)) (event : Event OfDrive)
+      → GoesBy medium below disk old event new
+      → (new.reservations ≡ old.reservations)
+      ⊎ IsOrderedIn (machine_of medium store_kept old) event new.reservations
+  stays_or_ordered old new (Execute request) (reply, answers) =
+      step_stands (machine_of medium store_kept old) request answers.answer answers.taken.made
+      (machine_of medium store_kept new) (step_goes _ (machine_of medium store_kept old) request answers.answer
+      answers.taken.made (machine_of medium store_kept new) answers.taken.step)
+  stays_or_ordered old new FlushTurn (turn, takes) =
+      inl (turn_leaves medium below disk is_disk keep due lost _ (machine_of medium store_kept old) takes.step.0
+      (machine_of medium store_kept new) takes.step.1)
+  stays_or_ordered old new (Load loaded) goes = inl (bay_stays medium below disk old new (Load loaded) tt goes).1
+  stays_or_ordered old new (Insert put) goes = inl (bay_stays medium below disk old new (Insert put) tt goes).1
+  stays_or_ordered old new Unload goes = inl (bay_stays medium below disk old new Unload tt goes).1
+  stays_or_ordered old new (PowerOn given keeper) goes = absurd goes
+
   pub stand : OrdersStand medium below disk
-  stand old new (Some (Turned turn)) takes = (
-    inl (turn_leaves medium below disk is_disk keep due lost _ (machine_of medium store_kept old) takes.step.0
-        (machine_of medium store_kept new) takes.step.1),
-    tt,
-  )
-  stand old new None carried = (inl (carried_stays medium below disk old new carried).1, tt)
-  stand old new (Some (Asked request reply)) answers = (
-    step_stands (machine_of medium store_kept old) request answers.answer answers.taken.made
-        (machine_of medium store_kept new) (step_goes _ (machine_of medium store_kept old) request answers.answer
-        answers.taken.made (machine_of medium store_kept new) answers.taken.step),
-    λ action bytes command good. good_stands (machine_of medium store_kept old) request answers.answer
-        answers.taken.made (machine_of medium store_kept new) action bytes command _ answers.taken.step
+  stand = (
+    stays_or_ordered,
+    λ old new request reply answers action bytes command good. good_stands (machine_of medium store_kept old) request
+        answers.answer answers.taken.made (machine_of medium store_kept new) action bytes command _ answers.taken.step
         (sym (ap (λ (r : Reply). r.status) answers.replied) ∙ good),
   )
 

@@ -26,7 +26,7 @@ use Rattle.drive_commands.specs.State.{medium_in}
 use Rattle.drive_commands.specs.Work.{Request}
 use Rattle.bay_moves.specs.Accepted.{PrEvent, order_rules, orders_core, pr_after, pr_after_all}
 use Rattle.bay_moves.specs.Elements.{BayState}
-use Rattle.drive_commands.specs.Run.{Asked, Event}
+use Rattle.drive_commands.specs.Events.{Event, Execute, OfDrive}
 use Rattle.bay_moves.specs.Reservations.{GivesHeld, IsHolding, LeavesHeld, disk_of}
 
 module _ {D : Type 0} (state : D → DiskState) where
@@ -89,11 +89,12 @@ module _ {D : Type 0} (state : D → DiskState) where
       (state old.disk).honest
       → IsEvent store_rules (one_disk state) old.disk new.disk (core_of old) (core_of new) saved
 
-  -- Every moment of a call of a drive, in which the cartridge became another value: exactly these changes are accepted
-  -- and these states saved, each by the steps of one event. At each moment since, an image of the store's disk opens as
-  -- what a loss of power leaves of the reservations before, or of a state that may stand in their place (own).
+  -- Every moment of an event of a drive, in which the cartridge became another value: exactly these changes are
+  -- accepted and these states saved, each by the steps of one event. At each moment since, an image of the store's disk
+  -- opens as what a loss of power leaves of the reservations before, or of a state that may stand in their place (own).
   pub record EveryMoment
-      (old : BayState D) (call : Option Event) (made : Made) (before after : Option (BufferState D)) (new : BayState D)
+      (old : BayState D) (event : Event OfDrive) (made : Made) (before after : Option (BufferState D))
+      (new : BayState D)
       : Type 0 where
     pub cartridge : EventIn before after made.changes
     pub saves : SavesIn old.keeper new.keeper made.saved
@@ -101,14 +102,14 @@ module _ {D : Type 0} (state : D → DiskState) where
         (disk_of (state_of state) (buffer_below state) state old).honest
         → LeavesOnly (disk_of (state_of state) (buffer_below state) state old)
         (disk_of (state_of state) (buffer_below state) state new)
-        (LeavesHeld (state_of state) (buffer_below state) state old call new)
+        (LeavesHeld (state_of state) (buffer_below state) state old event new)
 
   -- the reply to a host is a step of the machine, and the event of that step says what is left at every moment of it
   -- (own)
   pub record AnswersInEvent (old : BayState D) (request : Request) (reply : Reply) (new : BayState D) : Type 0 where
     pub step : Answers (state_of state) (buffer_below state) store_kept (store_below state) old request reply new
     pub moments :
-        EveryMoment old (Some (Asked request reply)) step.taken.made (medium_in old.bay) (medium_in new.bay) new
+        EveryMoment old (Execute request) step.taken.made (medium_in old.bay) (medium_in new.bay) new
 
   -- the same for a host that lends its data: this is left of them (own)
   pub record AnswersLentInEvent
@@ -116,7 +117,7 @@ module _ {D : Type 0} (state : D → DiskState) where
     pub step :
         AnswersLent (state_of state) (buffer_below state) store_kept (store_below state) old request reply new left
     pub moments :
-        EveryMoment old (Some (Asked request reply)) step.step.taken.made (medium_in old.bay) (medium_in new.bay) new
+        EveryMoment old (Execute request) step.step.taken.made (medium_in old.bay) (medium_in new.bay) new
 
   -- all that the medium in a drive has accepted is safe, if there is a medium (own)
   abbrev pub IsSafeIn : Option (BufferState D) → Type 0

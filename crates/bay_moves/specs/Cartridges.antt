@@ -17,7 +17,7 @@ use Rattle.drive_commands.specs.State.{DriveState, IsBayPositioned, machine_of, 
 use Rattle.drive_commands.specs.Relations.{Made}
 use Rattle.drive_commands.specs.Work.{Request}
 use Rattle.drive_commands.specs.Execute.{Answers, HonestIn}
-use Rattle.drive_commands.specs.Run.{Event}
+use Rattle.drive_commands.specs.Events.{Event, OfDrive}
 use Rattle.drive_commands.specs.Synchronize.{Acknowledges, IsSynchronizing, NothingPending}
 use Rattle.bay_moves.specs.Doings.{DoesAll}
 
@@ -56,11 +56,11 @@ module _ {D K : Type 0} (state : D → DiskState) (kept : K → KeeperState) (ke
   abbrev pub StopsKeepChanges : Type 0
   StopsKeepChanges =
       (old acked new : DriveState (BufferState D) K) (medium : BufferState D)
-      (request : Request) (reply : Reply) (events : List Event) (made : Made)
+      (request : Request) (reply : Reply) (events : List (Event OfDrive)) (replies : List (Option Reply)) (made : Made)
       → medium_in old.bay ≡ Some medium → IsKnown state medium
       → Answers (state_of state) (buffer_below state) kept keeps old request reply acked
       → IsSynchronizing (machine_of (state_of state) kept old) request.cdb → Acknowledges reply
       → NothingPending (HonestIn (buffer_below state) (medium_in old.bay)) (machine_of (state_of state) kept acked)
       → IsBayPositioned (state_of state) acked.bay acked.position
-      → DoesAll (state_of state) (buffer_below state) kept keeps acked events made new
+      → DoesAll (state_of state) (buffer_below state) kept keeps acked events replies made new
       → KeepsIn state (medium_in acked.bay) (medium_in new.bay) made.changes

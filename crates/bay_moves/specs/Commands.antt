@@ -13,7 +13,7 @@ use Rattle.element_slots.specs.Slots.{is_slot}
 use Rattle.bay_moves.specs.Bays.{EveryMoment, IsSafeIn, KeepsCartridgeIn}
 use Rattle.bay_moves.specs.Elements.{BayState, HeldState, bay_at}
 use Rattle.bay_moves.specs.Moves.{BayIs}
-use Rattle.drive_commands.specs.Run.{Asked}
+use Rattle.drive_commands.specs.Events.{Execute}
 
 module _ {D : Type 0} (state : D → DiskState) where
   -- The drive of this number, which is no slot's address, answers a host, and nothing else changes. The command's event
@@ -34,7 +34,7 @@ module _ {D : Type 0} (state : D → DiskState) where
     pub keeps : KeepsCartridgeIn state (medium_in bay.bay)
     pub positioned : IsBayPositioned (state_of state) bay.bay bay.position
     pub moments :
-        EveryMoment state bay (Some (Asked request reply)) step.taken.made (medium_in bay.bay)
+        EveryMoment state bay (Execute request) step.taken.made (medium_in bay.bay)
         (medium_in left.bay) left
     pub safe :
         IsSynchronizing (machine_of (state_of state) store_kept bay) request.cdb → Acknowledges reply

@@ -12,7 +12,7 @@ use Rattle.tape_buffer.specs.State.{BufferState, state_of}
 use Rattle.aptpl_store.specs.Kept.{store_kept}
 use Rattle.bay_moves.specs.Bays.{EveryMoment}
 use Rattle.bay_moves.specs.Elements.{BayState, HeldState, bay_at}
-use Rattle.drive_commands.specs.Run.{Turned}
+use Rattle.drive_commands.specs.Events.{FlushTurn}
 use Rattle.bay_moves.specs.declared.finishing.Unwritten.{Unwritten}
 
 module _ {D : Type 0} (state : D → DiskState) where
@@ -31,7 +31,7 @@ module _ {D : Type 0} (state : D → DiskState) where
   TurnsAt None None = Unit {0}
   TurnsAt (Some old) (Some new) =
       (turn : Turn) × TakesTurn (state_of state) (buffer_below state) store_kept old turn new
-      × EveryMoment state old (Some (Turned turn)) made_nothing (medium_in old.bay) (medium_in new.bay) new
+      × EveryMoment state old FlushTurn made_nothing (medium_in old.bay) (medium_in new.bay) new
   TurnsAt _ _ = ⊥
 
   -- the drive, if there is one, has nothing left to write (own)

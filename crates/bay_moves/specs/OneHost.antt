@@ -8,7 +8,8 @@ use Rattle.drive_commands.specs.Faults.{reply_of}
 use Rattle.drive_commands.specs.State.{Machine, machine_of, medium_in}
 use Rattle.drive_commands.specs.Execute.{HonestIn}
 use Rattle.drive_commands.specs.Relations.{Made}
-use Rattle.drive_commands.specs.Step.{Input, Execute, Output, Answered, replies_of}
+use Rattle.drive_commands.specs.Events.{Event, Execute, OfDrive}
+use Rattle.drive_commands.specs.Step.{Output, Answered, replies_of}
 use Rattle.drive_commands.specs.Run.{Run}
 use Rattle.drive_commands.specs.Determined.{IsCalm, IsSureDrive, seen_of, without_turns}
 use Rattle.drive_commands.specs.Work.{Request}
@@ -55,13 +56,13 @@ module _ {D : Type 0} (state : D → DiskState) where
   -- A run of a drive's machine over these requests, with flusher's turns anywhere between, may give these replies: no
   -- fault came, no side was full, and memory did not run out (own).
   pub record MayReply (requests : List Request) (replies : List Reply) (old : BayState D) : Type 0 where
-    pub inputs : List Input
+    pub events : List (Event OfDrive)
     pub outputs : List Output
     pub made : Made
     pub end : Machine
-    pub asked : without_turns inputs ≡ map Execute requests
+    pub asked : without_turns events ≡ map Execute requests
     pub calm : All IsCalm outputs
-    pub run : Run (Unit {0}) (machine_in old) inputs outputs made end
+    pub run : Run (Unit {0}) (machine_in old) events outputs made end
     pub replied : replies ≡ replies_of outputs
 
   -- Each drive answered its own lines, in order, by a run of its machine, and exactly the text of all answers was

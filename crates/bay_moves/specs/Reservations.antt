@@ -23,7 +23,7 @@ use Rattle.drive_commands.specs.Execute.{Answers}
 use Rattle.drive_commands.specs.declared.bays.Bay.TheVariants.{Unloaded}
 use Rattle.drive_commands.specs.Media.{GoesOut, SwitchesOn, TakesIn, TakesTurn}
 use Rattle.drive_commands.specs.State.{DriveState, Machine, left_of, machine_of}
-use Rattle.drive_commands.specs.Run.{Asked, Event, Turned}
+use Rattle.drive_commands.specs.Events.{Event, Execute, FlushTurn, Insert, Load, OfDrive, PowerOn, Unload}
 use Rattle.drive_commands.specs.Work.{Request}
 use Rattle.aptpl_store.specs.Contents.{OpensAs, ShowsStates, latest}
 use Rattle.aptpl_store.specs.Kept.{store_below, store_kept}
@@ -40,40 +40,36 @@ pub record IsOrdered (machine : Machine) (request : Request) (state : PrState) :
   pub list : list_decoded action request.sent ≡ Ok order
   pub ordered : Orders machine.reservations request.nexus order answer established state
 
--- The state after the order of a call, if it is one. A call of a drive is an event that it serves, or none, where a
--- cartridge goes in or out (own).
-abbrev pub IsOrderedIn : Machine → Option Event → PrState → Type 0
-IsOrderedIn machine (Some (Asked request reply)) state = IsOrdered machine request state
-IsOrderedIn machine (Some (Turned turn)) state = ⊥
-IsOrderedIn machine None state = ⊥
+-- the state after the order of an event, if it is one (own)
+abbrev pub IsOrderedIn : Machine → Event OfDrive → PrState → Type 0
+IsOrderedIn machine (Execute request) state = IsOrdered machine request state
+IsOrderedIn machine _ state = ⊥
 
 -- the state of an order with the reply GOOD is held (SPC-4, PERSISTENT RESERVE OUT)
-abbrev pub StandsWhereGood : Machine → Option Event → PrState → Type 0
-StandsWhereGood machine (Some (Asked request reply)) state =
+abbrev pub StandsWhereGood : Machine → Request → Reply → PrState → Type 0
+StandsWhereGood machine request reply state =
     (action : PrAction) (bytes : ℕ) → verdict machine request ≡ Ok (PersistentReserveOut action bytes)
     → reply.status ≡ Good → IsOrdered machine request state
-StandsWhereGood machine (Some (Turned turn)) state = Unit {0}
-StandsWhereGood machine None state = Unit {0}
 
 module _ {M D : Type 0} (medium : M → MediumState) (below : Below M Change) (disk : D → DiskState) where
-  -- a medium was loaded, or returned; or was put in, not loaded; or came out, or did not (own)
-  abbrev pub ChangesBay : DriveState M (OpenStore D) → DriveState M (OpenStore D) → Type 0
-  ChangesBay old new =
-      ((given : M) × (result : Result Unit (M × Reply)) × TakesIn medium below old given result new)
-      ⊎ (((given : M) × (new ≡ record old { bay = Unloaded given }))
-      ⊎ ((result : Result M Reply) × GoesOut medium below old result new))
+  -- A drive before and after an event: a host was answered, a turn was taken; a medium was loaded, or returned; or was
+  -- put in, not loaded; or came out, or did not. A power on makes another drive (own).
+  abbrev pub GoesBy : DriveState M (OpenStore D) → Event OfDrive → DriveState M (OpenStore D) → Type 0
+  GoesBy old (Execute request) new =
+      (reply : Reply) × Answers medium below store_kept (store_below disk) old request reply new
+  GoesBy old FlushTurn new = (turn : Turn) × TakesTurn medium below store_kept old turn new
+  GoesBy old (Load loaded) new =
+      (given : M) × (medium given ≡ loaded) × (result : Result Unit (M × Reply))
+      × TakesIn medium below old given result new
+  GoesBy old (Insert put) new = (given : M) × (medium given ≡ put) × (new ≡ record old { bay = Unloaded given })
+  GoesBy old Unload new = (result : Result M Reply) × GoesOut medium below old result new
+  GoesBy old (PowerOn given keeper) new = ⊥
 
-  -- a drive before and after a call: an event, or none, where a cartridge goes in or out (own)
-  abbrev pub CallDoes : DriveState M (OpenStore D) → Option Event → DriveState M (OpenStore D) → Type 0
-  CallDoes old (Some (Asked request reply)) new =
-      Answers medium below store_kept (store_below disk) old request reply new
-  CallDoes old (Some (Turned turn)) new = TakesTurn medium below store_kept old turn new
-  CallDoes old None new = ChangesBay old new
-
-  -- calls one after another, each on the drive that the last one left (own)
-  abbrev pub Calls : DriveState M (OpenStore D) → List (Option Event) → DriveState M (OpenStore D) → Type 0
-  Calls old [] new = new ≡ old
-  Calls old (call ∷ calls) new = (mid : DriveState M (OpenStore D)) × CallDoes old call mid × Calls mid calls new
+  -- events one after another, each of the drive that the last one left (own)
+  abbrev pub GoesByAll : DriveState M (OpenStore D) → List (Event OfDrive) → DriveState M (OpenStore D) → Type 0
+  GoesByAll old [] new = new ≡ old
+  GoesByAll old (event ∷ events) new =
+      (mid : DriveState M (OpenStore D)) × GoesBy old event mid × GoesByAll mid events new
 
   -- the disk of a drive's store (own)
   abbrev pub disk_of : DriveState M (OpenStore D) → DiskState
@@ -90,20 +86,20 @@ module _ {M D : Type 0} (medium : M → MediumState) (below : Below M Change) (d
         (disk_of drive).honest
         → Each (disk_of drive) (ShowsStates drive.keeper.heading drive.keeper.states drive.keeper.torn)
 
-  -- A state that may be found in place of the held one: one whose save failed earlier, or the one that this call's
-  -- order makes, where the drive holds it after the call or its save failed in the call (own).
-  abbrev pub MayStand : DriveState M (OpenStore D) → Option Event → DriveState M (OpenStore D) → PrState → Type 0
-  MayStand old call new state =
+  -- A state that may be found in place of the held one: one whose save failed earlier, or the one that this event's
+  -- order makes, where the drive holds it after the event or its save failed in it (own).
+  abbrev pub MayStand : DriveState M (OpenStore D) → Event OfDrive → DriveState M (OpenStore D) → PrState → Type 0
+  MayStand old event new state =
       (old.keeper.torn ≡ Some state)
-      ⊎ (IsOrderedIn (machine_of medium store_kept old) call state
+      ⊎ (IsOrderedIn (machine_of medium store_kept old) event state
       × ((new.reservations ≡ state) ⊎ (new.keeper.torn ≡ Some state)))
 
-  -- the image opens as what a loss of power leaves of the reservations before this call, or of a state that may stand
-  -- in their place (own)
-  abbrev pub LeavesHeld : DriveState M (OpenStore D) → Option Event → DriveState M (OpenStore D) → List ℕ → Type 0
-  LeavesHeld old call new image =
+  -- the image opens as what a loss of power leaves of the reservations before this event, or of a state that may
+  -- stand in their place (own)
+  abbrev pub LeavesHeld : DriveState M (OpenStore D) → Event OfDrive → DriveState M (OpenStore D) → List ℕ → Type 0
+  LeavesHeld old event new image =
       OpensAs old.keeper.heading (power_loss old.reservations) image
-      ⊎ ((state : PrState) × MayStand old call new state × OpensAs old.keeper.heading (power_loss state) image)
+      ⊎ ((state : PrState) × MayStand old event new state × OpensAs old.keeper.heading (power_loss state) image)
 
   -- the image opens as what a loss of power leaves of the drive's reservations, or of the state whose save failed (own)
   abbrev pub GivesHeld : DriveState M (OpenStore D) → List ℕ → Type 0
@@ -119,26 +115,26 @@ module _ {M D : Type 0} (medium : M → MediumState) (below : Below M Change) (d
       (drive : DriveState M (OpenStore D)) → IsHolding drive → (disk_of drive).honest
       → Each (disk_of drive) (GivesHeld drive)
 
-  -- After any calls, a drive is stopped at any moment of the last one, over an honest disk. Each image that a crash may
-  -- leave opens as what a loss of power leaves of the reservations before that call, or of a state that may stand in
-  -- their place. After the call it is that of the reservations then, or of the state whose save failed; and the disk
-  -- stays honest (own).
+  -- After any events, a drive is stopped at any moment of the last one, over an honest disk. Each image that a crash
+  -- may leave opens as what a loss of power leaves of the reservations before that event, or of a state that may stand
+  -- in their place. After the event it is that of the reservations then, or of the state whose save failed; and the
+  -- disk stays honest (own).
   abbrev pub ReservationsOutlive : Type 0
   ReservationsOutlive =
-      (old mid new : DriveState M (OpenStore D)) (calls : List (Option Event)) (last : Option Event)
-      → (disk_of old).honest → IsHolding old → Calls old calls mid → CallDoes mid last new
+      (old mid new : DriveState M (OpenStore D)) (events : List (Event OfDrive)) (last : Event OfDrive)
+      → (disk_of old).honest → IsHolding old → GoesByAll old events mid → GoesBy mid last new
       → LeavesOnly (disk_of mid) (disk_of new) (LeavesHeld mid last new) × Each (disk_of new) (GivesHeld new)
       × (disk_of new).honest × IsHolding new
 
-  -- The same for one call, over any disk: IsHolding holds after it. Where the store's disk is honest it stays honest,
-  -- and each image that a crash may leave opens as said there, inside the call and after it (own).
+  -- The same for one event, over any disk: IsHolding holds after it. Where the store's disk is honest it stays honest,
+  -- and each image that a crash may leave opens as said there, inside the event and after it (own).
   abbrev pub HoldingGoesOn : Type 0
   HoldingGoesOn =
-      (old new : DriveState M (OpenStore D)) (call : Option Event) → IsHolding old → CallDoes old call new
+      (old new : DriveState M (OpenStore D)) (event : Event OfDrive) → IsHolding old → GoesBy old event new
       → IsHolding new
       × ((disk_of old).honest
       → (disk_of new).honest
-      × LeavesOnly (disk_of old) (disk_of new) (LeavesHeld old call new) × Each (disk_of new) (GivesHeld new))
+      × LeavesOnly (disk_of old) (disk_of new) (LeavesHeld old event new) × Each (disk_of new) (GivesHeld new))
 
   -- IsHolding holds of a drive that was just switched on with what a loss of power leaves of the last saved state (own)
   abbrev pub SwitchedOnHolds : Type 0
@@ -152,6 +148,8 @@ module _ {M D : Type 0} (medium : M → MediumState) (below : Below M Change) (d
   -- else changes the reservations (own).
   abbrev pub OrdersStand : Type 0
   OrdersStand =
-      (old new : DriveState M (OpenStore D)) (call : Option Event) → CallDoes old call new
-      → ((new.reservations ≡ old.reservations) ⊎ IsOrderedIn (machine_of medium store_kept old) call new.reservations)
-      × StandsWhereGood (machine_of medium store_kept old) call new.reservations
+      ((old new : DriveState M (OpenStore D)) (event : Event OfDrive) → GoesBy old event new
+      → (new.reservations ≡ old.reservations) ⊎ IsOrderedIn (machine_of medium store_kept old) event new.reservations)
+      × ((old new : DriveState M (OpenStore D)) (request : Request) (reply : Reply)
+      → Answers medium below store_kept (store_below disk) old request reply new
+      → StandsWhereGood (machine_of medium store_kept old) request reply new.reservations)

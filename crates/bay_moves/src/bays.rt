@@ -13,7 +13,7 @@ ghost use Rattle.tape_buffer.specs.State.{state_of};
 ghost use Rattle.aptpl_store.specs.Kept.{store_below, store_kept};
 ghost use Rattle.bay_moves.specs.Bays.{AnswersInEvent, AnswersLentInEvent, EveryMoment, EveryMomentOff, EveryMomentOn, IsSafeIn, KeepsBoth, KeepsCartridgeIn, ShowsOrders, loaded_or_back, out_or_in};
 ghost use Rattle.bay_moves.specs.Inner.Going.{IsAwakeIn};
-ghost use Rattle.drive_commands.specs.Run.{Turned};
+ghost use Rattle.drive_commands.specs.Events.{FlushTurn, Insert, Load, Unload};
 ghost use Rattle.bay_moves.specs.Reservations.{GivesHeld};
 
 use crate::laws::reservations::reservations_outlive_each_stop;
@@ -190,7 +190,7 @@ impl<D: Disk> Bay<D> {
     /// allocates no memory.
     pub fn turn(&mut self) -> Turn
         ensures turned { TakesTurn (state_of D.state) (buffer_below D.state) store_kept self.old result self.new }
-        ensures moments { EveryMoment D.state self.old (Some (Turned result)) made_nothing (medium_in self.old.bay)
+        ensures moments { EveryMoment D.state self.old FlushTurn made_nothing (medium_in self.old.bay)
             (medium_in self.new.bay) self.new }
     {
         reservations_outlive_each_stop::<Cataloged<D>, D>();
@@ -205,8 +205,8 @@ impl<D: Disk> Bay<D> {
     pub fn load(&mut self, cartridge: Parked<D>) -> Result<(), (Parked<D>, Reply)>
         requires empty { self.old.bay ≡ Bays.Empty }
         ensures taken { TakesIn (state_of D.state) (buffer_below D.state) self.old cartridge result self.new }
-        ensures moments { EveryMoment D.state self.old None made_nothing (Some cartridge)
-            (loaded_or_back D.state result self.new) self.new }
+        ensures moments { EveryMoment D.state self.old (Load (state_of D.state cartridge)) made_nothing
+            (Some cartridge) (loaded_or_back D.state result self.new) self.new }
     {
         reservations_outlive_each_stop::<Cataloged<D>, D>();
         let medium = cartridge.into_medium();
@@ -223,8 +223,8 @@ impl<D: Disk> Bay<D> {
     pub fn insert(&mut self, cartridge: Parked<D>)
         requires empty { self.old.bay ≡ Bays.Empty }
         ensures inserted { self.new ≡ record self.old { bay = Bays.Unloaded cartridge } }
-        ensures moments { EveryMoment D.state self.old None made_nothing (Some cartridge) (medium_in self.new.bay)
-            self.new }
+        ensures moments { EveryMoment D.state self.old (Insert (state_of D.state cartridge)) made_nothing
+            (Some cartridge) (medium_in self.new.bay) self.new }
     {
         reservations_outlive_each_stop::<Cataloged<D>, D>();
         let medium = cartridge.into_medium();
@@ -238,7 +238,7 @@ impl<D: Disk> Bay<D> {
     pub fn unload(&mut self) -> Result<Parked<D>, Reply>
         ensures out { GoesOut (state_of D.state) (buffer_below D.state) self.old result self.new }
         ensures awake { IsAwakeIn D.state self.old.bay }
-        ensures moments { EveryMoment D.state self.old None made_nothing (medium_in self.old.bay)
+        ensures moments { EveryMoment D.state self.old Unload made_nothing (medium_in self.old.bay)
             (out_or_in D.state result self.new) self.new }
     {
         reservations_outlive_each_stop::<Cataloged<D>, D>();

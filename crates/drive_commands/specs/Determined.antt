@@ -1,4 +1,4 @@
--- Where no outcome came between, an input has one answer.
+-- Where no outcome came between, an event has one answer.
 use Rattle.std.specs.Prelude.{◌≡◌, ◌&&◌, not, List, [], ◌∷◌, filter, All, IfOk, IfSome, Option, None, Some, Ok, Err, Bool, true, false}
 use Rattle.volume_core.specs.declared.changes.Change.{Change}
 use Rattle.volume_core.specs.Volume.{Part}
@@ -11,14 +11,15 @@ use Rattle.drive_commands.specs.declared.bays.Bay.TheVariants.{Unloaded}
 use Rattle.drive_commands.specs.Checks.{verdict}
 use Rattle.drive_commands.specs.State.{Machine, DriveState, bay_of, medium_in}
 use Rattle.drive_commands.specs.Relations.{Made}
-use Rattle.drive_commands.specs.Step.{Input, Execute, FlushTurn, Insert, Load, Unload, PowerOn, Output, Answered, Unanswered, Step, replies_of}
+use Rattle.drive_commands.specs.Events.{Event, Execute, FlushTurn, Insert, Load, OfDrive, PowerOn, Unload}
+use Rattle.drive_commands.specs.Step.{Output, Answered, Unanswered, Step, replies_of}
 use Rattle.drive_commands.specs.Run.{Run}
 
 -- over an honest medium, a step that hangs on its honesty is a step of the machine (own)
 abbrev pub HonestStepsAreSteps : {M : Type 0} → (M → Type 0) → Type 0
 HonestStepsAreSteps {M} honest =
-    (medium : M) (old : Machine) (input : Input) (output : Output) (made : Made) (new : Machine)
-    → honest medium → Step (honest medium) old input output made new → Step (Unit {0}) old input output made new
+    (medium : M) (old : Machine) (event : Event OfDrive) (output : Output) (made : Made) (new : Machine)
+    → honest medium → Step (honest medium) old event output made new → Step (Unit {0}) old event output made new
 
 -- what the side of a parked medium gives: its volume, if any, and with it none or all of some changes (own)
 pub record SideSight : Type 0 where
@@ -96,16 +97,16 @@ abbrev pub IsSureCommand : Command → Bay MediumState → Type 0
 IsSureCommand (LoadUnload true) (Unloaded medium) = OpensSurely medium
 IsSureCommand _ _ = Unit {0}
 
--- It is sure how an input opens a medium. A LOAD that is carried out, a loading and a power on open one, and nothing
+-- It is sure how an event opens a medium. A LOAD that is carried out, a loading and a power on open one, and nothing
 -- else does (own).
-abbrev pub IsSureInput : Machine → Input → Type 0
-IsSureInput old (Execute request) = IfOk (verdict old request) (λ command. IsSureCommand command old.bay)
-IsSureInput old (Load medium) = OpensSurely medium
-IsSureInput old (PowerOn medium keeper) = IfSome medium OpensSurely
-IsSureInput old _ = Unit {0}
+abbrev pub IsSureEvent : Machine → Event OfDrive → Type 0
+IsSureEvent old (Execute request) = IfOk (verdict old request) (λ command. IsSureCommand command old.bay)
+IsSureEvent old (Load medium) = OpensSurely medium
+IsSureEvent old (PowerOn medium keeper) = IfSome medium OpensSurely
+IsSureEvent old _ = Unit {0}
 
--- where an input takes a medium in, it is sure what its side gives (own)
-abbrev pub BringsSure : Input → Type 0
+-- where an event takes a medium in, it is sure what its side gives (own)
+abbrev pub BringsSure : Event OfDrive → Type 0
 BringsSure (Load medium) = IsSure medium
 BringsSure (Insert medium) = IsSure medium
 BringsSure (PowerOn medium keeper) = IfSome medium IsSure
@@ -117,8 +118,8 @@ AreSeenAlike (Some medium) (Some other) = sight_of medium ≡ sight_of other
 AreSeenAlike None None = Unit {0}
 AreSeenAlike _ _ = ⊥
 
--- two inputs ask the same, and take in media and keepers that are seen alike (own)
-abbrev pub AskAlike : Input → Input → Type 0
+-- two events ask the same, and take in media and keepers that are seen alike (own)
+abbrev pub AskAlike : Event OfDrive → Event OfDrive → Type 0
 AskAlike (Execute request) (Execute other) = request ≡ other
 AskAlike (Load medium) (Load other) = sight_of medium ≡ sight_of other
 AskAlike (Insert medium) (Insert other) = sight_of medium ≡ sight_of other
@@ -128,20 +129,20 @@ AskAlike FlushTurn FlushTurn = Unit {0}
 AskAlike Unload Unload = Unit {0}
 AskAlike _ _ = ⊥
 
--- the inputs of two lists ask alike, one by one (own)
-abbrev pub AllAskAlike : List Input → List Input → Type 0
+-- the events of two lists ask alike, one by one (own)
+abbrev pub AllAskAlike : List (Event OfDrive) → List (Event OfDrive) → Type 0
 AllAskAlike [] [] = Unit {0}
-AllAskAlike (input ∷ inputs) (other ∷ others) = AskAlike input other × AllAskAlike inputs others
+AllAskAlike (event ∷ events) (other ∷ others) = AskAlike event other × AllAskAlike events others
 AllAskAlike _ _ = ⊥
 
--- whether an input is none of a flusher (own)
-abbrev pub is_no_turn : Input → Bool
+-- whether an event is none of a flusher (own)
+abbrev pub is_no_turn : Event OfDrive → Bool
 is_no_turn FlushTurn = false
 is_no_turn _ = true
 
--- the inputs except for the flusher's turns (own)
-abbrev pub without_turns : List Input → List Input
-without_turns inputs = filter is_no_turn inputs
+-- the events except for the flusher's turns (own)
+abbrev pub without_turns : List (Event OfDrive) → List (Event OfDrive)
+without_turns events = filter is_no_turn events
 
 -- it met no fault and no full side, and memory did not run out (own)
 abbrev pub IsCalm : Output → Type 0
@@ -150,13 +151,13 @@ IsCalm (Answered (Err fault)) = ⊥
 IsCalm (Unanswered (Ok done)) = Unit {0}
 IsCalm (Unanswered (Err fault)) = ⊥
 
--- each input of a run and the drive that it comes to have this relation (own)
-abbrev pub InRun : (P : Machine → Input → Type 0) (old : Machine) (inputs : List Input) (outputs : List Output)
-    (made : Made) (new : Machine) → Run (Unit {0}) old inputs outputs made new → Type 0
-InRun P old (input ∷ inputs) (output ∷ outputs) made new run =
-    P old input × InRun P run.0 inputs outputs run.2 new run.4
+-- each event of a run and the drive that it comes to have this relation (own)
+abbrev pub InRun : (P : Machine → Event OfDrive → Type 0) (old : Machine) (events : List (Event OfDrive))
+    (outputs : List Output) (made : Made) (new : Machine) → Run (Unit {0}) old events outputs made new → Type 0
+InRun P old (event ∷ events) (output ∷ outputs) made new run =
+    P old event × InRun P run.0 events outputs run.2 new run.4
 InRun P old [] outputs made new run = Unit {0}
-InRun P old (input ∷ inputs) [] made new run = Unit {0}
+InRun P old (event ∷ events) [] made new run = Unit {0}
 
 -- Both had the same outcome and made the same changes, and the drives are seen alike. Under a condition it is sure what
 -- the sides of their media give (own).
@@ -167,35 +168,36 @@ pub record AreAlike {R : Type 0} (where_sure : Type 0) (out other : R) (made oth
   pub drives : seen_of new ≡ seen_of beside
   pub sure : where_sure → IsSureDrive (seen_of new)
 
--- Two steps from drives that are seen alike, by inputs that ask alike, end alike where neither meets a fault or a full
--- side, and memory does not run out. Where an input opens a medium, it has to be sure how that is opened. What was sure
+-- Two steps from drives that are seen alike, by events that ask alike, end alike where neither meets a fault or a full
+-- side, and memory does not run out. Where an event opens a medium, it has to be sure how that is opened. What was sure
 -- of the side of a medium in the drive stays so (own).
 abbrev pub StepsAreDetermined : Type 0
 StepsAreDetermined =
-    (old beside : Machine) (input other : Input) (output output' : Output) (made made' : Made) (new new' : Machine)
-    → seen_of old ≡ seen_of beside → IsSureInput old input → AskAlike input other → IsCalm output → IsCalm output'
-    → Step (Unit {0}) old input output made new → Step (Unit {0}) beside other output' made' new'
-    → AreAlike (IsSureDrive (seen_of old) × BringsSure input) output output' made made' new new'
+    (old beside : Machine) (event other : Event OfDrive) (output output' : Output) (made made' : Made)
+    (new new' : Machine)
+    → seen_of old ≡ seen_of beside → IsSureEvent old event → AskAlike event other → IsCalm output → IsCalm output'
+    → Step (Unit {0}) old event output made new → Step (Unit {0}) beside other output' made' new'
+    → AreAlike (IsSureDrive (seen_of old) × BringsSure event) output output' made made' new new'
 
--- Two runs start from drives that are seen alike. None of these comes in them, and their inputs ask alike, except for
+-- Two runs start from drives that are seen alike. None of these comes in them, and their events ask alike, except for
 -- flusher's turns, which may stand at different places. Then the replies are the same, and the runs end alike. Again
--- each input of one run that opens a medium has to be sure how that is opened, in the drive that it comes to (own).
+-- each event of one run that opens a medium has to be sure how that is opened, in the drive that it comes to (own).
 abbrev pub RunsAreDetermined : Type 0
 RunsAreDetermined =
-    (old beside : Machine) (inputs others : List Input) (outputs outputs' : List Output) (made made' : Made)
+    (old beside : Machine) (events others : List (Event OfDrive)) (outputs outputs' : List Output) (made made' : Made)
     (new new' : Machine)
     → seen_of old ≡ seen_of beside
-    → AllAskAlike (without_turns inputs) (without_turns others)
+    → AllAskAlike (without_turns events) (without_turns others)
     → All IsCalm outputs → All IsCalm outputs'
-    → (run : Run (Unit {0}) old inputs outputs made new) → InRun IsSureInput old inputs outputs made new run
+    → (run : Run (Unit {0}) old events outputs made new) → InRun IsSureEvent old events outputs made new run
     → Run (Unit {0}) beside others outputs' made' new'
-    → AreAlike (IsSureDrive (seen_of old) × All BringsSure (without_turns inputs)) (replies_of outputs)
+    → AreAlike (IsSureDrive (seen_of old) × All BringsSure (without_turns events)) (replies_of outputs)
     (replies_of outputs') made made' new new'
 
 -- It is sure how each medium of a run is opened, if at its start it is sure what the side of the drive's medium gives,
--- no input meets one of these, and the run takes in only such media (own).
+-- no event meets one of these, and the run takes in only such media (own).
 abbrev pub RunsStaySure : Type 0
 RunsStaySure =
-    (old : Machine) (inputs : List Input) (outputs : List Output) (made : Made) (new : Machine)
-    → IsSureDrive (seen_of old) → All BringsSure inputs → All IsCalm outputs
-    → (run : Run (Unit {0}) old inputs outputs made new) → InRun IsSureInput old inputs outputs made new run
+    (old : Machine) (events : List (Event OfDrive)) (outputs : List Output) (made : Made) (new : Machine)
+    → IsSureDrive (seen_of old) → All BringsSure events → All IsCalm outputs
+    → (run : Run (Unit {0}) old events outputs made new) → InRun IsSureEvent old events outputs made new run

@@ -15,7 +15,8 @@ use Rattle.drive_commands.specs.State.{Machine, DriveState, machine_of, medium_i
 use Rattle.drive_commands.specs.Faults.{reply_of}
 use Rattle.drive_commands.specs.Relations.{Made}
 use Rattle.drive_commands.specs.Work.{Request}
-use Rattle.drive_commands.specs.Step.{Execute, Answered, Step}
+use Rattle.drive_commands.specs.Events.{Execute}
+use Rattle.drive_commands.specs.Step.{Answered, Step}
 use Rattle.drive_commands.specs.Counted.{counted_up}
 
 -- the device below the medium failed (own)

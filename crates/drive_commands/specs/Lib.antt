@@ -22,6 +22,7 @@ pub mod Work
 pub mod Checks
 pub mod Turn
 pub mod Load
+pub mod Events
 pub mod Step
 pub mod Synchronize
 pub mod Counted

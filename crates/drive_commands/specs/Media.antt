@@ -22,7 +22,8 @@ use Rattle.drive_commands.specs.State.{Machine, DriveState, bay_of, machine_of, 
 use Rattle.drive_commands.specs.Faults.{fault_reply, reply_of}
 use Rattle.drive_commands.specs.Relations.{made_nothing}
 use Rattle.drive_commands.specs.Load.{wake_answer, bay_when_on}
-use Rattle.drive_commands.specs.Step.{FlushTurn, Insert, Load, Unload, PowerOn, Answered, Unanswered, Step}
+use Rattle.drive_commands.specs.Events.{FlushTurn, Insert, Load, PowerOn, Unload}
+use Rattle.drive_commands.specs.Step.{Answered, Unanswered, Step}
 use Rattle.drive_commands.specs.Turn.{TurnsIn, turn_outcome}
 use Rattle.drive_commands.specs.Execute.{AdvancesIn, StoresIn, HonestIn}
 

@@ -1,5 +1,5 @@
--- Runs of the machine, and of a drive: one input after another.
-use Rattle.std.specs.Prelude.{◌≡◌, ◌++◌, List, [], ◌∷◌, map, filter_map, Option, None, Some, Result, refl}
+-- Runs of the machine, and of a drive: one event after another.
+use Rattle.std.specs.Prelude.{◌≡◌, ◌++◌, List, [], ◌∷◌, map, Option, None, Some, Result, refl}
 use Rattle.std.proofs.Common.{subst}
 use Rattle.vtl_base.specs.Below.{Below}
 use Rattle.scsi_sense.specs.declared.replies.Reply.{Reply}
@@ -13,41 +13,27 @@ use Rattle.drive_commands.specs.Faults.{reply_of}
 use Rattle.drive_commands.specs.State.{Machine, DriveState, machine_of, medium_in}
 use Rattle.drive_commands.specs.Relations.{Made, made_nothing, made_after}
 use Rattle.drive_commands.specs.Work.{Request}
-use Rattle.drive_commands.specs.Step.{Input, Execute, FlushTurn, Output, Answered, Step, replies_of}
+use Rattle.drive_commands.specs.Events.{Event, Execute, FlushTurn, OfDrive}
+use Rattle.drive_commands.specs.Step.{Output, Answered, Step, reply_in}
 use Rattle.drive_commands.specs.Execute.{Answers, HonestIn}
 use Rattle.drive_commands.specs.Media.{TakesTurn}
 
--- from old, this may come of these inputs one after another, make this and leave new (own)
-abbrev pub Run : Type 0 → Machine → List Input → List Output → Made → Machine → Type 0
+-- from old, this may come of these events one after another, make this and leave new (own)
+abbrev pub Run : Type 0 → Machine → List (Event OfDrive) → List Output → Made → Machine → Type 0
 Run honest old [] [] made new = (made ≡ made_nothing) × (new ≡ old)
-Run honest old (input ∷ inputs) (output ∷ outputs) made new =
+Run honest old (event ∷ events) (output ∷ outputs) made new =
     (mid : Machine) × (first : Made) × (rest : Made)
-    × Step honest old input output first mid × Run honest mid inputs outputs rest new
+    × Step honest old event output first mid × Run honest mid events outputs rest new
     × (made ≡ made_after first rest)
 Run honest old [] (output ∷ outputs) made new = ⊥
-Run honest old (input ∷ inputs) [] made new = ⊥
+Run honest old (event ∷ events) [] made new = ⊥
 
 -- a run and one that goes on from it are one run (own)
 abbrev pub RunsAppend : Type 0
 RunsAppend =
-    (old mid new : Machine) (first rest : List Input) (outputs others : List Output) (made more : Made)
+    (old mid new : Machine) (first rest : List (Event OfDrive)) (outputs others : List Output) (made more : Made)
     → Run (Unit {0}) old first outputs made mid → Run (Unit {0}) mid rest others more new
     → Run (Unit {0}) old (first ++ rest) (outputs ++ others) (made_after made more) new
-
--- one thing that is done with a drive: a host's request, with its reply, or a flusher's turn (own)
-pub data Event : Type 0 where
-  Asked : (request : Request) → (reply : Reply) → Event
-  Turned : (turn : Turn) → Event
-
--- what the machine is asked by it (own)
-abbrev pub input_of : Event → Input
-input_of (Asked request reply) = Execute request
-input_of (Turned turn) = FlushTurn
-
--- the reply that a host had of it, if any (own)
-abbrev pub reply_to : Event → Option Reply
-reply_to (Asked request reply) = Some reply
-reply_to (Turned turn) = None
 
 module _ {M K : Type 0}
     (state : M → MediumState) (below : Below M Change) (kept : K → KeeperState) (keeps : Below K PrState) where
@@ -76,30 +62,37 @@ module _ {M K : Type 0}
       (old new : DriveState M K) (requests : List Request) (replies : List Reply)
       → Serves old requests replies new → IsRun old requests replies new
 
-  -- one event of a drive (own)
-  abbrev pub Happens : DriveState M K → Event → DriveState M K → Type 0
-  Happens old (Asked request reply) new = Answers state below kept keeps old request reply new
-  Happens old (Turned turn) new = TakesTurn state below kept old turn new
+  -- one event of a drive that stays switched on, with its medium: a command or a flusher's turn, with the reply that a
+  -- host had of it, if any (own)
+  abbrev pub Happens : DriveState M K → Event OfDrive → Option Reply → DriveState M K → Type 0
+  Happens old (Execute request) (Some reply) new = Answers state below kept keeps old request reply new
+  Happens old FlushTurn None new = (turn : Turn) × TakesTurn state below kept old turn new
+  Happens old _ _ new = ⊥
 
-  -- events of one drive, each from where the one before left it (own)
-  abbrev pub AllHappen : DriveState M K → List Event → DriveState M K → Type 0
-  AllHappen old [] new = new ≡ old
-  AllHappen old (event ∷ events) new = (mid : DriveState M K) × Happens old event mid × AllHappen mid events new
+  -- such events of one drive, each from where the one before left it (own)
+  abbrev pub AllHappen : DriveState M K → List (Event OfDrive) → List (Option Reply) → DriveState M K → Type 0
+  AllHappen old [] [] new = new ≡ old
+  AllHappen old (event ∷ events) (reply ∷ replies) new =
+      (mid : DriveState M K) × Happens old event reply mid × AllHappen mid events replies new
+  AllHappen old _ _ new = ⊥
 
   -- events of a drive are a run of its machine, a flusher's turn where each stood, with the replies that hosts had,
   -- over a medium that is honest where it was at its start (own)
-  pub record IsRunOf (old : DriveState M K) (events : List Event) (new : DriveState M K) : Type 0 where
+  pub record IsRunOf
+      (old : DriveState M K) (events : List (Event OfDrive)) (replies : List (Option Reply)) (new : DriveState M K)
+      : Type 0 where
     pub outputs : List Output
-    pub replied : filter_map reply_to events ≡ replies_of outputs
+    pub replied : replies ≡ map reply_in outputs
     pub made : Made
     pub run :
-        Run (HonestIn below (medium_in old.bay)) (machine_of state kept old)
-        (map input_of events) outputs made (machine_of state kept new)
+        Run (HonestIn below (medium_in old.bay)) (machine_of state kept old) events outputs made
+        (machine_of state kept new)
 
   -- hosts that are served, and flusher's turns between them, are a run of the machine (own)
   abbrev pub EventsAreRuns : Type 0
   EventsAreRuns =
-      (old new : DriveState M K) (events : List Event) → AllHappen old events new → IsRunOf old events new
+      (old new : DriveState M K) (events : List (Event OfDrive)) (replies : List (Option Reply))
+      → AllHappen old events replies new → IsRunOf old events replies new
 
   -- no request is answered by standing still
   pub serves_none : (drive : DriveState M K) → Serves drive [] [] drive

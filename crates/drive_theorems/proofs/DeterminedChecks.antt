@@ -13,8 +13,9 @@ use Rattle.drive_commands.specs.Relations.{Made}
 use Rattle.drive_commands.specs.Work.{Request, MediumWork, WorkBy}
 use Rattle.drive_commands.specs.OnMedium.{OnMediumIn}
 use Rattle.drive_commands.specs.Checks.{Executes, ExecutesAs, verdict}
-use Rattle.drive_commands.specs.Step.{Answered, Execute}
-use Rattle.drive_commands.specs.Determined.{IsSureCommand, IsSureDrive, IsSureInput, seen_of, AreAlike}
+use Rattle.drive_commands.specs.Events.{Execute}
+use Rattle.drive_commands.specs.Step.{Answered}
+use Rattle.drive_commands.specs.Determined.{IsSureCommand, IsSureDrive, IsSureEvent, seen_of, AreAlike}
 use Rattle.drive_theorems.proofs.CommandLemmas.{commands}
 use Rattle.drive_theorems.proofs.DeterminedOrders.{Seen, ends}
 use Rattle.drive_theorems.proofs.DeterminedVerdicts.{denied_same, denied_sure, verdict_same}
@@ -53,7 +54,7 @@ module _ (spaces : NoSpaceEndsTwice) (locates : NoLocateEndsTwice) (orders : NoO
       work_alike (needs_medium (code_of command)) command request.nexus request.sent opens h k
 
   -- a request has one answer
-  pub requests : (request : Request) → IsSureInput old (Execute request) → Executes (Unit {0}) request old (Ok reply)
+  pub requests : (request : Request) → IsSureEvent old (Execute request) → Executes (Unit {0}) request old (Ok reply)
       made new
       → Executes (Unit {0}) request beside (Ok reply') made' new' → Alike
   requests request opens h k =

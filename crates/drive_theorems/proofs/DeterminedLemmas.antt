@@ -12,8 +12,9 @@ use Rattle.drive_commands.specs.State.{DriveState, Machine, bay_of}
 use Rattle.drive_commands.specs.Relations.{Made, made_nothing}
 use Rattle.drive_commands.specs.Work.{Request}
 use Rattle.drive_commands.specs.Turn.{TurnsIn, after_turn, turn_outcome}
-use Rattle.drive_commands.specs.Step.{Input, Execute, FlushTurn, Insert, Load, Unload, PowerOn, Output, Answered, Unanswered, Step}
-use Rattle.drive_commands.specs.Determined.{BringsSure, IsSure, IsSureDrive, IsSureInput, OpensSurely, Sight, sight_of, side_sight, seen_of, without_room, IsCalm, AreSeenAlike, AreAlike, StepsAreDetermined}
+use Rattle.drive_commands.specs.Events.{Event, Execute, FlushTurn, Insert, Load, OfDrive, PowerOn, Unload}
+use Rattle.drive_commands.specs.Step.{Output, Answered, Unanswered, Step}
+use Rattle.drive_commands.specs.Determined.{BringsSure, IsSure, IsSureDrive, IsSureEvent, OpensSurely, Sight, sight_of, side_sight, seen_of, without_room, IsCalm, AreSeenAlike, AreAlike, StepsAreDetermined}
 use Rattle.drive_theorems.proofs.AlikeLemmas.{works_sight}
 use Rattle.drive_commands.specs.LoadUnload.{emptied}
 use Rattle.drive_theorems.proofs.DeterminedLoads.{loads, powers_on}
@@ -77,12 +78,12 @@ turn_unseen old (Answered answer) made new calm h = absurd h
 module _ (spaces : NoSpaceEndsTwice) (locates : NoLocateEndsTwice) (orders : NoOrderEndsTwice) (old beside : Machine)
     (made made' : Made) (new
     new' : Machine) (e : seen_of old ≡ seen_of beside) where
-  -- both came out alike, and what was sure of the medium in the drive stays so where the input brings a sure one
-  abbrev Alike : Input → Output → Output → Type 0
-  Alike input output output' =
-      AreAlike (IsSureDrive (seen_of old) × BringsSure input) output output' made made' new new'
+  -- both came out alike, and what was sure of the medium in the drive stays so where the event brings a sure one
+  abbrev Alike : Event OfDrive → Output → Output → Type 0
+  Alike event output output' =
+      AreAlike (IsSureDrive (seen_of old) × BringsSure event) output output' made made' new new'
 
-  execute_determined : (request other : Request) (output output' : Output) → IsSureInput old (Execute request)
+  execute_determined : (request other : Request) (output output' : Output) → IsSureEvent old (Execute request)
       → request ≡ other
       → IsCalm output → IsCalm output' → Step (Unit {0}) old (Execute request) output made new
       → Step (Unit {0}) beside (Execute other) output' made' new' → Alike (Execute request) output output'

@@ -1,5 +1,5 @@
 -- Runs: two in a row are one, and what a drive answers to hosts is one.
-use Rattle.std.proofs.Common.{◌≡◌, ◌++◌, ◌∙◌, List, [], ◌∷◌, map, filter_map, Option, None, Some, refl, sym, ap, subst, append_assoc}
+use Rattle.std.proofs.Common.{◌≡◌, ◌++◌, ◌∙◌, List, [], ◌∷◌, map, Option, None, Some, refl, sym, ap, subst, append_assoc}
 use Rattle.vtl_base.specs.Below.{Below}
 use Rattle.scsi_sense.specs.declared.replies.Reply.{Reply}
 use Rattle.pr_core.specs.declared.states.PrState.{PrState}
@@ -9,10 +9,11 @@ use Rattle.volume_core.specs.Medium.{MediumState, turn_met_fault}
 use Rattle.drive_commands.specs.State.{Machine, machine_of, medium_in}
 use Rattle.drive_commands.specs.Faults.{reply_of}
 use Rattle.drive_commands.specs.Relations.{Made, made_nothing, made_after}
-use Rattle.drive_commands.specs.Step.{Input, Execute, Output, Answered, Unanswered}
+use Rattle.drive_commands.specs.Events.{Event, Execute, FlushTurn, Insert, Load, OfDrive, PowerOn, Unload}
+use Rattle.drive_commands.specs.Step.{Output, Answered, Unanswered, reply_in}
 use Rattle.drive_commands.specs.Turn.{turn_outcome}
 use Rattle.drive_commands.specs.Execute.{AdvancesIn, HonestIn, is_device_fault}
-use Rattle.drive_commands.specs.Run.{Run, RunsAppend, ServedByRuns, EventsAreRuns, Asked, Turned, input_of, reply_to}
+use Rattle.drive_commands.specs.Run.{Run, RunsAppend, ServedByRuns, EventsAreRuns}
 use Rattle.drive_theorems.proofs.StepLemmas.{step_where}
 
 -- what three steps in a row make
@@ -25,7 +26,7 @@ made_after_after first second third =
     }
 
 -- two runs in a row are one
-pub run_append : (H : Type 0) (old mid new : Machine) (first rest : List Input) (outputs others : List Output)
+pub run_append : (H : Type 0) (old mid new : Machine) (first rest : List (Event OfDrive)) (outputs others : List Output)
     (made more : Made) → Run H old first outputs made mid → Run H mid rest others more new
     → Run H old (first ++ rest) (outputs ++ others) (made_after made more) new
 run_append H old mid new [] rest [] others made more one two =
@@ -50,8 +51,8 @@ runs_append old mid new first rest outputs others made more one two =
     run_append (Unit {0}) old mid new first rest outputs others made more one two
 
 -- a run over a medium that is honest wherever another fact holds
-pub run_where : (H H' : Type 0) → (H → H') → (old : Machine) (inputs : List Input) (outputs : List Output)
-    (made : Made) (new : Machine) → Run H' old inputs outputs made new → Run H old inputs outputs made new
+pub run_where : (H H' : Type 0) → (H → H') → (old : Machine) (events : List (Event OfDrive)) (outputs : List Output)
+    (made : Made) (new : Machine) → Run H' old events outputs made new → Run H old events outputs made new
 run_where H H' so old [] [] made new run = run
 run_where H H' so old (i ∷ is) (o ∷ os) made new run = (
   run.0,
@@ -106,19 +107,19 @@ module _ {M K : Type 0}
 
   -- events of one drive are a run of its machine
   pub events_run : EventsAreRuns state below kept keeps
-  events_run old new [] h =
+  events_run old new [] [] h =
       record { outputs = []; replied = refl; made = made_nothing; run = (refl, ap (machine_of state kept) h) }
-  events_run old new (Asked request reply ∷ events) h =
+  events_run old new (Execute request ∷ events) (Some reply ∷ replies) h =
       let mid = h.0 in
       let here = h.1 in
-      let rest = events_run mid new events h.2 in
+      let rest = events_run mid new events replies h.2 in
       let so = honest_on (medium_in old.bay) (medium_in mid.bay) here.taken.made.changes (is_device_fault here.answer)
       here.taken.advances in
       record {
         outputs = Answered here.answer ∷ rest.outputs;
         replied =
-            ap (λ (x : Reply). x ∷ filter_map reply_to events) here.replied
-            ∙ ap (λ (xs : List Reply). reply_of here.answer ∷ xs) rest.replied;
+            ap (λ (x : Reply). Some x ∷ replies) here.replied
+            ∙ ap (λ (xs : List (Option Reply)). Some (reply_of here.answer) ∷ xs) rest.replied;
         made = made_after here.taken.made rest.made;
         run = (
           machine_of state kept mid,
@@ -127,18 +128,19 @@ module _ {M K : Type 0}
           here.taken.step,
           run_where (HonestIn below (medium_in old.bay)) (HonestIn below (medium_in mid.bay)) so (machine_of state
               kept mid)
-              (map input_of events) rest.outputs rest.made (machine_of state kept new) rest.run,
+              events rest.outputs rest.made (machine_of state kept new) rest.run,
           refl,
         );
       }
-  events_run old new (Turned turn ∷ events) h =
+  events_run old new (FlushTurn ∷ events) (None ∷ replies) h =
       let mid = h.0 in
-      let here = h.1 in
-      let rest = events_run mid new events h.2 in
+      let turn = h.1.0 in
+      let here = h.1.1 in
+      let rest = events_run mid new events replies h.2 in
       let so = honest_on (medium_in old.bay) (medium_in mid.bay) [] (turn_met_fault turn) here.advances in
       record {
         outputs = Unanswered (turn_outcome turn) ∷ rest.outputs;
-        replied = rest.replied;
+        replied = ap (λ (xs : List (Option Reply)). None ∷ xs) rest.replied;
         made = made_after made_nothing rest.made;
         run = (
           machine_of state kept mid,
@@ -147,7 +149,15 @@ module _ {M K : Type 0}
           here.step,
           run_where (HonestIn below (medium_in old.bay)) (HonestIn below (medium_in mid.bay)) so (machine_of state
               kept mid)
-              (map input_of events) rest.outputs rest.made (machine_of state kept new) rest.run,
+              events rest.outputs rest.made (machine_of state kept new) rest.run,
           refl,
         );
       }
+  events_run old new [] (reply ∷ replies) h = absurd h
+  events_run old new (event ∷ events) [] h = absurd h
+  events_run old new (Execute request ∷ events) (None ∷ replies) h = absurd h.1
+  events_run old new (FlushTurn ∷ events) (Some reply ∷ replies) h = absurd h.1
+  events_run old new (Load medium ∷ events) (reply ∷ replies) h = absurd h.1
+  events_run old new (Insert medium ∷ events) (reply ∷ replies) h = absurd h.1
+  events_run old new (Unload ∷ events) (reply ∷ replies) h = absurd h.1
+  events_run old new (PowerOn medium keeper ∷ events) (reply ∷ replies) h = absurd h.1

@@ -22,7 +22,8 @@ use Rattle.drive_commands.specs.OnMedium.{OnMediumIn}
 use Rattle.drive_commands.specs.LoadUnload.{LoadUnloadWork, LoadsIn, UnloadsInto, emptied, unloaded}
 use Rattle.drive_commands.specs.Checks.{ExecutesAs, verdict}
 use Rattle.drive_commands.specs.Load.{LoadsInto, PowersOn}
-use Rattle.drive_commands.specs.Step.{Input, Execute, FlushTurn, Insert, Load, Unload, PowerOn, Output, Answered, Unanswered, Step}
+use Rattle.drive_commands.specs.Events.{Event, Execute, FlushTurn, Insert, Load, OfDrive, PowerOn, Unload}
+use Rattle.drive_commands.specs.Step.{Output, Answered, Unanswered, Step}
 use Rattle.drive_commands.proofs.ReadLemmas.{read_where}
 
 module _ (H H' : Type 0) (so : H → H') where
@@ -193,8 +194,8 @@ module _ (H H' : Type 0) (so : H → H') where
       (h.0, h.1, h.2, wakes_from_where medium.awake medium h.0 h.1 h.3, h.4, h.5, h.6, h.7)
 
   -- a step over a medium that is honest wherever another fact holds
-  pub step_where : (old : Machine) (input : Input) (output : Output) (made : Made) (new : Machine)
-      → Step H' old input output made new → Step H old input output made new
+  pub step_where : (old : Machine) (event : Event OfDrive) (output : Output) (made : Made) (new : Machine)
+      → Step H' old event output made new → Step H old event output made new
   step_where old (Execute request) (Answered answer) made new h =
       executes_where old answer made new (verdict old request) request h
   step_where old FlushTurn (Unanswered outcome) made new h = h

@@ -16,10 +16,10 @@ pub fn honest_steps<M: Medium>()
     ensures { HonestStepsAreSteps M.below.honest }
 {}
 
-/// An input has one answer, makes one list of changes and leads to one next state of the drive, as seen from outside,
+/// An event has one answer, makes one list of changes and leads to one next state of the drive, as seen from outside,
 /// unless a device fails, memory runs out or a side is full. How much of the volume is stored and how much is pending
-/// makes no difference. The same holds for all inputs of a run, wherever turns of the flusher come among them. For an
-/// input that opens a medium, it must also be certain which volume the medium's side holds. Suppose that this is
+/// makes no difference. The same holds for all events of a run, wherever turns of the flusher come among them. For an
+/// event that opens a medium, it must also be certain which volume the medium's side holds. Suppose that this is
 /// certain for the drive's medium at the start of a run, and for each medium that is put into the drive during the run.
 /// Then it stays certain throughout the run, unless a device fails, memory runs out or a side is full.
 pub fn answers_are_determined()

@@ -13,10 +13,11 @@ use Rattle.vtl_script.specs.Runs.{AnswersSome}
 use Rattle.vtl_script.specs.declared.lines.Line.{Line}
 use Rattle.vtl_script.specs.declared.items.Item.{Item}
 use Rattle.vtl_script.specs.declared.items.Item.TheVariants.{Phase, Move}
-use Rattle.bay_moves.specs.Runs.{Command, Order, line_request}
+use Rattle.drive_commands.specs.Events.{Event, OfLibrary}
+use Rattle.bay_moves.specs.Runs.{line_event, line_request}
 use Rattle.library.specs.MovesAt.{IsMovedAmong}
 use Rattle.library.specs.Served.{IsServed}
-use Rattle.library_scripts.specs.Crews.{AnswersAllAmong, AnswersCrew, AnswersLine, CrewState}
+use Rattle.library_scripts.specs.Crews.{AnswersAllAmong, AnswersCrew, AnswersSeat, CrewState}
 use Rattle.library_scripts.specs.Inner.CrewsOn.{among_on}
 use Rattle.library_scripts.specs.Inner.InPlace.{AreInPlace}
 
@@ -73,7 +74,7 @@ module _ {D : Type 0} (state : D → DiskState) where
   -- a line is answered for the host of a seat
   pub line_at : (seats : List SeatState) (i : ℕ) (d after : SeatState) (line : Line) (reply : Reply)
       → i < length seats → IsServed state (line_request line) (get_or seats i d) reply after
-      → AnswersLine state seats line reply (set seats i after)
+      → AnswersSeat state seats (line_request line) reply (set seats i after)
   line_at seats i d after line reply within served = record {
     place = i;
     before = get_or seats i d;
@@ -84,7 +85,8 @@ module _ {D : Type 0} (state : D → DiskState) where
   }
 
   -- a line leaves each seat in its place
-  pub line_in_place : (old new : List SeatState) (line : Line) (reply : Reply) → AnswersLine state old line reply new
+  pub line_in_place : (old new : List SeatState) (line : Line) (reply : Reply) → AnswersSeat state old
+      (line_request line) reply new
       → AreInPlace old → AreInPlace new
   line_in_place old new line reply one places =
       subst AreInPlace (sym one.seats) (record {
@@ -112,29 +114,30 @@ module _ {D : Type 0} (state : D → DiskState) where
   -- the answered lines, and one more
   pub lines_on : (drives : List Bool) (old mid new : List SeatState) (lines : List Line) (line : Line)
       (replies : List Reply) (reply : Reply)
-      → AnswersAllAmong state drives old (map Command lines) replies mid → AnswersLine state mid line reply new
-      → AnswersAllAmong state drives old (map Command (lines ++ line ∷ [])) (replies ++ reply ∷ []) new
+      → AnswersAllAmong state drives old (map line_event lines) replies mid → AnswersSeat state mid (line_request line)
+      reply new
+      → AnswersAllAmong state drives old (map line_event (lines ++ line ∷ [])) (replies ++ reply ∷ []) new
   lines_on drives old mid new lines line replies reply first one =
-      subst (λ (orders : List Order). AnswersAllAmong state drives old orders (replies ++ reply ∷ []) new)
-      (sym (map-append Command lines (line ∷ [])))
-      (among_on state drives old mid new (map Command lines) (Command line ∷ []) replies (reply ∷ []) first
+      subst (λ (events : List (Event OfLibrary)). AnswersAllAmong state drives old events (replies ++ reply ∷ []) new)
+      (sym (map-append line_event lines (line ∷ [])))
+      (among_on state drives old mid new (map line_event lines) (line_event line ∷ []) replies (reply ∷ []) first
       (new, one, refl))
 
   -- where a phase's lines are answered, the crew answers the phase
   pub phase_answers : {V E : Type 0} (items : V → List Reply) (drives : List Bool) (old new : List SeatState)
       (lines : List Line) (result : Result V E)
-      → IfOk result (λ v. AnswersAllAmong state drives old (map Command lines) (items v) new)
+      → IfOk result (λ v. AnswersAllAmong state drives old (map line_event lines) (items v) new)
       → IfOk result (λ v. AnswersCrew state (record { drives = drives; seats = old }) (Phase lines ∷ []) (items v)
       (record { drives = drives; seats = new }))
   phase_answers items drives old new lines (Ok v) done = record {
     drives = refl;
-    orders =
-        subst (λ (orders : List Order). AnswersAllAmong state drives old orders (items v) new)
-        (sym (append-nil (map Command lines))) done;
+    answered =
+        subst (λ (events : List (Event OfLibrary)). AnswersAllAmong state drives old events (items v) new)
+        (sym (append-nil (map line_event lines))) done;
   }
   phase_answers items drives old new lines (Err fault) done = tt
 
   -- where a cartridge is moved, the crew answers the move
   pub move_answers : (crew : CrewState) (from to : ℕ) (reply : Reply) → IsMovedAmong state crew.drives from to reply
       → AnswersCrew state crew (Move from to ∷ []) (reply ∷ []) crew
-  move_answers crew from to reply moved = record { drives = refl; orders = (crew.seats, (moved, refl), refl) }
+  move_answers crew from to reply moved = record { drives = refl; answered = (crew.seats, (moved, refl), refl) }

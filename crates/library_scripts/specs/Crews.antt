@@ -4,8 +4,9 @@ use Rattle.tape_disk.specs.Disk.{DiskState}
 use Rattle.ledgers.specs.Ledgers.{SeatState}
 use Rattle.scsi_sense.specs.declared.replies.Reply.{Reply}
 use Rattle.vtl_script.specs.declared.items.Item.{Item}
-use Rattle.vtl_script.specs.declared.lines.Line.{Line}
-use Rattle.bay_moves.specs.Runs.{Order, Command, Carry, line_request, orders_of}
+use Rattle.drive_commands.specs.Events.{Carry, Event, Execute, InDrive, OfLibrary}
+use Rattle.drive_commands.specs.Work.{Request}
+use Rattle.bay_moves.specs.Runs.{events_of}
 use Rattle.library.specs.MovesAt.{IsMovedAmong}
 use Rattle.library.specs.Served.{IsServed}
 
@@ -15,31 +16,34 @@ pub record CrewState : Type 0 where
   pub seats : List SeatState
 
 module _ {D : Type 0} (state : D → DiskState) where
-  -- A line is answered for its host, whose seat grows as the reply says. The other seats stay (own).
-  pub record AnswersLine (old : List SeatState) (line : Line) (reply : Reply) (new : List SeatState) : Type 0 where
+  -- A request is answered for its host, whose seat grows as the reply says. The other seats stay (own).
+  pub record AnswersSeat (old : List SeatState) (request : Request) (reply : Reply) (new : List SeatState) : Type
+      0 where
     pub place : ℕ
     pub before : SeatState
     pub after : SeatState
     pub seat : slice_get old place ≡ Some before
-    pub served : IsServed state (line_request line) before reply after
+    pub served : IsServed state request before reply after
     pub seats : new ≡ slice_set old place after
 
-  -- an order is answered: a line for its host; a move as MOVE MEDIUM is among these drives, and each seat stays (SMC-3,
-  -- MOVE MEDIUM; the rest own)
-  abbrev pub AnswersAmong : List Bool → List SeatState → Order → Reply → List SeatState → Type 0
-  AnswersAmong drives old (Command line) reply new = AnswersLine old line reply new
+  -- what a library was asked is answered: a command for its host; a move as MOVE MEDIUM is among these drives, and each
+  -- seat stays (SMC-3, MOVE MEDIUM; the rest own)
+  abbrev pub AnswersAmong : List Bool → List SeatState → Event OfLibrary → Reply → List SeatState → Type 0
+  AnswersAmong drives old (InDrive number (Execute request)) reply new = AnswersSeat old request reply new
   AnswersAmong drives old (Carry from to) reply new = IsMovedAmong state drives from to reply × (new ≡ old)
+  AnswersAmong drives old _ reply new = ⊥
 
-  -- orders are answered one after another, each with the seats that the last one left (own)
-  abbrev pub AnswersAllAmong : List Bool → List SeatState → List Order → List Reply → List SeatState → Type 0
+  -- such events, one after another, each answered with the seats that the last one left (own)
+  abbrev pub AnswersAllAmong :
+      List Bool → List SeatState → List (Event OfLibrary) → List Reply → List SeatState → Type 0
   AnswersAllAmong drives old [] [] new = new ≡ old
-  AnswersAllAmong drives old (order ∷ orders) (reply ∷ replies) new =
-      (mid : List SeatState) × AnswersAmong drives old order reply mid × AnswersAllAmong drives mid orders replies new
+  AnswersAllAmong drives old (event ∷ events) (reply ∷ replies) new =
+      (mid : List SeatState) × AnswersAmong drives old event reply mid × AnswersAllAmong drives mid events replies new
   AnswersAllAmong drives old [] (reply ∷ replies) new = ⊥
-  AnswersAllAmong drives old (order ∷ orders) [] new = ⊥
+  AnswersAllAmong drives old (event ∷ events) [] new = ⊥
 
   -- the hosts of a library get these replies to these items, one after another, and the same drives are configured
   -- (own)
   pub record AnswersCrew (old : CrewState) (items : List Item) (replies : List Reply) (new : CrewState) : Type 0 where
     pub drives : new.drives ≡ old.drives
-    pub orders : AnswersAllAmong old.drives old.seats (flat_map orders_of items) replies new.seats
+    pub answered : AnswersAllAmong old.drives old.seats (flat_map events_of items) replies new.seats

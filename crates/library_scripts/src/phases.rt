@@ -3,7 +3,7 @@ ghost use Rattle.std.specs.Prelude.{◌≡◌, ◌≤◌, ◌<◌, ◌+◌, [], 
 ghost use Rattle.std.specs.List.{list_all};
 ghost use Rattle.std.specs.List.Sorted.{IsNonDecreasingBy};
 ghost use Rattle.vtl_base.specs.declared.limits.TheConstants.{NEXUSES};
-ghost use Rattle.bay_moves.specs.Runs.{Command};
+ghost use Rattle.bay_moves.specs.Runs.{line_event};
 ghost use Rattle.library.specs.Counts.{has_drive};
 ghost use Rattle.library_scripts.specs.Crews.{AnswersAllAmong};
 ghost use Rattle.library_scripts.specs.Inner.InPlace.{AreInPlace};
@@ -55,7 +55,7 @@ pub(crate) fn serve_in_turn<D: Disk + Drop, B: Parties + Rings, H: Parties, R: W
     requires places { AreInPlace (seats_of jobs.old) }
     requires configured { list_all (λ line. has_drive library.now line.drive) lines.old ≡ true }
     ensures ok { IfOk result (λ replies. AnswersAllAmong D.state library.now (seats_of jobs.old)
-        (map Command lines.old) replies.items (seats_of jobs.new)) }
+        (map line_event lines.old) replies.items (seats_of jobs.new)) }
     ensures err { OnErr result (seats_of jobs.new ≡ seats_of jobs.old) }
     ensures places { AreInPlace (seats_of jobs.new) }
 {

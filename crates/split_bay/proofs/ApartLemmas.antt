@@ -10,7 +10,8 @@ use Rattle.drive_commands.specs.declared.bays.Bay.{Bay}
 use Rattle.drive_commands.specs.declared.bays.Bay.TheVariants.{Empty, Unloaded, Loaded}
 use Rattle.drive_commands.specs.Execute.{AdvancesIn, Answers, HonestIn, StoresIn}
 use Rattle.drive_commands.specs.State.{DriveState, Machine, bay_of, machine_of, medium_in}
-use Rattle.drive_commands.specs.Step.{Answered, Execute, Step}
+use Rattle.drive_commands.specs.Events.{Execute}
+use Rattle.drive_commands.specs.Step.{Answered, Step}
 use Rattle.drive_commands.specs.ShownChanges.{RepliesShowChanges}
 use Rattle.drive_commands.specs.Work.{Request}
 use Rattle.split_bay.specs.declared.hosts.Hosts.{Hosts}

@@ -15,7 +15,7 @@ use Rattle.drive_commands.specs.State.{DriveState, medium_in}
 use Rattle.drive_commands.specs.Work.{Request}
 use Rattle.aptpl_store.specs.Kept.{store_below, store_kept}
 use Rattle.aptpl_store.specs.State.{OpenStore}
-use Rattle.drive_commands.specs.Run.{Asked}
+use Rattle.drive_commands.specs.Events.{Execute}
 use Rattle.bay_moves.specs.Reservations.{HoldingGoesOn}
 use Rattle.split_bay.specs.declared.items.Item.{Item}
 use Rattle.split_bay.specs.declared.hosts.Hosts.{Hosts}
@@ -74,7 +74,7 @@ module _ {M D : Type 0} (seen : M → MediumState) (below : Below M Change) (alo
         has_end_still (drive_near old).bay (drive_near new).bay end near.1.taken.made.changes _
             near.1.taken.advances keeps.1,
         holding_near seen below state new
-            (goes_on old new (Some (Asked request reply)) (holding_hosts seen below state old keeps.2) step).0,
+            (goes_on old new (Execute request) (holding_hosts seen below state old keeps.2) (reply, step)).0,
       )
 
   -- what is answered
@@ -92,10 +92,10 @@ module _ {M D : Type 0} (seen : M → MediumState) (below : Below M Change) (alo
   front_moments (Some reply) keeps answered =
       λ honest.
       let moments =
-      (goes_on old new (Some (Asked request reply)) (holding_hosts seen below state old keeps.2)
-      answered.1.step).1 honest
+      (goes_on old new (Execute request) (holding_hosts seen below state old keeps.2)
+      (reply, answered.1.step)).1 honest
       in (
         moments.0,
         leaves_with seen below state (state old.keeper.disk) (state new.keeper.disk) old.bay (rest_of_drive old)
-            (Some (Asked request reply)) new keeps.0 moments.1,
+            (Execute request) new keeps.0 moments.1,
       )

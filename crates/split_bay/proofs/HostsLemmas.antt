@@ -15,9 +15,9 @@ use Rattle.drive_commands.specs.Alone.{AnswersAlone, alone_in, needs_disk_as, re
 use Rattle.drive_commands.specs.Apart.{RestState, drive_with}
 use Rattle.drive_commands.specs.Checks.{verdict}
 use Rattle.drive_commands.specs.Execute.{AdvancesIn, Answers, HonestIn, StoresIn}
-use Rattle.drive_commands.specs.Run.{Event}
 use Rattle.drive_commands.specs.State.{DriveState, IsBayPositioned, Machine, bay_of, has_failed_in, machine_of, medium_in}
-use Rattle.drive_commands.specs.Step.{Answered, Execute, Step}
+use Rattle.drive_commands.specs.Events.{Event, Execute, OfDrive}
+use Rattle.drive_commands.specs.Step.{Answered, Step}
 use Rattle.drive_commands.specs.Work.{Request}
 use Rattle.aptpl_store.specs.State.{OpenStore}
 use Rattle.bay_moves.specs.Reservations.{IsHolding, LeavesHeld}
@@ -241,16 +241,16 @@ module _ {M D : Type 0} (state : M → MediumState) (below : Below M Change) (di
 module _ {M D : Type 0} (state : M → MediumState) (below : Below M Change) (disk : D → DiskState) where
   -- and what an image of its store's disk may give
   pub leaves_with : (a b : DiskState) (bay : Bay (Hosts SendingState M)) (rest : RestState (OpenStore D))
-      (call : Option Event)
+      (event : Event OfDrive)
       (new : DriveState (Hosts SendingState M) (OpenStore D)) → IsApartIn bay
-      → LeavesOnly a b (LeavesHeld (state_hosts state) (hosts_below below) disk (drive_with bay rest) call new)
+      → LeavesOnly a b (LeavesHeld (state_hosts state) (hosts_below below) disk (drive_with bay rest) event new)
       → LeavesOnly a b
-      (LeavesHeld state_near near_below disk (drive_with (bay_of near_of bay) rest) call (drive_near new))
-  leaves_with a b Empty rest call new apart leaves = leaves
-  leaves_with a b (Unloaded (Apart near)) rest call new apart leaves = leaves
-  leaves_with a b (Loaded (Apart near)) rest call new apart leaves = leaves
-  leaves_with a b (Unloaded (Whole medium)) rest call new apart leaves = absurd apart
-  leaves_with a b (Loaded (Whole medium)) rest call new apart leaves = absurd apart
+      (LeavesHeld state_near near_below disk (drive_with (bay_of near_of bay) rest) event (drive_near new))
+  leaves_with a b Empty rest event new apart leaves = leaves
+  leaves_with a b (Unloaded (Apart near)) rest event new apart leaves = leaves
+  leaves_with a b (Loaded (Apart near)) rest event new apart leaves = leaves
+  leaves_with a b (Unloaded (Whole medium)) rest event new apart leaves = absurd apart
+  leaves_with a b (Loaded (Whole medium)) rest event new apart leaves = absurd apart
 
 -- what the type of the hosts' half keeps
 pub front_keeps : {M D : Type 0} (disk : D → DiskState) (state : M → MediumState)

@@ -7,7 +7,8 @@ use Rattle.volume_core.specs.Stores.{Stores}
 use Rattle.drive_commands.specs.declared.bays.Bay.TheVariants.{Empty, Unloaded, Loaded}
 use Rattle.drive_commands.specs.Relations.{made_nothing}
 use Rattle.drive_commands.specs.State.{Machine}
-use Rattle.drive_commands.specs.Step.{FlushTurn, Step, Unanswered}
+use Rattle.drive_commands.specs.Events.{FlushTurn}
+use Rattle.drive_commands.specs.Step.{Step, Unanswered}
 use Rattle.drive_commands.specs.Turn.{after_turn, turn_outcome}
 use Rattle.split_bay.specs.Looks.{Looks}
 

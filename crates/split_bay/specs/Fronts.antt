@@ -8,7 +8,7 @@ use Rattle.drive_commands.specs.declared.bays.Bay.TheVariants.{Empty, Unloaded, 
 use Rattle.drive_commands.specs.State.{DriveState, IsBayPositioned}
 use Rattle.drive_commands.specs.Work.{Request}
 use Rattle.aptpl_store.specs.State.{OpenStore}
-use Rattle.drive_commands.specs.Run.{Asked}
+use Rattle.drive_commands.specs.Events.{Execute}
 use Rattle.bay_moves.specs.Reservations.{GivesHeld, IsHolding, LeavesHeld, disk_of}
 use Rattle.split_bay.specs.Nears.{IsThere, near_below, state_near}
 use Rattle.split_bay.specs.Rings.{SendingState}
@@ -67,7 +67,7 @@ module _ {D : Type 0} (state : D → DiskState) where
       (disk_of state_near near_below state old).honest
       → (disk_of state_near near_below state new).honest
       × LeavesOnly (disk_of state_near near_below state old) (disk_of state_near near_below state new)
-      (LeavesHeld state_near near_below state old (Some (Asked request reply)) new)
+      (LeavesHeld state_near near_below state old (Execute request) new)
 
   -- What the type of a hosts' half keeps: of the reservations and their store; its end of the ring, into which no more
   -- was sent than its span allows; and the position is on what hosts see (own).

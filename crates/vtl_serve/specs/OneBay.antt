@@ -10,7 +10,8 @@ use Rattle.drive_commands.specs.Faults.{reply_of}
 use Rattle.drive_commands.specs.Relations.{Made}
 use Rattle.drive_commands.specs.Run.{Run}
 use Rattle.drive_commands.specs.State.{machine_of, medium_in}
-use Rattle.drive_commands.specs.Step.{Execute, Answered}
+use Rattle.drive_commands.specs.Events.{Execute}
+use Rattle.drive_commands.specs.Step.{Answered}
 use Rattle.drive_commands.specs.Work.{Request as Asked}
 use Rattle.tape_buffer.specs.Moves.{buffer_below}
 use Rattle.tape_buffer.specs.State.{state_of}

@@ -6,21 +6,22 @@ use Rattle.ledgers.specs.Ledgers.{SeatState}
 use Rattle.scsi_sense.specs.declared.replies.Reply.{Reply}
 use Rattle.vtl_script.specs.declared.items.Item.{Item}
 use Rattle.vtl_script.specs.declared.items.Item.TheVariants.{Phase}
-use Rattle.bay_moves.specs.Runs.{Order, orders_of}
+use Rattle.drive_commands.specs.Events.{Event, OfLibrary}
+use Rattle.bay_moves.specs.Runs.{events_of}
 use Rattle.library_scripts.specs.Crews.{AnswersAllAmong, AnswersCrew, CrewState}
 
 module _ {D : Type 0} (state : D → DiskState) where
   -- a run from the end of another extends it
-  pub among_on : (drives : List Bool) (old mid new : List SeatState) (first rest : List Order)
+  pub among_on : (drives : List Bool) (old mid new : List SeatState) (first rest : List (Event OfLibrary))
       (replies others : List Reply)
       → AnswersAllAmong state drives old first replies mid → AnswersAllAmong state drives mid rest others new
       → AnswersAllAmong state drives old (first ++ rest) (replies ++ others) new
   among_on drives old mid new [] rest [] others one two =
       subst (λ (seats : List SeatState). AnswersAllAmong state drives seats rest others new) one two
-  among_on drives old mid new (order ∷ first) rest (reply ∷ replies) others one two =
+  among_on drives old mid new (event ∷ first) rest (reply ∷ replies) others one two =
       (one.0, one.1, among_on drives one.0 mid new first rest replies others one.2 two)
   among_on drives old mid new [] rest (reply ∷ replies) others one two = absurd one
-  among_on drives old mid new (order ∷ first) rest [] others one two = absurd one
+  among_on drives old mid new (event ∷ first) rest [] others one two = absurd one
 
   -- the same drives are configured
   pub crew_drives : (old new : CrewState) (items : List Item) (replies : List Reply)
@@ -29,11 +30,11 @@ module _ {D : Type 0} (state : D → DiskState) where
 
   -- no items, no replies, no change
   pub crew_none : (crew : CrewState) → AnswersCrew state crew [] [] crew
-  crew_none crew = record { drives = refl; orders = refl }
+  crew_none crew = record { drives = refl; answered = refl }
 
   -- the same for a phase without commands
   pub crew_empty : (crew : CrewState) → AnswersCrew state crew (Phase [] ∷ []) [] crew
-  crew_empty crew = record { drives = refl; orders = refl }
+  crew_empty crew = record { drives = refl; answered = refl }
 
   -- items are answered one after another
   pub crew_on : (old mid new : CrewState) (first rest : List Item) (replies others : List Reply)
@@ -41,13 +42,14 @@ module _ {D : Type 0} (state : D → DiskState) where
       → AnswersCrew state old (first ++ rest) (replies ++ others) new
   crew_on old mid new first rest replies others one two = record {
     drives = two.drives ∙ one.drives;
-    orders =
+    answered =
         subst
-        (λ (orders : List Order). AnswersAllAmong state old.drives old.seats orders (replies ++ others) new.seats)
-        (sym (flat_map-append orders_of first rest))
-        (among_on old.drives old.seats mid.seats new.seats (flat_map orders_of first) (flat_map orders_of rest) replies
-        others one.orders
+        (λ (events : List (Event OfLibrary)). AnswersAllAmong state old.drives old.seats events (replies ++ others)
+        new.seats)
+        (sym (flat_map-append events_of first rest))
+        (among_on old.drives old.seats mid.seats new.seats (flat_map events_of first) (flat_map events_of rest) replies
+        others one.answered
         (subst
-        (λ (drives : List Bool). AnswersAllAmong state drives mid.seats (flat_map orders_of rest) others new.seats)
-        one.drives two.orders));
+        (λ (drives : List Bool). AnswersAllAmong state drives mid.seats (flat_map events_of rest) others new.seats)
+        one.drives two.answered));
   }

@@ -6,7 +6,8 @@ use Rattle.tape_disk.specs.Disk.{DiskState}
 use Rattle.scsi_sense.specs.declared.replies.Reply.{Reply}
 use Rattle.ledgers.specs.Ledgers.{SeatState}
 use Rattle.vtl_script.specs.declared.lines.Line.{Line}
-use Rattle.bay_moves.specs.Runs.{Command, Order}
+use Rattle.drive_commands.specs.Events.{Event, OfLibrary}
+use Rattle.bay_moves.specs.Runs.{line_event}
 use Rattle.library.specs.Sessions.{AnswersSession}
 use Rattle.library_scripts.specs.Crews.{AnswersAllAmong}
 use Rattle.library_scripts.specs.Inner.CrewsOn.{among_on}
@@ -26,7 +27,7 @@ module _ {D : Type 0} (state : D → DiskState) (drives : List Bool) where
   -- the lines of one host, whose seat is between others, are answered one after another
   session_among : (front back : List SeatState) (before after : SeatState) (lines : List Line) (replies : List Reply)
       → AnswersSession state before lines replies after
-      → AnswersAllAmong state drives (front ++ before ∷ back) (map Command lines) replies (front ++ after ∷ back)
+      → AnswersAllAmong state drives (front ++ before ∷ back) (map line_event lines) replies (front ++ after ∷ back)
   session_among front back before after [] [] done = ap (λ (s : SeatState). front ++ s ∷ back) done
   session_among front back before after (line ∷ lines) (reply ∷ replies) done = (
     front ++ done.0 ∷ back,
@@ -46,7 +47,7 @@ module _ {D : Type 0} (state : D → DiskState) (drives : List Bool) where
   -- the lines of all jobs that are done were answered one after another
   jobs_among : (front : List SeatState) (old new : List JobState) → length new ≡ length old
       → ((i : ℕ) (d : JobState) → i < length old → IsDone state (get_or old i d) (get_or new i d))
-      → AnswersAllAmong state drives (front ++ seats_of old) (map Command (lines_of old)) (replies_of new)
+      → AnswersAllAmong state drives (front ++ seats_of old) (map line_event (lines_of old)) (replies_of new)
       (front ++ seats_of new)
   jobs_among front [] [] long done = refl
   jobs_among front (job ∷ jobs) (job' ∷ jobs') long done =
@@ -54,29 +55,29 @@ module _ {D : Type 0} (state : D → DiskState) (drives : List Bool) where
       let rest =
       jobs_among (front ++ job'.seat ∷ []) jobs jobs' (omega (arith, long))
       (λ i d less. done (suc i) d (omega (arith, less))) in
-      let so : AnswersAllAmong state drives (front ++ job'.seat ∷ seats_of jobs) (map Command (lines_of jobs))
+      let so : AnswersAllAmong state drives (front ++ job'.seat ∷ seats_of jobs) (map line_event (lines_of jobs))
       (replies_of jobs') (front ++ job'.seat ∷ seats_of jobs') =
       subst
-      (λ (l : List SeatState). AnswersAllAmong state drives l (map Command (lines_of jobs)) (replies_of jobs')
+      (λ (l : List SeatState). AnswersAllAmong state drives l (map line_event (lines_of jobs)) (replies_of jobs')
       (front ++ job'.seat ∷ seats_of jobs'))
       (append_assoc front (job'.seat ∷ []) (seats_of jobs))
       (subst
       (λ (l : List SeatState). AnswersAllAmong state drives ((front ++ job'.seat ∷ []) ++ seats_of jobs)
-      (map Command (lines_of jobs)) (replies_of jobs') l)
+      (map line_event (lines_of jobs)) (replies_of jobs') l)
       (append_assoc front (job'.seat ∷ []) (seats_of jobs')) rest) in
       subst
-      (λ (orders : List Order). AnswersAllAmong state drives (front ++ job.seat ∷ seats_of jobs) orders
+      (λ (events : List (Event OfLibrary)). AnswersAllAmong state drives (front ++ job.seat ∷ seats_of jobs) events
       (job'.replies ++ replies_of jobs') (front ++ job'.seat ∷ seats_of jobs'))
-      (sym (map-append Command job.lines (lines_of jobs)))
+      (sym (map-append line_event job.lines (lines_of jobs)))
       (among_on state drives (front ++ job.seat ∷ seats_of jobs) (front ++ job'.seat ∷ seats_of jobs)
-      (front ++ job'.seat ∷ seats_of jobs') (map Command job.lines) (map Command (lines_of jobs)) job'.replies
+      (front ++ job'.seat ∷ seats_of jobs') (map line_event job.lines) (map line_event (lines_of jobs)) job'.replies
       (replies_of jobs')
       (session_among front (seats_of jobs) job.seat job'.seat job.lines job'.replies one) so)
   jobs_among front [] (job' ∷ jobs') long done = absurd (omega (arith, long))
   jobs_among front (job ∷ jobs) [] long done = absurd (omega (arith, long))
 
   pub done_answers : (old new : List JobState) → length new ≡ length old → AreDone state old new
-      → AnswersAllAmong state drives (seats_of old) (map Command (lines_of old)) (replies_of new) (seats_of new)
+      → AnswersAllAmong state drives (seats_of old) (map line_event (lines_of old)) (replies_of new) (seats_of new)
   done_answers old new long done = jobs_among [] old new long done
 
   -- there is a reply for each line

@@ -5,7 +5,8 @@ use Rattle.tape_disk.specs.Disk.{DiskState}
 use Rattle.ledgers.specs.Ledgers.{SeatState}
 use Rattle.vtl_script.specs.declared.lines.Line.{Line}
 use Rattle.vtl_script.specs.declared.items.Item.TheVariants.{Phase}
-use Rattle.bay_moves.specs.Runs.{Command, Order}
+use Rattle.drive_commands.specs.Events.{Event, OfLibrary}
+use Rattle.bay_moves.specs.Runs.{line_event}
 use Rattle.library_scripts.specs.Crews.{AnswersAllAmong, AnswersCrew}
 use Rattle.library_scripts.specs.Inner.Jobs.{DealsLines, IsServedStage, StageState, lines_of, seats_of}
 use Rattle.library_scripts.specs.Inner.Staged.{crew_of, replies_at}
@@ -18,14 +19,14 @@ module _ {D : Type 0} (state : D → DiskState) where
       → AnswersCrew state (crew_of old) (Phase lines ∷ []) (replies_at served) (crew_of served)
   stage_answered old dealt served lines deals serves = record {
     drives = serves.drives ∙ deals.drives;
-    orders =
+    answered =
         subst
-        (λ (orders : List Order).
-        AnswersAllAmong state old.drives (seats_of old.jobs) orders (replies_at served) (seats_of served.jobs))
-        (ap (λ (l : List Line). map Command l) deals.dealt ∙ sym (append-nil (map Command lines)))
+        (λ (events : List (Event OfLibrary)).
+        AnswersAllAmong state old.drives (seats_of old.jobs) events (replies_at served) (seats_of served.jobs))
+        (ap (λ (l : List Line). map line_event l) deals.dealt ∙ sym (append-nil (map line_event lines)))
         (subst
         (λ (seats : List SeatState).
-        AnswersAllAmong state old.drives seats (map Command (lines_of dealt.jobs)) (replies_at served)
+        AnswersAllAmong state old.drives seats (map line_event (lines_of dealt.jobs)) (replies_at served)
         (seats_of served.jobs))
         deals.seats (done_answers state old.drives dealt.jobs served.jobs serves.long serves.done));
   }

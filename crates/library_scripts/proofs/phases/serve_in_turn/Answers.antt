@@ -5,7 +5,7 @@ use Rattle.ledgers.specs.Ledgers.{SeatState}
 use Rattle.vtl_script.specs.declared.lines.Line.{Line}
 use Rattle.bay_moves.specs.Runs.{line_request}
 use Rattle.library.specs.Served.{IsServed}
-use Rattle.library_scripts.specs.Crews.{AnswersLine}
+use Rattle.library_scripts.specs.Crews.{AnswersSeat}
 use Rattle.library_scripts.specs.Inner.Jobs.{JobState, seats_of}
 use Rattle.library_scripts.proofs.CrewLemmas.{host_at, line_at, line_in_place, lines_on}
 use Rattle.library_scripts.proofs.JobLemmas.{jobs_are}
@@ -50,8 +50,8 @@ loop-line-preserved g c =
     subst (λ (s : SeatState). IsServed state (line_request line) s reply after) (sym was) c.serve_line-reply.ensures in
     let put : seats_of (set jobs place new) ≡ set seats place after =
     map-set (λ (j : JobState). j.seat) jobs place new in
-    let one : AnswersLine state seats line reply (seats_of (set jobs place new)) =
-    subst (λ (l : List SeatState). AnswersLine state seats line reply l) (sym put)
+    let one : AnswersSeat state seats (line_request line) reply (seats_of (set jobs place new)) =
+    subst (λ (l : List SeatState). AnswersSeat state seats (line_request line) reply l) (sym put)
     (line_at state seats place job.seat after line reply within served) in
     let so =
     lines_on state c.args.library.now (seats_of c.args.jobs.now) seats (seats_of (set jobs place new)) (take at lines)

@@ -1,17 +1,18 @@
-use Rattle.std.proofs.Common.{inl, inr, None, Some, subst}
-use Rattle.tape_buffer.specs.State.{BufferState}
+use Rattle.std.proofs.Common.{Some, refl, subst}
+use Rattle.tape_buffer.specs.State.{BufferState, state_of}
+use Rattle.drive_commands.specs.Events.{Insert}
 use Rattle.drive_commands.specs.Relations.{made_nothing}
 use Rattle.drive_commands.specs.State.{medium_in}
 use Rattle.bay_moves.specs.Bays.{EveryMoment}
 use Rattle.bay_moves.specs.Elements.{BayState}
-use Rattle.bay_moves.proofs.MomentLemmas.{call_keeps, insert_moments}
+use Rattle.bay_moves.proofs.MomentLemmas.{event_keeps, insert_moments}
 use Rattle.bay_moves.proofs.bays.Bay.insert.Goals as goal
 
 pub invariant_of-self : goal.invariant_of-self
 invariant_of-self g c =
-    call_keeps g.D.Disk.state g.met.D.Disk.is_disk c.reservations_outlive_each_stop.ensures.goes_on
-    c.self.inside.drive c.insert.new.self None c.self.invariant
-    (inr (inl (c.into_medium-medium.result, c.insert.ensures.inserted))) c.known.ensures
+    event_keeps g.D.Disk.state g.met.D.Disk.is_disk c.reservations_outlive_each_stop.ensures.goes_on
+    c.self.inside.drive c.insert.new.self (Insert (state_of g.D.Disk.state c.into_medium-medium.result))
+    c.self.invariant (c.into_medium-medium.result, refl, c.insert.ensures.inserted) c.known.ensures
 
 pub returns-clause-moments : goal.returns-clause-moments
 returns-clause-moments g c =
@@ -23,9 +24,10 @@ returns-clause-moments g c =
     given c.self.invariant c.into_medium-medium.ensures.keeps c.insert.ensures.inserted in
     let at_self =
     subst
-    (λ (d : BayState g.row.D.Denot). EveryMoment state d None made_nothing (Some given) (medium_in new.bay) new)
+    (λ (d : BayState g.row.D.Denot). EveryMoment state d (Insert (state_of state given)) made_nothing (Some given)
+    (medium_in new.bay) new)
     c.self.view_is there in
     subst
     (λ (m : BufferState g.row.D.Denot).
-    EveryMoment state c.args.self.now None made_nothing (Some m) (medium_in new.bay) new)
+    EveryMoment state c.args.self.now (Insert (state_of state m)) made_nothing (Some m) (medium_in new.bay) new)
     c.into_medium-medium.ensures.same at_self

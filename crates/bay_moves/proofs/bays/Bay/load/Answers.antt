@@ -1,18 +1,20 @@
-use Rattle.std.proofs.Common.{◌≡◌, ◌∙◌, ap, Err, inl, None, Some, sym, subst, Result}
+use Rattle.std.proofs.Common.{◌≡◌, ◌∙◌, ap, Err, Some, refl, sym, subst, Result}
 use Rattle.scsi_sense.specs.declared.replies.Reply.{Reply}
-use Rattle.tape_buffer.specs.State.{BufferState}
+use Rattle.tape_buffer.specs.State.{BufferState, state_of}
+use Rattle.drive_commands.specs.Events.{Load}
 use Rattle.drive_commands.specs.Relations.{made_nothing}
 use Rattle.bay_moves.specs.Bays.{EveryMoment, loaded_or_back}
 use Rattle.bay_moves.specs.Elements.{BayState}
-use Rattle.bay_moves.proofs.MomentLemmas.{call_keeps, load_moments}
+use Rattle.bay_moves.proofs.MomentLemmas.{event_keeps, load_moments}
 use Rattle.bay_moves.proofs.bays.Bay.load.Goals.{in-Ok, in-Err}
 use Rattle.bay_moves.proofs.bays.Bay.load.Goals as goal
 
 pub invariant_of-self : goal.invariant_of-self
 invariant_of-self g c =
-    call_keeps g.D.Disk.state g.met.D.Disk.is_disk c.reservations_outlive_each_stop.ensures.goes_on
-    c.self.inside.drive c.load-loaded.new.self None c.self.invariant
-    (inl (c.into_medium-medium.result, c.load-loaded.result, c.load-loaded.ensures.taken)) c.known.ensures
+    event_keeps g.D.Disk.state g.met.D.Disk.is_disk c.reservations_outlive_each_stop.ensures.goes_on
+    c.self.inside.drive c.load-loaded.new.self (Load (state_of g.D.Disk.state c.into_medium-medium.result))
+    c.self.invariant
+    (c.into_medium-medium.result, refl, c.load-loaded.result, c.load-loaded.ensures.taken) c.known.ensures
 
 pub returns-clause-moments : goal.returns-clause-moments
 returns-clause-moments g c =
@@ -32,14 +34,17 @@ returns-clause-moments g c =
     let at_self =
     subst
     (λ (d : BayState g.row.D.Denot).
-    EveryMoment state d None made_nothing (Some given) (loaded_or_back state c.load-loaded.result new) new)
+    EveryMoment state d (Load (state_of state given)) made_nothing (Some given)
+    (loaded_or_back state c.load-loaded.result new) new)
     c.self.view_is there in
     let at_given =
     subst
     (λ (m : BufferState g.row.D.Denot).
-    EveryMoment state c.args.self.now None made_nothing (Some m) (loaded_or_back state c.load-loaded.result new) new)
+    EveryMoment state c.args.self.now (Load (state_of state m)) made_nothing (Some m)
+    (loaded_or_back state c.load-loaded.result new) new)
     c.into_medium-medium.ensures.same at_self in
     subst
     (λ (r : Result Unit (BufferState g.row.D.Denot × Reply)).
-    EveryMoment state c.args.self.now None made_nothing (Some c.args.cartridge) (loaded_or_back state r new) new)
+    EveryMoment state c.args.self.now (Load (state_of state c.args.cartridge)) made_nothing (Some c.args.cartridge)
+    (loaded_or_back state r new) new)
     (sym same) at_given

@@ -1,23 +1,23 @@
-use Rattle.std.proofs.Common.{Some, subst}
+use Rattle.std.proofs.Common.{subst}
 use Rattle.drive_commands.specs.Relations.{made_nothing}
 use Rattle.drive_commands.specs.State.{medium_in}
 use Rattle.bay_moves.specs.Bays.{EveryMoment}
 use Rattle.bay_moves.specs.Elements.{BayState}
-use Rattle.drive_commands.specs.Run.{Turned}
-use Rattle.bay_moves.proofs.MomentLemmas.{call_keeps, turn_moments}
+use Rattle.drive_commands.specs.Events.{FlushTurn}
+use Rattle.bay_moves.proofs.MomentLemmas.{event_keeps, turn_moments}
 use Rattle.bay_moves.proofs.bays.Bay.turn.Goals as goal
 
 pub invariant_of-self : goal.invariant_of-self
 invariant_of-self g c =
-    call_keeps g.D.Disk.state g.met.D.Disk.is_disk c.reservations_outlive_each_stop.ensures.goes_on
-    c.self.inside.drive c.turn-turn.new.self (Some (Turned c.turn-turn.result)) c.self.invariant c.turn-turn.ensures
+    event_keeps g.D.Disk.state g.met.D.Disk.is_disk c.reservations_outlive_each_stop.ensures.goes_on
+    c.self.inside.drive c.turn-turn.new.self FlushTurn c.self.invariant (c.turn-turn.result, c.turn-turn.ensures)
     c.known.ensures
 
 pub returns-clause-moments : goal.returns-clause-moments
 returns-clause-moments g c =
     subst
     (λ (d : BayState g.row.D.Denot).
-    EveryMoment g.D.Disk.state d (Some (Turned c.turn-turn.result)) made_nothing (medium_in d.bay)
+    EveryMoment g.D.Disk.state d FlushTurn made_nothing (medium_in d.bay)
     (medium_in c.turn-turn.new.self.bay) c.turn-turn.new.self)
     c.self.view_is
     (turn_moments g.D.Disk.state g.met.D.Disk.is_disk c.reservations_outlive_each_stop.ensures.goes_on

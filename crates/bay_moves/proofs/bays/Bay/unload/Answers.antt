@@ -1,19 +1,20 @@
-use Rattle.std.proofs.Common.{◌≡◌, inr, None, sym, subst, Result}
+use Rattle.std.proofs.Common.{◌≡◌, sym, subst, Result}
 use Rattle.scsi_sense.specs.declared.replies.Reply.{Reply}
 use Rattle.tape_buffer.specs.State.{BufferState}
+use Rattle.drive_commands.specs.Events.{Unload}
 use Rattle.drive_commands.specs.Relations.{made_nothing}
 use Rattle.drive_commands.specs.State.{medium_in}
 use Rattle.bay_moves.specs.Bays.{EveryMoment, out_or_in}
 use Rattle.bay_moves.specs.Elements.{BayState}
-use Rattle.bay_moves.proofs.MomentLemmas.{call_keeps, out_moments}
+use Rattle.bay_moves.proofs.MomentLemmas.{event_keeps, out_moments}
 use Rattle.bay_moves.proofs.bays.Bay.unload.Goals.{in-Ok, in-Err}
 use Rattle.bay_moves.proofs.bays.Bay.unload.Goals as goal
 
 pub invariant_of-self : goal.invariant_of-self
 invariant_of-self g c =
-    call_keeps g.D.Disk.state g.met.D.Disk.is_disk c.reservations_outlive_each_stop.ensures.goes_on
-    c.self.inside.drive c.unload-out.new.self None c.self.invariant
-    (inr (inr (c.unload-out.result, c.unload-out.ensures.out))) c.known.ensures
+    event_keeps g.D.Disk.state g.met.D.Disk.is_disk c.reservations_outlive_each_stop.ensures.goes_on
+    c.self.inside.drive c.unload-out.new.self Unload c.self.invariant
+    (c.unload-out.result, c.unload-out.ensures.out) c.known.ensures
 
 pub returns-clause-moments : goal.returns-clause-moments
 returns-clause-moments g c =
@@ -30,9 +31,9 @@ returns-clause-moments g c =
     let at_self =
     subst
     (λ (d : BayState g.row.D.Denot).
-    EveryMoment state d None made_nothing (medium_in d.bay) (out_or_in state c.unload-out.result new) new)
+    EveryMoment state d Unload made_nothing (medium_in d.bay) (out_or_in state c.unload-out.result new) new)
     c.self.view_is there in
     subst
     (λ (r : Result (BufferState g.row.D.Denot) Reply).
-    EveryMoment state c.args.self.now None made_nothing (medium_in c.args.self.now.bay) (out_or_in state r new) new)
+    EveryMoment state c.args.self.now Unload made_nothing (medium_in c.args.self.now.bay) (out_or_in state r new) new)
     (sym same) at_self
