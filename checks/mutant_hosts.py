@@ -11,10 +11,14 @@ EDITS = [
       "                bay.take_turn(rt, gate)\n            };"),
      ["a_drive_works_while_another_stands_in_its_turn", "a_change_is_entered_while_another_drive_stores"]),
     ("each command waits for the lock of its disk's half", "library", "src/shared.rt",
-     "        match front.execute_alone(rt, tally, seat, cdb, sent) {\n",
-     "        drop(self.back.lock(rt));\n        match front.execute_alone(rt, tally, seat, cdb, sent) {\n",
+     "        let mut front = self.front.lock(rt);\n        match front.execute_alone(",
+     "        let mut front = self.front.lock(rt);\n        drop(self.back.lock(rt));\n"
+     "        match front.execute_alone(",
      ["hosts_do_not_wait_for_a_turn", "a_full_buffer_is_written_beside_a_turn",
       "a_fault_is_reported_before_a_filemark_is_stored"]),
+    ("a host waits for room with the hosts' half locked", "library", "src/shared.rt",
+     "        if sent.is_empty() {\n", "        if sent.is_empty() || self.turning.load(Ordering::SeqCst) {\n",
+     ["a_host_that_waits_for_room_holds_up_no_other"]),
     ("the hosts' half has no more room behind a turn", "library", "src/shared.rt",
      "            Turn::Stored(_) => self.renew(rt),\n", "            Turn::Stored(_) => {}\n",
      ["a_full_buffer_is_written_beside_a_turn"]),
@@ -128,8 +132,8 @@ EDITS = [
      "        give_all(self.jobs.as_mut_slice(), replies);\n        self.library.close(self.rt);\n",
      ["a_flusher_stores_between_two_phases"]),
     ("a command takes the turn of its drive", "library", "src/shared.rt",
-     "        let reply = self.serve_locked(&mut front, rt, tally, seat, cdb, sent);\n",
-     "        let reply = self.serve_locked(&mut front, rt, tally, seat, cdb, sent);\n"
+     "        let reply = self.serve_quietly(rt, tally, seat, cdb, sent);\n",
+     "        let reply = self.serve_quietly(rt, tally, seat, cdb, sent);\n"
      "        let _ = self.back.lock(rt).turn();\n",
      ["a_block_is_answered_before_a_turn_stores_it", "a_flusher_rests_until_a_change_is_accepted"]),
     ("no change wakes a flusher", "library", "src/shared.rt", "        if before != after {\n",

@@ -10,18 +10,22 @@ use ledgers::{Parties, Seat, Tally};
 use scsi_sense::Reply;
 use split_bay::Rings;
 use std::sync::atomic::{AtomicBool, Ordering};
-use std::sync::{Condvar, Mutex, Wait};
+use std::sync::{Condvar, Mutex, MutexGuard, Wait};
 use tape_disk::Disk;
 use volume_core::Turn;
 use vtl_base::Bytes;
 
-/// A drive in two halves, each behind a lock, and the condition variable that wakes its flusher after a change. A
-/// thread that takes both locks takes that of the hosts' half first.
+/// A drive in two halves, each behind a lock. A thread that takes both locks takes that of the hosts' half first. With
+/// them go the condition variable that wakes the drive's flusher after a change; whether a turn of the flusher is under
+/// way; and the condition variable that wakes the hosts that wait for its end. Whoever changes the last two holds the
+/// lock of the hosts' half.
 #[derive(Drop)]
 pub struct SharedBay<D: Disk, B: Parties + Rings> {
     pub(crate) front: Mutex<FrontPlace<D, B>>,
     pub(crate) back: Mutex<BackPlace<D, B>>,
     bell: Condvar,
+    turning: AtomicBool,
+    turned: Condvar,
 }
 
 impl<D: Disk + Drop, B: Parties + Rings> SharedBay<D, B> {
@@ -30,6 +34,8 @@ impl<D: Disk + Drop, B: Parties + Rings> SharedBay<D, B> {
             front: Mutex::new(front),
             back: Mutex::new(back),
             bell: Condvar::new(),
+            turning: AtomicBool::new(false),
+            turned: Condvar::new(),
         }
     }
 
@@ -52,10 +58,47 @@ impl<D: Disk + Drop, B: Parties + Rings> SharedBay<D, B> {
             × (sent.new ≡ data_left served.made sent.old) }
     {
         let before = seat.amount();
-        let mut front = self.front.lock(rt);
-        let reply = self.serve_locked(&mut front, rt, tally, seat, cdb, sent);
+        let reply = self.serve_quietly(rt, tally, seat, cdb, sent);
         self.ring_if_risen(before, seat.amount());
         reply
+    }
+
+    // As `serve`, without waking the flusher.
+    fn serve_quietly<H: Parties, R: Wait>(
+        &self,
+        rt: &R,
+        tally: &Mutex<Tally<B, H>>,
+        seat: &mut Seat<H>,
+        cdb: &[u8],
+        sent: &mut Bytes,
+    ) -> Reply
+        ensures { (served : IsServed D.state (asked seat.old.nexus cdb.now sent.old) seat.old result seat.new)
+            × (sent.new ≡ data_left served.made sent.old) }
+    {
+        let mut front = self.front.lock(rt);
+        match front.execute_alone(rt, tally, seat, cdb, sent) {
+            Some(reply) => reply,
+            None => {
+                let mut front = self.after_turn(rt, front, sent);
+                self.serve_locked(&mut front, rt, tally, seat, cdb, sent)
+            }
+        }
+    }
+
+    // Waits for the end of the flusher's turn, if one is under way, where data were sent that the hosts' half did not
+    // take: after the turn it may take as many again. The hosts' half is not locked meanwhile. So its host does not
+    // store a frame itself while all that it sends later waits for that.
+    fn after_turn<'a, R: Wait>(
+        &'a self,
+        rt: &R,
+        front: MutexGuard<'a, FrontPlace<D, B>>,
+        sent: &Bytes,
+    ) -> MutexGuard<'a, FrontPlace<D, B>> {
+        if sent.is_empty() {
+            return front;
+        }
+        self.turned
+            .wait_while(rt, front, |_| self.turning.load(Ordering::SeqCst))
     }
 
     // As `serve`, with the hosts' half locked by the caller.
@@ -83,14 +126,29 @@ impl<D: Disk + Drop, B: Parties + Rings> SharedBay<D, B> {
     // Takes a flusher's turn, with the disk's half alone locked. Returns what the turn did, and the drive's count of
     // changes before it, so that a change during the turn raises the count.
     pub(crate) fn take_turn<R: Wait, G: Gate>(&self, rt: &R, gate: &G) -> (Turn, u64) {
-        let count = self.front.lock(rt).accepted();
+        let count = self.begin_turn(rt);
         let turn = self.turn(rt, gate);
         match turn {
             Turn::Idle => {}
             Turn::Stored(_) => self.renew(rt),
             Turn::Device => self.report_fault(rt),
         }
+        self.end_turn(rt);
         (turn, count)
+    }
+
+    // Notes that a turn is under way. Returns the drive's count of changes.
+    fn begin_turn<R: Wait>(&self, rt: &R) -> u64 {
+        let front = self.front.lock(rt);
+        self.turning.store(true, Ordering::SeqCst);
+        front.accepted()
+    }
+
+    // Notes that the turn has ended, and wakes the hosts that wait for that.
+    fn end_turn<R: Wait>(&self, rt: &R) {
+        let _front = self.front.lock(rt);
+        self.turning.store(false, Ordering::SeqCst);
+        self.turned.notify_all();
     }
 
     // A turn under the lock of the disk's half.

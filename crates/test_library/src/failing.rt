@@ -2,7 +2,8 @@
 use crate::acts::Act;
 use crate::days::{Day, spend_loaded};
 use crate::gates::Stands;
-use crate::replies::{Answer, END_OF_DATA, GOOD, POWERED_ON, READ_1, READY, Step, WRITE_1};
+use crate::halves::MARK_SOON;
+use crate::replies::{Answer, END_OF_DATA, GOOD, MARK, POWERED_ON, READ_1, READY, Step, WRITE_1};
 use crate::stages::Sign;
 use library::FinishError;
 use scsi_sense::Status;
@@ -108,4 +109,71 @@ fn a_turn_in_which_the_device_fails(rt: HostRuntime) -> Result<(), Fail> {
         spend_loaded(&rt, rt.alloc(), fails, 0, &LOADED_AGAIN)?;
     }
     spend_loaded(&rt, rt.alloc(), 15, 0, &STORES)
+}
+
+// A sync of a turn lasts and then fails. What is accepted meanwhile is answered; the fault is reported before a
+// filemark that waits for the disk is answered, and nothing is accepted from then on. What was accepted behind the
+// fault is gone once the cartridge is loaded again; the first block may be stored.
+static REPORTED_LATE: Day = Day {
+    hosts: &[
+        &[
+            Act::Asks(&[(1, READY, b"", POWERED_ON)]),
+            Act::Raises(Sign::Armed),
+            Act::Asks(&[(1, WRITE_1, b"x", GOOD)]),
+            Act::Awaits(Sign::Held, 1),
+            Act::Asks(&[
+                (1, WRITE_1, b"y", GOOD),
+                (1, MARK_SOON, b"", GOOD),
+                (1, READY, b"", GOOD),
+            ]),
+            Act::Raises(Sign::Freed),
+            Act::Asks(&[
+                (1, MARK, b"", DEFERRED),
+                (1, MARK, b"", FAILED),
+                (1, WRITE_1, b"z", FAILED),
+            ]),
+            LOADS_AGAIN,
+            Act::Either(READ_BACK, END_OF_DATA),
+            Act::Asks(&[(1, READ_1, b"", END_OF_DATA)]),
+            Act::Closes,
+            Act::Counts(Sign::Late, 0),
+            Act::Awaits(Sign::Ended, 1),
+        ],
+        FLUSHES,
+    ],
+    amounts: &[3, 0],
+    left_out: None,
+    end: Ok((3, 0)),
+};
+
+// The calls of a turn are a write, a sync, the write of the gate, and a sync. Eleven calls come before them.
+#[test]
+fn a_fault_is_reported_before_a_filemark_is_stored(rt: HostRuntime) -> Result<(), Fail> {
+    spend_loaded(&rt, rt.alloc(), 12, 1, &REPORTED_LATE)
+}
+
+// The flusher stands where it is informed of a failed turn, until the fault was reported to a host.
+static REPORTED_FIRST: Day = Day {
+    hosts: &[
+        &[
+            WRITES,
+            Act::Awaits(Sign::Failed(1), 1),
+            Act::Asks(&[(1, READY, b"", DEFERRED), (1, READY, b"", FAILED)]),
+            Act::Raises(Sign::Said),
+            Act::Closes,
+            Act::Awaits(Sign::Ended, 1),
+        ],
+        &[Act::Flushes(1, Stands::Behind(Sign::Said, 1))],
+    ],
+    amounts: &[1, 0],
+    left_out: None,
+    end: Err(FinishError::Unwritten),
+};
+
+#[test]
+fn a_fault_is_reported_before_the_gate_is_informed(rt: HostRuntime) -> Result<(), Fail> {
+    for fails in 11..15u64 {
+        spend_loaded(&rt, rt.alloc(), fails, 0, &REPORTED_FIRST)?;
+    }
+    Ok(())
 }

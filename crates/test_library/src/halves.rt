@@ -2,16 +2,15 @@
 use crate::acts::Act;
 use crate::days::{Day, spend_loaded};
 use crate::disks::NEVER;
-use crate::failing::{DEFERRED, FAILED, FLUSHES, LOADS_AGAIN, READ_BACK};
+use crate::failing::FLUSHES;
 use crate::gates::Stands;
-use crate::replies::{Answer, END_OF_DATA, GOOD, MARK, POWERED_ON, READ_1, READY, Step, WRITE_1};
+use crate::replies::{Answer, GOOD, MARK, POWERED_ON, READY, Step, WRITE_1};
 use crate::stages::Sign;
-use library::FinishError;
 use scsi_sense::Status;
 use std::test::Fail;
 
-// A filemark is written, and not stored at once (IMMED).
-const MARK_SOON: &'static [u8] = &[0x10, 1, 0, 0, 1, 0];
+/// A filemark is written, and not stored at once (IMMED).
+pub const MARK_SOON: &'static [u8] = &[0x10, 1, 0, 0, 1, 0];
 
 // Key 1 is registered, to be kept through a loss of power.
 const REGISTER: &'static [u8] = b"\0\0\0\0\0\0\0\0\0\0\0\0\0\0\0\x01\0\0\0\0\x01\0\0\0";
@@ -115,6 +114,41 @@ fn a_full_buffer_is_written_beside_a_turn(rt: HostRuntime) -> Result<(), Fail> {
     spend_loaded(&rt, rt.alloc(), NEVER, 1, &LONG_BLOCKS_BESIDE_A_TURN)
 }
 
+// The same, and one more: its host waits for the end of the turn, which comes once another host is answered.
+static NO_ROOM_BESIDE_A_TURN: Day = Day {
+    hosts: &[
+        &[
+            Act::Asks(&[(1, READY, b"", POWERED_ON), X]),
+            Act::Awaits(Sign::Stored(1), 1),
+            Act::Raises(Sign::Armed),
+            Act::Asks(&[LONG]),
+            Act::Awaits(Sign::Held, 1),
+            Act::Times(15, &[LONG]),
+            Act::Raises(Sign::Said),
+            Act::Asks(&[LONG, (1, MARK, b"", GOOD)]),
+            Act::Counts(Sign::Late, 0),
+            Act::Closes,
+            Act::Awaits(Sign::Ended, 1),
+        ],
+        &[
+            Act::Awaits(Sign::Said, 1),
+            Act::Pauses,
+            Act::Pauses,
+            Act::Asks(&[(1, READY, b"", POWERED_ON)]),
+            Act::Raises(Sign::Freed),
+        ],
+        FLUSHES,
+    ],
+    amounts: &[19, 0, 0],
+    left_out: None,
+    end: Ok((19, 0)),
+};
+
+#[test]
+fn a_host_that_waits_for_room_holds_up_no_other(rt: HostRuntime) -> Result<(), Fail> {
+    spend_loaded(&rt, rt.alloc(), NEVER, 1, &NO_ROOM_BESIDE_A_TURN)
+}
+
 // The position is object 0 of partition 0.
 const AT_THE_BEGINNING: Answer = (
     Status::Good,
@@ -195,71 +229,4 @@ static THE_17TH: Day = Day {
 fn room_is_made_for_what_the_buffer_does_not_hold(rt: HostRuntime) -> Result<(), Fail> {
     spend_loaded(&rt, rt.alloc(), NEVER, 0, &THE_257TH)?;
     spend_loaded(&rt, rt.alloc(), NEVER, 0, &THE_17TH)
-}
-
-// A sync of a turn lasts and then fails. What is accepted meanwhile is answered; the fault is reported before a
-// filemark that waits for the disk is answered, and nothing is accepted from then on. What was accepted behind the
-// fault is gone once the cartridge is loaded again; the first block may be stored.
-static REPORTED_LATE: Day = Day {
-    hosts: &[
-        &[
-            Act::Asks(&[(1, READY, b"", POWERED_ON)]),
-            Act::Raises(Sign::Armed),
-            Act::Asks(&[(1, WRITE_1, b"x", GOOD)]),
-            Act::Awaits(Sign::Held, 1),
-            Act::Asks(&[
-                (1, WRITE_1, b"y", GOOD),
-                (1, MARK_SOON, b"", GOOD),
-                (1, READY, b"", GOOD),
-            ]),
-            Act::Raises(Sign::Freed),
-            Act::Asks(&[
-                (1, MARK, b"", DEFERRED),
-                (1, MARK, b"", FAILED),
-                (1, WRITE_1, b"z", FAILED),
-            ]),
-            LOADS_AGAIN,
-            Act::Either(READ_BACK, END_OF_DATA),
-            Act::Asks(&[(1, READ_1, b"", END_OF_DATA)]),
-            Act::Closes,
-            Act::Counts(Sign::Late, 0),
-            Act::Awaits(Sign::Ended, 1),
-        ],
-        FLUSHES,
-    ],
-    amounts: &[3, 0],
-    left_out: None,
-    end: Ok((3, 0)),
-};
-
-// The calls of a turn are a write, a sync, the write of the gate, and a sync. Eleven calls come before them.
-#[test]
-fn a_fault_is_reported_before_a_filemark_is_stored(rt: HostRuntime) -> Result<(), Fail> {
-    spend_loaded(&rt, rt.alloc(), 12, 1, &REPORTED_LATE)
-}
-
-// The flusher stands where it is informed of a failed turn, until the fault was reported to a host.
-static REPORTED_FIRST: Day = Day {
-    hosts: &[
-        &[
-            Act::Asks(&[(1, READY, b"", POWERED_ON), X]),
-            Act::Awaits(Sign::Failed(1), 1),
-            Act::Asks(&[(1, READY, b"", DEFERRED), (1, READY, b"", FAILED)]),
-            Act::Raises(Sign::Said),
-            Act::Closes,
-            Act::Awaits(Sign::Ended, 1),
-        ],
-        &[Act::Flushes(1, Stands::Behind(Sign::Said, 1))],
-    ],
-    amounts: &[1, 0],
-    left_out: None,
-    end: Err(FinishError::Unwritten),
-};
-
-#[test]
-fn a_fault_is_reported_before_the_gate_is_informed(rt: HostRuntime) -> Result<(), Fail> {
-    for fails in 11..15u64 {
-        spend_loaded(&rt, rt.alloc(), fails, 0, &REPORTED_FIRST)?;
-    }
-    Ok(())
 }
