@@ -4,8 +4,8 @@ process that only exchanges the frames (peer.c); WRITE of 256 KiB blocks over fi
 filemark each 64 MiB, beside the raw file with as many syncs (syncs.c counts them) and beside a plain program behind the
 same pipe (files.c); READ of them beside a raw read through a pipe; two hosts at two drives beside one at one, and the
 same of the plain program, of raw files, and where each sync takes 20 milliseconds more; TEST UNIT READY, and loads of a
-cartridge, of two hosts beside one; how long short buffered WRITEs wait where each sync takes longer; and the memory at
-rest, without a host and with 64 that have spoken.
+cartridge, of two hosts beside one, and beside two processes that share nothing (alone.c); how long short buffered
+WRITEs wait where each sync takes longer; and the memory at rest, without a host and with 64 that have spoken.
 
 Of five times, taken in turns, the best and the median. --program PATH: another program than the proved one. --pipe
 BYTES: longer pipes, as a front end may make them. The files lie in a new folder beside the repository's own, or in the
@@ -61,6 +61,7 @@ class Bench:
     def __init__(self, program, folder):
         self.program, self.folder = program, folder
         self.front, self.files = compiled(folder, "front.c"), compiled(folder, "files.c", "-pthread")
+        self.computes = compiled(folder, "alone.c")
         self.shim = {"LD_PRELOAD": compiled(folder, "syncs.c", "-shared", "-fPIC"),
                      "SYNCS_TOLD": os.path.join(folder, "syncs")}
 
@@ -135,6 +136,14 @@ class Bench:
             sys.exit("a load was not GOOD")
         peer.end()
         return seconds
+
+    def alone(self, processes):
+        """How long it takes that each of so many processes, which share nothing, computes the same."""
+        def work():
+            for process in [subprocess.Popen([self.computes], stdout=subprocess.DEVNULL) for _ in range(processes)]:
+                process.wait()
+
+        return timed(work)
 
     def written(self, drives=1, blocks=BLOCKS, **environment):
         peer, seconds = self.writes(drives, blocks, **environment)
@@ -244,8 +253,10 @@ def main():
         print(f"TEST UNIT READY there and back: {served[0] / TRIPS * 1e6:.1f} us, {ratio(served, plain)} of two "
               "processes that exchange the frames", flush=True)
         for what, work in ("TEST UNIT READY", bench.readied), (f"loads of {SHORT_BLOCKS:,} blocks", bench.loads):
-            more = twice(*best(lambda: work(1), lambda: work(2)))
-            print(f"two hosts at two drives, {what}: {more} times as much done as one", flush=True)
+            one, two, own, both = best(lambda: work(1), lambda: work(2), lambda: bench.alone(1),
+                                       lambda: bench.alone(2))
+            print(f"two hosts at two drives, {what}: {twice(one, two)} times as much done as one, where two processes "
+                  f"that share nothing get {twice(own, both)} times as much of the machine as one", flush=True)
         syncs = bench.syncs()
         one, raw, two, both, plain_one, plain_two = best(
             bench.written, lambda: bench.raw(syncs), lambda: bench.written(2), lambda: bench.raw(syncs, 2),
