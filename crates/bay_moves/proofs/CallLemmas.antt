@@ -141,7 +141,7 @@ module _ {M D : Type 0} (medium : M → MediumState) (below : Below M Change) (d
         }
 
     -- a state was saved, or the disk failed while it was
-    asked_to_save : (state : PrState) → IsOrderedIn (machine_of medium store_kept old) call state → IsSound state
+    asked_to_save : (state : PrState) → IsOrderedIn (machine_of medium store_kept old) event state → IsSound state
         → (saving : Result Unit KeeperError) (keeper : KeeperState) → Saves (store_kept old.keeper) state saving keeper
         → store_kept new.keeper ≡ keeper → made ≡ saved_by saving state
         → new.reservations ≡ (elim saving as (λ x. PrState) [ Ok done ↦ state | Err error ↦ old.reservations ])

@@ -1,5 +1,5 @@
 -- What an event of a drive leaves at each moment inside it, of its cartridge and of its store.
-use Rattle.std.proofs.Common.{◌≡◌, ap, inl, inr, ℕ, List, [], Option, None, Some, Result, Ok, Err, refl, sym, subst}
+use Rattle.std.proofs.Common.{◌≡◌, ap, ℕ, List, [], Option, None, Some, Result, Ok, Err, refl, sym, subst}
 use Rattle.tape_disk.specs.Disk.{DiskState, Each, IsDisk}
 use Rattle.tape_disk.specs.Moments.{LeavesOnly, no_call}
 use Rattle.tape_disk.specs.TwoDisks.{TwoDisks}

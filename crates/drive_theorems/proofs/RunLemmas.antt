@@ -10,7 +10,7 @@ use Rattle.drive_commands.specs.State.{Machine, machine_of, medium_in}
 use Rattle.drive_commands.specs.Faults.{reply_of}
 use Rattle.drive_commands.specs.Relations.{Made, made_nothing, made_after}
 use Rattle.drive_commands.specs.Events.{Event, Execute, FlushTurn, Insert, Load, OfDrive, PowerOn, Unload}
-use Rattle.drive_commands.specs.Step.{Output, Answered, Unanswered, reply_in}
+use Rattle.drive_commands.specs.Step.{Output, Answered, Unanswered}
 use Rattle.drive_commands.specs.Turn.{turn_outcome}
 use Rattle.drive_commands.specs.Execute.{AdvancesIn, HonestIn, is_device_fault}
 use Rattle.drive_commands.specs.Run.{Run, RunsAppend, ServedByRuns, EventsAreRuns}
