@@ -9,22 +9,22 @@ use crate::places::{BackPlace, FrontPlace};
 use ledgers::{Parties, Seat, Tally};
 use scsi_sense::Reply;
 use split_bay::Rings;
-use std::sync::atomic::{AtomicBool, Ordering};
+use std::sync::atomic::{AtomicBool, AtomicU64, Ordering};
 use std::sync::{Condvar, Mutex, MutexGuard, Wait};
 use tape_disk::Disk;
 use volume_core::Turn;
 use vtl_base::Bytes;
 
 /// A drive in two halves, each behind a lock. A thread that takes both locks takes that of the hosts' half first. With
-/// them go the condition variable that wakes the drive's flusher after a change; whether a turn of the flusher is under
-/// way; and the condition variable that wakes the hosts that wait for its end. Whoever changes the last two holds the
-/// lock of the hosts' half.
+/// them go the condition variable that wakes the drive's flusher after a change; the number of beginnings and ends of
+/// the flusher's turns, odd while a turn is under way; and the condition variable that wakes the hosts that wait for the
+/// end of one. The last two are changed under the lock of the hosts' half.
 #[derive(Drop)]
 pub struct SharedBay<D: Disk, B: Parties + Rings> {
     pub(crate) front: Mutex<FrontPlace<D, B>>,
     pub(crate) back: Mutex<BackPlace<D, B>>,
     bell: Condvar,
-    turning: AtomicBool,
+    turns: AtomicU64,
     turned: Condvar,
 }
 
@@ -34,7 +34,7 @@ impl<D: Disk + Drop, B: Parties + Rings> SharedBay<D, B> {
             front: Mutex::new(front),
             back: Mutex::new(back),
             bell: Condvar::new(),
-            turning: AtomicBool::new(false),
+            turns: AtomicU64::new(0),
             turned: Condvar::new(),
         }
     }
@@ -86,19 +86,21 @@ impl<D: Disk + Drop, B: Parties + Rings> SharedBay<D, B> {
     }
 
     // Waits for the end of the flusher's turn, if one is under way, where data were sent that the hosts' half did not
-    // take: after the turn it may take as many again. The hosts' half is not locked meanwhile. So its host does not
-    // store a frame itself while all that it sends later waits for that.
+    // take: after the turn it may take as many again. It waits for that turn alone, though the next may begin at once.
+    // The hosts' half is not locked meanwhile. So its host does not store a frame itself while all that it sends later
+    // waits for that.
     fn after_turn<'a, R: Wait>(
         &'a self,
         rt: &R,
         front: MutexGuard<'a, FrontPlace<D, B>>,
         sent: &Bytes,
     ) -> MutexGuard<'a, FrontPlace<D, B>> {
-        if sent.is_empty() {
+        let turns = self.turns.load(Ordering::SeqCst);
+        if sent.is_empty() || turns % 2 == 0 {
             return front;
         }
         self.turned
-            .wait_while(rt, front, |_| self.turning.load(Ordering::SeqCst))
+            .wait_while(rt, front, |_| self.turns.load(Ordering::SeqCst) == turns)
     }
 
     // As `serve`, with the hosts' half locked by the caller.
@@ -140,14 +142,14 @@ impl<D: Disk + Drop, B: Parties + Rings> SharedBay<D, B> {
     // Notes that a turn is under way. Returns the drive's count of changes.
     fn begin_turn<R: Wait>(&self, rt: &R) -> u64 {
         let front = self.front.lock(rt);
-        self.turning.store(true, Ordering::SeqCst);
+        self.turns.fetch_add(1, Ordering::SeqCst);
         front.accepted()
     }
 
     // Notes that the turn has ended, and wakes the hosts that wait for that.
     fn end_turn<R: Wait>(&self, rt: &R) {
         let _front = self.front.lock(rt);
-        self.turning.store(false, Ordering::SeqCst);
+        self.turns.fetch_add(1, Ordering::SeqCst);
         self.turned.notify_all();
     }
 

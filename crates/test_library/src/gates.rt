@@ -14,6 +14,8 @@ pub enum Stands {
     Before(Sign, u64),
     /// In each turn, where the lock of the drive's disk's half is held.
     Inside(Sign, u64),
+    /// The same, from the turn on behind which this many changes were stored.
+    InsideSince(u64, Sign, u64),
     /// Behind each turn in which the device failed, where no lock is held.
     Behind(Sign, u64),
     /// It takes no turn.
@@ -41,14 +43,22 @@ impl<'a, R: Clock + Abort> Gate for StageGate<'a, R> {
         match self.stands {
             Stands::Shut => return false,
             Stands::Before(sign, until) => self.stand(sign, until),
-            Stands::Nowhere | Stands::Inside(_, _) | Stands::Behind(_, _) => {}
+            Stands::Nowhere
+            | Stands::Inside(_, _)
+            | Stands::InsideSince(_, _, _)
+            | Stands::Behind(_, _) => {}
         }
         true
     }
 
     fn in_turn(&self) {
-        if let Stands::Inside(sign, until) = self.stands {
-            self.stand(sign, until);
+        match self.stands {
+            Stands::Inside(sign, until) => self.stand(sign, until),
+            Stands::InsideSince(stored, sign, until)
+                if self.stage.count(Sign::Stored(self.number)).value() >= stored => {
+                self.stand(sign, until);
+            }
+            _ => {}
         }
         self.stage.turns(self.number).begin();
     }

@@ -114,7 +114,8 @@ fn a_full_buffer_is_written_beside_a_turn(rt: HostRuntime) -> Result<(), Fail> {
     spend_loaded(&rt, rt.alloc(), NEVER, 1, &LONG_BLOCKS_BESIDE_A_TURN)
 }
 
-// The same, and one more: its host waits for the end of the turn, which comes once another host is answered.
+// The same, and one more: its host waits for the end of the turn, which comes once another host is answered. It does not
+// wait for the next turn, which begins at once.
 static NO_ROOM_BESIDE_A_TURN: Day = Day {
     hosts: &[
         &[
@@ -125,7 +126,9 @@ static NO_ROOM_BESIDE_A_TURN: Day = Day {
             Act::Awaits(Sign::Held, 1),
             Act::Times(15, &[LONG]),
             Act::Raises(Sign::Said),
-            Act::Asks(&[LONG, (1, MARK, b"", GOOD)]),
+            Act::Asks(&[LONG]),
+            Act::Raises(Sign::Said),
+            Act::Asks(&[(1, MARK, b"", GOOD)]),
             Act::Counts(Sign::Late, 0),
             Act::Closes,
             Act::Awaits(Sign::Ended, 1),
@@ -137,7 +140,7 @@ static NO_ROOM_BESIDE_A_TURN: Day = Day {
             Act::Asks(&[(1, READY, b"", POWERED_ON)]),
             Act::Raises(Sign::Freed),
         ],
-        FLUSHES,
+        &[Act::Flushes(1, Stands::InsideSince(2, Sign::Said, 2))],
     ],
     amounts: &[19, 0, 0],
     left_out: None,
