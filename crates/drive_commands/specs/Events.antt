@@ -4,7 +4,7 @@ use Rattle.pr_core.specs.Keepers.{KeeperState}
 use Rattle.volume_core.specs.Medium.{MediumState}
 use Rattle.drive_commands.specs.Work.{Request}
 
--- what an event is one of: a drive, or a library (own)
+-- whose event it is: a drive's, or a library's (own)
 pub data Whose : Type 0 where
   OfDrive : Whose
   OfLibrary : Whose

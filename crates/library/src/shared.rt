@@ -17,8 +17,8 @@ use vtl_base::Bytes;
 
 /// A drive in two halves, each behind a lock. A thread that takes both locks takes that of the hosts' half first. With
 /// them go the condition variable that wakes the drive's flusher after a change; the number of beginnings and ends of
-/// the flusher's turns, odd while a turn is under way; and the condition variable that wakes the hosts that wait for the
-/// end of one. The last two are changed under the lock of the hosts' half.
+/// the flusher's turns, odd while a turn is under way; and the condition variable that wakes the hosts that wait for
+/// the end of one. The last two are changed under the lock of the hosts' half.
 #[derive(Drop)]
 pub struct SharedBay<D: Disk, B: Parties + Rings> {
     pub(crate) front: Mutex<FrontPlace<D, B>>,

@@ -17,8 +17,8 @@ pub record CrewState : Type 0 where
 
 module _ {D : Type 0} (state : D → DiskState) where
   -- A request is answered for its host, whose seat grows as the reply says. The other seats stay (own).
-  pub record AnswersSeat (old : List SeatState) (request : Request) (reply : Reply) (new : List SeatState) : Type
-      0 where
+  pub record AnswersSeat
+      (old : List SeatState) (request : Request) (reply : Reply) (new : List SeatState) : Type 0 where
     pub place : ℕ
     pub before : SeatState
     pub after : SeatState

@@ -114,8 +114,8 @@ fn a_full_buffer_is_written_beside_a_turn(rt: HostRuntime) -> Result<(), Fail> {
     spend_loaded(&rt, rt.alloc(), NEVER, 1, &LONG_BLOCKS_BESIDE_A_TURN)
 }
 
-// The same, and one more: its host waits for the end of the turn, which comes once another host is answered. It does not
-// wait for the next turn, which begins at once.
+// The same, and one more: its host waits for the end of the turn, which comes once another host is answered. It does
+// not wait for the next turn, which begins at once.
 static NO_ROOM_BESIDE_A_TURN: Day = Day {
     hosts: &[
         &[
