@@ -162,59 +162,48 @@ module _ {D : Type 0} (state : D → DiskState) where
     )
 
     module _ (safe : KeepsWhatIsSafe state) where
-      items_keep : (old new : HeldState D) (items : List Item) (replies : List Reply)
-          → LibraryAnswers state old items replies new → RunKeeps state old new
-      items_keep old new items replies answered =
+      -- items were answered, and then more, or none
+      on : (old mid new : HeldState D) (items more : List Item) (replies others : List Reply)
+          → LibraryAnswers state old items replies mid → LibraryAnswers state mid more others new
+          → RunKeeps state old new items replies
+      on old mid new items more replies others one two =
+          let all = held_on state old mid new items more replies others one two in
+          let events = flat_map events_of (items ++ more) in
           record {
-            items = items;
-            replies = replies;
-            acknowledged = answers_keeping old new (flat_map events_of items) replies answered;
+            more = more;
+            others = others;
+            acknowledged = answers_keeping old new events (replies ++ others) all;
             safe = λ place medium at known can.
-                let goes = goes_all old new place (flat_map events_of items) replies answered in (
+                let goes = goes_all old new place events (replies ++ others) all in (
                   goes.0,
                   goes.1,
                   goes.2,
-                  safe old new place goes.0 medium (flat_map events_of items) (map Some replies) goes.1 at known can
-                      goes.2,
+                  safe old new place goes.0 medium events (map Some (replies ++ others)) goes.1 at known can goes.2,
                 );
           }
-
-      -- no more items were answered
-      stays : (old mid new : HeldState D) (items : List Item) (replies : List Reply) → new ≡ mid
-          → LibraryAnswers state old items replies mid → RunKeeps state old new
-      stays old mid new items replies same answered =
-          items_keep old new items replies
-          (subst (λ (h : HeldState D). LibraryAnswers state old items replies h) (sym same) answered)
-
-      -- some more items were answered
-      more : (old mid new : HeldState D) (items others : List Item) (replies more_replies : List Reply)
-          → LibraryAnswers state old items replies mid → LibraryAnswers state mid others more_replies new
-          → RunKeeps state old new
-      more old mid new items others replies more_replies one two =
-          items_keep old new (items ++ others) (replies ++ more_replies)
-          (held_on state old mid new items others replies more_replies one two)
 
       by_end : (size : ℕ) (parsed_list : List ParsedLine) (items : List Item) (text : List ℕ)
           (old mid new : HeldState D) (before now : Option (List ℕ)) (replies : List Reply)
           (result : Result (Unit {0}) ScriptFault) → LibraryAnswers state old items replies mid
           → ScriptEnds (LibraryAnswers state) size parsed_list items text mid before new now result
-          → RunKeeps state old new
+          → RunKeeps state old new items replies
       by_end size parsed_list items text old mid new before now replies (Ok done) answered ended =
-          stays old mid new items replies ended.3.0 answered
+          on old mid new items [] replies [] answered ended.3.0
       by_end size parsed_list items text old mid new before now replies (Err (faults.BadLine number)) answered ended =
-          stays old mid new items replies ended.2.0 answered
+          on old mid new items [] replies [] answered ended.2.0
       by_end size parsed_list items text old mid new before now replies (Err faults.ReadFault) answered ended =
-          stays old mid new items replies ended.2.0 answered
+          on old mid new items [] replies [] answered ended.2.0
       by_end size parsed_list items text old mid new before now replies (Err faults.WriteFault) answered ended =
-          more old mid new items (ended.2.item ∷ []) replies ended.2.replies answered ended.2.answered
+          on old mid new items (ended.2.item ∷ []) replies ended.2.replies answered ended.2.answered
       by_end size parsed_list items text old mid new before now replies (Err faults.NoMemory) answered
-          (behind, is, inl stops) = stays old mid new items replies stops.0 answered
+          (behind, is, inl stops) = on old mid new items [] replies [] answered stops.0
       by_end size parsed_list items text old mid new before now replies (Err faults.NoMemory) answered
           (behind, is, inr part) =
-          more old mid new items (part.some.part ∷ []) replies part.some.replies answered part.some.answered
+          on old mid new items (part.some.part ∷ []) replies part.some.replies answered part.some.answered
 
       pub run_keeps : (is_configured : ℕ → Bool) (old new : HeldState D) (left before now : Option (List ℕ))
           (result : Result (Unit {0}) ScriptFault)
-          → RunsScript is_configured (LibraryAnswers state) old left before new now result → RunKeeps state old new
+          (runs : RunsScript is_configured (LibraryAnswers state) old left before new now result)
+          → RunKeeps state old new runs.items runs.replies
       run_keeps is_configured old new left before now result runs =
           by_end _ _ runs.items _ old runs.mid new before now runs.replies result runs.answered runs.ended

@@ -1,5 +1,5 @@
 -- What survives at each moment while a library is asked one thing after another.
-use Rattle.std.specs.Prelude.{◌≡◌, ℕ, List, [], ◌∷◌, Some, flat_map, map}
+use Rattle.std.specs.Prelude.{◌≡◌, ◌++◌, ℕ, List, [], ◌∷◌, Some, flat_map, map}
 use Rattle.tape_disk.specs.Disk.{DiskState}
 use Rattle.tape_disk.specs.TwoDisks.{AreHonest, TwoDisks}
 use Rattle.scsi_sense.specs.declared.replies.Reply.{Reply}
@@ -47,12 +47,13 @@ module _ {D : Type 0} (state : D → DiskState) where
   AnswersKeeping old [] (reply ∷ replies) new = ⊥
   AnswersKeeping old (event ∷ events) [] new = ⊥
 
-  -- A library answered items of a script, however that ended: at each moment of it, what was acknowledged on the way
-  -- survives, and what was safe at its start (own).
-  pub record RunKeeps (old new : HeldState D) : Type 0 where
-    pub items : List Item
-    pub replies : List Reply
-    pub acknowledged : AnswersKeeping old (flat_map events_of items) replies new
+  -- A library answered these items of a script with these replies, and where the script ended in a fault then maybe
+  -- more. At each moment of that, what was acknowledged on the way survives, and what was safe at its start (own).
+  pub record RunKeeps (old new : HeldState D) (items : List Item) (replies : List Reply) : Type 0 where
+    pub more : List Item
+    pub others : List Reply
+    pub acknowledged : AnswersKeeping old (flat_map events_of (items ++ more)) (replies ++ others) new
     pub safe :
         (place : ℕ) (medium : BufferState D) → cartridge_at old place ≡ Some medium → IsKnown state medium
-        → CanAcknowledge (medium_core state medium) → KeptWhile old place (flat_map events_of items) replies new
+        → CanAcknowledge (medium_core state medium)
+        → KeptWhile old place (flat_map events_of (items ++ more)) (replies ++ others) new

@@ -106,7 +106,9 @@ pub fn run_held<D: Disk + Drop, R: Read, W: Write>(
         TakesWithin (R.remaining reader.old) 0 (R.remaining reader.new) }
 
     // However the run ends, what was acknowledged survives a stop at any moment of it.
-    ensures keeps { RunKeeps D.state held.old held.new }
+    ensures keeps { (runs : RunsScript (is_configured_in held.old) (LibraryAnswers D.state) held.old
+        (R.remaining reader.old) (W.contents writer.old) held.new (W.contents writer.new) result)
+        → RunKeeps D.state held.old held.new runs.items runs.replies }
 {
     // The laws of the machine, of scripts and of stops, for the proof alone.
     drive_theorems::honest_steps::<Cataloged<D>>();

@@ -17,4 +17,3 @@ pub returns-clause-keeps : goal.returns-clause-keeps
 returns-clause-keeps g c =
     run_keeps g.D.Disk.state c.a_stop_keeps_acknowledged_changes_of_what_is_moved.ensures.acknowledged
     c.a_stop_keeps_acknowledged_changes_of_what_is_moved.ensures.safe _ c.args.held.now _ _ _ _ c.run_script.result
-    c.run_script.ensures.runs
