@@ -134,6 +134,11 @@ EDITS = [
      "        give_all(self.jobs.as_mut_slice(), replies);\n",
      "        give_all(self.jobs.as_mut_slice(), replies);\n        self.library.close(self.rt);\n",
      ["a_flusher_stores_between_two_phases"]),
+    ("a command that changed nothing is asked again", "library", "src/shared.rt",
+     "        self.ring_if_risen(before, seat.amount());\n        reply\n",
+     "        self.ring_if_risen(before, seat.amount());\n        if seat.amount() == before {\n"
+     "            return self.serve_quietly(rt, tally, seat, cdb, sent);\n        }\n        reply\n",
+     ["hosts_do_not_wait_for_a_turn"]),
     ("a command takes the turn of its drive", "library", "src/shared.rt",
      "        let reply = self.serve_quietly(rt, tally, seat, cdb, sent);\n",
      "        let reply = self.serve_quietly(rt, tally, seat, cdb, sent);\n"
