@@ -59,14 +59,18 @@ def proved(lines):
     return found[-1][1] is None if found else None
 
 
+def names_proved(lines):
+    """The functions that a check proved, also those that may wait, or whose callers give what they ask."""
+    return [found[1] for found in map(FN.match, lines) if found and re.match(r"proved\b", found[2])]
+
+
 def opened(name, folder, kept):
     """The crate, once it is proved as it is; else what the check said."""
     lines = check(folder)
     if not proved(lines):
         return None, lines
     shutil.copytree(os.path.join(folder, "out", "incremental"), kept)
-    names = [found[1] for found in map(FN.match, lines) if found and found[2] == "proved"]
-    return Crate(name, folder, kept, wrong_bodies.sources(folder), names), lines
+    return Crate(name, folder, kept, wrong_bodies.sources(folder), names_proved(lines)), lines
 
 
 def put_back(kept, folder):

@@ -74,6 +74,7 @@ fn box::more::high: not proved
 fn box::more::wide: not proved
 note: src/more.rt:40:5: a note on what is proved
 fn box::more::fn::low::inner: proved
+fn box::more::slow: proved, may wait
 fn box::more::mid: no proof: it calls `box::more::low`, which is not proved
 note: src/more.rt:50:5: it is not proved that the sum is in range (`overflow`)
 fn box::more::odd: not proved; it rests on something that is not proved
@@ -119,6 +120,7 @@ def cases_of_checks(box):
     yield "any goal", bool(wrong_batches.refusal(None, left)), True
     yield "a closure", wrong_batches.is_within("box::more::fn::low::inner", "box::more::low"), True
     yield "no closure", wrong_batches.is_within("box::more::lower", "box::more::low"), False
+    yield "what is proved", wrong_batches.names_proved(lines), ["box::more::fn::low::inner", "box::more::slow"]
     yield "a verdict", [wrong_batches.proved(it) for it in (lines, ["logic=proved functions=9"], lines[:-1])], [
         False, True, None]
     yield "errors", wrong_batches.unread(["src/a.rt:7:3: error[no-name]: what", "note: src/a.rt:9:1: error", *lines]), [
