@@ -11,8 +11,8 @@ pub data Whose : Type 0 where
 
 -- One thing that is done with a drive or with a library; what came of it stands beside it. A drive carries a command
 -- out, takes a flusher's turn, takes a medium in, has a parked one put into it, gives its medium out, is switched on
--- with this medium in it, if any, and with this keeper. In a library such an event is one of the drive with a number; or
--- a cartridge is moved from one place to another, or all that is pending is written out (SAM-5; SMC-3; SPC-4; turn,
+-- with this medium in it, if any, and with this keeper. In a library such an event is one of the drive with a number;
+-- or a cartridge is moved from one place to another, or all that is pending is written out (SAM-5; SMC-3; SPC-4; turn,
 -- keeper and writing out own).
 pub data Event : Whose → Type 0 where
   Execute : (request : Request) → Event OfDrive
