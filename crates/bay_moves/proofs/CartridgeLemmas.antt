@@ -29,7 +29,7 @@ use Rattle.drive_commands.specs.Execute.{AdvancesIn, HonestIn, is_device_fault}
 use Rattle.drive_commands.specs.Events.{Event, Execute, FlushTurn, Insert, Load, OfDrive, PowerOn, Unload}
 use Rattle.drive_commands.specs.Synchronize.{NothingPending}
 use Rattle.bay_moves.specs.Cartridges.{IsKnown, KeepsIn, StopsKeepChanges}
-use Rattle.bay_moves.specs.Doings.{Does, DoesAll}
+use Rattle.bay_moves.specs.Events.{Does, DoesAll}
 
 module _ {D : Type 0} (state : D → DiskState) (is_disk : (disk : D) → (state disk).honest → IsDisk (state disk)) where
   -- from the medium of a drive to the medium there later exactly these changes were accepted

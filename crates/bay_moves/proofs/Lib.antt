@@ -6,6 +6,7 @@ mod CoreLemmas
 mod CountLemmas
 mod DrivesLemmas
 mod EndLemmas
+mod EventLemmas
 mod FinishLemmas
 mod JourneyLemmas
 mod LentLemmas
@@ -18,7 +19,6 @@ mod SameLemmas
 mod StandLemmas
 mod StopLemmas
 mod StoreCoreLemmas
-mod CallLemmas
 mod BesideLemmas
 mod ServedLemmas
 mod OneHostLemmas

@@ -34,7 +34,7 @@ use Rattle.bay_moves.specs.Elements.{BayState}
 use Rattle.drive_commands.specs.Events.{Event, Execute, FlushTurn, Insert, Load, OfDrive, Unload}
 use Rattle.bay_moves.specs.Reservations.{GivesHeld, GoesBy, HoldingGives, HoldingGoesOn, IsHolding, disk_of}
 use Rattle.bay_moves.specs.Reservations as call
-use Rattle.bay_moves.proofs.CallLemmas.{ChangesBay, bay_stays}
+use Rattle.bay_moves.proofs.EventLemmas.{ChangesBay, bay_stays}
 use Rattle.bay_moves.proofs.CartridgeLemmas.{Moved, moved_by, moved_nowhere}
 use Rattle.bay_moves.proofs.StoreCoreLemmas.{to_core}
 

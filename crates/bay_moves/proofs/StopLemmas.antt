@@ -24,7 +24,7 @@ use Rattle.drive_commands.specs.Events.{Event, Execute, FlushTurn, Insert, Load,
 use Rattle.bay_moves.specs.Reservations.{GivesHeld, GoesBy, GoesByAll, HoldingGives, HoldingGoesOn, IsHolding, IsOrderedIn, LeavesHeld, MayStand, OrdersStand, ReservationsOutlive, SwitchedOnHolds, disk_of}
 use Rattle.bay_moves.proofs.MachineLemmas.{step_goes}
 use Rattle.bay_moves.proofs.StandLemmas.{good_stands, step_stands}
-use Rattle.bay_moves.proofs.CallLemmas.{EventGoes, bay_stays, event_goes, turn_leaves}
+use Rattle.bay_moves.proofs.EventLemmas.{EventGoes, bay_stays, event_goes, turn_leaves}
 use Rattle.bay_moves.proofs.StoreCoreLemmas.{GivesEither, core_within, event_leaves, from_core, given_as, last_more, to_core}
 
 module _ {M D : Type 0} (medium : M → MediumState) (below : Below M Change) (disk : D → DiskState)

@@ -19,7 +19,7 @@ use Rattle.drive_commands.specs.Work.{Request}
 use Rattle.drive_commands.specs.Execute.{Answers, HonestIn}
 use Rattle.drive_commands.specs.Events.{Event, OfDrive}
 use Rattle.drive_commands.specs.Synchronize.{Acknowledges, IsSynchronizing, NothingPending}
-use Rattle.bay_moves.specs.Doings.{DoesAll}
+use Rattle.bay_moves.specs.Events.{DoesAll}
 
 module _ {D : Type 0} (state : D → DiskState) where
   -- The facts of a medium over two honest disks: what is safe is stored, what is stored was accepted, and each pair of

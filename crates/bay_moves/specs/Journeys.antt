@@ -16,7 +16,7 @@ use Rattle.drive_commands.specs.Events.{Carry, Event, InDrive, OfDrive, OfLibrar
 use Rattle.element_slots.specs.Slots.{is_slot}
 use Rattle.bay_moves.specs.Cartridges.{IsKnown, KeepsIn}
 use Rattle.bay_moves.specs.Commands.{Commands}
-use Rattle.bay_moves.specs.Doings.{Does}
+use Rattle.bay_moves.specs.Events.{Does}
 use Rattle.bay_moves.specs.declared.finishing.Unwritten.{Unwritten}
 use Rattle.bay_moves.specs.Elements.{BayState, HeldState, bay_at, cartridge_at}
 use Rattle.bay_moves.specs.Finish.{WritesOut}

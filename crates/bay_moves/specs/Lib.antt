@@ -2,8 +2,8 @@ pub mod Accepted
 pub mod Bays
 pub mod Cartridges
 pub mod Commands
-pub mod Doings
 pub mod Elements
+pub mod Events
 pub mod Finish
 pub mod Inner
 pub mod Journeys
