@@ -11,9 +11,9 @@ use crate::samples::{
 };
 use crate::stop_tables::Which;
 
-/// The use of a drive that meets the fault.
+/// What meets the fault.
 #[derive(Clone, Copy)]
-pub enum Deed {
+pub enum Action {
     /// A flusher's turn, which stores one change.
     Turn,
     /// A command of host 1, the data sent with it, its answer, and its answer where a call fails.
@@ -32,7 +32,7 @@ pub enum Again {
 /// For one failed call: what nine crashes leave, each of these by at least one, and what is found again.
 pub type Failed = (&'static [Left], Left);
 
-/// A deed of which each call of a disk fails, one at a time.
+/// An action of which each call of a disk fails, one at a time.
 pub struct Fault {
     pub what: &'static str,
     pub tape: &'static [u8],
@@ -42,11 +42,11 @@ pub struct Fault {
     pub before: &'static [Row<'static>],
     /// How many calls of the disk these take, with the power on.
     pub first: u64,
-    pub deed: Deed,
+    pub action: Action,
     /// The commands afterwards.
     pub then: &'static [Row<'static>],
     pub again: Again,
-    /// A line for each call of the deed.
+    /// A line for each call of the action.
     pub failed: &'static [Failed],
 }
 
@@ -89,7 +89,7 @@ pub static LATE: Fault = Fault {
     which: Which::Tape,
     before: WAITING,
     first: 10,
-    deed: Deed::Turn,
+    action: Action::Turn,
     then: TAKES_NOTHING,
     again: Again::Asked(LOADED),
     failed: STORING,
@@ -104,7 +104,7 @@ pub static STORINGS: &'static [Fault] = &[
         which: Which::Tape,
         before: WAITING,
         first: 10,
-        deed: Deed::Turn,
+        action: Action::Turn,
         then: REPORTED_LATE,
         again: Again::Asked(LOADED),
         failed: STORING,
@@ -116,7 +116,7 @@ pub static STORINGS: &'static [Fault] = &[
         which: Which::Tape,
         before: WAITING,
         first: 10,
-        deed: Deed::Asked(WRITE_OUT, NONE, GOOD, WRITE_ERROR),
+        action: Action::Asked(WRITE_OUT, NONE, GOOD, WRITE_ERROR),
         then: TAKES_NOTHING,
         again: Again::Asked(LOADED),
         failed: STORING,
@@ -128,7 +128,7 @@ pub static STORINGS: &'static [Fault] = &[
         which: Which::Tape,
         before: WAITING,
         first: 10,
-        deed: Deed::Asked(REWIND, NONE, GOOD, WRITE_ERROR),
+        action: Action::Asked(REWIND, NONE, GOOD, WRITE_ERROR),
         then: TAKES_NOTHING,
         again: Again::Asked(LOADED),
         failed: STORING,
@@ -140,7 +140,7 @@ pub static STORINGS: &'static [Fault] = &[
         which: Which::Tape,
         before: WAITING,
         first: 10,
-        deed: Deed::Asked(UNLOAD, NONE, GOOD, WRITE_ERROR),
+        action: Action::Asked(UNLOAD, NONE, GOOD, WRITE_ERROR),
         then: TAKES_NOTHING,
         again: Again::Asked(LOADED),
         failed: STORING,
@@ -152,7 +152,7 @@ pub static STORINGS: &'static [Fault] = &[
         which: Which::Tape,
         before: NOT_WAITING,
         first: 10,
-        deed: Deed::Asked(WRITE_1, b"b", GOOD, WRITE_ERROR),
+        action: Action::Asked(WRITE_1, b"b", GOOD, WRITE_ERROR),
         then: TAKES_NOTHING,
         again: Again::Asked(LOADED),
         failed: STORING,
@@ -168,7 +168,7 @@ pub static READINGS: &'static [Fault] = &[
         which: Which::Tape,
         before: UNLOADED,
         first: 10,
-        deed: Deed::Asked(LOAD, NONE, GOOD, READ_ERROR),
+        action: Action::Asked(LOAD, NONE, GOOD, READ_ERROR),
         then: NOT_LOADED,
         again: Again::Asked(LOADED_LATE),
         failed: LOADING,
@@ -180,7 +180,7 @@ pub static READINGS: &'static [Fault] = &[
         which: Which::Tape,
         before: NOT_READ,
         first: 10,
-        deed: Deed::Asked(READ_1, NONE, (None, b"a"), READ_ERROR),
+        action: Action::Asked(READ_1, NONE, (None, b"a"), READ_ERROR),
         then: TAKES_NOTHING,
         again: Again::Asked(LOADED),
         failed: &[(&[AB], AB)],
@@ -192,7 +192,7 @@ pub static READINGS: &'static [Fault] = &[
         which: Which::Tape,
         before: POWER_ON,
         first: 0,
-        deed: Deed::Asked(READY, NONE, GOOD, NOT_PRESENT),
+        action: Action::Asked(READY, NONE, GOOD, NOT_PRESENT),
         then: NOT_LOADED,
         again: Again::Asked(LOADED_LATE),
         failed: LOADING,
@@ -204,7 +204,7 @@ pub static READINGS: &'static [Fault] = &[
         which: Which::Second,
         before: UNLOADED,
         first: 1,
-        deed: Deed::Asked(LOAD, NONE, GOOD, READ_ERROR),
+        action: Action::Asked(LOAD, NONE, GOOD, READ_ERROR),
         then: NOT_LOADED,
         again: Again::Asked(LOADED_LATE),
         failed: &[(&[AB], AB)],
@@ -216,7 +216,7 @@ pub static READINGS: &'static [Fault] = &[
         which: Which::Second,
         before: POWER_ON,
         first: 0,
-        deed: Deed::Asked(READY, NONE, GOOD, NOT_PRESENT),
+        action: Action::Asked(READY, NONE, GOOD, NOT_PRESENT),
         then: NOT_LOADED,
         again: Again::Asked(LOADED_LATE),
         failed: &[(&[AB], AB)],
@@ -232,7 +232,7 @@ pub static SAVES: &'static [Fault] = &[
         which: Which::Store,
         before: POWER_ON,
         first: 4,
-        deed: Deed::Asked(REGISTER, A_NEW, GOOD, FAILED),
+        action: Action::Asked(REGISTER, A_NEW, GOOD, FAILED),
         then: NOT_REGISTERED,
         again: Again::Restarted,
         failed: &[(&[A], A), (&[A], A), (&[A], A), (&[A, ONE_KEY], ONE_KEY)],
@@ -244,7 +244,7 @@ pub static SAVES: &'static [Fault] = &[
         which: Which::Store,
         before: A_KEY,
         first: 8,
-        deed: Deed::Asked(RESERVE_5, BY_A, GOOD, FAILED),
+        action: Action::Asked(RESERVE_5, BY_A, GOOD, FAILED),
         then: NOT_RESERVED,
         again: Again::Restarted,
         failed: &[
@@ -261,7 +261,7 @@ pub static SAVES: &'static [Fault] = &[
         which: Which::Store,
         before: POWER_ON,
         first: 8,
-        deed: Deed::Asked(REGISTER, A_WITHOUT_APTPL, GOOD, FAILED),
+        action: Action::Asked(REGISTER, A_WITHOUT_APTPL, GOOD, FAILED),
         then: STILL_RESERVED,
         again: Again::Restarted,
         failed: &[

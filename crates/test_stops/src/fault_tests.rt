@@ -1,9 +1,9 @@
 //! A fault at each call of each disk.
 use crate::crashes::{Left, are_left, has, restarted};
 use crate::drives::{Disks, TestDisk, TestDrive, reached, switched_on};
-use crate::fault_tables::{Again, Deed, Failed, Fault, READINGS, SAVES, STORINGS};
+use crate::fault_tables::{Action, Again, Failed, Fault, READINGS, SAVES, STORINGS};
 use crate::samples::{NONE, POWERED_ON, READY, Wanted, ask, asks, reads, turns};
-use crate::ways::{Deeds, Way, does};
+use crate::ways::{Scenario, Way, play};
 use bay_moves::Bay;
 use std::alloc::Global;
 use std::process::Abort;
@@ -38,19 +38,19 @@ fn is_asked<D: TestDisk, S: TestDrive<D>>(
     ask(rt, drive, (1, cdb, sent, wanted), wanted, &at);
 }
 
-// The deed meets no fault.
-fn passes<D: TestDisk, S: TestDrive<D>>(rt: &impl Abort, drive: &mut S, deed: Deed, at: At) {
-    match deed {
-        Deed::Turn => turns(rt, drive, Turn::Stored(1), &at),
-        Deed::Asked(cdb, sent, wanted, _) => is_asked(rt, drive, cdb, sent, wanted, at),
+// The action meets no fault.
+fn passes<D: TestDisk, S: TestDrive<D>>(rt: &impl Abort, drive: &mut S, action: Action, at: At) {
+    match action {
+        Action::Turn => turns(rt, drive, Turn::Stored(1), &at),
+        Action::Asked(cdb, sent, wanted, _) => is_asked(rt, drive, cdb, sent, wanted, at),
     }
 }
 
 // It meets one.
-fn fails<D: TestDisk, S: TestDrive<D>>(rt: &impl Abort, drive: &mut S, deed: Deed, at: At) {
-    match deed {
-        Deed::Turn => turns(rt, drive, Turn::Device, &at),
-        Deed::Asked(cdb, sent, _, wanted) => is_asked(rt, drive, cdb, sent, wanted, at),
+fn fails<D: TestDisk, S: TestDrive<D>>(rt: &impl Abort, drive: &mut S, action: Action, at: At) {
+    match action {
+        Action::Turn => turns(rt, drive, Turn::Device, &at),
+        Action::Asked(cdb, sent, _, wanted) => is_asked(rt, drive, cdb, sent, wanted, at),
     }
 }
 
@@ -93,7 +93,7 @@ fn is_found_by_another<D: TestDisk>(
     is_found_again(rt, alloc, &mut drive, left, at)
 }
 
-/// After the deed has failed nothing is accepted; what crashes leave, and what is found again.
+/// After the action has failed nothing is accepted; what crashes leave, and what is found again.
 pub fn is_over<D: TestDisk, S: TestDrive<D>>(
     rt: &impl Abort,
     alloc: Global,
@@ -117,7 +117,7 @@ pub fn is_over<D: TestDisk, S: TestDrive<D>>(
     }
 }
 
-// A deed of which one call of the disk fails, or the call after all of its own, which it does not reach.
+// An action of which one call of the disk fails, or the call after all of its own, which it does not reach.
 #[derive(Drop)]
 struct Tried {
     alloc: Global,
@@ -126,23 +126,23 @@ struct Tried {
     at: At,
 }
 
-impl<D: TestDisk> Deeds<D> for Tried {
-    fn done<S: TestDrive<D>, A: Abort>(&self, rt: &A, drive: &mut S) -> Result<(), Fail> {
+impl<D: TestDisk> Scenario<D> for Tried {
+    fn play<S: TestDrive<D>, A: Abort>(&self, rt: &A, drive: &mut S) -> Result<(), Fail> {
         asks(rt, drive, self.fault.before, &self.at);
         match self.failed {
             Some(failed) => {
-                fails(rt, drive, self.fault.deed, self.at);
+                fails(rt, drive, self.fault.action, self.at);
                 is_over(rt, self.alloc, drive, self.fault, failed, self.at)
             }
             None => {
-                passes(rt, drive, self.fault.deed, self.at);
+                passes(rt, drive, self.fault.action, self.at);
                 Ok(())
             }
         }
     }
 }
 
-// The deed with a fault after this many calls.
+// The action with a fault after this many calls.
 fn is_tried<D: TestDisk>(
     rt: &impl Abort,
     alloc: Global,
@@ -158,10 +158,10 @@ fn is_tried<D: TestDisk>(
         at: (fault.what, way, calls),
     };
     let bay = failing::<D>(alloc, fault, calls)?;
-    does(rt, alloc, way, bay, &tried)
+    play(rt, alloc, way, bay, &tried)
 }
 
-// Each call of the deed fails, one at a time.
+// Each call of the action fails, one at a time.
 fn is_failed<D: TestDisk>(
     rt: &impl Abort,
     alloc: Global,

@@ -5,7 +5,7 @@ use crate::samples::{
     GOOD, LOAD, MARK, NEW_STORE, NONE, POWERED_ON, READY, REWIND, SELECT_4, UNLOAD, WRITE_1,
     Wanted, ask, turns,
 };
-use crate::ways::{Deeds, Way, does};
+use crate::ways::{Scenario, Way, play};
 use bay_moves::Bay;
 use std::alloc::Global;
 use std::process::Abort;
@@ -193,8 +193,8 @@ struct Filled {
     way: Way,
 }
 
-impl Deeds<LongDisk> for Filled {
-    fn done<S: TestDrive<LongDisk>, A: Abort>(&self, rt: &A, drive: &mut S) -> Result<(), Fail> {
+impl Scenario<LongDisk> for Filled {
+    fn play<S: TestDrive<LongDisk>, A: Abort>(&self, rt: &A, drive: &mut S) -> Result<(), Fail> {
         let zeros = vec![in self.alloc; 0u8; 1_048_576]?;
         fills(rt, drive, zeros.as_slice(), ROWS, self.way);
         is_full(rt, drive, self.way);
@@ -209,8 +209,8 @@ struct FilledLater {
     way: Way,
 }
 
-impl Deeds<LongDisk> for FilledLater {
-    fn done<S: TestDrive<LongDisk>, A: Abort>(&self, rt: &A, drive: &mut S) -> Result<(), Fail> {
+impl Scenario<LongDisk> for FilledLater {
+    fn play<S: TestDrive<LongDisk>, A: Abort>(&self, rt: &A, drive: &mut S) -> Result<(), Fail> {
         let zeros = vec![in self.alloc; 0u8; 1_048_576]?;
         fills(rt, drive, zeros.as_slice(), WAITING, self.way);
         turns(rt, drive, Turn::Stored(4), &self.way);
@@ -223,11 +223,11 @@ impl Deeds<LongDisk> for FilledLater {
 }
 
 fn is_filled(rt: &impl Abort, alloc: Global, way: Way) -> Result<(), Fail> {
-    does(rt, alloc, way, nearly_full(alloc)?, &Filled { alloc, way })
+    play(rt, alloc, way, nearly_full(alloc)?, &Filled { alloc, way })
 }
 
 fn is_filled_by_what_waits(rt: &impl Abort, alloc: Global, way: Way) -> Result<(), Fail> {
-    does(
+    play(
         rt,
         alloc,
         way,

@@ -6,7 +6,7 @@ use crate::fault_tests::{At, failing, is_over};
 use crate::samples::{
     GOOD, LATE_ERROR, MARK, NONE, READ_1, READY, REWIND, Row, WRITE_1, WRITE_OUT, ask, asks, turns,
 };
-use crate::ways::{Deeds, Way, does};
+use crate::ways::{Scenario, Way, play};
 use std::alloc::Global;
 use std::process::Abort;
 use std::test::Fail;
@@ -137,8 +137,8 @@ fn is_used_again<D: TestDisk, S: TestDrive<D>>(
     are_left::<D>(rt, alloc, &disks, &[end], &at)
 }
 
-impl<D: TestDisk> Deeds<D> for ReportedLate {
-    fn done<S: TestDrive<D>, A: Abort>(&self, rt: &A, drive: &mut S) -> Result<(), Fail> {
+impl<D: TestDisk> Scenario<D> for ReportedLate {
+    fn play<S: TestDrive<D>, A: Abort>(&self, rt: &A, drive: &mut S) -> Result<(), Fail> {
         let (lefts, _) = self.failed;
         asks(rt, drive, self.fault.before, &self.at);
         accepts_behind(rt, drive, self.at);
@@ -169,7 +169,7 @@ fn is_reported_late<D: TestDisk>(
             at: (late.0, Way::Halves, calls),
         };
         let bay = failing::<D>(alloc, fault, calls)?;
-        does(rt, alloc, Way::Halves, bay, &reported)?;
+        play(rt, alloc, Way::Halves, bay, &reported)?;
         calls = calls.saturating_add(1);
     }
     Ok(())

@@ -3,7 +3,7 @@ use crate::crashes::are_left;
 use crate::drives::{TestDisk, TestDrive, below, reached, switched_on};
 use crate::samples::{GOOD, Row, ask};
 use crate::stop_tables::{End, Moment, RUNS, Run, Side};
-use crate::ways::{Deeds, Way, does};
+use crate::ways::{Scenario, Way, play};
 use std::alloc::Global;
 use std::process::Abort;
 use std::test::Fail;
@@ -65,8 +65,8 @@ struct Stopped {
 }
 
 // The drive gets the commands, and crashes leave of it what the moment says.
-impl<D: TestDisk> Deeds<D> for Stopped {
-    fn done<S: TestDrive<D>, A: Abort>(&self, rt: &A, drive: &mut S) -> Result<(), Fail> {
+impl<D: TestDisk> Scenario<D> for Stopped {
+    fn play<S: TestDrive<D>, A: Abort>(&self, rt: &A, drive: &mut S) -> Result<(), Fail> {
         let (_, end, lefts) = self.moment;
         asks_to(rt, drive, self.run.rows, end, self.at);
         let disks = reached(drive)?;
@@ -88,7 +88,7 @@ fn run_over<D: TestDisk>(
     match switched_on(stopped.alloc, tape, second, store) {
         Ok(bay) => {
             assert_holds!(rt; !is_off; stopped.at);
-            does(rt, stopped.alloc, way, bay, stopped)
+            play(rt, stopped.alloc, way, bay, stopped)
         }
         Err((tape, store)) => {
             assert_holds!(rt; is_off; stopped.at);

@@ -1,4 +1,4 @@
-//! What a test does with a drive, and the two ways in which the drive may stand.
+//! A test's scenario, which is played with a drive, and the two ways in which the drive may stand.
 ghost use Rattle.std.specs.Prelude.{◌≡◌, Some};
 
 use crate::drives::TestDrive;
@@ -21,57 +21,57 @@ pub enum Way {
     Halves,
 }
 
-/// What a test does with a drive, whichever way it stands.
-pub trait Deeds<D: Disk> {
-    /// Does it.
-    fn done<S: TestDrive<D>, A: Abort>(&self, rt: &A, drive: &mut S) -> Result<(), Fail>;
+/// What a test does with a drive, in whichever way the drive stands.
+pub trait Scenario<D: Disk> {
+    /// Plays the scenario with this drive.
+    fn play<S: TestDrive<D>, A: Abort>(&self, rt: &A, drive: &mut S) -> Result<(), Fail>;
 }
 
-// It is done with a drive in halves, over a ring that the call picks.
-fn done_over<D: Disk + Drop, R: Rings, T: Deeds<D>, A: Abort>(
+// Plays the scenario with a drive in halves, over a ring that the call picks.
+fn play_over<D: Disk + Drop, R: Rings, T: Scenario<D>, A: Abort>(
     rt: &A,
     alloc: Global,
     bay: Bay<D>,
     number: DriveNo,
     ring: NewRing,
-    deeds: &T,
+    scenario: &T,
 ) -> Result<(), Fail>
     requires { R.ring number ≡ Some ring }
 {
     let ends = ring.into_ends::<R>(number);
     let mut drive = Parted::of(alloc, bay, ends);
-    let done = deeds.done(rt, &mut drive);
+    let played = scenario.play(rt, &mut drive);
     drop(drive);
-    done
+    played
 }
 
-// It is done with a drive in halves.
-fn done_in_halves<D: Disk + Drop, T: Deeds<D>, A: Abort>(
+// Plays the scenario with a drive in halves.
+fn play_in_halves<D: Disk + Drop, T: Scenario<D>, A: Abort>(
     rt: &A,
     alloc: Global,
     bay: Bay<D>,
-    deeds: &T,
+    scenario: &T,
 ) -> Result<(), Fail> {
     let ring = NewRing::new(alloc)?;
     match DriveNo::new(1) {
-        Some(number) => done_over::<D, Brand, T, A>(rt, alloc, bay, number, ring, deeds),
+        Some(number) => play_over::<D, Brand, T, A>(rt, alloc, bay, number, ring, scenario),
         None => Err(Fail::from("no drive")),
     }
 }
 
-/// It is done with a drive that was just switched on, and stands this way.
-pub fn does<D: Disk + Drop, T: Deeds<D>, A: Abort>(
+/// Plays the scenario with a drive that was just switched on, and stands this way.
+pub fn play<D: Disk + Drop, T: Scenario<D>, A: Abort>(
     rt: &A,
     alloc: Global,
     way: Way,
     bay: Bay<D>,
-    deeds: &T,
+    scenario: &T,
 ) -> Result<(), Fail> {
     match way {
         Way::Whole => {
             let mut drive = bay;
-            deeds.done(rt, &mut drive)
+            scenario.play(rt, &mut drive)
         }
-        Way::Halves => done_in_halves(rt, alloc, bay, deeds),
+        Way::Halves => play_in_halves(rt, alloc, bay, scenario),
     }
 }
