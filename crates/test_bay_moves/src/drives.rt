@@ -31,13 +31,26 @@ fn gives<D: Disk>(rt: &impl Abort, bay: &mut Bay<D>, cdb: &[u8], sent: &[u8], wa
     assert_equal!(rt; reply.bytes.as_slice(), wanted);
 }
 
+// The cartridge is loaded into the drive, which is empty.
+fn is_loaded<D: Disk + Drop>(bay: &mut Bay<D>, cartridge: Parked<D>) -> bool {
+    if !bay.is_empty() {
+        drop(cartridge);
+        return false;
+    }
+    match bay.load(cartridge) {
+        Ok(()) => true,
+        Err(back) => {
+            drop(back);
+            false
+        }
+    }
+}
+
 // The cartridge is unloaded, closed, and loaded again.
 fn is_taken_back<D: Disk + Drop>(alloc: Global, bay: &mut Bay<D>) -> bool {
     match bay.unload() {
-        Ok(parked) if bay.is_empty() => {
-            bay.load(Parked::of(alloc, parked.into_shelved())).is_ok()
-        }
-        _ => false,
+        Ok(parked) => is_loaded(bay, Parked::of(alloc, parked.into_shelved())),
+        Err(_) => false,
     }
 }
 
@@ -54,9 +67,11 @@ fn keeps<D: Disk + Drop>(rt: &impl Abort, alloc: Global, bay: &mut Bay<D>) {
 
 #[test]
 fn a_cartridge_is_closed_and_taken_back(rt: HostRuntime) -> Result<(), Fail> {
+    let number = drive_no(1)?;
     let cartridge = parked(rt.alloc(), b"T00001L6", NEVER)?;
-    let mut bay = bay(rt.alloc(), drive_no(1)?, Some(cartridge))?;
+    let mut bay = bay(rt.alloc(), number, Some(cartridge))?;
     keeps(&rt, rt.alloc(), &mut bay);
+    drop(bay);
     Ok(())
 }
 
@@ -103,5 +118,6 @@ fn a_library_in_another_thread(rt: HostRuntime) -> Result<(), Fail> {
         assert_equal!(rt; status, Some(wanted));
         held = back;
     }
+    drop(held);
     Ok(())
 }

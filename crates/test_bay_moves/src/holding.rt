@@ -92,5 +92,7 @@ fn is_shown(rt: &impl Abort, alloc: Global, held: &mut Held<Once>) -> Result<(),
 #[test]
 fn each_slot_and_each_drive_is_shown(rt: HostRuntime) -> Result<(), Fail> {
     let mut held = library(rt.alloc(), NEVER)?;
-    is_shown(&rt, rt.alloc(), &mut held)
+    let shown = is_shown(&rt, rt.alloc(), &mut held);
+    drop(held);
+    shown
 }

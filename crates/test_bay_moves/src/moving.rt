@@ -49,6 +49,7 @@ static ROUND: &'static [Row] = &[
 fn a_cartridge_goes_round_what_is_lent(rt: HostRuntime) -> Result<(), Fail> {
     let mut held = library(rt.alloc(), NEVER)?;
     move_all(&rt, &mut held, ROUND);
+    drop(held);
     Ok(())
 }
 
@@ -60,6 +61,7 @@ static NOT_LOADED: &'static [Row] = &[(1001, 1, NOT_OPENED), (1, 1002, NO_SOURCE
 fn what_is_not_loaded_goes_back(rt: HostRuntime) -> Result<(), Fail> {
     let mut held = library(rt.alloc(), 5)?;
     move_all(&rt, &mut held, NOT_LOADED);
+    drop(held);
     Ok(())
 }
 
@@ -120,6 +122,7 @@ pub fn met(rt: &impl Abort, alloc: Global, work: Work) -> Result<u32, Fail> {
         if is_met(rt, &mut held, work, fails) {
             count = count.saturating_add(1);
         }
+        drop(held);
     }
     Ok(count)
 }

@@ -38,7 +38,10 @@ fn cartridge(alloc: Global, barcode: &[u8], fails: u64) -> Result<Shelved<Once>,
     let second = OnceDisk::new(MemDisk::new(alloc), NEVER);
     match Cartridge::create(alloc, disk, second, &barcode, &[8_192]) {
         Ok(shelved) => Ok(shelved),
-        Err(_) => Err(Fail::from("no cartridge")),
+        Err(refused) => {
+            drop(refused);
+            Err(Fail::from("no cartridge"))
+        }
     }
 }
 
@@ -53,7 +56,10 @@ fn store_on<D: Disk + Drop>(alloc: Global, disk: D, number: DriveNo) -> Result<A
 {
     match AptplStore::create(alloc, disk, number) {
         Ok(store) => Ok(store),
-        Err(_) => Err(Fail::from("no store")),
+        Err(refused) => {
+            drop(refused);
+            Err(Fail::from("no store"))
+        }
     }
 }
 
@@ -67,7 +73,10 @@ fn switched_on<D: Disk + Drop>(
 {
     match Bay::power_on(alloc, store, Reservations::empty(), cartridge) {
         Ok(bay) => Ok(bay),
-        Err(_) => Err(Fail::from("not switched on")),
+        Err(not) => {
+            drop(not);
+            Err(Fail::from("not switched on"))
+        }
     }
 }
 
@@ -78,8 +87,13 @@ pub fn bay(
     cartridge: Option<Parked<Once>>,
 ) -> Result<Bay<Once>, Fail> {
     let disk = OnceDisk::new(MemDisk::new(alloc), NEVER);
-    let store = store_on(alloc, disk, number)?;
-    switched_on(alloc, store, cartridge)
+    match store_on(alloc, disk, number) {
+        Ok(store) => switched_on(alloc, store, cartridge),
+        Err(fail) => {
+            drop(cartridge);
+            Err(fail)
+        }
+    }
 }
 
 /// The drive of this number.
@@ -94,7 +108,10 @@ pub fn drive_no(number: u8) -> Result<DriveNo, Fail> {
 fn install<D: Disk + Drop>(held: &mut Held<D>, number: DriveNo, bay: Bay<D>) -> Result<(), Fail> {
     match held.install(number, bay) {
         Ok(()) => Ok(()),
-        Err(_) => Err(Fail::from("not installed")),
+        Err(back) => {
+            drop(back);
+            Err(Fail::from("not installed"))
+        }
     }
 }
 
@@ -109,7 +126,10 @@ fn add_drive(alloc: Global, held: &mut Held<Once>, number: u8) -> Result<(), Fai
 fn put<D: Disk + Drop>(held: &mut Held<D>, address: u32, cartridge: Parked<D>) -> Result<(), Fail> {
     match held.place(address, cartridge) {
         Ok(()) => Ok(()),
-        Err(_) => Err(Fail::from("not placed")),
+        Err(refused) => {
+            drop(refused);
+            Err(Fail::from("not placed"))
+        }
     }
 }
 
@@ -135,8 +155,13 @@ fn fill(alloc: Global, held: &mut Held<Once>, fails: u64) -> Result<(), Fail> {
 /// Drives 1 and 2, and in slot 1001 a new cartridge T00001L6 whose first disk fails at call number `fails`.
 pub fn library(alloc: Global, fails: u64) -> Result<Held<Once>, Fail> {
     let mut held = Held::new(alloc)?;
-    fill(alloc, &mut held, fails)?;
-    Ok(held)
+    match fill(alloc, &mut held, fails) {
+        Ok(()) => Ok(held),
+        Err(fail) => {
+            drop(held);
+            Err(fail)
+        }
+    }
 }
 
 // The key, code and qualifier in a reply.

@@ -80,7 +80,9 @@ fn are_kept<D: Disk + Drop>(
 fn a_block_goes_to_its_drive(rt: HostRuntime) -> Result<(), Fail> {
     let alloc = rt.alloc();
     let mut held = library(alloc, NEVER)?;
-    are_kept(&rt, alloc, &mut held)
+    let kept = are_kept(&rt, alloc, &mut held);
+    drop(held);
+    kept
 }
 
 // A READ of one byte from drive 1.
@@ -126,7 +128,9 @@ fn a_block_stays_where_no_way_is_made_for_it(rt: HostRuntime) -> Result<(), Fail
     let mut met = 0u32;
     for fails in 5..30 {
         let mut held = library(rt.alloc(), fails)?;
-        if is_met(&rt, rt.alloc(), &mut held, fails)? {
+        let outcome = is_met(&rt, rt.alloc(), &mut held, fails);
+        drop(held);
+        if outcome? {
             met = met.saturating_add(1);
         }
     }
@@ -141,5 +145,7 @@ static NONE_TAKEN: &'static [(Answer, &'static [u8])] = &[(POWERED_ON, b"x"), (N
 fn a_drive_of_a_library_takes_none_without_a_cartridge(rt: HostRuntime) -> Result<(), Fail> {
     let alloc = rt.alloc();
     let mut held = library(alloc, NEVER)?;
-    are_written(&rt, alloc, &mut held, NONE_TAKEN)
+    let written = are_written(&rt, alloc, &mut held, NONE_TAKEN);
+    drop(held);
+    written
 }

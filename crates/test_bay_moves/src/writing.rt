@@ -56,6 +56,7 @@ fn is_written_out(rt: &impl Abort, held: &mut Held<Once>) {
 fn all_is_written_out(rt: HostRuntime) -> Result<(), Fail> {
     let mut held = library(rt.alloc(), NEVER)?;
     is_written_out(&rt, &mut held);
+    drop(held);
     Ok(())
 }
 

@@ -51,14 +51,19 @@ pub fn restarted<D: TestDisk>(alloc: Global, disks: Disks) -> Result<Bay<D>, Fai
     let second = D::over(MemDisk::new(alloc), NEVER);
     match switched_on(alloc, D::over(tape, NEVER), second, D::over(store, NEVER)) {
         Ok(drive) => Ok(drive),
-        Err(_) => Err(Fail::from("not switched on")),
+        Err(disks) => {
+            drop(disks);
+            Err(Fail::from("not switched on"))
+        }
     }
 }
 
 /// Whether this is found on the disks.
 pub fn has<D: TestDisk>(alloc: Global, disks: Disks, left: Left) -> Result<bool, Fail> {
     let mut drive = restarted::<D>(alloc, disks)?;
-    Ok(shows(&mut drive, left))
+    let is_shown = shows(&mut drive, left);
+    drop(drive);
+    Ok(is_shown)
 }
 
 // How many of nine crashes leave this.

@@ -23,7 +23,10 @@ pub fn failing<D: TestDisk>(alloc: Global, fault: &Fault, calls: u64) -> Result<
     let store = D::over(MemDisk::from_bytes(alloc, fault.store)?, of_store);
     match switched_on(alloc, tape, second, store) {
         Ok(drive) => Ok(drive),
-        Err(_) => Err(Fail::from("not switched on")),
+        Err(disks) => {
+            drop(disks);
+            Err(Fail::from("not switched on"))
+        }
     }
 }
 
@@ -90,7 +93,9 @@ fn is_found_by_another<D: TestDisk>(
 ) -> Result<(), Fail> {
     assert_holds!(rt; has::<D>(alloc, disks.copy()?, left)?; at);
     let mut drive = restarted::<D>(alloc, disks.copy()?)?;
-    is_found_again(rt, alloc, &mut drive, left, at)
+    let found = is_found_again(rt, alloc, &mut drive, left, at);
+    drop(drive);
+    found
 }
 
 /// After the action has failed nothing is accepted; what crashes leave, and what is found again.

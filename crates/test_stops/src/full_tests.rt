@@ -157,7 +157,10 @@ fn nearly_full(alloc: Global) -> Result<Bay<LongDisk>, Fail> {
     let store = LongDisk::of(alloc, NEW_STORE)?;
     match switched_on(alloc, tape, second, store) {
         Ok(drive) => Ok(drive),
-        Err(_) => Err(Fail::from("not switched on")),
+        Err(disks) => {
+            drop(disks);
+            Err(Fail::from("not switched on"))
+        }
     }
 }
 

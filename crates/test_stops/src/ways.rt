@@ -52,10 +52,14 @@ fn play_in_halves<D: Disk + Drop, T: Scenario<D>, A: Abort>(
     bay: Bay<D>,
     scenario: &T,
 ) -> Result<(), Fail> {
-    let ring = NewRing::new(alloc)?;
-    match DriveNo::new(1) {
-        Some(number) => play_over::<D, Brand, T, A>(rt, alloc, bay, number, ring, scenario),
-        None => Err(Fail::from("no drive")),
+    match (DriveNo::new(1), NewRing::new(alloc)) {
+        (Some(number), Ok(ring)) => {
+            play_over::<D, Brand, T, A>(rt, alloc, bay, number, ring, scenario)
+        }
+        _ => {
+            drop(bay);
+            Err(Fail::from("no drive, or no ring"))
+        }
     }
 }
 
@@ -70,7 +74,9 @@ pub fn play<D: Disk + Drop, T: Scenario<D>, A: Abort>(
     match way {
         Way::Whole => {
             let mut drive = bay;
-            scenario.play(rt, &mut drive)
+            let played = scenario.play(rt, &mut drive);
+            drop(drive);
+            played
         }
         Way::Halves => play_in_halves(rt, alloc, bay, scenario),
     }
