@@ -13,6 +13,8 @@ from real_library import LONGEST, TOP, objects_of
 NEW = {name: f"cartridge {name} partitions 1 frames 0\npartition 0 objects 0 used 0\n" for name in (FIRST, SECOND)}
 NEW[STORE] = "reservations DRIVE1 frames 0 registrations 0\n"
 READY, READ = "64 1 000000000000\n", f"64 1 {LONGEST.hex()}\n"
+# A command of the stored run is given again with each of so many growths around its own refused, so many times.
+NEAR, TRIES = 64, 4
 
 
 def fails(kind, wanted, run):
@@ -145,12 +147,7 @@ def again(room, kind, at):
     line = next((at for at, pair in enumerate(zip(answers, wanted)) if pair[0] != pair[1]), len(answers))
     behind = answers[line + 1:]
     if run.status == 0 and answers[line:line + 1] == [ABORTED]:
-        twice = "\n".join([*script[:line + 1], *script[line:]]) + "\n"
-        both = "\n".join([*wanted[:line], ABORTED, *wanted[line:]]) + "\n"
-        # with a longer script the same growth may come a few growths later; where a flusher stores at another time,
-        # also a few before, or at the next try
-        others = [*range(at, at + 8), *range(max(at - 8, 1), at)] * 3
-        done = any(room.run(["run"], twice, kind, other)[:3] == (0, both, "") for other in others)
+        done = given_again(room, kind, at, line)
     elif (run.status, run.err) == STATUS["fault"]:
         failed = answers[line:line + 1] in ([WRITE_ERROR], [DEFERRED])
         done = failed and behind == [HAS_FAILED] * (len(wanted) - line - 1)
@@ -159,6 +156,21 @@ def again(room, kind, at):
     else:
         return run, "the program", [] if fails(kind, text, run) else ["its end"]
     return run, "commands", [] if done else [f"line {line + 1}, {answers[line:line + 2]}"]
+
+
+def given_again(room, kind, at, line):
+    """Whether the command of this line of the stored run has its stored answer when it is given again, and so has each
+    one behind it. With a longer script a growth comes a few growths later, and where a flusher stores at another time,
+    earlier or later by any number: those around it are refused, the nearest first, until memory runs out for this
+    command when it is given first. That run decides."""
+    script, wanted = stored("stdin"), stored("stdout")
+    twice = "\n".join([*script[:line + 1], *script[line:]]) + "\n"
+    both = [*wanted[:line], ABORTED, *wanted[line:]]
+    for other in TRIES * sorted(range(max(at - NEAR, 1), at + NEAR), key=lambda it: abs(it - at)):
+        run = room.run(["run"], twice, kind, other)
+        if run.out.splitlines()[:line + 1] == both[:line + 1]:
+            return run[:3] == (0, "\n".join(both) + "\n", "")
+    return False
 
 
 def work(crate):
