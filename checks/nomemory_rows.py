@@ -115,8 +115,9 @@ MOVE_FAULTS = [
     ([8], 0, [*MOVE_HEAD[:7], FAILED, FAILED, "GOOD", FAILED, *GONE]),
     ([9], 0, [*MOVE_HEAD[:8], FAILED, "GOOD", FAILED, *GONE]),
     ([11], 0, [*MOVE_HEAD[:10], FAILED, *MOVE_WITHOUT[10][0]]),
-    # in a flusher's turn: `move 1 2` gives up what waits, and finds the frame in flight or not
-    ([12, 13], 0, [*MOVE_HEAD[:14], AT_END]), ([12, 13], 0, MOVE_HEAD),
+    # in a flusher's turn: `move 1 2` gives up what waits, and finds the frame in flight or not; no command comes to
+    # drive 1 behind that, so the end reports the fault
+    ([12, 13], 2, [*MOVE_HEAD[:14], AT_END]), ([12, 13], 2, MOVE_HEAD),
     # in the storing of `move 1 2`, and in its loading; in the READ
     ([13], 2, [*MOVE_HEAD[:12], WRITE_ERROR, NOT_PRESENT, NOT_PRESENT]),
     ([13], 0, [*MOVE_HEAD[:12], READ_ERROR, NOT_PRESENT, NOT_PRESENT]),

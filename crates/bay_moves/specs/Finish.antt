@@ -1,5 +1,5 @@
 -- Writing out all that is pending.
-use Rattle.std.specs.Prelude.{◌≡◌, ℕ, [], true, false, Option, None, Some, Result, OnOk, OnErr}
+use Rattle.std.specs.Prelude.{◌≡◌, ◌⊎◌, ℕ, [], true, false, Option, None, Some, Result, OnOk, OnErr}
 use Rattle.tape_disk.specs.Disk.{DiskState}
 use Rattle.volume_core.specs.declared.media.Turn.{Turn}
 use Rattle.drive_commands.specs.declared.bays.Bay.{Bay}
@@ -26,6 +26,14 @@ module _ {D : Type 0} (state : D → DiskState) where
   IsWrittenIn (Loaded medium) = ((state_of state medium).failed ≡ false) × ((state_of state medium).pending ≡ [])
   IsWrittenIn _ = Unit {0}
 
+  -- the loaded medium has failed, or a turn did and no answer has reported that (own)
+  abbrev pub HasFailed : BayState D → Type 0
+  HasFailed bay = HasFailedIn bay.bay ⊎ (bay.deferred ≡ true)
+
+  -- all that the loaded medium accepted is stored, and each failed turn was reported (own)
+  abbrev pub IsAllWritten : BayState D → Type 0
+  IsAllWritten bay = IsWrittenIn bay.bay × (bay.deferred ≡ false)
+
   -- a drive, if there is one, takes a flusher's turn, and its event says what is left at every moment of it (own)
   abbrev pub TurnsAt : Option (BayState D) → Option (BayState D) → Type 0
   TurnsAt None None = Unit {0}
@@ -34,18 +42,18 @@ module _ {D : Type 0} (state : D → DiskState) where
       × EveryMoment state old FlushTurn made_nothing (medium_in old.bay) (medium_in new.bay) new
   TurnsAt _ _ = ⊥
 
-  -- the drive, if there is one, has nothing left to write (own)
+  -- the drive, if there is one, has nothing left to write and no failed turn to report (own)
   abbrev pub IsWrittenAt : Option (BayState D) → Type 0
   IsWrittenAt None = Unit {0}
-  IsWrittenAt (Some bay) = IsWrittenIn bay.bay
+  IsWrittenAt (Some bay) = IsAllWritten bay
 
-  -- there is a drive, and its loaded medium has failed (own)
+  -- there is a drive, and its loaded medium has failed, or a failed turn of it was not reported (own)
   abbrev pub HasFailedAt : Option (BayState D) → Type 0
   HasFailedAt None = ⊥
-  HasFailedAt (Some bay) = HasFailedIn bay.bay
+  HasFailedAt (Some bay) = HasFailed bay
 
-  -- Every drive takes a turn, and the slots stay. Then nothing is left to write, or the loaded medium of some drive has
-  -- failed (own).
+  -- Every drive takes a turn, and the slots stay. Then nothing is left to write or to report, or some drive has failed
+  -- (own).
   pub record WritesOut (old : HeldState D) (result : Result Unit Unwritten) (new : HeldState D) : Type 0 where
     pub turns : (number : ℕ) → TurnsAt (bay_at old.bays number) (bay_at new.bays number)
     pub slots : new.slots ≡ old.slots

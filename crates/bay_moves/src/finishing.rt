@@ -2,7 +2,7 @@
 ghost use Rattle.std.specs.Prelude.{◌≡◌, ◌≢◌, ◌+◌, ◌<◌, ℕ, OnOk, OnErr, Some};
 ghost use Rattle.vtl_base.specs.declared.limits.TheConstants.{DRIVES};
 ghost use Rattle.bay_moves.specs.Elements.{bay_at};
-ghost use Rattle.bay_moves.specs.Finish.{HasFailedAt, HasFailedIn, IsWrittenAt, IsWrittenIn, TurnsAt, WritesOut};
+ghost use Rattle.bay_moves.specs.Finish.{HasFailed, HasFailedAt, IsAllWritten, IsWrittenAt, TurnsAt, WritesOut};
 
 use crate::bays::Bay;
 use crate::held::Held;
@@ -12,31 +12,37 @@ use volume_core::Turn;
 use vtl_base::limits::DRIVES;
 
 /// Returned by `Bay::write_out` and `Held::finish` where the loaded medium of a drive has failed, so that some changes
-/// may not be stored.
+/// may not be stored; and where a flusher's turn failed and no answer has reported that, also if the medium was moved
+/// out of the drive since.
 #[derive(Clone, Copy, PartialEq, Eq, Debug)]
 pub struct Unwritten;
 
 impl<D: Disk> Bay<D> {
     /// Stores what is pending, by a flusher's turn. The call allocates no memory. After Ok, all changes that the loaded
-    /// medium has accepted are stored. After Err, that medium has failed, before this turn or in it.
+    /// medium has accepted are stored, and each failed turn of the drive was reported. After Err, that medium has
+    /// failed, before this turn or in it, or a failed turn was not reported.
     pub fn write_out(&mut self) -> Result<(), Unwritten>
         ensures turns { TurnsAt D.state (Some self.old) (Some self.new) }
-        ensures ok { OnOk result (IsWrittenIn D.state self.new.bay) }
-        ensures err { OnErr result (HasFailedIn D.state self.new.bay) }
+        ensures ok { OnOk result (IsAllWritten D.state self.new) }
+        ensures err { OnErr result (HasFailed D.state self.new) }
     {
         let _ = self.turn();
-        if self.drive().has_failed() {
-            Err(Unwritten)
-        } else {
-            Ok(())
+        let drive = self.drive();
+        if drive.has_failed() {
+            return Err(Unwritten);
         }
+        if drive.has_deferred_error() {
+            return Err(Unwritten);
+        }
+        Ok(())
     }
 }
 
 impl<D: Disk + Drop> Held<D> {
     /// Writes every buffer out, by a flusher's turn of each drive. A drive that fails does not stop the turns of the
-    /// others. The call allocates no memory. After Ok, all changes that the loaded media have accepted are stored.
-    /// After Err, the loaded medium of some drive has failed.
+    /// others. The call allocates no memory. After Ok, all changes that the loaded media have accepted are stored, and
+    /// each failed turn was reported. After Err, the loaded medium of some drive has failed, or a failed turn of some
+    /// drive was not reported.
     pub fn finish(&mut self) -> Result<(), Unwritten>
         ensures { WritesOut D.state self.old result self.new }
     {

@@ -5,13 +5,16 @@ use crate::books::OpenBook;
 use crate::parties::Parties;
 use crate::shares::PartyShare;
 use std::marker::Model;
+use std::sync::Wait;
 use vtl_base::Nexus;
 
-/// A host's seat in a library: its nexus, and its share of the ledger of the hosts. The seat moves with its host, even
-/// to another thread. A seat that is dropped is missing when the seats are gathered (own).
+/// A host's seat in a library: its nexus, how many of its commands were answered, and its share of the ledger of the
+/// hosts. The seat moves with its host, even to another thread. A seat that is dropped is missing when the seats are
+/// gathered (own).
 #[derive(Drop)]
 pub struct Seat<H: Parties> {
     nexus: Nexus,
+    answered: u64,
     share: PartyShare<H>,
 }
 
@@ -20,7 +23,7 @@ impl<H: Parties> Model for Seat<H> {
 
     ghost Value = { SeatState };
 
-    ghost view = { λ s. record { nexus = s.nexus; amount = s.share } };
+    ghost view = { λ s. record { nexus = s.nexus; answered = s.answered; amount = s.share } };
 }
 
 impl<H: Parties> Seat<H> {
@@ -31,17 +34,41 @@ impl<H: Parties> Seat<H> {
         self.nexus
     }
 
+    /// How many commands of the host were answered.
+    pub fn answered(&self) -> u64
+        ensures { result ≡ self.now.answered }
+    {
+        self.answered
+    }
+
     /// How many changes were entered for the host: the accepted changes of its commands.
     pub fn amount(&self) -> u64
         ensures { result ≡ self.now.amount }
     {
         self.share.amount()
     }
-    // The seat of the host with this nexus.
-    pub(crate) fn of(nexus: Nexus, share: PartyShare<H>) -> Seat<H>
-        ensures { result ≡ record { nexus = nexus; amount = share } }
+
+    /// Counts one more command of the host as answered. Where 2^64 - 1 are counted already, the call waits on `rt` and
+    /// never returns.
+    pub fn count_answer<R: Wait>(&mut self, rt: &R)
+        ensures { self.new ≡ record self.old { answered = self.old.answered + 1 } }
     {
-        Seat { nexus, share }
+        if self.answered == u64::MAX {
+            for _ in rt.forever() {}
+            unreachable!()
+        }
+        self.answered += 1;
+    }
+
+    // The seat of the host with this nexus, of which no command was answered.
+    pub(crate) fn of(nexus: Nexus, share: PartyShare<H>) -> Seat<H>
+        ensures { result ≡ record { nexus = nexus; answered = 0; amount = share } }
+    {
+        Seat {
+            nexus,
+            answered: 0,
+            share,
+        }
     }
 
     // Enters one change for the host in its ledger.

@@ -56,11 +56,12 @@ impl<B: Parties, H: Parties> Tally<B, H> {
         self.bays.give()
     }
 
-    /// Returns the seat of one more host, with this nexus; no change is entered for it yet. At least one host must
-    /// still be without a seat. The caller ensures that different seats have different nexuses.
+    /// Returns the seat of one more host, with this nexus; no command of it was answered, and no change is entered for
+    /// it yet. At least one host must still be without a seat. The caller ensures that different seats have different
+    /// nexuses.
     pub fn add_host(&mut self, nexus: Nexus) -> Seat<H>
         requires { 0 < self.old.hosts_left }
-        ensures seat { result ≡ record { nexus = nexus; amount = 0 } }
+        ensures seat { result ≡ record { nexus = nexus; answered = 0; amount = 0 } }
         ensures left { self.new ≡ record self.old { hosts_left = self.old.hosts_left - 1 } }
     {
         Seat::of(nexus, self.hosts.give())

@@ -57,15 +57,17 @@ grows_as_shown cdb reply changes before after reported grown =
 
 module _ {M K : Type 0} (state : M → MediumState) (below : Below M Change) (kept : K → KeeperState)
     (keeps : Below K PrState) where
-  -- A drive has answered, its count has gone from one number to another, and that was entered for the seat.
-  pub seat_grows : (old : DriveState M K) (request : Request) (before : SeatState) (reply : Reply)
+  -- A drive has answered, and the seat counted that. The drive's count has gone from one number to another, and that
+  -- was entered for the seat.
+  pub seat_grows : (old : DriveState M K) (request : Request) (before counted : SeatState) (reply : Reply)
       (new : DriveState M K) (after : SeatState) (low high : ℕ)
       → (step : Answers state below kept keeps old request reply new)
       → ShowsChanges request.cdb reply step.taken.made.changes → request.nexus ≡ before.nexus
       → low ≡ old.accepted → high ≡ new.accepted → low + 1 < 2 ^ 64
-      → (low ≡ high → after ≡ before) → (low ≢ high → after ≡ record before { amount = before.amount + 1 })
+      → counted ≡ record before { answered = before.answered + 1 }
+      → (low ≡ high → after ≡ counted) → (low ≢ high → after ≡ record counted { amount = counted.amount + 1 })
       → SeatGrows request before reply step.taken.made.changes after
-  seat_grows old request before reply new after low high step reported host is was below_limit same risen =
+  seat_grows old request before counted reply new after low high step reported host is was below_limit one same risen =
       let changes = step.taken.made.changes in
       let rose : high ≡ low + length changes =
       omega (
@@ -76,15 +78,22 @@ module _ {M K : Type 0} (state : M → MediumState) (below : Below M Change) (ke
             (omega (arith, is, below_limit)),
       ) in
       let grown : after.amount ≡ before.amount + length changes =
-      rises_by low high before.amount after.amount (length changes) rose reported.few
+      rises_by low high counted.amount after.amount (length changes) rose reported.few
       (λ alike. ap (λ (s : SeatState). s.amount) (same alike))
-      (λ apart. ap (λ (s : SeatState). s.amount) (risen apart)) in
+      (λ apart. ap (λ (s : SeatState). s.amount) (risen apart))
+      ∙ ap (λ (s : SeatState). s.amount + length changes) one in
       record {
         host = host;
         nexus =
-            stays_by low high before.nexus after.nexus (length changes) rose reported.few
+            stays_by low high counted.nexus after.nexus (length changes) rose reported.few
             (λ alike. ap (λ (s : SeatState). s.nexus) (same alike))
-            (λ apart. ap (λ (s : SeatState). s.nexus) (risen apart));
+            (λ apart. ap (λ (s : SeatState). s.nexus) (risen apart))
+            ∙ ap (λ (s : SeatState). s.nexus) one;
+        answered =
+            stays_by low high counted.answered after.answered (length changes) rose reported.few
+            (λ alike. ap (λ (s : SeatState). s.answered) (same alike))
+            (λ apart. ap (λ (s : SeatState). s.answered) (risen apart))
+            ∙ ap (λ (s : SeatState). s.answered) one;
         grown = grown;
         reported = grows_as_shown request.cdb reply changes before.amount after.amount reported grown;
       }

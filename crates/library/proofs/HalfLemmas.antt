@@ -27,9 +27,10 @@ use Rattle.library.proofs.CountLemmas.{seat_grows, share_stands}
 use Rattle.library.proofs.SaveLemmas.{saves_alone}
 
 module _ {D : Type 0} (state : D → DiskState) where
-  -- the hosts' half has answered, or not, and the change that it accepted was entered for the seat
-  pub front_serves : (old new : FrontState D) (request : Request) (before after : SeatState) (reply : Option Reply)
-      (left : List ℕ) (low high : ℕ)
+  -- The hosts' half has answered, and the seat counted that, or it has not. The change that it accepted was entered for
+  -- the seat.
+  pub front_serves : (old new : FrontState D) (request : Request) (before counted after : SeatState)
+      (reply : Option Reply) (left : List ℕ) (low high : ℕ)
       → AnswersAlone state_near store_kept alone_near near_below (store_below state) old.drive request reply new.drive
       left
       → new.end ≡ old.end
@@ -41,10 +42,12 @@ module _ {D : Type 0} (state : D → DiskState) where
       → (step : Answers state_near near_below store_kept (store_below state) old.drive request reply new.drive)
       → ShowsChanges request.cdb reply step.taken.made.changes)
       → low ≡ old.drive.accepted → high ≡ new.drive.accepted → low + 1 < 2 ^ 64
-      → (low ≡ high → after ≡ before) → (low ≢ high → after ≡ record before { amount = before.amount + 1 })
+      → (reply ≡ None → counted ≡ before)
+      → (is_some reply ≡ true → counted ≡ record before { answered = before.answered + 1 })
+      → (low ≡ high → after ≡ counted) → (low ≢ high → after ≡ record counted { amount = counted.amount + 1 })
       → ServesFront state old request before reply new left after
-  front_serves old new request before after (Some reply) left low high step end waits moments kept keeps host law was is
-      below same risen = (
+  front_serves old new request before counted after (Some reply) left low high step end waits moments kept keeps host
+      law was is below none some same risen = (
         step.1.step.taken.made.changes,
         record {
           step = step;
@@ -57,12 +60,12 @@ module _ {D : Type 0} (state : D → DiskState) where
           old_keeps = kept;
           keeps = keeps;
         },
-        seat_grows state_near near_below store_kept (store_below state) old.drive request before reply new.drive after
-            low high step.1.step (law reply step.1.step) host was is below same risen,
+        seat_grows state_near near_below store_kept (store_below state) old.drive request before counted reply new.drive
+            after low high step.1.step (law reply step.1.step) host was is below (some refl) same risen,
       )
-  front_serves old new request before after None left low high step end waits moments kept keeps host law was is below
-      same risen =
-      (step, end, same (was ∙ sym (ap (λ drive. drive.accepted) step.1) ∙ sym is))
+  front_serves old new request before counted after None left low high step end waits moments kept keeps host law was
+      is below none some same risen =
+      (step, end, same (was ∙ sym (ap (λ drive. drive.accepted) step.1) ∙ sym is) ∙ none refl)
 
   -- the share of the drive then
   pub front_share : (old new : FrontState D) (request : Request) (reply : Option Reply) (left : List ℕ)
@@ -81,26 +84,28 @@ module _ {D : Type 0} (state : D → DiskState) where
       let still : new.drive.accepted ≡ old.drive.accepted = ap (λ drive. drive.accepted) step.1 in
       same (was ∙ sym still ∙ sym is) ∙ stood ∙ sym still
 
-  -- both halves have answered, and the change that they accepted was entered for the seat
+  -- both halves have answered, the seat counted that, and the change that they accepted was entered for it
   pub halves_serve : (front front' : FrontState D) (back back' : BackState D) (request : Request)
-      (before after : SeatState) (reply : Reply) (left : List ℕ) (low high : ℕ)
+      (before counted after : SeatState) (reply : Reply) (left : List ℕ) (low high : ℕ)
       → (both : ExecutesBoth state front back request reply left front' back')
       → request.nexus ≡ before.nexus
       → ((old new : BayState D)
       → (step : Answers (state_of state) (buffer_below state) store_kept (store_below state) old request reply new)
       → ShowsChanges request.cdb reply step.taken.made.changes)
       → low ≡ front.drive.accepted → high ≡ front'.drive.accepted → low + 1 < 2 ^ 64
-      → (low ≡ high → after ≡ before) → (low ≢ high → after ≡ record before { amount = before.amount + 1 })
+      → counted ≡ record before { answered = before.answered + 1 }
+      → (low ≡ high → after ≡ counted) → (low ≢ high → after ≡ record counted { amount = counted.amount + 1 })
       → ServesHalves state front back request before reply front' back' left after
-  halves_serve front front' back back' request before after reply left low high both host law was is below same risen =
+  halves_serve front front' back back' request before counted after reply left low high both host law was is below one
+      same risen =
       let step = both.answers.step.step in
       record {
         made = step.taken.made.changes;
         answers = record { both = both; made_is = refl };
         grows =
             seat_grows (state_of state) (buffer_below state) store_kept (store_below state) both.joined request before
-            reply both.answered after low high step (law both.joined both.answered step) host
-            (was ∙ sym both.joins.accepted) (is ∙ both.parts.accepted) below same risen;
+            counted reply both.answered after low high step (law both.joined both.answered step) host
+            (was ∙ sym both.joins.accepted) (is ∙ both.parts.accepted) below one same risen;
       }
 
   -- the share of the drive then

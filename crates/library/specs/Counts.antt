@@ -39,4 +39,4 @@ module _ {D : Type 0} where
 
 -- the seat of a host for which nothing was entered yet (own)
 abbrev pub new_seat : ℕ → SeatState
-new_seat nexus = record { nexus = nexus; amount = 0 }
+new_seat nexus = record { nexus = nexus; answered = 0; amount = 0 }

@@ -24,12 +24,13 @@ pub record GrowsAsShown (cdb : List ℕ) (reply : Reply) (before after : ℕ) : 
   pub none : (IsChanging cdb → Acknowledges reply → ⊥) → (ShowsWriteError reply → ⊥) → after ≡ before
   pub other : (IsChanging cdb → ⊥) → after ≡ before
 
--- The seat of the host that gave a command grows by one for each change that a drive accepted with it, as the reply
--- says (own).
+-- The seat of the host that gave a command has one more command answered. It grows by one for each change that a drive
+-- accepted with the command, as the reply says (own).
 pub record SeatGrows (request : Request) (before : SeatState) (reply : Reply) (made : List Change) (after : SeatState)
     : Type 0 where
   pub host : request.nexus ≡ before.nexus
   pub nexus : after.nexus ≡ before.nexus
+  pub answered : after.answered ≡ before.answered + 1
   pub grown : after.amount ≡ before.amount + length made
   pub reported : GrowsAsShown request.cdb reply before.amount after.amount
 

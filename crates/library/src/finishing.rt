@@ -28,8 +28,8 @@ use vtl_base::limits::DRIVES;
 /// Why a library did not end well.
 #[derive(Clone, Copy, PartialEq, Eq, Debug, Error)]
 pub enum FinishError {
-    /// The medium that is loaded in some drive has failed, before the last turn or in it. So changes that it accepted
-    /// may not be stored.
+    /// The medium that is loaded in some drive has failed, before the last turn or in it; or a flusher's turn failed
+    /// and no answer has reported that. So changes that a drive accepted may not be stored.
     #[error("not all is written out")]
     Unwritten,
     /// The drives accepted `total` changes, but the changes entered for the returned seats add up to only `seats`. So
@@ -54,14 +54,14 @@ pub struct Finished<D: Disk> {
 impl<D: Disk + Drop, B: Parties + Rings, H: Parties> Library<D, B, H> {
     /// Ends the library, which nothing else shares any more. Each drive takes a turn, which writes its buffer out. Then
     /// the number of changes that the drives accepted is compared with the number entered for `seats`. Drives and slots
-    /// are returned even after an error. A failed medium is reported before missing seats. The call allocates no
-    /// memory.
+    /// are returned even after an error. A failed medium, or a failed turn that no answer reported, is reported before
+    /// missing seats. The call allocates no memory.
     pub fn finish<R: Wait>(self, rt: &R, seats: Vec<Seat<H>>) -> Finished<D>
         ensures drives { which_are_there result.bays.items ≡ self }
         ensures counts { IfOk result.counts (λ counts. (counts ≡ counts_of result.bays.items)
             × (sum_of_counts counts ≡ sum_of_seats seats.items)) }
 
-        // An error has its cause: a medium has failed, or else the seats have fewer changes than the drives.
+        // An error has its cause: a drive has failed, or else the seats have fewer changes than the drives.
         ensures unwritten { result.counts ≡ Err FinishError.Unwritten
             → (number : ℕ) × HasFailedAt D.state (bay_at result.bays.items number) }
         ensures written { result.counts ≢ Err FinishError.Unwritten

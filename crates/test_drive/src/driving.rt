@@ -254,7 +254,9 @@ fn is_late(rt: &impl Abort, drive: &mut Drive<StagedMedium, NoKeeper>, moves: bo
     if moves {
         move_out_and_in(rt, drive);
     }
+    assert_holds!(rt; drive.has_deferred_error());
     assert_rows(rt, drive, rows);
+    assert_holds!(rt; !drive.has_deferred_error());
 }
 
 fn assert_late(rt: &impl Abort, alloc: Global, moves: bool, rows: &[Row]) -> Result<(), Fail> {

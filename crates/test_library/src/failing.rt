@@ -100,12 +100,31 @@ static LOADED_AGAIN: Day = Day {
     end: Ok((1, 0)),
 };
 
+// Or the cartridge is moved out of the drive, which gives up what waits. No answer has reported the fault, so the end
+// does.
+static MOVED_OUT: Day = Day {
+    hosts: &[
+        &[
+            WRITES,
+            Act::Awaits(Sign::Failed(1), 1),
+            Act::Moves(&[(1, 1001, GOOD)]),
+            Act::Closes,
+            Act::Awaits(Sign::Ended, 1),
+        ],
+        FLUSHES,
+    ],
+    amounts: &[1, 0],
+    left_out: None,
+    end: Err(FinishError::Unwritten),
+};
+
 // Creating a cartridge makes five calls of its first disk, and opening it six. A turn makes four more: a
 // write, a sync, the write of the gate, and a sync.
 #[test]
 fn a_turn_in_which_the_device_fails(rt: HostRuntime) -> Result<(), Fail> {
     for fails in 11..15u64 {
         spend_loaded(&rt, rt.alloc(), fails, 0, &FAILS)?;
+        spend_loaded(&rt, rt.alloc(), fails, 0, &MOVED_OUT)?;
         spend_loaded(&rt, rt.alloc(), fails, 0, &LOADED_AGAIN)?;
     }
     spend_loaded(&rt, rt.alloc(), 15, 0, &STORES)

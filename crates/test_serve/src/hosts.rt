@@ -71,7 +71,7 @@ struct Served<'a> {
     end: Result<(), WireFault>,
 }
 
-// Serves the host of the second seat. It is answered so, and its seat grows by one change.
+// Serves the host of the second seat. It is answered so; its seat counts six commands, and grows by one change.
 fn serve_second<D: Disk + Drop, B: Parties + Rings, H: Parties, R: Wait + Abort>(
     rt: &R,
     alloc: Global,
@@ -89,7 +89,7 @@ fn serve_second<D: Disk + Drop, B: Parties + Rings, H: Parties, R: Wait + Abort>
             assert_equal!(rt; end, served.end);
             assert_equal!(rt; written.as_slice(), served.output);
             let seat = host.into_seat();
-            assert_equal!(rt; seat.amount(), 1);
+            assert_equal!(rt; (seat.answered(), seat.amount()), (6, 1));
             back.push(seat)?;
         } else {
             back.push(seat)?;

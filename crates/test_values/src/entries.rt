@@ -16,7 +16,8 @@ fn host(rt: &impl Abort, number: u8) -> Nexus {
     Nexus::new(number).expect(rt, "a host")
 }
 
-// Two bays and three hosts, for which five changes were entered.
+// Two bays and three hosts, for which five changes were entered. Three commands of the second host were answered, and
+// one of the third.
 #[derive(Drop)]
 struct Day<B: Parties, H: Parties> {
     tally: Tally<B, H>,
@@ -39,12 +40,16 @@ fn entered<B: Parties, H: Parties, R: Abort + Wait>(
     let mut right = tally.add_bay();
     let mut first = tally.add_host(host(rt, 1));
     let mut second = tally.add_host(host(rt, 2));
-    let third = tally.add_host(host(rt, 64));
+    let mut third = tally.add_host(host(rt, 64));
     tally.enter(rt, &mut left, &mut first);
     tally.enter(rt, &mut left, &mut second);
     tally.enter(rt, &mut right, &mut second);
     tally.enter(rt, &mut left, &mut second);
     tally.enter(rt, &mut right, &mut first);
+    for _ in 0..3u8 {
+        second.count_answer(rt);
+    }
+    third.count_answer(rt);
     Day {
         tally,
         bays: (left, right),
@@ -52,9 +57,9 @@ fn entered<B: Parties, H: Parties, R: Abort + Wait>(
     }
 }
 
-// The number and the amount of a seat.
-fn of_seat<H: Parties>(seat: &Seat<H>) -> (u8, u64) {
-    (seat.nexus().number(), seat.amount())
+// The number of a seat, how many commands were answered, and its amount.
+fn of_seat<H: Parties>(seat: &Seat<H>) -> (u8, u64, u64) {
+    (seat.nexus().number(), seat.answered(), seat.amount())
 }
 
 fn are_entered<B: Parties, H: Parties>(rt: &impl Abort, day: &Day<B, H>) {
@@ -64,7 +69,7 @@ fn are_entered<B: Parties, H: Parties>(rt: &impl Abort, day: &Day<B, H>) {
         seats,
     } = day;
     assert_equal!(rt; (bays.0.amount(), bays.1.amount()), (3, 2));
-    assert_equal!(rt; (of_seat(&seats.0), of_seat(&seats.1), of_seat(&seats.2)), ((1, 2), (2, 3), (64, 0)));
+    assert_equal!(rt; (of_seat(&seats.0), of_seat(&seats.1), of_seat(&seats.2)), ((1, 0, 2), (2, 3, 3), (64, 1, 0)));
 }
 
 // Takes back a seat, unless it is that of this host.

@@ -63,4 +63,12 @@ impl<M: Medium, K: Keeper> Drive<M, K> {
             Bay::Empty | Bay::Unloaded(_) => false,
         }
     }
+
+    /// Whether a deferred error is established: a flusher's turn failed, and no answer has reported that yet. The
+    /// medium of that turn may have left the drive since.
+    pub fn has_deferred_error(&self) -> bool
+        ensures { result ≡ self.now.deferred }
+    {
+        self.deferred
+    }
 }

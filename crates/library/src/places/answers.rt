@@ -1,5 +1,5 @@
 //! A host's command is answered by the hosts' half of a drive alone, or by both halves.
-ghost use Rattle.std.specs.Prelude.{◌≡◌, ◌≢◌, ◌+◌, ◌^◌, ◌<◌};
+ghost use Rattle.std.specs.Prelude.{◌≡◌, ◌≢◌, ◌+◌, ◌^◌, ◌<◌, None, is_some, true};
 ghost use Rattle.bay_moves.specs.Elements.{BayState};
 ghost use Rattle.drive_commands.specs.Execute.{asked};
 ghost use Rattle.split_bay.specs.Fronts.{end_of};
@@ -38,6 +38,16 @@ fn enter_if_risen<B: Parties + Rings, H: Parties, R: Wait>(
     }
 }
 
+// Counts a command for the seat of its host, if it was answered.
+fn count_if_answered<H: Parties, R: Wait>(rt: &R, seat: &mut Seat<H>, reply: &Option<Reply>)
+    ensures none { reply.now ≡ None → seat.new ≡ seat.old }
+    ensures some { is_some reply.now ≡ true → seat.new ≡ record seat.old { answered = seat.old.answered + 1 } }
+{
+    if reply.is_some() {
+        seat.count_answer(rt);
+    }
+}
+
 // How many changes a drive accepted, below 2^64 - 1. At the limit the share could not follow the count, so the call
 // waits forever.
 fn count_below_limit<D: Disk, B: Rings, R: Wait>(rt: &R, half: &Front<D, B>) -> u64
@@ -52,7 +62,8 @@ fn count_below_limit<D: Disk, B: Rings, R: Wait>(rt: &R, half: &Front<D, B>) -> 
     count
 }
 
-// The hosts' half answers, where it needs no disk; the change that it accepted, if any, is entered in both ledgers.
+// The hosts' half answers, where it needs no disk, and that is counted for the seat; the change that it accepted, if
+// any, is entered in both ledgers.
 fn answer_alone<D: Disk, B: Parties + Rings, H: Parties, R: Wait>(
     rt: &R,
     tally: &Mutex<Tally<B, H>>,
@@ -74,11 +85,13 @@ fn answer_alone<D: Disk, B: Parties + Rings, H: Parties, R: Wait>(
     let reply = half.execute_lent(seat.nexus(), cdb, sent);
     half.known();
     let after = half.accepted();
+    count_if_answered(rt, seat, &reply);
     enter_if_risen(rt, tally, share, seat, before, after);
     reply
 }
 
-// Both halves answer; the change that they accepted, if any, is entered in both ledgers.
+// Both halves answer, and that is counted for the seat; the change that they accepted, if any, is entered in both
+// ledgers.
 fn answer_both<D: Disk + Drop, B: Parties + Rings, H: Parties, R: Wait>(
     rt: &R,
     tally: &Mutex<Tally<B, H>>,
@@ -99,6 +112,7 @@ fn answer_both<D: Disk + Drop, B: Parties + Rings, H: Parties, R: Wait>(
     let before = count_below_limit(rt, &front);
     let (reply, front, back) = execute_both(front, back, seat.nexus(), cdb, sent);
     let after = front.accepted();
+    seat.count_answer(rt);
     enter_if_risen(rt, tally, share, seat, before, after);
     (reply, front, back)
 }
@@ -118,9 +132,10 @@ fn report_to_hosts<D: Disk + Drop, B: Rings>(
 impl<D: Disk + Drop, B: Parties + Rings> FrontPlace<D, B> {
     /// Answers a command of the host that has `seat`, with the hosts' half of the drive alone. `cdb` is the command
     /// block, and `sent` are the data that came with it. Returns None if the command needs the disk's half too; then
-    /// nothing has changed. If the drive accepts a change, it is entered in both ledgers (`tally`), and takes over the
-    /// data of `sent` without a copy. The call waits forever if the drive had already accepted 2^64 - 1 changes, or if
-    /// a change is to be entered in the ledgers and they already have that many.
+    /// nothing has changed. Else the seat counts the command as answered. If the drive accepts a change, it is entered
+    /// in both ledgers (`tally`), and takes over the data of `sent` without a copy. The call waits forever if the drive
+    /// had already accepted 2^64 - 1 changes, if a change is to be entered in the ledgers and they already have that
+    /// many, or if that many commands of the host were answered.
     pub fn execute_alone<H: Parties, R: Wait>(
         &mut self,
         rt: &R,

@@ -19,10 +19,12 @@ returns-clause-serves g c =
     c.args.seat.now c.execute_lent-reply.result c.execute_lent-reply.new.self c.execute_lent-reply.new.sent
     c.enter_if_risen.new.seat) c.nexus.ensures
     (front_serves g.D.Disk.state c.args.half.now c.execute_lent-reply.new.self
-    (asked c.nexus.result c.args.cdb.now c.args.sent.now) c.args.seat.now c.enter_if_risen.new.seat
-    c.execute_lent-reply.result c.execute_lent-reply.new.sent c.count_below_limit-before.result c.accepted-after.result
+    (asked c.nexus.result c.args.cdb.now c.args.sent.now) c.args.seat.now c.count_if_answered.new.seat
+    c.enter_if_risen.new.seat c.execute_lent-reply.result c.execute_lent-reply.new.sent
+    c.count_below_limit-before.result c.accepted-after.result
     c.execute_lent-reply.ensures.step c.execute_lent-reply.ensures.end c.execute_lent-reply.ensures.waits
     c.execute_lent-reply.ensures.moments c.known.ensures.keeps c.known-2.ensures.keeps c.nexus.ensures
     (λ reply step. c.replies_show_changes_alone.ensures _ _ _ _ step) c.count_below_limit-before.ensures.count
-    c.accepted-after.ensures c.count_below_limit-before.ensures.below
-    (λ same. (c.enter_if_risen.ensures.same same).1) (λ risen. (c.enter_if_risen.ensures.risen risen).1))
+    c.accepted-after.ensures c.count_below_limit-before.ensures.below c.count_if_answered.ensures.none
+    c.count_if_answered.ensures.some (λ same. (c.enter_if_risen.ensures.same same).1)
+    (λ risen. (c.enter_if_risen.ensures.risen risen).1))
