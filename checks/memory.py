@@ -27,12 +27,13 @@ FRAME, DRIVE, BESIDE = 4_194_304 + 256 * 10 + 5, 131_072, 131_072
 LINE = 2_200_001
 WRITE = f"1 1 0a00{BLOCK:06x}00 " + "5a" * BLOCK + "\n1 1 100000000000\n--\n"
 READY = "1 1 000000000000\n"
-# the same as frames, and headers that are refused: for their length of data, their host and their kind
+# the same as frames, and headers that are refused: for their length of data, their host and their kind; of a move with
+# data, which an answer to one may have
 READY_FRAME = HEADER.pack(COMMAND, 1, 1, 6, 0, 0) + bytes(6)
 WRITE_FRAMES = (HEADER.pack(COMMAND, 1, 1, 6, BLOCK, 1) + bytes.fromhex("0a0010000000") + b"\x5a" * BLOCK
                 + HEADER.pack(COMMAND, 1, 1, 6, 0, 2) + bytes.fromhex("100000000100"))
 REFUSED = [HEADER.pack(COMMAND, 1, 1, 6, 0xFFFF_FFFF, 1), HEADER.pack(COMMAND, 65, 1, 6, 1_100_000, 1),
-           HEADER.pack(9, 1, 1, 6, 1_100_000, 1)]
+           HEADER.pack(9, 1, 1, 6, 1_100_000, 1), HEADER.pack(2, 0, 0, 0, 1_100_000, 1)]
 # what is taken and freed at the start, so that the C library's allocator keeps freed memory
 FREED = 33_000_000
 # what is less than this is not looked at one by one: replies, names, words of the command line

@@ -43,7 +43,8 @@ EDITS = [
      "            Turn::Device => self.report_fault(rt),\n", "            Turn::Device => {}\n",
      ["a_turn_in_which_the_device_fails"]),
     ("the hosts of a pipe are answered one after another", "vtl_hosts", "src/rounds.rt",
-     "    thread::for_each_mut(rt, hosts, 64, &answer);\n", "    thread::for_each_mut(rt, hosts, 1, &answer);\n",
+     "    thread::for_each_mut(rt, hosts, NEXUSES as usize, &answer);\n",
+     "    thread::for_each_mut(rt, hosts, 1, &answer);\n",
      ["hosts_wait_for_each_other", "a_drive_answers_while_another_stands_in_its_turn"]),
     ("behind a move hosts are answered one after another", "vtl_hosts", "src/reading.rt",
      "    let are_all = bells.have_begun(rt);\n",
@@ -100,6 +101,24 @@ EDITS = [
      "                let reply = library.move_medium(rt, from, to);\n",
      "                let _first = library.move_medium(rt, from, to);\n"
      "                let reply = library.move_medium(rt, from, to);\n", ["moves_and_inventories_are_served"]),
+    ("a move is made as it is read", "vtl_serve", "src/desks.rt",
+     "            Request::Move { .. } | Request::Inventory { .. } => true,\n        }\n    }\n\n    fn serve(",
+     "            Request::Move { from, to, .. } => {\n"
+     "                let _early = self.library.move_medium(self.rt, *from, *to);\n"
+     "                true\n            }\n"
+     "            Request::Inventory { .. } => true,\n        }\n    }\n\n    fn serve(",
+     ["moves_and_inventories_are_served"]),
+    ("a read that failed behind an answer is a write fault", "vtl_hosts", "src/turns.rt",
+     "    let round = serve_round(rt, desk, ends, frames, reader, writer);\n    if !round.whole {\n",
+     "    let seen = frames.frames();\n    let round = serve_round(rt, desk, ends, frames, reader, writer);\n"
+     "    let has_failed = matches!(round.read, Err(WireFault::ReadFault));\n"
+     "    if !round.whole || has_failed && frames.frames() > seen {\n", ["a_reader_fails_in_each_frame"]),
+    ("a frame that is refused behind an answer is a write fault", "vtl_hosts", "src/turns.rt",
+     "    let round = serve_round(rt, desk, ends, frames, reader, writer);\n    if !round.whole {\n",
+     "    let seen = frames.frames();\n    let round = serve_round(rt, desk, ends, frames, reader, writer);\n"
+     "    let is_refused = matches!(round.read, Err(WireFault::BadFrame { .. }));\n"
+     "    if !round.whole || is_refused && frames.frames() > seen {\n",
+     ["what_stands_before_a_refused_frame_is_answered"]),
     ("a move that is served is taken back", "vtl_serve", "src/desks.rt",
      "                let reply = library.move_medium(rt, from, to);\n",
      "                let reply = library.move_medium(rt, from, to);\n"
@@ -137,11 +156,6 @@ EDITS = [
      "        give_all(self.jobs.as_mut_slice(), replies);\n",
      "        give_all(self.jobs.as_mut_slice(), replies);\n        self.library.close(self.rt);\n",
      ["a_flusher_stores_between_two_phases"]),
-    ("a command that changed nothing is asked again", "library", "src/shared.rt",
-     "        self.ring_if_risen(before, seat.amount());\n        reply\n",
-     "        self.ring_if_risen(before, seat.amount());\n        if seat.amount() == before {\n"
-     "            return self.serve_quietly(rt, tally, seat, cdb, sent);\n        }\n        reply\n",
-     ["hosts_do_not_wait_for_a_turn"]),
     ("a command takes the turn of its drive", "library", "src/shared.rt",
      "        let reply = self.serve_quietly(rt, tally, seat, cdb, sent);\n",
      "        let reply = self.serve_quietly(rt, tally, seat, cdb, sent);\n"
@@ -159,17 +173,13 @@ EDITS = [
     ("the ledgers are locked while a drive carries a command out", "library", "src/places/answers.rt",
      "    let before = count_below_limit(rt, &front);\n"
      "    let (reply, front, back) = execute_both(front, back, seat.nexus(), cdb, sent);\n"
-     "    let after = front.accepted();\n    enter_if_risen(rt, tally, share, seat, before, after);\n",
+     "    let after = front.accepted();\n    seat.count_answer(rt);\n"
+     "    enter_if_risen(rt, tally, share, seat, before, after);\n",
      "    let mut held = tally.lock(rt);\n    let before = count_below_limit(rt, &front);\n"
      "    let (reply, front, back) = execute_both(front, back, seat.nexus(), cdb, sent);\n"
-     "    let after = front.accepted();\n    if before != after {\n        held.enter(rt, share, seat);\n    }\n",
+     "    let after = front.accepted();\n    seat.count_answer(rt);\n"
+     "    if before != after {\n        held.enter(rt, share, seat);\n    }\n",
      ["a_change_is_entered_while_another_drive_stores", "sixteen_hosts_of_a_phase_meet"]),
-    ("each command is answered as at the beginning of the tape", "library", "src/libraries.rt",
-     "            Some(bay) => bay.serve(rt, &self.tally, seat, cdb, sent),\n",
-     "            Some(bay) => {\n                let mut none = Bytes::from_vec(Vec::new(self.alloc));\n"
-     "                let _ = bay.serve(rt, &self.tally, seat, &[0x01, 0, 0, 0, 0, 0], &mut none);\n"
-     "                bay.serve(rt, &self.tally, seat, cdb, sent)\n            }\n",
-     ["two_hosts_at_two_drives", "a_block_and_a_filemark", "long_sessions_of_two_hosts"]),
     ("the bytes that a host is given are changed", "library", "src/libraries.rt",
      "            Some(bay) => bay.serve(rt, &self.tally, seat, cdb, sent),\n",
      "            Some(bay) => {\n                let mut reply = bay.serve(rt, &self.tally, seat, cdb, sent);\n"

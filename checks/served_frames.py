@@ -46,6 +46,7 @@ REFUSED = [
     *((f"host {host}", command(READY, host=host)) for host in (0, 65, 0xFF)),
     *((f"drive {drive}", command(READY, drive=drive)) for drive in (0, 17, 0xFF)),
     ("a drive that is not configured", command(READY, drive=2)),
+    ("a drive that is not configured, with data", command(bytes.fromhex("0a0000000300"), b"abc", drive=2)),
     ("a block of 17 bytes", command(bytes(17))),
     ("data of 1,100,001 bytes, none of which comes", frame(COMMAND, 1, 1, READY, length=1_100_001)),
     *((f"a byte {12 + at} that is not 00h", frame(COMMAND, 1, 1, READY, last=bytes(at) + b"\1" + bytes(3 - at)))
@@ -79,6 +80,10 @@ EXPLAINED = [
     (frame(MOVE, 0, 1, bytes(8)), "drive 1", 2, DRIVES),
     (frame(INVENTORY, 0, 1), "drive 1", 2, DRIVES),
     (command(READY, drive=2), "drive 2", 2, "a drive that is configured"),
+    (command(bytes.fromhex("0a0000000300"), b"abc", drive=2), "drive 2", 2, "a drive that is configured"),
+    # its header is one that another library takes
+    (command(bytes.fromhex("0a0000000300"), b"abc", drive=2)[:-1], "the input ends inside the frame", None,
+     "an end behind a frame"),
     (command(bytes(17)), "17 bytes before the data", 3, FRONTS),
     (frame(MOVE, 0, 0), "0 bytes before the data", 3, FRONTS),
     (frame(MOVE, 0, 0, bytes(7)), "7 bytes before the data", 3, FRONTS),

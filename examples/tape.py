@@ -38,22 +38,22 @@ class Drive:
         self.tag, self.bytes, self.is_warned = 0, 0, False
 
     def answer(self, block, data):
-        """Status, sense data and data. Each way goes a header of 16 bytes, and behind it what it counts."""
+        """Status, sense data and data for a command of host 1 to drive 1. A header of 16 bytes counts what follows."""
         self.tag = (self.tag + 1) % 2**32
-        header = struct.pack(">BBBBII4x", 1, 1, 1, len(block), len(data), self.tag)  # a command, host 1, drive 1
         with contextlib.suppress(BrokenPipeError):
-            self.served.stdin.write(header + block + data)
+            self.served.stdin.write(struct.pack(">BBBBII4x", 1, 1, 1, len(block), len(data), self.tag) + block + data)
             self.served.stdin.flush()
         header = self.served.stdout.read(16)
         if len(header) < 16:
             stop("vtl has ended")
         _, _, status, sense, length, tag = struct.unpack(">BBBBII4x", header)
-        if tag != self.tag:
-            stop("the answer is another command's")
+        given = self.served.stdout.read(sense + length)
+        if len(given) < sense + length or tag != self.tag:
+            stop("the answer is cut off, or another command's")
         self.bytes += len(data) + length
         if sys.stderr.isatty():
             print(f"\r{self.bytes:,} bytes ", end="", file=sys.stderr)
-        return status, self.served.stdout.read(sense), self.served.stdout.read(length)
+        return status, given[:sense], given[sense:]
 
     def command(self, block, data=b"", expected=()):
         """What it gives, and 0 or an expected code. A unit attention condition is fetched, the command sent again."""
@@ -109,8 +109,8 @@ def save(drive, folder):
         raise
 
 
-def reads(drive, number, use, tell):
-    """Gives the stream of a save to `use`, and says whether there is such a save; `tell` is told what is none."""
+def reads(drive, number, use, report):
+    """Gives the stream of a save to `use`, and says whether there is such a save; `report` gets a line of a bad one."""
     drive.command(REWIND)
     before = drive.bytes
     try:
@@ -119,7 +119,7 @@ def reads(drive, number, use, tell):
                 use(stream)
     except tarfile.ReadError:
         if drive.bytes > before:
-            tell(f"save {number} is no folder, or it broke off")
+            report(f"save {number} is no folder, or it broke off")
     return drive.bytes > before
 
 

@@ -9,7 +9,7 @@ use Rattle.file_reasons.specs.declared.reasons.FileCall.TheVariants.{Read, Write
 abbrev pub missing_fix : FileCall → List ℕ
 missing_fix Make = codes "to do: correct the name, or make the folder in which the file is to be"
 missing_fix Read = codes "to do: correct the name"
-missing_fix _ = codes "to do: correct the name, or make the missing files of a configuration with vtl create"
+missing_fix _ = codes "to do: correct the name or put the file back; what vtl create makes is new and holds nothing"
 
 -- what to do where the system does not allow it: what makes a file writes in the folder, and what reads all its bytes
 -- only reads it (own)

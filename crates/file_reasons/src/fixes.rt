@@ -13,7 +13,7 @@ fn missing_fix(call: FileCall) -> &'static str
         FileCall::Make => "to do: correct the name, or make the folder in which the file is to be",
         FileCall::Read => "to do: correct the name",
         _ =>
-            "to do: correct the name, or make the missing files of a configuration with vtl create",
+            "to do: correct the name or put the file back; what vtl create makes is new and holds nothing",
     }
 }
 

@@ -19,6 +19,11 @@ use vtl_wire::WireFault;
 // A command of host 1, which takes some time.
 const SLOW: &str = "01 01 01 01 00000000 00000001 00000000 fe";
 
+// A move from slot 1001 to drive 2, and its answer behind two commands that were carried out.
+const MOVE: &str = "02 00 00 08 00000000 00000009 00000000 000003e9 00000002";
+
+const MOVED: &str = "02 00 00 00 00000004 00000009 00000000 00000002";
+
 // Serves all hosts, who meet here, and says how that ended.
 fn serving<R: Threads + Wait + Clock + Sync, I: Read, W: Write + Send>(
     rt: &R,
@@ -129,6 +134,21 @@ fn the_reader_waits_for_a_slow_host(rt: HostRuntime) -> Result<(), Fail> {
     assert_equal!(rt; outcome, Ok(()));
     assert_equal!(rt; meeting.done(), 8);
     assert_holds!(rt; reader.most <= 2; reader.most);
+    Ok(())
+}
+
+// Two slow commands of a host come before a move, and were carried out before it.
+#[test]
+fn a_move_waits_for_a_slow_host(rt: HostRuntime) -> Result<(), Fail> {
+    let mut input = slow(rt.alloc(), 2)?;
+    input.extend_from_slice(bytes_of(rt.alloc(), &[MOVE])?.as_slice())?;
+    let output = bytes_of(rt.alloc(), &[MOVED])?;
+    let meeting = Meeting::new(1);
+    let mut reader = input.as_slice();
+    let mut written = Vec::new(rt.alloc());
+    let outcome = serving(&rt, rt.alloc(), &meeting, &mut reader, &mut written)?;
+    assert_equal!(rt; outcome, Ok(()));
+    assert_holds!(rt; written.as_slice().ends_with(output.as_slice()));
     Ok(())
 }
 

@@ -20,7 +20,7 @@ static ROWS: &'static [(FileCall, Answer, &'static str)] = &[
         Answer::Missing,
         "failed: open, of the file a.tape\n\
         answer: there is no such file or folder\n\
-        to do: correct the name, or make the missing files of a configuration with vtl create\n",
+        to do: correct the name or put the file back; what vtl create makes is new and holds nothing\n",
     ),
     (
         FileCall::Make,

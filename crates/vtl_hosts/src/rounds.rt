@@ -22,6 +22,7 @@ use std::sync::Wait;
 use std::thread;
 use std::thread::Threads;
 use std::time::Clock;
+use vtl_base::limits::NEXUSES;
 use vtl_wire::{Answer, Request, RequestReader, WireFault};
 
 /// How a round ended. `read` says why no more was read. `whole` is true where all commands were answered and all
@@ -43,7 +44,7 @@ fn answer_hosts<S: Host + Send, R: Threads + Wait + Sync>(
     let answer = |place: usize, host: &mut HostEnd<S>|
         ensures { IsHostDone S.answers host.entry.now host.exit.now }
     { answer_all(rt, bells, place, host) };
-    thread::for_each_mut(rt, hosts, 64, &answer);
+    thread::for_each_mut(rt, hosts, NEXUSES as usize, &answer);
     bells.writer.close(rt);
 }
 
