@@ -156,6 +156,17 @@ EDITS = [
      "        give_all(self.jobs.as_mut_slice(), replies);\n",
      "        give_all(self.jobs.as_mut_slice(), replies);\n        self.library.close(self.rt);\n",
      ["a_flusher_stores_between_two_phases"]),
+    ("a half is asked for a command that nobody gave", "library", ("src/places.rt", "src/libraries.rt"),
+     ("    /// What an inventory shows of the drive: `Full`",
+      "            Some(bay) => bay.serve(rt, &self.tally, seat, cdb, sent),\n"),
+     ("    pub(crate) fn ask_quietly(&mut self, alloc: std::alloc::Global) {\n"
+      "        let mut none = vtl_base::Bytes::new(alloc);\n"
+      "        if let (Some(half), Some(nexus)) = (&mut self.half, vtl_base::Nexus::new(1)) {\n"
+      "            let _ = half.execute_lent(nexus, &[0, 0, 0, 0, 0, 0], &mut none);\n        }\n    }\n\n"
+      "    /// What an inventory shows of the drive: `Full`",
+      "            Some(bay) => {\n                bay.front.lock(rt).ask_quietly(self.alloc);\n"
+      "                bay.serve(rt, &self.tally, seat, cdb, sent)\n            }\n"),
+     ["a_block_and_a_filemark"]),
     ("a command takes the turn of its drive", "library", "src/shared.rt",
      "        let reply = self.serve_quietly(rt, tally, seat, cdb, sent);\n",
      "        let reply = self.serve_quietly(rt, tally, seat, cdb, sent);\n"
