@@ -26,11 +26,11 @@ module _ {D : Type 0} (state : D → DiskState) where
   IsWrittenIn (Loaded medium) = ((state_of state medium).failed ≡ false) × ((state_of state medium).pending ≡ [])
   IsWrittenIn _ = Unit {0}
 
-  -- the loaded medium has failed, or a turn did and no answer has reported that (own)
+  -- the loaded medium has failed, or a deferred error stands (own)
   abbrev pub HasFailed : BayState D → Type 0
   HasFailed bay = HasFailedIn bay.bay ⊎ (bay.deferred ≡ true)
 
-  -- all that the loaded medium accepted is stored, and each failed turn was reported (own)
+  -- all that the loaded medium accepted is stored, and no deferred error stands (own)
   abbrev pub IsAllWritten : BayState D → Type 0
   IsAllWritten bay = IsWrittenIn bay.bay × (bay.deferred ≡ false)
 
@@ -42,18 +42,18 @@ module _ {D : Type 0} (state : D → DiskState) where
       × EveryMoment state old FlushTurn made_nothing (medium_in old.bay) (medium_in new.bay) new
   TurnsAt _ _ = ⊥
 
-  -- the drive, if there is one, has nothing left to write and no failed turn to report (own)
+  -- the drive, if there is one, has nothing left to write, and no deferred error stands (own)
   abbrev pub IsWrittenAt : Option (BayState D) → Type 0
   IsWrittenAt None = Unit {0}
   IsWrittenAt (Some bay) = IsAllWritten bay
 
-  -- there is a drive, and its loaded medium has failed, or a failed turn of it was not reported (own)
+  -- there is a drive, and its loaded medium has failed, or a deferred error of it stands (own)
   abbrev pub HasFailedAt : Option (BayState D) → Type 0
   HasFailedAt None = ⊥
   HasFailedAt (Some bay) = HasFailed bay
 
-  -- Every drive takes a turn, and the slots stay. Then nothing is left to write or to report, or some drive has failed
-  -- (own).
+  -- Every drive takes a turn, and the slots stay. Then nothing is left to write and no deferred error stands, or some
+  -- drive has failed (own).
   pub record WritesOut (old : HeldState D) (result : Result Unit Unwritten) (new : HeldState D) : Type 0 where
     pub turns : (number : ℕ) → TurnsAt (bay_at old.bays number) (bay_at new.bays number)
     pub slots : new.slots ≡ old.slots

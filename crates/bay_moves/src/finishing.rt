@@ -12,15 +12,15 @@ use volume_core::Turn;
 use vtl_base::limits::DRIVES;
 
 /// Returned by `Bay::write_out` and `Held::finish` where the loaded medium of a drive has failed, so that some changes
-/// may not be stored; and where a flusher's turn failed and no answer has reported that, also if the medium was moved
-/// out of the drive since.
+/// may not be stored; and where a deferred error stands: a flusher's turn failed and no answer has reported that,
+/// though the medium may have been moved out of the drive since.
 #[derive(Clone, Copy, PartialEq, Eq, Debug)]
 pub struct Unwritten;
 
 impl<D: Disk> Bay<D> {
     /// Stores what is pending, by a flusher's turn. The call allocates no memory. After Ok, all changes that the loaded
-    /// medium has accepted are stored, and each failed turn of the drive was reported. After Err, that medium has
-    /// failed, before this turn or in it, or a failed turn was not reported.
+    /// medium has accepted are stored, and no deferred error stands. After Err, that medium has failed, before this
+    /// turn or in it, or a deferred error stands.
     pub fn write_out(&mut self) -> Result<(), Unwritten>
         ensures turns { TurnsAt D.state (Some self.old) (Some self.new) }
         ensures ok { OnOk result (IsAllWritten D.state self.new) }
@@ -41,8 +41,8 @@ impl<D: Disk> Bay<D> {
 impl<D: Disk + Drop> Held<D> {
     /// Writes every buffer out, by a flusher's turn of each drive. A drive that fails does not stop the turns of the
     /// others. The call allocates no memory. After Ok, all changes that the loaded media have accepted are stored, and
-    /// each failed turn was reported. After Err, the loaded medium of some drive has failed, or a failed turn of some
-    /// drive was not reported.
+    /// no deferred error stands. After Err, the loaded medium of some drive has failed, or a deferred error of some
+    /// drive stands.
     pub fn finish(&mut self) -> Result<(), Unwritten>
         ensures { WritesOut D.state self.old result self.new }
     {

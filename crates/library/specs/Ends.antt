@@ -37,8 +37,8 @@ IsShort (SeatsMissing total seats) counted held = (total ≡ counted) × (seats 
 
 module _ {D : Type 0} (state : D → DiskState) where
   -- A library with the same drives as before ended with these slots and drives. Each drive took a turn at the end, and
-  -- slots and drives have their invariants. Nothing is left to write or to report, or a drive has failed, and the end
-  -- says so; no seat is missing (own).
+  -- slots and drives have their invariants. Nothing is left to write and no deferred error stands, or a drive has
+  -- failed, and the end says so; no seat is missing (own).
   pub record EndsShared
       (bays bays' : List (Option (BayState D))) (slots' : List (Option (BufferState D)))
       (counts : Result (List (Option ℕ)) FinishError) : Type 0 where

@@ -54,8 +54,8 @@ pub struct Finished<D: Disk> {
 impl<D: Disk + Drop, B: Parties + Rings, H: Parties> Library<D, B, H> {
     /// Ends the library, which nothing else shares any more. Each drive takes a turn, which writes its buffer out. Then
     /// the number of changes that the drives accepted is compared with the number entered for `seats`. Drives and slots
-    /// are returned even after an error. A failed medium, or a failed turn that no answer reported, is reported before
-    /// missing seats. The call allocates no memory.
+    /// are returned even after an error. A failed medium, or a deferred error that stands, is reported before missing
+    /// seats. The call allocates no memory.
     pub fn finish<R: Wait>(self, rt: &R, seats: Vec<Seat<H>>) -> Finished<D>
         ensures drives { which_are_there result.bays.items ≡ self }
         ensures counts { IfOk result.counts (λ counts. (counts ≡ counts_of result.bays.items)

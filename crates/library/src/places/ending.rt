@@ -18,15 +18,15 @@ pub struct EndedPlace<D: Disk, B: Parties + Rings> {
     pub bay: Bay<D>,
     /// Its share of the ledger of drives.
     pub share: PartyShare<B>,
-    /// Ok where the loaded medium, if there is one, has stored all that it accepted, and each failed turn was reported;
-    /// an error where it has failed, or a failed turn was not reported.
+    /// Ok where the loaded medium, if there is one, has stored all that it accepted, and no deferred error stands; an
+    /// error where it has failed, or one stands.
     pub written: Result<(), Unwritten>,
 }
 
 impl<D: Disk + Drop, B: Parties + Rings> FrontPlace<D, B> {
     /// Joins the two halves of a drive, and takes a turn, which stores what is pending. Returns the drive with its
-    /// share, and whether all is stored and reported. `back` has to be the disk's half of this drive; otherwise the
-    /// call waits forever. The call allocates no memory.
+    /// share, and whether all is stored and no deferred error stands. `back` has to be the disk's half of this drive;
+    /// otherwise the call waits forever. The call allocates no memory.
     pub fn end<R: Wait>(self, back: BackPlace<D, B>, rt: &R) -> EndedPlace<D, B>
         ensures left { EndsHeld D.state self back result.bay }
         ensures share { result.share ≡ result.bay.accepted }
