@@ -10,10 +10,12 @@ ghost use Rattle.tape_disk.specs.Disk.{Keeps, Only};
 ghost use Rattle.tape_disk.specs.Moments.{LeavesOnly};
 ghost use Rattle.tape_disk.specs.TwoDisks.{AreHonest, KeepsDisks, MayLeave, TwoLeave, seen_of_two};
 ghost use Rattle.gate_journal.specs.Answers.{NoneFailed};
-ghost use Rattle.cartridge.specs.Disks.{NoneOfTwo, OnlyOfTwo};
+ghost use Rattle.cartridge.specs.Disks.{NoneOfTwo, OnlyOfTwo, UnwrittenTwo};
 ghost use Rattle.check_lines.specs.Disks.{both, disks_checked};
+ghost use Rattle.check_lines.specs.Reading.{IsNotRead};
 ghost use Rattle.check_lines.specs.SideText.{IsNotShown, IsStoreNotShown, SideText, PrintsContents, PrintsStates, bad_record_line, cartridge_line, damaged_line, partition_lines, registrations_in, store_line};
 
+use crate::reading::{ReportsRead, read_blocks};
 use aptpl_store::{AptplStore, StoreError, StoreRefused};
 use cartridge::{Cartridge, CartridgeError, NotOpened, Shelved};
 use pr_core::Reservations;
@@ -236,13 +238,54 @@ fn check_store<D: Disk>(alloc: Global, first: D, second: D) -> Checked<D>
     }
 }
 
+// The lines of a cartridge that was opened, and its disks. If there are `reports`, each of its blocks is read to its end
+// first.
+fn check_cartridge<D: Disk, P: ReportsRead>(
+    alloc: Global,
+    cartridge: Cartridge<D>,
+    reports: Option<&P>,
+) -> Checked<D>
+    requires { cartridge.failed ≡ false }
+    ensures disks { KeepsDisks D.state cartridge.disks (disks_checked result) }
+    ensures ok { OnOk result.lines (NoneOfTwo D.state cartridge.disks (disks_checked result)) }
+    ensures text { IfOk result.lines (λ text. IsName Kinds.Cartridge cartridge.contents.head.heading.name
+        → PrintsContents cartridge.contents text) }
+    ensures cause { IfErr result.lines (λ fault.
+        IsNotRead D.state fault cartridge.disks (disks_checked result)) }
+    ensures unwritten { AreHonest D.state cartridge.disks →
+        UnwrittenTwo D.state cartridge.disks (disks_checked result) }
+{
+    let mut cartridge = cartridge;
+    let read = match reports {
+        Some(reports) => read_blocks(alloc, &mut cartridge, reports),
+        None => Ok(()),
+    };
+    let lines = match read {
+        Ok(()) => text_or_fault(contents_text(alloc, &cartridge)),
+        Err(fault) => Err(fault),
+    };
+    let (first, second) = cartridge.shelve().into_disks();
+    Checked {
+        lines,
+        first,
+        second,
+    }
+}
+
 /// Returns the lines of `vtl check` for two disks. For a cartridge, they say its barcode, its numbers of partitions and
 /// frames, and for each partition how many objects it has and how many bytes of its capacity these use. For a store of
 /// reservations, they say its name, its number of frames, and how many nexuses are registered after a loss of power.
 /// Otherwise they say why the disks give neither. Both disks are opened as a cartridge; if no side of a cartridge
 /// counts, the first disk is opened as a store. Each opening begins with a sync and writes nothing. So if the disks are
-/// honest, a crash at any moment leaves only what it might have left before, even where an error is returned.
-pub fn check_side<D: Disk>(alloc: Global, first: D, second: D) -> Checked<D>
+/// honest, a crash at any moment leaves only what it might have left before, even where an error is returned. If there
+/// are `reports`, each block of a cartridge is read to its end, and they say how far that is; without them, blocks of
+/// more than 65,536 bytes are passed over.
+pub fn check_side<D: Disk, P: ReportsRead>(
+    alloc: Global,
+    first: D,
+    second: D,
+    reports: Option<&P>,
+) -> Checked<D>
     ensures disks { KeepsDisks D.state (both first second) (disks_checked result) }
     ensures ok { OnOk result.lines (NoneOfTwo D.state (both first second) (disks_checked result)) }
     ensures text { IfOk result.lines (λ text. AreHonest D.state (both first second) →
@@ -254,15 +297,7 @@ pub fn check_side<D: Disk>(alloc: Global, first: D, second: D) -> Checked<D>
         TwoLeave D.state (both first second) (disks_checked result) (MayLeave D.state (both first second)) }
 {
     match Cartridge::open(alloc, Shelved::of(first, second)) {
-        Ok(cartridge) => {
-            let lines = text_or_fault(contents_text(alloc, &cartridge));
-            let (first, second) = cartridge.shelve().into_disks();
-            Checked {
-                lines,
-                first,
-                second,
-            }
-        }
+        Ok(cartridge) => check_cartridge(alloc, cartridge, reports),
         Err(refused) => {
             let NotOpened { error, shelved } = refused;
             let (first, second) = shelved.into_disks();

@@ -3,3 +3,4 @@
 
 pub mod checking;
 pub mod laws;
+pub mod reading;

@@ -67,7 +67,7 @@ pub fn create(rt: &HostRuntime, path: &str) -> Result<FileDisk, FileError>
         Ok(file) => file,
         Err(error) => return Err(not_made(rt, path, &error)),
     };
-    let mut file = match locked(file) {
+    let mut file = match locked(file, Access::Change) {
         Ok(file) => SystemFile::over(file),
         // Another process has opened it meanwhile.
         Err(FileError::InUse) => return Err(FileError::InUse),
@@ -143,9 +143,10 @@ pub fn open_or_create(rt: &HostRuntime, path: &str) -> Result<FileDisk, FileErro
     }
 }
 
-/// Opens a file for reading, for this process alone, and syncs it. Each call of the disk that would change the file
-/// fails. Nothing is written again, so where a sync failed before, what is read may not be on the device. Errors:
-/// `Missing`, `NotAFile`, `InUse` or `Device`, as from `open`.
+/// Opens a file for reading, beside others that only read it, and syncs it. Each call of the disk that would change the
+/// file fails. Nothing is written again, so where a sync failed before, what is read may not be on the device. Errors:
+/// `Missing`, `NotAFile` or `Device`, as from `open`, except that a link that leads nowhere is `NotAFile`; `InUse` where
+/// this process or another has the file open to change it.
 pub fn open_to_read(rt: &HostRuntime, path: &str) -> Result<FileDisk, FileError>
     ensures ok { IfOk result (λ disk. disk.failures ≡ 0) }
 {
@@ -160,6 +161,19 @@ pub fn no_file() -> FileDisk
     DiskOver::new(SystemFile::none())
 }
 
+// Why there is no file of this name to be opened for this access. To whoever only reads, a link that leads nowhere is
+// no missing file: `open_or_create`, which would make that, refuses the link too.
+fn not_found(rt: &HostRuntime, path: &str, access: Access, error: &io::Error) -> FileError {
+    match error_of(SystemCall::Look, error) {
+        FileError::Missing
+            if access == Access::Read && fs::symlink_metadata(rt, path).is_ok() =>
+        {
+            FileError::NotAFile
+        }
+        other => other,
+    }
+}
+
 // Opens a file for this access. It asks first what has the name, since the opening of a pipe may wait for its other
 // end.
 fn open_as(rt: &HostRuntime, path: &str, access: Access) -> Result<FileDisk, FileError>
@@ -168,7 +182,7 @@ fn open_as(rt: &HostRuntime, path: &str, access: Access) -> Result<FileDisk, Fil
     match fs::metadata(rt, path) {
         Ok(found) if found.is_file() => {}
         Ok(_) => return Err(FileError::NotAFile),
-        Err(error) => return Err(error_of(SystemCall::Look, &error)),
+        Err(error) => return Err(not_found(rt, path, access, &error)),
     }
     let mut options = OpenOptions::new();
     options.read(true).write(access == Access::Change);
@@ -182,7 +196,7 @@ fn open_as(rt: &HostRuntime, path: &str, access: Access) -> Result<FileDisk, Fil
 fn prepared(file: File, access: Access) -> Result<FileDisk, FileError>
     ensures ok { IfOk result (λ disk. disk.failures ≡ 0) }
 {
-    let mut file = match locked(file) {
+    let mut file = match locked(file, access) {
         Ok(file) => SystemFile::over(file),
         Err(error) => return Err(error),
     };
@@ -196,7 +210,7 @@ fn prepared(file: File, access: Access) -> Result<FileDisk, FileError>
 }
 
 // Gives an open file a number above those of the standard streams, checks that it is a regular file, and locks it.
-fn locked(file: File) -> Result<File, FileError> {
+fn locked(file: File, access: Access) -> Result<File, FileError> {
     let file = match above_streams(file) {
         Ok(file) => file,
         Err(error) => return Err(device(SystemCall::Renumber, &error)),
@@ -206,7 +220,7 @@ fn locked(file: File) -> Result<File, FileError> {
         Ok(_) => return Err(FileError::NotAFile),
         Err(error) => return Err(device(SystemCall::Look, &error)),
     }
-    match lock(&file) {
+    match lock(&file, access) {
         Ok(()) => Ok(file),
         Err(error) => Err(error),
     }
@@ -222,8 +236,13 @@ fn above_streams(file: File) -> io::Result<File> {
     }
 }
 
-fn lock(file: &File) -> Result<(), FileError> {
-    match file.try_lock() {
+// Locks a file: for this process alone where it may be changed, and beside other readers where it is only read.
+fn lock(file: &File, access: Access) -> Result<(), FileError> {
+    let taken = match access {
+        Access::Change => file.try_lock(),
+        Access::Read => file.try_lock_shared(),
+    };
+    match taken {
         Ok(()) => Ok(()),
         Err(error) => lock_answer(&error),
     }

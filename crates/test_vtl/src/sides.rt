@@ -1,6 +1,7 @@
 //! The lines of sides, by each byte, and over a disk that fails.
 use super::plain_sides::plain_lines;
 use check_lines::checking::{Checked, check_side};
+use check_lines::reading::Unreported;
 use std::alloc::Global;
 use std::process::Abort;
 use std::test::Fail;
@@ -42,7 +43,7 @@ fn lines_of(rt: &impl Abort, alloc: Global, bytes: &[u8]) -> Result<Bytes, Fail>
         lines,
         first,
         second,
-    } = check_side(alloc, disk, MemDisk::new(alloc));
+    } = check_side(alloc, disk, MemDisk::new(alloc), None::<&Unreported>);
     assert_equal!(rt; first.bytes(), bytes);
     assert_equal!(rt; second.len(), 0);
     match lines {
@@ -105,12 +106,12 @@ fn a_disk_that_fails(rt: HostRuntime) -> Result<(), Fail> {
         for calls in 0..20 {
             let disk = MemDisk::from_bytes(alloc, side)?;
             let second = FuseDisk::new(MemDisk::new(alloc), u64::MAX);
-            let stopped = check_side(alloc, FuseDisk::new(disk, calls), second);
+            let stopped = check_side(alloc, FuseDisk::new(disk, calls), second, None::<&Unreported>);
             assert_equal!(rt; stopped.first.inner().bytes(), *side);
             assert_fails_before(&rt, stopped.lines, wanted, calls >= *needed);
             let disk = MemDisk::from_bytes(alloc, side)?;
             let second = OnceDisk::new(MemDisk::new(alloc), u64::MAX);
-            let failed = check_side(alloc, OnceDisk::new(disk, calls), second);
+            let failed = check_side(alloc, OnceDisk::new(disk, calls), second, None::<&Unreported>);
             assert_equal!(rt; failed.first.inner().bytes(), *side);
             assert_fails_before(&rt, failed.lines, wanted, calls >= *needed);
         }

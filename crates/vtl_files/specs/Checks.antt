@@ -1,5 +1,5 @@
 -- What `vtl check` writes, and how it ends (own).
-use Rattle.std.specs.Prelude.{◌≡◌, ◌≢◌, ◌⊎◌, ◌==◌, ◌||◌, ℕ, List, [], codes, Option, Result, Ok, Err, IfOk, IfErr, OnOk, if◌then◌else◌}
+use Rattle.std.specs.Prelude.{◌≡◌, ◌≢◌, ◌⊎◌, ◌==◌, ◌||◌, ℕ, Bool, List, [], codes, Option, Result, Ok, Err, IfOk, IfErr, OnOk, if◌then◌else◌}
 use Rattle.std.specs.List.{starts_with}
 use Rattle.std.specs.Io.KnownBytes.{Appends}
 use Rattle.std.specs.Io.KnownBytes as Known
@@ -16,11 +16,14 @@ use Rattle.vtl_faults.specs.declared.faults.VtlFault.{VtlFault}
 use Rattle.vtl_faults.specs.declared.faults.VtlFault.TheVariants.{Device, NoMemory}
 use Rattle.check_lines.specs.SideText.{IsNotShown, SideText}
 
+-- lines say what a side holds (own)
+abbrev pub is_done : List ℕ → Bool
+is_done lines =
+    starts_with (◌==◌) lines (codes "cartridge ") || starts_with (◌==◌) lines (codes "reservations ")
+
 -- what the lines of a side say: what it holds, or why it gives nothing (own)
 abbrev pub verdict_of : List ℕ → Verdict
-verdict_of lines =
-    if starts_with (◌==◌) lines (codes "cartridge ") || starts_with (◌==◌) lines (codes "reservations ") then Done
-    else Refused
+verdict_of lines = if is_done lines then Done else Refused
 
 -- two disks were checked: the lines are those of what they give, or there are none, for a cause that holds; their bytes
 -- are then sure, and at no moment a crash left anything new (own)
@@ -53,30 +56,32 @@ module _ {D : Type 0} (state : D → DiskState) (opens_to_read : List ℕ → Re
 
   module _ (closes : List ℕ → D → Type 0) (name : List ℕ) where
     -- both files were opened, the second one by its name, or as one of no bytes where it is missing; their disks were
-    -- checked and returned, and the lines of what they give are written (own)
-    pub record ChecksBoth (before now : Option (List ℕ)) (result : Result Verdict VtlFault) : Type 0 where
+    -- checked and returned, and these are the lines of what they give (own)
+    pub record LooksAtBoth (lines : Result (List ℕ) VtlFault) : Type 0 where
       pub disks : TwoDisks D
       pub first : opens_to_read name (Ok disks.first)
       pub second : IsSecondRead (second_name name) disks.second
       pub last : TwoDisks D
       pub closed : closes name last.first × closes (second_name name) last.second
-      pub lines : Result (List ℕ) VtlFault
       pub looks : LooksAt state disks last lines
-      pub prints : PrintsLines lines before now result
 
     -- the first file was opened, and the second one is there and was not: the first one's disk was returned as it was
     -- opened (own)
-    pub record ChecksNeither : Type 0 where
+    pub record LooksAtNeither : Type 0 where
       pub disk : D
       pub first : opens_to_read name (Ok disk)
       pub closed : closes name disk
       pub second : IsSecondUnread (second_name name)
 
-    -- What `vtl check` does with a name: both files are checked; or one is not opened, or memory runs out before that,
-    -- and nothing is written (own).
+    -- The lines of a name: those of both files; or there are none, since one is not opened, or memory runs out before
+    -- that (own).
+    abbrev pub GivesLines : Result (List ℕ) VtlFault → Type 0
+    GivesLines lines =
+        LooksAtBoth lines
+        ⊎ (((lines ≡ Err Device) × (((error : FileError) × opens_to_read name (Err error)) ⊎ LooksAtNeither))
+        ⊎ (lines ≡ Err NoMemory))
+
+    -- what `vtl check` does with a name: its lines are written, and where there are none, nothing (own)
     abbrev pub ChecksOrder : (before now : Option (List ℕ)) → Result Verdict VtlFault → Type 0
     ChecksOrder before now result =
-        ChecksBoth before now result
-        ⊎ (((result ≡ Err Device) × Known.Keeps before now
-        × (((error : FileError) × opens_to_read name (Err error)) ⊎ ChecksNeither))
-        ⊎ ((result ≡ Err NoMemory) × Known.Keeps before now))
+        (lines : Result (List ℕ) VtlFault) × GivesLines lines × PrintsLines lines before now result

@@ -1,4 +1,5 @@
 pub mod Checks
+pub mod ConfigChecks
 pub mod Configured
 pub mod Creating
 pub mod Opened

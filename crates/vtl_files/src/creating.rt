@@ -176,8 +176,8 @@ fn print_fate<W: Write>(
     }
 }
 
-// The label of the file of a drive's reservations.
-fn label_of(alloc: Global, number: DriveNo) -> Result<String, AllocError>
+/// Returns the label of the file of a drive's reservations: `DRIVE` and the number of the drive.
+pub fn label_of(alloc: Global, number: DriveNo) -> Result<String, AllocError>
     ensures { IfOk result (λ label. string_bytes label ≡ codes "DRIVE" ++ decimal number) }
 {
     let number = number.number();

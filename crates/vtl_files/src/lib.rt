@@ -1,6 +1,7 @@
 //! What the program does with files, by their names: it reads a configuration, and makes, checks and reclaims files.
 #![tactic(auto)]
 
+pub mod config_checks;
 pub mod configs;
 pub mod creating;
 pub mod files;

@@ -1,11 +1,12 @@
 //! Reports what two files hold.
 ghost use Rattle.std.specs.Prelude.{◌≡◌, ◌==◌, ◌||◌, List, ℕ, IfOk, IfErr, MatchOption, codes};
 ghost use Rattle.std.specs.List.{starts_with};
-ghost use Rattle.vtl_files.specs.Checks.{ChecksOrder, IsSecondRead, IsSecondUnread, PrintsLines, verdict_of};
+ghost use Rattle.vtl_files.specs.Checks.{ChecksOrder, GivesLines, IsSecondRead, IsSecondUnread, PrintsLines, verdict_of};
 
 use crate::files::ReadFiles;
 use crate::writing::print_text;
 use check_lines::checking::{Checked, check_side};
+use check_lines::reading::ReportsRead;
 use file_disk::FileError;
 use std::alloc::Global;
 use std::io::Write;
@@ -15,7 +16,7 @@ use vtl_config::second_file;
 use vtl_faults::faults::{Verdict, VtlFault};
 
 // `Done` where the lines of a side say what it holds, `Refused` where they say why it gives nothing.
-fn verdict_of(lines: &[u8]) -> Verdict
+pub(crate) fn verdict_of(lines: &[u8]) -> Verdict
     ensures { result ≡ verdict_of lines.now }
 {
     if lines.starts_with(b"cartridge ") || lines.starts_with(b"reservations ") {
@@ -57,18 +58,17 @@ fn second_to_read<D: Disk, F: ReadFiles<D>>(files: &F, name: &str) -> Option<D>
     }
 }
 
-/// Writes the lines of `vtl check` for the file of this name and its second file. The second file has the same name
-/// with `.2` added, and may be missing. Returns `Done` where the files hold a cartridge or a store of reservations,
-/// `Refused` where the lines say why they hold neither. No file is made or changed. Errors: `Device` where a file is
-/// not opened, or a disk or the writer fails; `NoMemory` where memory runs out.
-pub fn check_named<D: Disk, F: ReadFiles<D>, W: Write>(
+/// Returns the lines of `vtl check` for the file of this name and its second file. The second file has the same name with
+/// `.2` added, and may be missing. If `blocks` is true, each block of a cartridge is read to its end, which is reported
+/// to `files`. No file is made or changed. Errors: `Device` where a file is not opened, or a disk fails; `NoMemory` where
+/// memory runs out.
+pub fn lines_of<D: Disk, F: ReadFiles<D> + ReportsRead>(
     alloc: Global,
     files: &F,
     name: &str,
-    writer: &mut W,
-) -> Result<Verdict, VtlFault>
-    ensures { ChecksOrder D.state F.opens_to_read F.closes name.now
-        (W.contents writer.old) (W.contents writer.new) result }
+    blocks: bool,
+) -> Result<Bytes, VtlFault>
+    ensures { GivesLines D.state F.opens_to_read F.closes name.now result }
 {
     let Ok(second_name) = second_file(alloc, name) else {
         return Err(VtlFault::NoMemory);
@@ -84,8 +84,24 @@ pub fn check_named<D: Disk, F: ReadFiles<D>, W: Write>(
         lines,
         first,
         second,
-    } = check_side(alloc, first, second);
+    } = check_side(alloc, first, second, if blocks { Some(files) } else { None });
     files.close(name, first);
     files.close(second_name.as_str(), second);
-    print_lines(lines, writer)
+    lines
+}
+
+/// Writes the lines of `vtl check` for the file of this name and its second file, as `lines_of` returns them. Returns
+/// `Done` where the files hold a cartridge or a store of reservations, `Refused` where the lines say why they hold
+/// neither. Errors: those of `lines_of`, and `Device` where the writer fails.
+pub fn check_named<D: Disk, F: ReadFiles<D> + ReportsRead, W: Write>(
+    alloc: Global,
+    files: &F,
+    name: &str,
+    blocks: bool,
+    writer: &mut W,
+) -> Result<Verdict, VtlFault>
+    ensures { ChecksOrder D.state F.opens_to_read F.closes name.now
+        (W.contents writer.old) (W.contents writer.new) result }
+{
+    print_lines(lines_of::<D, F>(alloc, files, name, blocks), writer)
 }

@@ -1,4 +1,4 @@
--- What is reported of a reclaim while it works (own).
+-- What is reported of a reclaim, or of a check, while it works (own).
 use Rattle.std.specs.Prelude.{ℕ, ◌/◌, nat_lt, List, ◌++◌, codes, decimal, Option, None, Some, if◌then◌else◌}
 
 -- how many full GiB these bytes are (own)
@@ -12,3 +12,7 @@ full_gib before after = if nat_lt (gib_of before) (gib_of after) then Some (gib_
 -- the line for this many GiB (own)
 abbrev pub gib_line : ℕ → List ℕ
 gib_line full = decimal full ++ codes " GiB written\n"
+
+-- the line of a check for this many GiB of so many (own)
+abbrev pub gib_read_line : ℕ → ℕ → List ℕ
+gib_read_line full all = decimal full ++ codes " of " ++ decimal all ++ codes " GiB read\n"

@@ -1,6 +1,7 @@
 //! Explains files that `check` or `reclaim` refuses: what stands where one is damaged, and what stands before that.
 use cartridge_sides::{Which, choose};
 use check_lines::checking::{Checked, check_side};
+use check_lines::reading::Unreported;
 use explanations::Explanation;
 use file_reasons::{DamageReason, Found};
 use std::alloc::{AllocError, Global};
@@ -86,7 +87,7 @@ fn lines_over(alloc: Global, first: &[u8], second: &[u8]) -> Option<Vec<u8>> {
         lines,
         first: _first,
         second: _second,
-    } = check_side(alloc, first, second);
+    } = check_side(alloc, first, second, None::<&Unreported>);
     let lines = lines.ok()?;
     Vec::from_slice(alloc, lines.as_slice()).ok()
 }

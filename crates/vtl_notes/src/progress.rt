@@ -1,6 +1,6 @@
-//! Reports how much a reclaim has written: a line on standard error for each GiB, if standard error is a terminal.
+//! Reports how much a reclaim has written, or how much a check has read: a line on standard error for each GiB, if standard error is a terminal.
 ghost use Rattle.std.specs.Prelude.{◌≡◌, IfOk};
-ghost use Rattle.vtl_notes.specs.Progress.{full_gib, gib_line};
+ghost use Rattle.vtl_notes.specs.Progress.{full_gib, gib_line, gib_read_line};
 
 use crate::watched::Progress;
 use arrayvec::ArrayString;
@@ -35,6 +35,16 @@ pub fn gib_line(full: u64) -> Result<ArrayString<64>, fmt::Error>
     Ok(text)
 }
 
+/// Returns the line that reports `full` of `all` GiB as read, with its line feed. Each line fits into the 64 bytes of
+/// the result: the longest line has 54 bytes.
+pub fn gib_read_line(full: u64, all: u64) -> Result<ArrayString<64>, fmt::Error>
+    ensures { IfOk result (λ text. text.bytes ≡ gib_read_line full all) }
+{
+    let mut text = ArrayString::new();
+    writeln!(text, "{full} of {all} GiB read")?;
+    Ok(text)
+}
+
 /// Whether `words`, those of a command line, ask for a reclaim: whether the second word is `reclaim`. The first word is
 /// the program's name.
 pub fn ask_to_reclaim(words: &[String]) -> bool {
@@ -44,17 +54,19 @@ pub fn ask_to_reclaim(words: &[String]) -> bool {
     }
 }
 
-/// The lines on standard error that report how much a reclaim has written. An error while a line is written is ignored.
+/// The lines on standard error that report how much a reclaim has written, or how much of a cartridge a check has read.
+/// An error while a line is written is ignored.
 #[derive(Drop)]
 pub struct GibLines<'a> {
     rt: &'a HostRuntime,
-    are_shown: bool,
+    is_terminal: bool,
+    is_reclaim: bool,
     bytes: AtomicU64,
 }
 
 impl<'a> GibLines<'a> {
-    /// Creates the lines of a reclaim. They are written only if standard error is a terminal and `words`, those of the
-    /// command line, ask for a reclaim.
+    /// Creates the lines. They are written only if standard error is a terminal; those of writes only if `words`, those
+    /// of the command line, ask for a reclaim.
     pub fn new(rt: &'a HostRuntime, words: &Result<Vec<String>, VtlFault>) -> GibLines<'a> {
         let is_reclaim = match words {
             Ok(words) => ask_to_reclaim(words.as_slice()),
@@ -62,15 +74,30 @@ impl<'a> GibLines<'a> {
         };
         GibLines {
             rt,
-            are_shown: is_reclaim && rt.stderr().is_terminal(),
+            is_terminal: rt.stderr().is_terminal(),
+            is_reclaim,
             bytes: AtomicU64::new(0),
+        }
+    }
+
+    /// Reports that the objects of a cartridge which were read so far use `used` bytes, and all of its objects `all`
+    /// bytes. The first report on a cartridge is of less than a GiB.
+    pub fn read(&self, used: u64, all: u64) {
+        let before = self.bytes.swap(used, Ordering::SeqCst);
+        if !self.is_terminal {
+            return;
+        }
+        if let Some(full) = full_gib(before, used) {
+            if let Ok(line) = gib_read_line(full, all / GIB) {
+                let _ = self.rt.stderr().write_all(line.as_str().as_bytes());
+            }
         }
     }
 }
 
 impl<'a> Progress for GibLines<'a> {
     fn written(&self, bytes: u64) {
-        if !self.are_shown {
+        if !self.is_terminal || !self.is_reclaim {
             return;
         }
         let before = self.bytes.fetch_add(bytes, Ordering::SeqCst);

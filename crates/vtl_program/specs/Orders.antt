@@ -7,7 +7,7 @@ use Rattle.tape_disk.specs.Disk.{DiskState}
 use Rattle.file_disk.specs.declared.error.FileError.{FileError}
 use Rattle.vtl_script.specs.Text.{AppendsPart}
 use Rattle.vtl_config.specs.declared.entries.Config.{Config}
-use Rattle.vtl_words.specs.Orders.{Asked, Asks, RefusesWords, check, create, reclaim, run, serve, texts_of}
+use Rattle.vtl_words.specs.Orders.{Asked, Asks, RefusesWords, check, check_all, create, reclaim, run, serve, texts_of}
 use Rattle.vtl_words.specs.declared.orders.WordsError.{WordsError}
 use Rattle.vtl_words.specs.declared.orders.WordsError.TheVariants.{Help, Refused, NoMemory}
 use Rattle.vtl_faults.specs.declared.endings.Ended.{Ended}
@@ -16,6 +16,7 @@ use Rattle.vtl_faults.specs.declared.faults.Verdict.TheVariants.{Done}
 use Rattle.vtl_faults.specs.declared.faults.VtlFault.{VtlFault}
 use Rattle.vtl_faults.specs.declared.faults.VtlFault.TheVariants as Faults
 use Rattle.vtl_files.specs.Checks.{ChecksOrder}
+use Rattle.vtl_files.specs.ConfigChecks.{ChecksConfig}
 use Rattle.vtl_files.specs.Creating.{MakeAnswers, PrintsFiles, files_of, makes_of}
 use Rattle.vtl_program.specs.Files.{FileAnswers}
 use Rattle.vtl_files.specs.Configured.{ReadsConfig}
@@ -40,6 +41,21 @@ module _ {D : Type 0} (state : D → DiskState) where
   CreatesOrder reads made name before now outcome =
       (config : Result Config VtlFault) × ReadsConfig reads name config
       × CreatesNamed made config before now outcome
+
+  -- the files of a configuration are checked; where there is no configuration, nothing is written (own)
+  abbrev pub ChecksIn : (opens_to_read : List ℕ → Result D FileError → Type 0) → (closes : List ℕ → D → Type 0)
+      → Result Config VtlFault → (before now : Option (List ℕ)) → Result Verdict VtlFault → Type 0
+  ChecksIn opens_to_read closes (Ok config) before now result =
+      ChecksConfig state opens_to_read closes (files_of config) before now result
+  ChecksIn opens_to_read closes (Err fault) before now result = (result ≡ Err fault) × Keeps before now
+
+  -- what `vtl check --config` does, by the configuration that a file says (own)
+  abbrev pub ChecksConfigOrder : (List ℕ → Result (Vec ℕ Global) Error → Type 0)
+      → (opens_to_read : List ℕ → Result D FileError → Type 0) → (closes : List ℕ → D → Type 0)
+      → (name : List ℕ) → (before now : Option (List ℕ)) → Result Verdict VtlFault → Type 0
+  ChecksConfigOrder reads opens_to_read closes name before now result =
+      (config : Result Config VtlFault) × ReadsConfig reads name config
+      × ChecksIn opens_to_read closes config before now result
 
   -- what `vtl reclaim` does, by the configuration that a file says (own)
   abbrev pub ReclaimsOrder : (List ℕ → Result (Vec ℕ Global) Error → Type 0)
@@ -75,8 +91,10 @@ module _ {D : Type 0} (state : D → DiskState) (files : FileAnswers D) where
       (makes_of files.makes files.leaves files.takes_away files.opens_second files.closes_second) config before now
       outcome
       × (result ≡ verdict_from outcome) × Keeps left left'
-  DoesOrder (check file) left left' before now result =
+  DoesOrder (check file blocks) left left' before now result =
       ChecksOrder state files.opens_to_read files.closes file before now result × Keeps left left'
+  DoesOrder (check_all config) left left' before now result =
+      ChecksConfigOrder state files.reads files.opens_to_read files.closes config before now result × Keeps left left'
   DoesOrder (reclaim config barcode) left left' before now result =
       ReclaimsOrder state files.reads files.opens files.opens_second files.returns_disk files.closes_second config
       barcode

@@ -7,6 +7,7 @@ ghost use Rattle.vtl_program.specs.Orders.{given_words};
 
 use crate::orders::run;
 use bay_moves::Held;
+use check_lines::reading::ReportsRead;
 use config_reasons::reason_of;
 use explanations::Explanation;
 use std::alloc::{AllocError, Global};
@@ -243,6 +244,7 @@ pub fn run_explained<
     D: Disk + Drop + Send,
     F: TextFiles
         + ReadFiles<D>
+        + ReportsRead
         + ChangeFiles<D>
         + SecondFiles<D>
         + TakesBack<Held<D>, NotStarted<D>>

@@ -2,9 +2,10 @@
 ghost use Rattle.vtl_words.specs.Orders.{asked_of, texts_of};
 ghost use Rattle.vtl_files.specs.Creating.{makes_of};
 ghost use Rattle.vtl_program.specs.Files.{answers_of};
-ghost use Rattle.vtl_program.specs.Orders.{AnswersWords, CreatesOrder, DoesOrder, Obeys, ReclaimsOrder, RunsProgram, given_words};
+ghost use Rattle.vtl_program.specs.Orders.{AnswersWords, ChecksConfigOrder, CreatesOrder, DoesOrder, Obeys, ReclaimsOrder, RunsProgram, given_words};
 
 use bay_moves::Held;
+use check_lines::reading::ReportsRead;
 use std::alloc::Global;
 use std::io::{Read, Write};
 use std::sync::Wait;
@@ -14,6 +15,7 @@ use tape_disk::Disk;
 use vtl_base::Barcode;
 use vtl_faults::endings::{Ended, end};
 use vtl_faults::faults::{Verdict, VtlFault};
+use vtl_files::config_checks::check_config;
 use vtl_files::configs::config_in;
 use vtl_files::creating::create_missing;
 use vtl_files::files::{ChangeFiles, MakeFiles, ReadFiles, SecondFiles, TakesBack, TextFiles};
@@ -40,6 +42,20 @@ fn create_order<D: Disk + Drop, F: TextFiles + MakeFiles<D> + SecondFiles<D>, W:
     create_missing::<D, F, W>(alloc, files, config, writer)
 }
 
+// Checks the files of each entry of the configuration in the file `name`.
+fn check_order<D: Disk, F: TextFiles + ReadFiles<D> + ReportsRead, W: Write>(
+    alloc: Global,
+    files: &F,
+    name: &str,
+    writer: &mut W,
+) -> Result<Verdict, VtlFault>
+    ensures { ChecksConfigOrder D.state F.reads F.opens_to_read F.closes name.now
+        (W.contents writer.old) (W.contents writer.new) result }
+{
+    let config = config_in(alloc, files, name)?;
+    check_config::<D, F, W>(alloc, files, config, writer)
+}
+
 // Reclaims the cartridge that has this barcode in the configuration in the file `name`.
 fn reclaim_order<D: Disk + Drop, F: TextFiles + ChangeFiles<D> + SecondFiles<D>, W: Write>(
     alloc: Global,
@@ -60,6 +76,7 @@ fn do_order<
     D: Disk + Drop + Send,
     F: TextFiles
         + ReadFiles<D>
+        + ReportsRead
         + ChangeFiles<D>
         + SecondFiles<D>
         + TakesBack<Held<D>, NotStarted<D>>
@@ -92,8 +109,11 @@ fn do_order<
         Order::Create { config } => {
             create_order::<D, F, W>(alloc, files, config.as_str(), writer)?
         }
-        Order::Check { file } => {
-            return check_named::<D, F, W>(alloc, files, file.as_str(), writer);
+        Order::Check { file, blocks } => {
+            return check_named::<D, F, W>(alloc, files, file.as_str(), blocks, writer);
+        }
+        Order::CheckAll { config } => {
+            return check_order::<D, F, W>(alloc, files, config.as_str(), writer);
         }
         Order::Reclaim { config, barcode } => {
             return reclaim_order::<D, F, W>(alloc, files, config.as_str(), &barcode, writer);
@@ -123,6 +143,7 @@ pub fn obey<
     D: Disk + Drop + Send,
     F: TextFiles
         + ReadFiles<D>
+        + ReportsRead
         + ChangeFiles<D>
         + SecondFiles<D>
         + TakesBack<Held<D>, NotStarted<D>>
@@ -158,6 +179,7 @@ pub fn run<
     D: Disk + Drop + Send,
     F: TextFiles
         + ReadFiles<D>
+        + ReportsRead
         + ChangeFiles<D>
         + SecondFiles<D>
         + TakesBack<Held<D>, NotStarted<D>>

@@ -2,6 +2,7 @@
 ghost use Rattle.std.specs.Prelude.{◌≡◌};
 
 use bay_moves::Held;
+use check_lines::reading::ReportsRead;
 use file_disk::{FileDisk, FileError};
 use file_reasons::FileCall;
 use std::{fs, io};
@@ -95,6 +96,12 @@ impl<'a> ReadFiles<SystemDisk<'a>> for SystemFiles<'a> {
     fn nothing(&self) -> SystemDisk<'a> {
         self.notes.pass_over();
         self.watched(0, file_disk::no_file())
+    }
+}
+
+impl<'a> ReportsRead for SystemFiles<'a> {
+    fn read(&self, used: u64, all: u64) {
+        self.progress.read(used, all);
     }
 }
 

@@ -21,9 +21,13 @@ config_option =
 abbrev pub config_required : Rule
 config_required = record config_option { required = true }
 
--- a file, which stands by itself (own)
+-- a file, which stands by itself, and may be left out (own)
 abbrev pub file_word : Rule
-file_word = record (new_rule (codes "file")) { action = Some Set; value_names = 1; required = true }
+file_word = record (new_rule (codes "file")) { action = Some Set; value_names = 1 }
+
+-- `--data`, a flag (own)
+abbrev pub data_flag : Rule
+data_flag = record (new_rule (codes "data")) { long = Some (codes "data"); action = Some SetTrue }
 
 -- a barcode, which stands by itself (own)
 abbrev pub barcode_word : Rule
@@ -37,9 +41,11 @@ library_command name = with_rule (with_rule (with_rule (new_app name) memory_fla
 abbrev pub create_command : App
 create_command = with_rule (with_rule (new_app (codes "create")) config_required) explain_flag
 
--- `check FILE [--explain]` (own)
+-- `check [FILE] [--config FILE] [--data] [--explain]`; which of the two files stand there is looked at behind the parser
+-- (own)
 abbrev pub check_command : App
-check_command = with_rule (with_rule (new_app (codes "check")) file_word) explain_flag
+check_command =
+    with_rule (with_rule (with_rule (with_rule (new_app (codes "check")) file_word) config_option) data_flag) explain_flag
 
 -- `reclaim --config FILE BARCODE [--explain]` (own)
 abbrev pub reclaim_command : App

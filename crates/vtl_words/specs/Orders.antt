@@ -21,7 +21,8 @@ pub data Asked : Type 0 where
   run : Bool → Option (List ℕ) → Asked
   serve : Bool → Option (List ℕ) → Asked
   create : List ℕ → Asked
-  check : List ℕ → Asked
+  check : (file : List ℕ) (blocks : Bool) → Asked
+  check_all : (config : List ℕ) → Asked
   reclaim : (config barcode : List ℕ) → Asked
 
 -- the order as it is seen (own)
@@ -29,12 +30,21 @@ abbrev pub asked_of : Order → Asked
 asked_of (order.Run memory config) = run memory (option_map string_bytes config)
 asked_of (order.Serve memory config) = serve memory (option_map string_bytes config)
 asked_of (order.Create config) = create (string_bytes config)
-asked_of (order.Check file) = check (string_bytes file)
+asked_of (order.Check file blocks) = check (string_bytes file) blocks
+asked_of (order.CheckAll config) = check_all (string_bytes config)
 asked_of (order.Reclaim config barcode) = reclaim (string_bytes config) barcode
 
 -- the flag was given (own)
 abbrev pub is_set : Option (List ℕ) → Bool
 is_set value = option_map_or (λ text. bytes_eq text (codes "true")) value false
+
+-- what `check` asks for: a file is looked at, or the files of a configuration; one of the two is named, and not both
+-- (own)
+abbrev pub check_by : (file config : Option (List ℕ)) → (blocks : Bool) → Option Asked
+check_by (Some file) None blocks = Some (check file blocks)
+check_by None (Some config) blocks = Some (check_all config)
+check_by (Some file) (Some config) blocks = None
+check_by None None blocks = None
 
 -- what `reclaim` asks for, if both values are there (own)
 abbrev pub reclaim_by : Option (List ℕ) → Option (List ℕ) → Option Asked
@@ -49,7 +59,9 @@ asked_by word rows =
     else if bytes_eq word (codes "serve")
     then Some (serve (is_set (first_of (codes "memory") rows)) (first_of (codes "config") rows))
     else if bytes_eq word (codes "create") then option_map create (first_of (codes "config") rows)
-    else if bytes_eq word (codes "check") then option_map check (first_of (codes "file") rows)
+    else if bytes_eq word (codes "check")
+    then check_by (first_of (codes "file") rows) (first_of (codes "config") rows)
+    (is_set (first_of (codes "data") rows))
     else if bytes_eq word (codes "reclaim")
     then reclaim_by (first_of (codes "config") rows) (first_of (codes "barcode") rows)
     else None

@@ -23,6 +23,7 @@ Example:
   vtl create --config library.toml
   vtl run --config library.toml < backup.script
   vtl check daily1.tape
+  vtl check --config library.toml
   vtl reclaim --config library.toml DAILY1L6
 
 Statuses:
@@ -42,7 +43,8 @@ const SERVE_ABOUT: &str =
 const CREATE_ABOUT: &str =
     "Makes the files of each cartridge and drive that has none; others are kept";
 
-const CHECK_ABOUT: &str = "Tells what the file of a cartridge or of a drive's reservations holds";
+const CHECK_ABOUT: &str =
+    "Tells what the file of a cartridge or of a drive's reservations holds, or all of a configuration";
 
 const RECLAIM_ABOUT: &str =
     "Gives back the room of overwritten data: copies a cartridge to its other file";
@@ -62,6 +64,14 @@ const FILE_HELP: &str = "\
 The file to look at: a store's, or the first of a cartridge,
 whose second has this name with .2 added and may be missing;
 no file is changed";
+
+const CHECK_CONFIG_HELP: &str = "\
+In the place of FILE: a configuration, each cartridge and
+drive of which is checked, with the blocks of all tapes";
+
+const DATA_HELP: &str = "\
+Reads each block of the cartridge to its end too; with
+--config all blocks are read anyway";
 
 const EXPLAIN_HELP: &str = "\
 Says on standard error why something was refused, in a
@@ -112,10 +122,25 @@ fn file_word<'a>(alloc: Global) -> Arg<'a>
     ensures rule { rule_of result ≡ line.file_word }
     ensures local { result.global ≡ false }
 {
-    let file = Arg::new(alloc, "file")
-        .action(ArgAction::Set)
-        .required(true);
+    let file = Arg::new(alloc, "file").action(ArgAction::Set);
     file.value_name("FILE").help(FILE_HELP)
+}
+
+fn check_config_option<'a>(alloc: Global) -> Arg<'a>
+    ensures rule { rule_of result ≡ line.config_option }
+    ensures local { result.global ≡ false }
+{
+    config_option(alloc).help(CHECK_CONFIG_HELP)
+}
+
+fn data_flag<'a>(alloc: Global) -> Arg<'a>
+    ensures rule { rule_of result ≡ line.data_flag }
+    ensures local { result.global ≡ false }
+{
+    let flag = Arg::new(alloc, "data")
+        .long("data")
+        .action(ArgAction::SetTrue);
+    flag.help(DATA_HELP)
 }
 
 fn barcode_word<'a>(alloc: Global) -> Arg<'a>
@@ -201,7 +226,9 @@ fn check_command<'a>(alloc: Global) -> Result<Command<'a>, AllocError>
     ensures local { IfOk result (λ r. (out-Command r).has_globals ≡ false) }
 {
     let filed = with(named(alloc, "check", CHECK_ABOUT), file_word(alloc))?;
-    let whole = with(filed, explain_flag(alloc))?;
+    let configured = with(filed, check_config_option(alloc))?;
+    let flagged = with(configured, data_flag(alloc))?;
+    let whole = with(flagged, explain_flag(alloc))?;
     Ok(whole)
 }
 

@@ -22,9 +22,15 @@ pub enum Order {
     Create {
         config: String,
     },
-    /// Reports what the file named `file` holds.
+    /// Reports what the file named `file` holds. If `blocks` is true, each block of a cartridge is read to its end.
     Check {
         file: String,
+        blocks: bool,
+    },
+    /// Reports what the files of each cartridge and drive of the configuration in the file `config` hold. Each block is
+    /// read to its end.
+    CheckAll {
+        config: String,
     },
     /// Reclaims the cartridge that has this barcode in the configuration in the file `config`.
     Reclaim {

@@ -124,12 +124,24 @@ fn check_order(alloc: Global, matches: &ArgMatches<'_>) -> Result<Order, WordsEr
     ensures ok { IfOk result (AsksFor (asked_by (codes "check") (rows_of (found_of matches.now)))) }
     ensures err { IfErr result (AsksNothing (asked_by (codes "check") (rows_of (found_of matches.now)))) }
 {
-    match copied(alloc, value_of(matches, "file")) {
-        Ok(value) => match value {
-            Some(file) => Ok(Order::Check { file }),
+    let blocks = is_set(value_of(matches, "data"));
+    let file = match copied(alloc, value_of(matches, "file")) {
+        Ok(file) => file,
+        Err(_) => return Err(WordsError::NoMemory),
+    };
+    let config = match copied(alloc, value_of(matches, "config")) {
+        Ok(config) => config,
+        Err(_) => return Err(WordsError::NoMemory),
+    };
+    match file {
+        Some(file) => match config {
+            None => Ok(Order::Check { file, blocks }),
+            Some(_config) => Err(WordsError::Refused),
+        },
+        None => match config {
+            Some(config) => Ok(Order::CheckAll { config }),
             None => Err(WordsError::Refused),
         },
-        Err(_) => Err(WordsError::NoMemory),
     }
 }
 

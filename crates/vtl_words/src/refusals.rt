@@ -19,6 +19,10 @@ pub enum WordsReason {
     Parser(String),
     /// This word was given as a barcode, but is not one.
     Barcode(String),
+    /// A check was to be of a file and of a configuration.
+    TwoFiles,
+    /// A check was to be of nothing.
+    NoFile,
 }
 
 // The parser's text where it refuses these words or answers a request for help; None where it does neither, and where
@@ -85,15 +89,25 @@ fn barcode_word<'a>(matches: &ArgMatches<'a>) -> Option<&'a str> {
     }
 }
 
+// Why a command that the parser accepts is refused. None where memory runs out.
+fn refusal_of(alloc: Global, matches: &ArgMatches<'_>) -> Option<WordsReason> {
+    let found = matches.subcommand()?;
+    if found.0 != "check" {
+        let word = String::from_str(alloc, barcode_word(matches)?).ok()?;
+        return Some(WordsReason::Barcode(word));
+    }
+    Some(match value_of(found.1, "file") {
+        Some(_) => WordsReason::TwoFiles,
+        None => WordsReason::NoFile,
+    })
+}
+
 // Why words give no order though the parser accepts them; None where they give one, and where memory runs out.
 fn form_reason(alloc: Global, matches: &ArgMatches<'_>) -> Option<WordsReason>
     ensures { IfSome result (λ _. IsNoOrder (order_from (subcommand_rows_of matches.now))) }
 {
     match order_in(alloc, matches) {
-        Err(WordsError::Refused) => match String::from_str(alloc, barcode_word(matches)?) {
-            Ok(word) => Some(WordsReason::Barcode(word)),
-            Err(_) => None,
-        },
+        Err(WordsError::Refused) => refusal_of(alloc, matches),
         _ => None,
     }
 }
@@ -114,7 +128,7 @@ impl WordsReason {
     }
 
     /// Adds the lines of this reason to `lines`. For `Parser` they are the lines of the parser's text that are not
-    /// empty; for `Barcode` they say what is refused, what is allowed, and what to do. If memory runs out, only the
+    /// empty; for the others they say what is refused, what is allowed, and what to do. If memory runs out, only the
     /// first few of these lines, or none, are added.
     pub fn add_to(&self, alloc: Global, lines: &mut Explanation) -> Result<(), AllocError> {
         match self {
@@ -128,8 +142,17 @@ impl WordsReason {
                 lines.add(alloc, allowed.as_str())?;
                 lines.add(alloc, "to do: take a barcode of the configuration")
             }
+            WordsReason::TwoFiles => add_check(alloc, "refused: FILE together with --config", lines),
+            WordsReason::NoFile => add_check(alloc, "refused: check without a file", lines),
         }
     }
+}
+
+// Adds the lines of a check that is not of one thing.
+fn add_check(alloc: Global, refused: &str, lines: &mut Explanation) -> Result<(), AllocError> {
+    lines.add(alloc, refused)?;
+    lines.add(alloc, "allowed: one of FILE and --config FILE")?;
+    lines.add(alloc, "to do: name a file, or the configuration of which all is to be checked")
 }
 
 // Adds the lines of the parser's text that are not empty.

@@ -5,5 +5,11 @@ use Rattle.vtl_words.proofs.commands.check_command.Goals as goal
 pub returns-clause-app : goal.returns-clause-app
 returns-clause-app c =
     c.in_ok-whole.ensures.app
+    ∙ ap₂ with_rule
+    (c.in_ok-flagged.ensures.app
+    ∙ ap₂ with_rule
+    (c.in_ok-configured.ensures.app
     ∙ ap₂ with_rule (c.in_ok-filed.ensures.app ∙ ap₂ with_rule c.named.ensures.app c.file_word.ensures.rule)
+    c.check_config_option.ensures.rule)
+    c.data_flag.ensures.rule)
     c.explain_flag.ensures.rule

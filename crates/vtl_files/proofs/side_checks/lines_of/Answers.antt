@@ -2,7 +2,7 @@ use Rattle.std.proofs.Common.{◌≡◌, ◌∙◌, List, ℕ, inl, subst}
 use Rattle.vtl_config.specs.FileNames.{second_name}
 use Rattle.check_lines.specs.Disks.{both, disks_checked}
 use Rattle.vtl_files.specs.Checks.{IsSecondRead}
-use Rattle.vtl_files.proofs.side_checks.check_named.Goals as goal
+use Rattle.vtl_files.proofs.side_checks.lines_of.Goals as goal
 
 pub returns : goal.returns
 returns g c =
@@ -15,7 +15,6 @@ returns g c =
           named c.in-Some.ensures;
       last = disks_checked c.check_side-lines.result;
       closed = (c.close-2.ensures, rw again at c.close-3.ensures);
-      lines = c.check_side-lines.result.lines;
       looks = record {
         keeps = c.check_side-lines.ensures.disks;
         none_failed = c.check_side-lines.ensures.ok;
@@ -23,5 +22,4 @@ returns g c =
         cause = c.check_side-lines.ensures.cause;
         any_moment = c.check_side-lines.ensures.any_moment;
       };
-      prints = c.print_lines.ensures;
     })
