@@ -7,7 +7,7 @@ MANY = re.compile(rb"([0-9a-fA-F]{2})\*([0-9]+),?")
 ESCAPE = re.compile(rb"\\(?:x([0-9a-fA-F]{2})(?:\*([0-9]+))?|(.?))", re.DOTALL)
 REFUSED = re.compile(rb"vtl: script line ([0-9]+) refused")
 NAMES = {b"r": b"\r", b"t": b"\t", b"s": b" ", b"\\": b"\\", b"#": b"#", b">": b">"}
-STEPS = ("config", "file", "folder", "remove", "bytes", "gone", "exit", "error", "because", "means")
+STEPS = ("config", "file", "folder", "remove", "bytes", "gone", "exit", "error", "because", "means", "says")
 
 
 class Bad(Exception):
@@ -44,7 +44,7 @@ class Run:
     def __init__(self, number, words):
         self.number, self.words = number, words
         self.lines, self.output, self.status, self.error = [], [], 0, None
-        self.because, self.means = [], []
+        self.because, self.means, self.says = [], [], []
         self.status_at = self.error_at = number
 
     @property
@@ -145,7 +145,7 @@ class Reader:
         kind, rest = kind.decode(errors="replace"), rest.strip()
         if kind not in STEPS:
             raise self.bad(number, f"`{kind}` begins no step; a line of a script is indented by two spaces")
-        if kind in ("exit", "error", "because", "means"):
+        if kind in ("exit", "error", "because", "means", "says"):
             self.ending(number, kind, rest)
             return
         if kind == "config":
@@ -164,7 +164,7 @@ class Reader:
             raise self.bad(number, f"`{kind}` stands behind no run")
         if kind == "error":
             run.error, run.error_at = rest, number
-        elif kind in ("because", "means"):
+        elif kind in ("because", "means", "says"):
             getattr(run, kind).append(unescaped(rest))
         elif rest.isdigit():
             run.status, run.status_at = int(rest), number

@@ -204,6 +204,7 @@ class Room:
             error = b"".join(line + b"\n" for line in run.means) + error
         else:
             errors = re.sub(rb"(?m)^line \d+: .*\n", b"", errors)
+        error = b"".join(line + b"\n" for line in run.says) + error
         if status != run.status:
             self.tell(run.status_at, f"status {status} in the place of {run.status}")
         if errors != error:

@@ -7,11 +7,12 @@ use std::env;
 use std::io::{self, BufReader, ErrorKind};
 use std::process::ExitCode;
 use vtl_faults::faults::VtlFault;
+use vtl_notes::at_once::AtOnce;
 use vtl_notes::noted_streams::NotingWriter;
 use vtl_notes::notes::Notes;
 use vtl_notes::noting::NotingReader;
 use vtl_notes::progress::GibLines;
-use vtl_program::explaining::{asks, asks_of_lines, run_explained};
+use vtl_program::explaining::{asks, asks_at_once, asks_of_lines, run_explained};
 use vtl_program::system_files::SystemFiles;
 use vtl_words::UnreadWord;
 
@@ -74,6 +75,7 @@ fn main(rt: HostRuntime) -> ExitCode {
         rt: &rt,
         progress: &progress,
         notes: &notes,
+        at_once: AtOnce::new(&rt, asks_at_once(rt.alloc(), &words)),
     };
     let ended = run_explained(
         &rt,

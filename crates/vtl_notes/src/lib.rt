@@ -1,6 +1,7 @@
 //! Notes what the calls for files and streams were answered, for an explanation, and reports the writes of a reclaim.
 #![tactic(auto)]
 
+pub mod at_once;
 mod images;
 pub mod noted_streams;
 pub mod notes;

@@ -27,6 +27,8 @@ pub struct Notes {
     files: OpenFiles,
     config: Cell<Option<ConfigText>>,
     failed: Cell<Option<FileReason>>,
+    // The files that were not opened or made, from the first one on.
+    refused_files: Cell<Option<Vec<FileReason>>>,
     is_refused: Cell<bool>,
     refused: Cell<Option<LineReason>>,
     frames: Cell<FrameNotes>,
@@ -44,6 +46,7 @@ impl Notes {
             files: OpenFiles::new(alloc, is_on),
             config: Cell::new(None),
             failed: Cell::new(None),
+            refused_files: Cell::new(None),
             is_refused: Cell::new(false),
             refused: Cell::new(None),
             frames: Cell::new(FrameNotes::new()),
@@ -109,17 +112,29 @@ impl Notes {
             Err(error) if self.is_on => {
                 self.is_refused.set(true);
                 if let Ok(file) = String::from_str(alloc, file) {
-                    self.keep_failed(FileReason::of_file(alloc, file, call, *error));
+                    self.keep_refused(alloc, FileReason::of_file(alloc, file, call, *error));
                 }
             }
             Err(_) => {}
         }
     }
 
-    /// Drops the note that a file was not opened. This was not a failure, since the file may be missing.
+    fn keep_refused(&self, alloc: Global, reason: FileReason) {
+        let mut refused = match self.refused_files.take() {
+            Some(refused) => refused,
+            None => Vec::new(alloc),
+        };
+        let _ = refused.push(reason);
+        self.refused_files.set(Some(refused));
+    }
+
+    /// Drops the note of the last file that was not opened. This was not a failure, since the file may be missing.
     pub fn pass_over(&self) {
         self.is_refused.set(false);
-        self.failed.set(None);
+        if let Some(mut refused) = self.refused_files.take() {
+            let _ = refused.pop();
+            self.refused_files.set(Some(refused));
+        }
     }
 
     /// Notes that the disk of the file `file` was returned, unless `has_failed_for(number)` is true in `files`, where
@@ -136,6 +151,15 @@ impl Notes {
     pub fn look<D: Disk>(&self, alloc: Global, file: &str, disk: &mut D) {
         if self.is_on {
             self.images.add(alloc, file, disk);
+        }
+    }
+
+    /// Notes the bytes of the file `file`, which was checked, as `look` does, unless it was checked as one of a
+    /// configuration.
+    pub fn look_checked<D: Disk>(&self, alloc: Global, file: &str, disk: &mut D) {
+        match self.config.take() {
+            Some(config) => self.config.set(Some(config)),
+            None => self.look(alloc, file, disk),
         }
     }
 
@@ -198,17 +222,41 @@ impl Notes {
         }
     }
 
-    /// Adds the lines that explain the first call that failed for a stream, or for a file that was to be read, opened
-    /// or made. If no such call is noted, adds lines for each file for which a call failed while the file was open;
-    /// they explain the first such call. Returns true where lines were added.
-    pub fn add_failed(&self, alloc: Global, lines: &mut Explanation) -> Result<bool, AllocError> {
+    // Adds the lines of each file that was not opened or made, and of the first call that failed for a stream or for the
+    // configuration. Returns true where lines were added.
+    fn add_refused(&self, alloc: Global, lines: &mut Explanation) -> Result<bool, AllocError> {
+        let refused = self.refused_files.take().unwrap_or(Vec::new(alloc));
+        for reason in refused.as_slice() {
+            reason.add_to(alloc, lines)?;
+        }
         match self.failed(alloc) {
             Some(reason) => {
                 reason.add_to(alloc, lines)?;
                 Ok(true)
             }
-            None => self.files.add_failed(alloc, lines),
+            None => Ok(!refused.is_empty()),
         }
+    }
+
+    /// Adds the lines that explain each call that failed for a file that was to be opened or made, and the first one for
+    /// a stream or the configuration. If no such call is noted, adds lines for each file for which a call failed while
+    /// the file was open; they explain the first such call. Returns true where lines were added.
+    pub fn add_failed(&self, alloc: Global, lines: &mut Explanation) -> Result<bool, AllocError> {
+        if self.add_refused(alloc, lines)? {
+            return Ok(true);
+        }
+        self.files.add_failed(alloc, lines)
+    }
+
+    /// Adds the lines of each of these calls: of openings, and of files that were open.
+    pub fn add_each_failed(
+        &self,
+        alloc: Global,
+        lines: &mut Explanation,
+    ) -> Result<(), AllocError> {
+        let _ = self.add_refused(alloc, lines)?;
+        let _ = self.files.add_failed(alloc, lines)?;
+        Ok(())
     }
 
     /// Adds the lines of a file that was opened and then refused as a store of reservations, though none of its calls

@@ -1,4 +1,5 @@
 //! Notes of the files that were opened, and of their calls that failed, for an explanation. Threads share these notes.
+use crate::at_once::FileLines;
 use explanations::Explanation;
 use file_disk::{FailedCall, FileDisk, SystemCall};
 use file_reasons::{FileReason, MemoryReason};
@@ -168,12 +169,14 @@ pub struct NotedDisk<'a, D> {
     pub number: u64,
     /// Where failed calls are noted.
     pub files: &'a OpenFiles,
+    /// Where each failed call is reported at once; None if it is not.
+    pub lines: Option<FileLines<'a>>,
 }
 
 impl<'a, D: SaysFailed> NotedDisk<'a, D> {
-    // Notes a call that failed. If no call of the system failed, the system did not say how long the file is; that is
-    // noted then.
-    fn fail(&self) {
+    // Notes a call that failed, at this byte of the file if there is one, and reports it. If no call of the system
+    // failed, the system did not say how long the file is; that is noted then.
+    fn fail(&self, at: Option<u64>) {
         let failed = match self.disk.failed() {
             Some(failed) => failed,
             None => FailedCall {
@@ -183,6 +186,9 @@ impl<'a, D: SaysFailed> NotedDisk<'a, D> {
             },
         };
         self.files.fail(self.number, failed);
+        if let Some(lines) = &self.lines {
+            lines.say_failed(failed, at);
+        }
     }
 }
 
@@ -202,7 +208,7 @@ impl<'a, D: Disk + SaysFailed> Disk for NotedDisk<'a, D> {
         match self.disk.read_at(at, buffer) {
             Ok(()) => Ok(()),
             Err(fault) => {
-                self.fail();
+                self.fail(Some(at));
                 Err(fault)
             }
         }
@@ -212,7 +218,7 @@ impl<'a, D: Disk + SaysFailed> Disk for NotedDisk<'a, D> {
         match self.disk.write_at(at, bytes) {
             Ok(()) => Ok(()),
             Err(fault) => {
-                self.fail();
+                self.fail(Some(at));
                 Err(fault)
             }
         }
@@ -222,7 +228,7 @@ impl<'a, D: Disk + SaysFailed> Disk for NotedDisk<'a, D> {
         match self.disk.cut(len) {
             Ok(()) => Ok(()),
             Err(fault) => {
-                self.fail();
+                self.fail(None);
                 Err(fault)
             }
         }
@@ -232,7 +238,7 @@ impl<'a, D: Disk + SaysFailed> Disk for NotedDisk<'a, D> {
         match self.disk.sync() {
             Ok(()) => Ok(()),
             Err(fault) => {
-                self.fail();
+                self.fail(None);
                 Err(fault)
             }
         }

@@ -14,7 +14,8 @@ use std::alloc::Global;
 use tape_disk::{Disk, MemDisk};
 use vtl_config::{CartridgeEntry, DriveEntry};
 use vtl_faults::faults::VtlFault;
-use vtl_files::creating::slice_of;
+use vtl_files::config_checks::{CARTRIDGE_WORD, STORE_WORD};
+use vtl_files::creating::{label_of, slice_of};
 use vtl_files::files::{ChangeFiles, SecondFiles, TakesBack};
 use vtl_files::opened::opened_both;
 
@@ -102,6 +103,8 @@ impl<'a, D: Disk, F: ChangeFiles<D> + SecondFiles<D>> Sides<D> for FileSides<'a,
     ghost given = { file_sides D.state F.opens F.opens_second F.returns_disk };
 
     fn cartridge(&self, alloc: Global, entry: CartridgeEntry) -> Result<Parked<D>, VtlFault> {
+        let (label, name) = (entry.barcode.as_bytes(), entry.file.as_str());
+        self.files.report_side(CARTRIDGE_WORD, label, name);
         match opened_both::<D, F>(self.files, entry.file, entry.second_file) {
             Ok((first, second)) => Ok(Parked::of(alloc, Shelved::of(first.1, second.1))),
             Err(fault) => Err(fault),
@@ -109,6 +112,10 @@ impl<'a, D: Disk, F: ChangeFiles<D> + SecondFiles<D>> Sides<D> for FileSides<'a,
     }
 
     fn store(&self, alloc: Global, entry: DriveEntry) -> Result<DriveStore<D>, VtlFault> {
+        if let Ok(label) = label_of(alloc, entry.number) {
+            let name = entry.reservations.as_str();
+            self.files.report_side(STORE_WORD, label.as_bytes(), name);
+        }
         let (name, found) = self.files.open(entry.reservations);
         match found {
             Ok(disk) => match opened(alloc, disk) {

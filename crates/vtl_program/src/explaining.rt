@@ -36,6 +36,18 @@ pub fn asks(words: &Result<Vec<String>, VtlFault>) -> bool
     }
 }
 
+/// Whether what is found is to be reported at once. True where the words ask for an explanation, and are an order to run a
+/// script or to serve frames.
+pub fn asks_at_once(alloc: Global, words: &Result<Vec<String>, VtlFault>) -> bool {
+    match words {
+        Ok(words) if asks_to_explain(words.as_slice()) => matches!(
+            read_words(alloc, words.as_slice()),
+            Ok(Order::Run { .. } | Order::Serve { .. })
+        ),
+        _ => false,
+    }
+}
+
 /// Whether the lines of a script are to be explained. True where the words ask for an explanation, and are not an order
 /// to serve frames.
 pub fn asks_of_lines(alloc: Global, words: &Result<Vec<String>, VtlFault>) -> bool {
@@ -60,6 +72,8 @@ enum Doubt {
     Stores,
     // In these files, and in the frames.
     Frames,
+    // In the configuration, each file of which is checked.
+    Checks,
 }
 
 // Where the explanation of an order is looked for, besides the notes.
@@ -78,6 +92,7 @@ fn doubt_in(alloc: Global, words: &[String]) -> Doubt {
                 memory: _memory,
                 config: _config,
             } => Doubt::Frames,
+            Order::CheckAll { config: _config } => Doubt::Checks,
             _other => Doubt::Nothing,
         },
         Err(_error) => Doubt::Nothing,
@@ -178,6 +193,7 @@ fn add_failed(
     lines: &mut Explanation,
 ) -> Result<(), AllocError> {
     let is_store = match doubt {
+        Doubt::Checks => return Ok(()),
         Doubt::Stores | Doubt::Frames => notes.add_store(alloc, lines)?,
         _ => false,
     };
@@ -195,6 +211,9 @@ fn lines_for(
     notes: &Notes,
 ) -> Result<Explanation, AllocError> {
     let mut lines = Explanation::new(alloc);
+    if let Doubt::Checks = doubt {
+        notes.add_each_failed(alloc, &mut lines)?;
+    }
     match status {
         1 => match doubt {
             Doubt::Words(reason) => reason.add_to(alloc, &mut lines)?,

@@ -2,5 +2,6 @@
 #![tactic(auto)]
 
 pub mod explaining;
+pub mod looking;
 pub mod orders;
 pub mod system_files;

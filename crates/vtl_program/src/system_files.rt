@@ -1,6 +1,7 @@
 //! The files of the operating system. The calls for them are noted.
 ghost use Rattle.std.specs.Prelude.{◌≡◌};
 
+use crate::looking::report_side;
 use bay_moves::Held;
 use check_lines::reading::ReportsRead;
 use file_disk::{FileDisk, FileError};
@@ -8,6 +9,7 @@ use file_reasons::FileCall;
 use std::{fs, io};
 use vtl_config::{FileName, UsedName};
 use vtl_files::files::{ChangeFiles, MakeFiles, ReadFiles, SecondFiles, TakesBack, TextFiles};
+use vtl_notes::at_once::AtOnce;
 use vtl_notes::notes::Notes;
 use vtl_notes::open_files::NotedDisk;
 use vtl_notes::progress::GibLines;
@@ -23,15 +25,17 @@ pub struct SystemFiles<'a> {
     pub progress: &'a GibLines<'a>,
     /// Where the answers of calls are noted.
     pub notes: &'a Notes,
+    /// Where what is found is reported at once.
+    pub at_once: AtOnce<'a>,
 }
 
 /// A disk over a file of the operating system. Its writes are reported, and the first of its calls that fails is noted.
 pub type SystemDisk<'a> = Watched<'a, NotedDisk<'a, FileDisk>, GibLines<'a>>;
 
 impl<'a> SystemFiles<'a> {
-    // A disk over `disk`, for the file with this number. Its writes are reported, and its first call that fails is
-    // noted.
-    fn watched(&self, number: u64, disk: FileDisk) -> SystemDisk<'a>
+    // A disk over `disk`, for the file with this name and number. Its writes are reported, and its first call that fails
+    // is noted.
+    fn watched(&self, name: &str, number: u64, disk: FileDisk) -> SystemDisk<'a>
         ensures { result.disk.disk ≡ disk }
     {
         Watched {
@@ -39,6 +43,7 @@ impl<'a> SystemFiles<'a> {
                 disk,
                 number,
                 files: self.notes.files(),
+                lines: self.at_once.of_file(name),
             },
             progress: self.progress,
         }
@@ -60,7 +65,7 @@ impl<'a> SystemFiles<'a> {
     ) -> Result<SystemDisk<'a>, FileError> {
         self.notes.open(self.rt.alloc(), name, call, &found);
         match found {
-            Ok(disk) => Ok(self.watched(number, disk)),
+            Ok(disk) => Ok(self.watched(name, number, disk)),
             Err(error) => Err(error),
         }
     }
@@ -89,13 +94,13 @@ impl<'a> ReadFiles<SystemDisk<'a>> for SystemFiles<'a> {
     }
 
     fn close(&self, name: &str, mut disk: SystemDisk<'a>) {
-        self.notes.look(self.rt.alloc(), name, &mut disk);
+        self.notes.look_checked(self.rt.alloc(), name, &mut disk);
         drop(disk);
     }
 
     fn nothing(&self) -> SystemDisk<'a> {
         self.notes.pass_over();
-        self.watched(0, file_disk::no_file())
+        self.watched("", 0, file_disk::no_file())
     }
 }
 
@@ -135,6 +140,10 @@ impl<'a> ChangeFiles<SystemDisk<'a>> for SystemFiles<'a> {
         let opened = file_disk::open(self.rt, name.as_str());
         let answer = self.answer(name.as_str(), number, FileCall::Open, opened);
         (name, answer)
+    }
+
+    fn report_side(&self, word: &[u8], label: &[u8], name: &str) {
+        report_side(self.rt, self.at_once, word, label, name);
     }
 
     fn return_disk(&self, name: UsedName, mut disk: SystemDisk<'a>) {

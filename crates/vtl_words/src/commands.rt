@@ -44,7 +44,7 @@ const CREATE_ABOUT: &str =
     "Makes the files of each cartridge and drive that has none; others are kept";
 
 const CHECK_ABOUT: &str =
-    "Tells what the file of a cartridge or of a drive's reservations holds, or all of a configuration";
+    "Tells what a file of a cartridge or of a drive holds, or all files of a configuration";
 
 const RECLAIM_ABOUT: &str =
     "Gives back the room of overwritten data: copies a cartridge to its other file";

@@ -83,6 +83,7 @@ fn used<D: Disk + Drop + SaysFailed>(files: &OpenFiles, number: u64, disk: D) ->
         disk,
         number,
         files,
+        lines: None,
     };
     [
         disk.read_at(0, &mut []).is_ok(),
@@ -270,6 +271,7 @@ fn of_the_system(abort: &impl Abort, rt: &HostRuntime, path: &str) -> Result<(),
             disk: opened(rt, path, step)?,
             number: files.enter(alloc, "a"),
             files: &files,
+            lines: None,
         };
         let len = match step {
             Step::SyncOfADevice => 0,
