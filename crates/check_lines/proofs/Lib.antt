@@ -2,3 +2,4 @@ mod CheckLemmas
 mod OneTextLemmas
 pub mod PairLemmas
 mod SideTextLemmas
+mod ReadingLemmas

@@ -1,5 +1,5 @@
 //! The lines that say what two disks hold.
-ghost use Rattle.std.specs.Prelude.{◌≡◌, ◌≢◌, ◌<◌, ◌++◌, ◌==◌, ℕ, List, IfOk, IfErr, IfSome, MatchResult, OnOk, Ok, filter, is_some, length, position, string_bytes};
+ghost use Rattle.std.specs.Prelude.{◌≡◌, ◌≢◌, ◌<◌, ◌++◌, ◌==◌, ℕ, List, IfOk, IfErr, IfSome, MatchResult, OnOk, Ok, false, filter, is_some, length, position, string_bytes};
 ghost use Rattle.std.specs.List.{All};
 ghost use Rattle.gate_journal.specs.declared.header.SideKind.TheVariants as Kinds;
 ghost use Rattle.gate_journal.specs.Side.{IsName, padded};

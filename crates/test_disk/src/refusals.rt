@@ -58,14 +58,20 @@ fn opened_once(abort: &impl Abort, rt: &HostRuntime, path: &str) -> Result<(), F
     are_answered(abort, rt, path, EXISTS, IN_USE);
     drop(disk);
     let disk = open_to_read(rt, path)?;
-    are_answered(abort, rt, path, EXISTS, IN_USE);
+    let beside = open_to_read(rt, path)?;
+    assert_equal!(abort; refusal(create(rt, path)), EXISTS);
+    assert_equal!(abort; refusal(open(rt, path)), IN_USE);
     drop(disk);
+    // The other reader has it open still.
+    assert_equal!(abort; refusal(open(rt, path)), IN_USE);
+    drop(beside);
     assert_equal!(abort; refusal(open(rt, path)), None);
     Ok(())
 }
 
+// A file is opened by one that changes it, or by several that read it.
 #[test]
-fn a_file_is_opened_once(rt: HostRuntime) -> Result<(), Fail> {
+fn a_file_is_opened_once_or_by_readers(rt: HostRuntime) -> Result<(), Fail> {
     let folder = new_folder(&rt)?;
     opened_once(&rt, &rt, &folder.path)?;
     taken_away(&rt, &folder)

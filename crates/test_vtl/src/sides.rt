@@ -1,8 +1,9 @@
 //! The lines of sides, by each byte, and over a disk that fails.
 use super::plain_sides::plain_lines;
 use check_lines::checking::{Checked, check_side};
-use check_lines::reading::Unreported;
+use check_lines::reading::{ReportsRead, Unreported};
 use std::alloc::Global;
+use std::cell::Cell;
 use std::process::Abort;
 use std::test::Fail;
 use tape_disk::{Disk, FuseDisk, MemDisk, OnceDisk};
@@ -115,6 +116,51 @@ fn a_disk_that_fails(rt: HostRuntime) -> Result<(), Fail> {
             assert_equal!(rt; failed.first.inner().bytes(), *side);
             assert_fails_before(&rt, failed.lines, wanted, calls >= *needed);
         }
+    }
+    Ok(())
+}
+
+// The last report on what was read, and how many there were.
+#[derive(Drop)]
+struct Reported {
+    last: Cell<(u64, u64)>,
+    count: Cell<u64>,
+}
+
+impl Reported {
+    fn nothing() -> Reported {
+        Reported {
+            last: Cell::new((0, 0)),
+            count: Cell::new(0),
+        }
+    }
+}
+
+impl ReportsRead for Reported {
+    fn read(&self, used: u64, all: u64) {
+        self.last.set((used, all));
+        self.count.set(self.count.get().saturating_add(1));
+    }
+}
+
+// A check that reads blocks makes one call more for each block, behind all others: the side has one block of 5 bytes,
+// which uses 21, and a filemark, which uses 16.
+#[test]
+fn a_check_that_reads_blocks(rt: HostRuntime) -> Result<(), Fail> {
+    let alloc = rt.alloc();
+    for calls in 0..CALLS + 3 {
+        let reported = Reported::nothing();
+        let disk = OnceDisk::new(MemDisk::from_bytes(alloc, SIDE)?, calls);
+        let second = OnceDisk::new(MemDisk::new(alloc), u64::MAX);
+        let checked = check_side(alloc, disk, second, Some(&reported));
+        assert_equal!(rt; checked.first.inner().bytes(), SIDE.as_slice(); calls);
+        assert_fails_before(&rt, checked.lines, WHOLE, calls > CALLS);
+        let wanted = if calls > CALLS {
+            ((37, 37), 2)
+        } else {
+            ((0, 0), 0)
+        };
+        assert_equal!(rt; (reported.last.get(), reported.count.get()), wanted; calls);
     }
     Ok(())
 }

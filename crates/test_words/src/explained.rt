@@ -61,6 +61,11 @@ fn orders_are_the_same_with_it(rt: HostRuntime) -> Result<(), Fail> {
     assert_holds!(rt; matches!(create, Ok(Order::Create { .. })));
     let check = read_words(alloc, words_of(alloc, "vtl check a --explain")?.as_slice());
     assert_holds!(rt; matches!(check, Ok(Order::Check { .. })));
+    let all = read_words(
+        alloc,
+        words_of(alloc, "vtl check --explain --config a")?.as_slice(),
+    );
+    assert_holds!(rt; matches!(all, Ok(Order::CheckAll { .. })));
     let reclaim = read_words(
         alloc,
         words_of(alloc, "vtl reclaim --explain --config a B")?.as_slice(),
@@ -153,10 +158,17 @@ For more information, try '--help'.
     (
         "vtl check",
         "\
-refused: the following required arguments were not provided:
-  <FILE>
-Usage: vtl check <FILE>
-For more information, try '--help'.
+refused: check without a file
+allowed: one of FILE and --config FILE
+to do: name a file, or the configuration of which all is to be checked
+",
+    ),
+    (
+        "vtl check a --config b",
+        "\
+refused: FILE together with --config
+allowed: one of FILE and --config FILE
+to do: name a file, or the configuration of which all is to be checked
 ",
     ),
     (
@@ -183,6 +195,7 @@ static NO_VALUE: &'static [(&'static str, &'static str)] = &[
     ("vtl run --config", "vtl run [OPTIONS]"),
     ("vtl run --config --explain", "vtl run [OPTIONS]"),
     ("vtl serve --memory --config", "vtl serve [OPTIONS]"),
+    ("vtl check --config", "vtl check [OPTIONS] [FILE]"),
     (
         "vtl create --config",
         "vtl create [OPTIONS] --config <FILE>",

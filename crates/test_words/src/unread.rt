@@ -54,7 +54,7 @@ static NAMED: &'static [Row] = &[
     (
         &[b"vtl", b"check", &[b't', 0xe9, b'.', b'x'], b"--explain"],
         "word 2, t?.x,",
-        "vtl check [OPTIONS] <FILE>",
+        "vtl check [OPTIONS] [FILE]",
     ),
     // the first of two, behind a word that is UTF-8 and no ASCII
     (

@@ -80,11 +80,51 @@ fn serve_has_the_words_of_run(rt: HostRuntime) {
     }
 }
 
-// The file of an order that checks.
-fn checked(answer: &Result<Order, WordsError>) -> Option<&str> {
+// The file of an order that checks, and whether blocks are read.
+fn checked(answer: &Result<Order, WordsError>) -> Option<(&str, bool)> {
     match answer {
-        Ok(Order::Check { file }) => Some(file.as_str()),
+        Ok(Order::Check { file, blocks }) => Some((file.as_str(), *blocks)),
         _ => None,
+    }
+}
+
+// The configuration of an order that checks all of it.
+fn all_checked(answer: &Result<Order, WordsError>) -> Option<&str> {
+    match answer {
+        Ok(Order::CheckAll { config }) => Some(config.as_str()),
+        _ => None,
+    }
+}
+
+// Lines that check a file: which, and whether its blocks are read.
+static CHECKS: &'static [(&'static str, &'static str, bool)] = &[
+    ("vtl check a", "a", false),
+    ("vtl check a --data", "a", true),
+    ("vtl check --data --explain a", "a", true),
+    ("vtl check --explain a", "a", false),
+    ("vtl check -- --data", "--data", false),
+    ("vtl check --data -- --config", "--config", true),
+];
+
+#[test]
+fn check_has_a_file_and_a_flag(rt: HostRuntime) {
+    for &(line, file, blocks) in CHECKS {
+        let answer = asked(rt.alloc(), line);
+        assert_equal!(rt; checked(&answer), Some((file, blocks)); line);
+        assert_equal!(rt; all_checked(&answer), None; line);
+    }
+}
+
+#[test]
+fn check_has_a_configuration_in_the_place_of_a_file(rt: HostRuntime) {
+    for line in [
+        "vtl check --config a",
+        "vtl check --config=a",
+        "vtl check --data --config a --explain",
+    ] {
+        let answer = asked(rt.alloc(), line);
+        assert_equal!(rt; all_checked(&answer), Some("a"); line);
+        assert_equal!(rt; checked(&answer), None; line);
     }
 }
 
@@ -141,7 +181,16 @@ static REFUSED: &'static [&'static str] = &[
     "vtl create --memory --config a",
     "vtl check",
     "vtl check a b",
-    "vtl check --config a",
+    "vtl check --data",
+    "vtl check --config",
+    "vtl check a --config b",
+    "vtl check --config b --data a",
+    "vtl check --config b -- a",
+    "vtl check --config a --config b",
+    "vtl check --data --data a",
+    "vtl check --data=true a",
+    "vtl check --memory a",
+    "vtl run --data",
     "vtl run run",
     "vtl serve extra",
     "vtl serve --memory --memory",
@@ -198,7 +247,7 @@ fn is_run_with(rt: &impl Abort, alloc: Global, file: &str) -> Result<(), Fail> {
 fn is_checked(rt: &impl Abort, alloc: Global, file: &str) -> Result<(), Fail> {
     let line = format!(in alloc; "vtl check {file}")?;
     let answer = asked(alloc, line.as_str());
-    assert_equal!(rt; checked(&answer), Some(file), "check");
+    assert_equal!(rt; checked(&answer), Some((file, false)), "check");
     Ok(())
 }
 

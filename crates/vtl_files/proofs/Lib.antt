@@ -1,3 +1,4 @@
+mod ConfigCheckLemmas
 mod ConfigLemmas
 mod CreatingLemmas
 mod ReclaimLemmas

@@ -152,6 +152,20 @@ fn check_file<D: Disk, F: ReadFiles<D> + ReportsRead, W: Write>(
     }
 }
 
+// Checks the files of a cartridge.
+fn check_cartridge<D: Disk, F: ReadFiles<D> + ReportsRead, W: Write>(
+    alloc: Global,
+    files: &F,
+    entry: &CartridgeEntry,
+    writer: &mut W,
+) -> Result<CheckEnd, VtlFault>
+    ensures { ChecksAll D.state F.opens_to_read F.closes (CartridgeFile entry.now ∷ [])
+        (W.contents writer.old) (W.contents writer.new) result }
+{
+    let (label, path) = (entry.barcode.as_bytes(), entry.file.as_str());
+    check_file::<D, F, W>(alloc, files, CARTRIDGE_WORD, label, path, writer)
+}
+
 // Checks the files of cartridges.
 fn check_cartridges<D: Disk, F: ReadFiles<D> + ReportsRead, W: Write>(
     alloc: Global,
@@ -164,8 +178,7 @@ fn check_cartridges<D: Disk, F: ReadFiles<D> + ReportsRead, W: Write>(
 {
     let mut first: CheckEnd = Ok(Verdict::Done);
     for entry in entries {
-        let (label, path) = (entry.barcode.as_bytes(), entry.file.as_str());
-        match check_file::<D, F, W>(alloc, files, CARTRIDGE_WORD, label, path, writer) {
+        match check_cartridge::<D, F, W>(alloc, files, &entry, writer) {
             Ok(next) => first = first_of(first, next),
             Err(fault) => return Err(fault),
         }

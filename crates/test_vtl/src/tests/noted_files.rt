@@ -1,5 +1,6 @@
 //! Files in memory, of a test's own, that note their calls.
 use bay_moves::Held;
+use check_lines::reading::ReportsRead;
 use file_disk::{FailedCall, FileError, SystemCall};
 use std::alloc::{AllocError, Global};
 use std::cell::{Cell, RefCell};
@@ -159,6 +160,12 @@ impl ReadFiles<OnceDisk<MemDisk>> for NotedFiles {
     }
 }
 
+impl ReportsRead for NotedFiles {
+    fn read(&self, _used: u64, _all: u64) {
+        let _ = self.noted("read", "block");
+    }
+}
+
 impl SecondFiles<OnceDisk<MemDisk>> for NotedFiles {
     ghost opens_second = { λ name answer. Unit {0} };
 
@@ -203,6 +210,10 @@ impl ChangeFiles<OnceDisk<MemDisk>> for NotedFiles {
         let name = name.use_up();
         let opened = self.opened(name.as_str());
         (name, opened)
+    }
+
+    fn report_side(&self, _word: &[u8], _label: &[u8], name: &str) {
+        let _ = self.noted("report", name);
     }
 
     fn return_disk(&self, name: UsedName, disk: OnceDisk<MemDisk>) {
