@@ -32,7 +32,12 @@ MEMORY = re.compile(r"memory ran out: as (it was opened or read, the file [a-z0-
 # as a file is made: it is opened, and of its folder the opening and the sync; as its first bytes are written
 MADE = ("open", "look at", "lock", "sync", "sync of the folder", "sync of the folder")
 WRITTEN = ("cut", "write at", "sync", "write at", "sync")
-MEANT = re.compile(r"(line [0-9]+: .*\n)*")
+# what is said at once: of an answer, of a file at a start, of a call for an open file
+MEANT = re.compile(r"((line [0-9]+: |found: |failed: [a-z ]+( [0-9]+)? \().*\n)*")
+AT_ONCE = re.compile(r"failed: (read at|write at|cut)( [0-9]+)? \(Input/output error \(os error 5\)\), "
+                     r"of the file [a-z0-9.]+\n")
+# calls that are made for open files alone
+OPEN = ("pread64", "pwrite64", "ftruncate")
 
 
 def in_order():
@@ -68,7 +73,7 @@ def misexplained(run):
     """What is wrong with the explanation of a run in which one call failed."""
     said = lines_behind(run, "fault")
     if said is None:
-        return ["an explanation of no fault"] if "failed:" in run.err else []
+        return ["an explanation of no fault"] if FAILED.search(run.err) else []
     found = FAILED.findall(said)
     if "".join(FAILED.sub("", said)) or not found:
         return [f"explained as {said!r}"]
@@ -81,6 +86,15 @@ def misexplained(run):
 def misremembered(run):
     said = lines_behind(run, "memory")
     return [] if said is None or not said or MEMORY.fullmatch(said) else [f"explained as {said!r}"]
+
+
+def untold(run):
+    """What is wrong where a call for an open file failed and a run or a serving ends with a device fault: a line said it
+    at once, before the one line."""
+    said = lines_behind(run, "fault")
+    if said is None or run.name not in OPEN:
+        return []
+    return [] if AT_ONCE.match(run.err) or AT_ONCE.search(run.err[:-len(said) or None]) else [f"not said: {run.err!r}"]
 
 
 def disordered(what, found, wanted):
@@ -167,7 +181,8 @@ def main():
                 ("vtl check of a cartridge", used, ["check", FILES[FIRST]], ""),
                 ("vtl run", new, ["run", "--config", "lib.toml"], whole),
                 ("vtl reclaim", used, ["reclaim", "--config", "lib.toml", FIRST], "")):
-            wrong += tried(tools, room, what, words, script, kinds)
+            more = [("fault", lambda run: misexplained(run) + untold(run))] if words[0] == "run" else kinds[:1]
+            wrong += tried(tools, room, what, words, script, more + kinds[1:])
     print("\n".join([*wrong, f"explained faults: {len(wrong)} wrong"]))
     return 1 if wrong else 0
 

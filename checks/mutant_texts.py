@@ -163,7 +163,7 @@ EDITS = [
      ["each_file_has_its_first_failure"]),
     ("a cut that fails is not noted", "vtl_notes", "src/open_files.rt",
      "        match self.disk.cut(len) {\n            Ok(()) => Ok(()),\n            Err(fault) => {\n"
-     "                self.fail();\n",
+     "                self.fail(None);\n",
      "        match self.disk.cut(len) {\n            Ok(()) => Ok(()),\n            Err(fault) => {\n",
      ["each_call_that_fails_is_noted"]),
     ("memory ran out at the file behind", "vtl_notes", "src/open_files.rt",

@@ -1,7 +1,7 @@
 -- Blocks that are read one after another.
 use Rattle.std.proofs.Common.{◌≡◌, ◌∙◌, false, Result, Ok, Err, OnOk, IfErr, refl, arith}
-use Rattle.tape_disk.specs.Disk.{DiskState, Keeps}
-use Rattle.tape_disk.specs.TwoDisks.{AreHonest, Images, KeepsDisks, MayLeave, TwoDisks, failures_of, two_in_sequence, two_rest_still, two_weakened}
+use Rattle.tape_disk.specs.Disk.{DiskState, IsDisk, Keeps}
+use Rattle.tape_disk.specs.TwoDisks.{AreHonest, EachOfTwo, KeepsDisks, MayLeave, TwoDisks, TwoLeave, failures_of, two_hold_now, two_in_sequence, two_rest_still, two_weakened}
 use Rattle.cartridge.specs.Disks.{NoneOfTwo, UnwrittenTwo}
 use Rattle.cartridge.specs.State.{OpenCartridge}
 use Rattle.vtl_faults.specs.declared.faults.VtlFault.{VtlFault}
@@ -48,14 +48,14 @@ module _ {D : Type 0} (state : D → DiskState) where
   none_of_both a b c first second = (second.0 ∙ first.0, second.1 ∙ first.1)
 
   -- nothing was read
-  pub none_read : (open : OpenCartridge D) → open.failed ≡ false → IsRead state open open (Ok tt)
-  none_read open awake = record {
-    disks = (keeps_still (state open.disks.first), keeps_still (state open.disks.second));
+  pub none_read : (held : OpenCartridge D) → held.failed ≡ false → IsRead state held held (Ok tt)
+  none_read held awake = record {
+    disks = (keeps_still (state held.disks.first), keeps_still (state held.disks.second));
     contents = refl;
     awake = awake;
     none_failed = (refl, refl);
     cause = tt;
-    unwritten = λ honest. unwritten_still open.disks;
+    unwritten = λ honest. unwritten_still held.disks;
   }
 
   cause_on : (a b c : TwoDisks D) (fault : VtlFault) → NoneOfTwo state a b → IsNotRead state fault b c
@@ -88,3 +88,13 @@ module _ {D : Type 0} (state : D → DiskState) where
     unwritten = λ honest. unwritten_on a.disks b.disks c.disks (first.unwritten honest)
         (second.unwritten (first.disks.0.stays_honest honest.0, first.disks.1.stays_honest honest.1));
   }
+
+  -- where nothing is written behind a run, a crash leaves nothing new
+  pub moments_on : (a b c : TwoDisks D) → ((disk : D) → (state disk).honest → IsDisk (state disk))
+      → KeepsDisks state a b → AreHonest state a → TwoLeave state a b (MayLeave state a)
+      → (AreHonest state b → UnwrittenTwo state b c) → TwoLeave state a c (MayLeave state a)
+  moments_on a b c is_disk keeps honest first quiet =
+      let held : AreHonest state b = (keeps.0.stays_honest honest.0, keeps.1.stays_honest honest.1) in
+      let here : EachOfTwo state b (MayLeave state a) = two_hold_now state a b (MayLeave state a) (is_disk b.first held.0, is_disk b.second held.1) first in
+      two_in_sequence state a b c (MayLeave state a) first
+      (two_weakened state b c (MayLeave state b) (MayLeave state a) (quiet held).moments here)

@@ -15,7 +15,7 @@ ghost use Rattle.check_lines.specs.Disks.{both, disks_checked};
 ghost use Rattle.check_lines.specs.Reading.{IsNotRead};
 ghost use Rattle.check_lines.specs.SideText.{IsNotShown, IsStoreNotShown, SideText, PrintsContents, PrintsStates, bad_record_line, cartridge_line, damaged_line, partition_lines, registrations_in, store_line};
 
-use crate::reading::{ReportsRead, read_blocks};
+use crate::reading::{ReportsRead, read_wanted};
 use aptpl_store::{AptplStore, StoreError, StoreRefused};
 use cartridge::{Cartridge, CartridgeError, NotOpened, Shelved};
 use pr_core::Reservations;
@@ -256,11 +256,7 @@ fn check_cartridge<D: Disk, P: ReportsRead>(
         UnwrittenTwo D.state cartridge.disks (disks_checked result) }
 {
     let mut cartridge = cartridge;
-    let read = match reports {
-        Some(reports) => read_blocks(alloc, &mut cartridge, reports),
-        None => Ok(()),
-    };
-    let lines = match read {
+    let lines = match read_wanted(alloc, &mut cartridge, reports) {
         Ok(()) => text_or_fault(contents_text(alloc, &cartridge)),
         Err(fault) => Err(fault),
     };

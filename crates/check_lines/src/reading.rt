@@ -82,9 +82,8 @@ fn used_by_all<D: Disk>(cartridge: &Cartridge<D>) -> u64 {
     all
 }
 
-/// Reads each block of a cartridge to its end, and reports how far it has come. Errors: `Device` where the disk fails,
-/// `NoMemory` where memory runs out for a block. The rest is not read then.
-pub fn read_blocks<D: Disk, P: ReportsRead>(
+// Reads each block of a cartridge to its end, and reports how far it has come.
+fn read_blocks<D: Disk, P: ReportsRead>(
     alloc: Global,
     cartridge: &mut Cartridge<D>,
     reports: &P,
@@ -102,4 +101,21 @@ pub fn read_blocks<D: Disk, P: ReportsRead>(
         before = before.saturating_add(cartridge.used(part, cartridge.count(part)));
     }
     Ok(())
+}
+
+/// Reads each block of a cartridge to its end, and reports how far it has come, if there are `reports`; else it reads
+/// nothing. Errors: `Device` where the disk fails, `NoMemory` where memory runs out for a block. The rest is not read
+/// then.
+pub fn read_wanted<D: Disk, P: ReportsRead>(
+    alloc: Global,
+    cartridge: &mut Cartridge<D>,
+    reports: Option<&P>,
+) -> Result<(), VtlFault>
+    requires { cartridge.old.failed ≡ false }
+    ensures { IsRead D.state cartridge.old cartridge.new result }
+{
+    match reports {
+        Some(reports) => read_blocks(alloc, cartridge, reports),
+        None => Ok(()),
+    }
 }

@@ -216,7 +216,7 @@ fn check_stores<D: Disk, F: ReadFiles<D> + ReportsRead, W: Write>(
     let mut first: CheckEnd = Ok(Verdict::Done);
     for entry in entries {
         match check_store::<D, F, W>(alloc, files, &entry, writer) {
-            Ok(next) => first = first_of(first, next),
+            Ok(end) => first = first_of(first, end),
             Err(fault) => return Err(fault),
         }
     }

@@ -127,11 +127,11 @@ fn check_order(alloc: Global, matches: &ArgMatches<'_>) -> Result<Order, WordsEr
     let blocks = is_set(value_of(matches, "data"));
     let file = match copied(alloc, value_of(matches, "file")) {
         Ok(file) => file,
-        Err(_) => return Err(WordsError::NoMemory),
+        Err(NoMemory) => return Err(WordsError::NoMemory),
     };
     let config = match copied(alloc, value_of(matches, "config")) {
         Ok(config) => config,
-        Err(_) => return Err(WordsError::NoMemory),
+        Err(NoMemory) => return Err(WordsError::NoMemory),
     };
     match file {
         Some(file) => match config {

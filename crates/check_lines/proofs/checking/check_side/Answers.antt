@@ -1,4 +1,4 @@
-use Rattle.std.proofs.Common.{sym, subst, IfOk}
+use Rattle.std.proofs.Common.{refl, sym, subst, IfOk}
 use Rattle.tape_disk.specs.TwoDisks.{AreHonest, KeepsDisks, MayLeave, TwoLeave, seen_of_two}
 use Rattle.cartridge.specs.declared.error.CartridgeError.{CartridgeError}
 use Rattle.cartridge.specs.declared.error.CartridgeError.TheVariants.{NotOurs}
@@ -8,21 +8,32 @@ use Rattle.check_lines.specs.Disks.{both, disks_checked}
 use Rattle.check_lines.specs.SideText.{SideText}
 use Rattle.check_lines.proofs.CheckLemmas.{PrintsRefusal, moments_again, refusal_shown, shown_again}
 use Rattle.check_lines.proofs.PairLemmas.{moved}
+use Rattle.check_lines.proofs.ReadingLemmas.{moments_on}
 use Rattle.check_lines.proofs.checking.check_side.Goals as goal
 use Rattle.check_lines.proofs.checking.check_side.Goals.{in-Damaged, in-BadRecord, in-Device, in-NoMemory}
+
+pub returns-in-Ok-clause-any_moment : goal.returns-in-Ok-clause-any_moment
+returns-in-Ok-clause-any_moment g c =
+    let state = g.D.Disk.state in
+    let given = c.of.result.disks in
+    let new = disks_checked c.check_cartridge.result in
+    moved (λ a b. AreHonest state a → TwoLeave state a b (MayLeave state a)) (both c.args.first c.args.second) given
+    new new (sym c.of.ensures.disks) refl
+    (λ honest. moments_on state given c.in-Ok.cartridge.disks new g.met.D.Disk.is_disk c.in-Ok.ensures.disks honest
+    (c.in-Ok.ensures.any_moment honest) c.check_cartridge.ensures.unwritten)
 
 pub returns-in-NotOurs-clause-text : goal.returns-in-NotOurs-clause-text
 returns-in-NotOurs-clause-text g c =
     let state = g.D.Disk.state in
     let old = both c.args.first c.args.second in
-    let mid = both c.into_disks-first-in-Err.result.0 c.into_disks-first-in-Err.result.1 in
+    let mid = both c.into_disks-first.result.0 c.into_disks-first.result.1 in
     let given = c.of.result.disks in
     let left = c.in-Err.refused.shelved.disks in
     let from = sym c.of.ensures.disks in
     let keeps =
-    moved (KeepsDisks state) old given mid left from c.into_disks-first-in-Err.ensures c.in-Err.ensures.disks in
+    moved (KeepsDisks state) old given mid left from c.into_disks-first.ensures c.in-Err.ensures.disks in
     let why =
-    moved (IsNotOpened state NotOurs) old given mid left from c.into_disks-first-in-Err.ensures
+    moved (IsNotOpened state NotOurs) old given mid left from c.into_disks-first.ensures
     (subst (λ (error : CartridgeError). IsNotOpened state error given left) c.in-NotOurs.is c.in-Err.ensures.refused) in
     shown_again state old mid (disks_checked c.check_store.result) why keeps g.met.D.Disk.is_disk
     c.check_store.ensures.rests c.check_store.result.lines c.check_store.ensures.text
@@ -31,18 +42,18 @@ pub returns-in-NotOurs-clause-any_moment : goal.returns-in-NotOurs-clause-any_mo
 returns-in-NotOurs-clause-any_moment g c = λ honest.
     let state = g.D.Disk.state in
     let old = both c.args.first c.args.second in
-    let mid = both c.into_disks-first-in-Err.result.0 c.into_disks-first-in-Err.result.1 in
+    let mid = both c.into_disks-first.result.0 c.into_disks-first.result.1 in
     let given = c.of.result.disks in
     let left = c.in-Err.refused.shelved.disks in
     let from = sym c.of.ensures.disks in
     let keeps =
-    moved (KeepsDisks state) old given mid left from c.into_disks-first-in-Err.ensures c.in-Err.ensures.disks in
+    moved (KeepsDisks state) old given mid left from c.into_disks-first.ensures c.in-Err.ensures.disks in
     let why =
-    moved (IsNotOpened state NotOurs) old given mid left from c.into_disks-first-in-Err.ensures
+    moved (IsNotOpened state NotOurs) old given mid left from c.into_disks-first.ensures
     (subst (λ (error : CartridgeError). IsNotOpened state error given left) c.in-NotOurs.is c.in-Err.ensures.refused) in
     let opened =
     moved (λ a b. AreHonest state a → TwoLeave state a b (MayLeave state a)) old given mid left from
-    c.into_disks-first-in-Err.ensures c.in-Err.ensures.any_moment in
+    c.into_disks-first.ensures c.in-Err.ensures.any_moment in
     moments_again state old mid (disks_checked c.check_store.result) why keeps g.met.D.Disk.is_disk
     c.check_store.ensures.rests honest (opened honest)
     (c.check_store.ensures.any_moment (keeps.0.stays_honest honest.0))
@@ -63,6 +74,6 @@ returns-after-error-clause-text g c =
     (λ a b. IfOk c.match-error.lines
     (λ text. AreHonest state a → SideText (seen_of_two state a) text × OnlyOfTwo state a b))
     (both c.args.first c.args.second) given
-    (both c.into_disks-first-in-Err.result.0 c.into_disks-first-in-Err.result.1) left (sym c.of.ensures.disks)
-    c.into_disks-first-in-Err.ensures
+    (both c.into_disks-first.result.0 c.into_disks-first.result.1) left (sym c.of.ensures.disks)
+    c.into_disks-first.ensures
     (refusal_shown state given left c.in-Err.refused.error c.match-error.lines c.in-Err.ensures.refused printed)
