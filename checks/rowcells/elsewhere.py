@@ -31,6 +31,7 @@ CELLS = {
     "exit | run, serve: a buffer could not be written out": ["a_line_that_can_not_be_written", FAULTS],
     "exit | a read or write of the streams failed": [ENDINGS],
     "exit | out of memory": [ENDINGS, FAULTS],
+    "said at once | a call that failed": ["explained_faults.py"],
     "order of checks | a deferred error is reported, once": ["a_deferred_error_outlives_a_cartridge"],
     "fault | out of memory": ["faults_are_reported", FAULTS],
     "fault | device fault while all that is pending is stored": [STORES, FAULTS],

@@ -13,10 +13,11 @@ LINES = {
     "The cases of PREEMPT": [5], "When 2A/04 is established": [3], "READ KEYS and READ RESERVATION": [3],
     "Mode lists": [6, 3, 2], "Sense data": [6], "Unit attention conditions": [6],
     "Sense data in words": [28, 5], "Moves": [4, 5, 3],
-    "When a move puts the cartridge back": [2], "Scripts": [3, 5], "Frames": [8, 5, 9], "The command line": [8, 5],
-    "What created and kept mean": [2], "Exit status": [12], "The exit status at a damaged cartridge": [4],
+    "When a move puts the cartridge back": [2], "Scripts": [3, 5], "Frames": [8, 5, 9], "The command line": [9, 5],
+    "What created and kept mean": [2], "Exit status": [12], "The exit status at a damaged cartridge": [5],
     "The header": [9], "Which file counts": [2, 12, 8], "What a reclaim does": [5], "A cartridge's file": [6, 3],
     "A reservation store's file": [6, 5],
+    "The lines of an explanation": [3], "The lines of a check of a configuration": [4],
     "The lines of vtl check": [5, 4], "The lines of vtl reclaim": [3], "What an opening writes": [6],
 }
 NO_CELLS = {"Formats", "The standards' terms", "Our terms"}

@@ -51,6 +51,7 @@ def of_words():
     cells = [f"words | {what}" for what in (
         "run", "run --memory", "run --config FILE", "run --memory --config FILE", "run --config FILE --memory",
         "run --config=FILE", "create --config FILE", "create --config=FILE", "check FILE", "check -- FILE",
+        "check FILE --data", "check --config FILE", "check --config=FILE", "check --config FILE --data --explain",
         "reclaim --config FILE BARCODE", "reclaim --config=FILE", "reclaim -- BARCODE",
         "behind -- a word like an option is a file", "an empty name is a name", "--help", "-h", "--version",
         "-V",
@@ -66,7 +67,7 @@ def of_words():
         "run, a word too many",
         "create, a word too many", "check, a word too many", "check, a word too many behind --",
         "run, another option", "create, another option", "check, another option", "create, --memory", "check, --memory",
-        "check, --config", "run, a shortened name", "create, a shortened name", "run, a flag with a value",
+        "check, FILE and --config", "run, a shortened name", "create, a shortened name", "run, a flag with a value",
         "run, --config without its file", "serve, a word too many",
         "serve, --memory twice", "serve, --config without its file", "serve, a flag with a value",
         "serve, a shortened name", "serve, another option", "create, --config without its file",
@@ -139,6 +140,11 @@ def of_sides():
     cells += ["create | a second file is made", "create | a second file is there", "run | a second file is made"]
     cells += [f"damaged | {order} | {line}" for order in ("check", "run", "reclaim")
               for line in ("not a side", "damaged", "bad record")]
+    cells += [f"damaged | check --config | {line}" for line in ("not a side", "damaged", "bad record")]
+    cells += [f"check of a configuration | {what}" for what in (
+        "a file that is whole", "a file that is not read", "another name in the header", "another kind of side",
+        "the first that is not whole decides")]
+    cells += [f"said at once | {what}" for what in ("a cartridge at a start", "a store at a start", "a call that failed")]
     cells += ["damaged | run | a store's header", "damaged | run | a damaged store of reservations",
               "power | the cartridge in the drive is damaged: the drive is on, the medium unloaded",
               "sense | 11/00 | LOAD UNLOAD"]

@@ -45,7 +45,7 @@ class Walk(Folder):
             self.ends(run, 1, "vtl: command line refused", "the words ask for nothing", [])
         elif asked.kind == "help":
             self.ends(run, 0, None, "done")
-        elif asked.kind == "check":
+        elif asked.kind == "check" and asked.config is None:
             self.check(run, asked.file)
         elif asked.kind == "reclaim":
             self.reclaim(run, asked)
@@ -82,6 +82,51 @@ class Walk(Folder):
         for note in [*notes, f"a {side.kind} of {'no' if not side.frames else 'some'} frames"]:
             self.see(f"file | {note}")
         self.ends(run, 0, None, "done", side.lines(side.frames))
+
+    def check_all(self, run, config):
+        """Each cartridge and then each drive; the first that is not whole decides."""
+        said, ends = [], []
+        for kind, what in (("cartridge", "cartridge"), ("store", "drive")):
+            for entry in config[what]:
+                name = entry["file" if kind == "cartridge" else "reservations"]
+                label = entry["barcode"] if kind == "cartridge" else f"DRIVE{entry['number']}"
+                said.append(f"{label} {name}")
+                lines, end = self.checked(run, name, kind, label, len(said))
+                said += lines
+                ends.append(end)
+        wrong = [end for end in ends if end]
+        if len(set(wrong)) > 1:
+            self.see("check of a configuration | the first that is not whole decides")
+        if not wrong:
+            self.ends(run, 0, None, "done", said)
+        elif wrong[0] == 1:
+            self.ends(run, 1, None, "check: the file is neither", said)
+        else:
+            self.ends(run, 2, DEVICE, "a file is missing", said)
+
+    def checked(self, run, name, kind, label, at):
+        """The lines of a file in a check of a configuration, the first of which stands there in the output, and its
+        status."""
+        entry, second = self.pair(name)
+        if entry is None or FOLDER in (entry, second):
+            self.see("check of a configuration | a file that is not read")
+            return ["device fault"], 2
+        try:
+            side, _, which = sides.read_pair(entry, second)
+        except sides.Refused as why:
+            self.see(f"damaged | check --config | {why.line.partition(' at ')[0]}")
+            return [why.line], 1
+        frames = side.frames
+        if (entry, second)[which] is side:
+            found = re.search(rb" frames (\d+)", run.output[at][1] if at < len(run.output) else b"")
+            frames = int(found[1]) if found else 0
+        word = "cartridge" if kind == "cartridge" else "reservations"
+        if (side.kind, side.name) == (kind, label):
+            self.see("check of a configuration | a file that is whole")
+            return side.lines(frames), 0
+        what = "another name in the header" if side.kind == kind else "another kind of side"
+        self.see(f"check of a configuration | {what}")
+        return [*side.lines(frames), f"configured as {word} {label}"], 0 if side.kind == kind else 1
 
     def reclaim(self, run, asked):
         self.configured(run, asked)
@@ -138,7 +183,11 @@ class Walk(Folder):
             self.create(run, config, raw)
         elif asked.kind == "reclaim":
             self.reclaim_one(run, config, asked.file.decode())
+        elif asked.kind == "check":
+            self.check_all(run, config)
         else:
+            for said in run.says:
+                self.see(f"said at once | a {'store' if b', for reservations ' in said else 'cartridge'} at a start")
             self.opened(run, config, raw, asked.memory or raw is None)
 
     def create(self, run, config, raw):

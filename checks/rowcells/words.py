@@ -4,7 +4,8 @@ import tomllib
 
 WORDS = {b"run": {b"--memory": False, b"--config": True, b"--explain": False},
          b"serve": {b"--memory": False, b"--config": True, b"--explain": False},
-         b"create": {b"--config": True, b"--explain": False}, b"check": {b"--explain": False},
+         b"create": {b"--config": True, b"--explain": False}, b"check": {b"--config": True, b"--data": False,
+                                                                  b"--explain": False},
          b"reclaim": {b"--config": True, b"--explain": False}}
 # what stands behind these words
 NAMED = {b"check": "FILE", b"reclaim": "BARCODE"}
@@ -84,19 +85,21 @@ def options(word, rest):
         cells.append("words | an empty name is a name")
     if len(files) > (1 if word in NAMED else 0):
         return refused(f"{name}, a word too many" + ("" if is_open else " behind --"))
-    if word == b"check" and not files:
+    if word == b"check" and not files and b"--config" not in found:
         return refused("check without a file")
+    if word == b"check" and files and b"--config" in found:
+        return refused("check, FILE and --config")
     if word in (b"create", b"reclaim") and b"--config" not in found:
         return refused(f"{name} without --config")
     if word == b"reclaim" and not files:
         return refused("reclaim without a barcode")
     if word == b"reclaim" and not BARCODE.fullmatch(files[0].decode(errors="replace")):
         return refused("reclaim, what is no barcode")
-    if word == b"check" and files[0].startswith(b"-"):
+    if word == b"check" and files and files[0].startswith(b"-"):
         cells.append("words | behind -- a word like an option is a file")
     names = " ".join([name, *(["--memory"] if b"--memory" in found else []),
                       *(["--config FILE"] if b"--config" in found else []), *([NAMED[word]] if files else []),
-                      *(["--explain"] if b"--explain" in found else [])])
+                      *(["--data"] if b"--data" in found else []), *(["--explain"] if b"--explain" in found else [])])
     if list(found) == [b"--config", b"--memory"]:
         cells.append("words | run --config FILE --memory")
     return Words(name, [*cells, f"words | {names}"], found.get(b"--config"), b"--memory" in found,

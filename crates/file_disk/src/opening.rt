@@ -165,9 +165,7 @@ pub fn no_file() -> FileDisk
 // no missing file: `open_or_create`, which would make that, refuses the link too.
 fn not_found(rt: &HostRuntime, path: &str, access: Access, error: &io::Error) -> FileError {
     match error_of(SystemCall::Look, error) {
-        FileError::Missing
-            if access == Access::Read && fs::symlink_metadata(rt, path).is_ok() =>
-        {
+        FileError::Missing if access == Access::Read && fs::symlink_metadata(rt, path).is_ok() => {
             FileError::NotAFile
         }
         other => other,

@@ -107,12 +107,22 @@ fn a_disk_that_fails(rt: HostRuntime) -> Result<(), Fail> {
         for calls in 0..20 {
             let disk = MemDisk::from_bytes(alloc, side)?;
             let second = FuseDisk::new(MemDisk::new(alloc), u64::MAX);
-            let stopped = check_side(alloc, FuseDisk::new(disk, calls), second, None::<&Unreported>);
+            let stopped = check_side(
+                alloc,
+                FuseDisk::new(disk, calls),
+                second,
+                None::<&Unreported>,
+            );
             assert_equal!(rt; stopped.first.inner().bytes(), *side);
             assert_fails_before(&rt, stopped.lines, wanted, calls >= *needed);
             let disk = MemDisk::from_bytes(alloc, side)?;
             let second = OnceDisk::new(MemDisk::new(alloc), u64::MAX);
-            let failed = check_side(alloc, OnceDisk::new(disk, calls), second, None::<&Unreported>);
+            let failed = check_side(
+                alloc,
+                OnceDisk::new(disk, calls),
+                second,
+                None::<&Unreported>,
+            );
             assert_equal!(rt; failed.first.inner().bytes(), *side);
             assert_fails_before(&rt, failed.lines, wanted, calls >= *needed);
         }

@@ -9,7 +9,7 @@ use Rattle.tape_disk.specs.Disk.{DiskState}
 use Rattle.file_disk.specs.declared.error.FileError.{FileError}
 use Rattle.vtl_script.specs.Text.{AppendsPart}
 use Rattle.vtl_files.specs.Checks.{GivesLines}
-use Rattle.vtl_files.specs.ConfigChecks.{AreChecked, AreCutShort, ChecksAll, ChecksConfig, ChecksNamed, IsChecked, end_for, first_end, name_line, report_of, word_of}
+use Rattle.vtl_files.specs.ConfigChecks.{AreChecked, AreCutShort, ChecksAll, ChecksConfig, ChecksNamed, IsChecked, end_for, first_end, name_line, check_report, word_of}
 use Rattle.vtl_files.specs.Creating.{SideFile, label_of, path_of}
 use Rattle.vtl_faults.specs.declared.faults.Verdict.{Verdict}
 use Rattle.vtl_faults.specs.declared.faults.Verdict.TheVariants.{Done, Refused}
@@ -177,7 +177,7 @@ module _ {D : Type 0} (state : D → DiskState) (opens : List ℕ → Result D F
     only_name before now written = (name, (inr refl, inl (rw (← named) (take-length name))), written)
 
     module _ (lines : Result (List ℕ) VtlFault) (gives : GivesLines state opens closes path lines)
-        (report : List ℕ) (reported : report ≡ report_of word label lines) where
+        (report : List ℕ) (reported : report ≡ check_report word label lines) where
       checked : IsChecked state opens closes word label path (name ++ report) (end_for word lines)
       checked = (lines, gives, rw (named, reported) refl, refl)
 

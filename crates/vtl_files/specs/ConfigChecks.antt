@@ -12,10 +12,11 @@ use Rattle.vtl_faults.specs.declared.faults.Verdict.TheVariants.{Done, Refused}
 use Rattle.vtl_faults.specs.declared.faults.VtlFault.{VtlFault}
 use Rattle.vtl_faults.specs.declared.faults.VtlFault.TheVariants.{Device, NoMemory}
 
--- the words with which the lines of a cartridge and of a store begin (own)
+-- the word with which the lines of a cartridge begin (own)
 abbrev pub cartridge_word : List ℕ
 cartridge_word = codes "cartridge "
 
+-- the word with which the line of a store begins (own)
 abbrev pub store_word : List ℕ
 store_word = codes "reservations "
 
@@ -42,11 +43,11 @@ configured_line word label = codes "configured as " ++ word ++ label ++ 10 ∷ [
 
 -- What is written of a file behind its name: its lines, and what it is in the configuration where they are of another
 -- side; or which fault came (own).
-abbrev pub report_of : (word label : List ℕ) → Result (List ℕ) VtlFault → List ℕ
-report_of word label (Ok lines) =
+abbrev pub check_report : (word label : List ℕ) → Result (List ℕ) VtlFault → List ℕ
+check_report word label (Ok lines) =
     if is_other word label lines then lines ++ configured_line word label else lines
-report_of word label (Err NoMemory) = codes "out of memory" ++ 10 ∷ []
-report_of word label (Err _) = codes "device fault" ++ 10 ∷ []
+check_report word label (Err NoMemory) = codes "out of memory" ++ 10 ∷ []
+check_report word label (Err _) = codes "device fault" ++ 10 ∷ []
 
 -- how the check of a file ends: it is done where the lines say what a side of this kind holds (own)
 abbrev pub end_for : List ℕ → Result (List ℕ) VtlFault → Result Verdict VtlFault
@@ -65,7 +66,7 @@ module _ {D : Type 0} (state : D → DiskState) (opens_to_read : List ℕ → Re
   abbrev pub IsChecked : (word label path : List ℕ) → (text : List ℕ) → Result Verdict VtlFault → Type 0
   IsChecked word label path text end =
       (lines : Result (List ℕ) VtlFault) × GivesLines state opens_to_read closes path lines
-      × (text ≡ name_line label path ++ report_of word label lines) × (end ≡ end_for word lines)
+      × (text ≡ name_line label path ++ check_report word label lines) × (end ≡ end_for word lines)
 
   -- of a file no more is written, since the writer failed or memory ran out for a line: a beginning of what was to be
   -- written of it (own)

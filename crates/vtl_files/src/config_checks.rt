@@ -1,7 +1,7 @@
 //! Reports what the files of a configuration hold.
 ghost use Rattle.std.specs.Prelude.{◌≡◌, ◌∷◌, ◌++◌, [], IfOk, OnOk, map};
 ghost use Rattle.vtl_files.specs.Creating.{CartridgeFile, StoreFile, files_of};
-ghost use Rattle.vtl_files.specs.ConfigChecks.{ChecksAll, ChecksConfig, ChecksNamed, configured_line, end_for, expected_start, first_end, is_other, name_line, report_of};
+ghost use Rattle.vtl_files.specs.ConfigChecks.{ChecksAll, ChecksConfig, ChecksNamed, configured_line, end_for, expected_start, first_end, is_other, name_line, check_report};
 
 use crate::creating::label_of;
 use crate::files::ReadFiles;
@@ -49,12 +49,7 @@ fn expected_text(alloc: Global, word: &[u8], label: &[u8]) -> Result<Vec<u8>, Al
 
 /// Whether lines say what a side holds, and it is another side than the one that the configuration names: they begin
 /// with another word than this one, or have another name than this label behind it.
-pub fn is_other(
-    alloc: Global,
-    word: &[u8],
-    label: &[u8],
-    lines: &[u8],
-) -> Result<bool, AllocError>
+pub fn is_other(alloc: Global, word: &[u8], label: &[u8], lines: &[u8]) -> Result<bool, AllocError>
     ensures { IfOk result (λ other. other ≡ is_other word.now label.now lines.now) }
 {
     let expected = expected_text(alloc, word, label)?;
@@ -77,13 +72,13 @@ fn add_configured(text: &mut Vec<u8>, word: &[u8], label: &[u8]) -> Result<(), A
 
 // What is written of a file behind its name: its lines, with one more where they are those of another side than the
 // configuration names; or which fault came.
-fn report_of(
+fn check_report(
     alloc: Global,
     word: &[u8],
     label: &[u8],
     lines: &Result<Bytes, VtlFault>,
 ) -> Result<Vec<u8>, AllocError>
-    ensures { IfOk result (λ text. text.items ≡ report_of word.now label.now lines.now) }
+    ensures { IfOk result (λ text. text.items ≡ check_report word.now label.now lines.now) }
 {
     let lines = match lines {
         Ok(lines) => lines.as_slice(),
@@ -143,7 +138,7 @@ fn check_file<D: Disk, F: ReadFiles<D> + ReportsRead, W: Write>(
         return Err(fault);
     }
     let lines = lines_of::<D, F>(alloc, files, path, true);
-    let Ok(report) = report_of(alloc, word, label, &lines) else {
+    let Ok(report) = check_report(alloc, word, label, &lines) else {
         return Err(VtlFault::NoMemory);
     };
     match print_text(writer, report.as_slice()) {

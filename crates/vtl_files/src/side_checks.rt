@@ -84,7 +84,12 @@ pub fn lines_of<D: Disk, F: ReadFiles<D> + ReportsRead>(
         lines,
         first,
         second,
-    } = check_side(alloc, first, second, if blocks { Some(files) } else { None });
+    } = check_side(
+        alloc,
+        first,
+        second,
+        if blocks { Some(files) } else { None },
+    );
     files.close(name, first);
     files.close(second_name.as_str(), second);
     lines

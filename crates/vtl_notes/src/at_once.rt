@@ -41,7 +41,10 @@ impl<'a> AtOnce<'a> {
             return None;
         }
         let name = String::from_str(self.rt.alloc(), name).ok()?;
-        Some(FileLines { at_once: *self, name })
+        Some(FileLines {
+            at_once: *self,
+            name,
+        })
     }
 }
 

@@ -68,13 +68,7 @@ pub fn wrong_text(
 
 /// Looks at the file of this name, and its second file, and reports at once what is wrong with them, as `wrong_text` says
 /// it. Nothing is reported of files that cannot be read: whoever opens them then finds that. No file is changed.
-pub fn report_side(
-    rt: &HostRuntime,
-    at_once: AtOnce<'_>,
-    word: &[u8],
-    label: &[u8],
-    path: &str,
-) {
+pub fn report_side(rt: &HostRuntime, at_once: AtOnce<'_>, word: &[u8], label: &[u8], path: &str) {
     if !at_once.is_on() {
         return;
     }

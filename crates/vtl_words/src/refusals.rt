@@ -142,7 +142,11 @@ impl WordsReason {
                 lines.add(alloc, allowed.as_str())?;
                 lines.add(alloc, "to do: take a barcode of the configuration")
             }
-            WordsReason::TwoFiles => add_check(alloc, "refused: FILE together with --config", lines),
+            WordsReason::TwoFiles => add_check(
+                alloc,
+                "refused: FILE together with --config",
+                lines,
+            ),
             WordsReason::NoFile => add_check(alloc, "refused: check without a file", lines),
         }
     }
@@ -152,7 +156,10 @@ impl WordsReason {
 fn add_check(alloc: Global, refused: &str, lines: &mut Explanation) -> Result<(), AllocError> {
     lines.add(alloc, refused)?;
     lines.add(alloc, "allowed: one of FILE and --config FILE")?;
-    lines.add(alloc, "to do: name a file, or the configuration of which all is to be checked")
+    lines.add(
+        alloc,
+        "to do: name a file, or the configuration of which all is to be checked",
+    )
 }
 
 // Adds the lines of the parser's text that are not empty.

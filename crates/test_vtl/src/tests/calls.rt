@@ -113,11 +113,14 @@ pub fn assert_rows<R: Abort + Threads + Wait + Clock + Sync>(
 
 const RUN: &str = "vtl run --config c";
 
-const THREE: &str = "read c;report t;open t;second t.2;report u;open u;second u.2;report 1;open 1;give up;";
+const THREE: &str =
+    "read c;report t;open t;second t.2;report u;open u;second u.2;report 1;open 1;give up;";
 
-const FOUR: &str = "read c;report t;open t;second t.2;report u;open u;second u.2;report 1;open 1;report 2;open 2;give up;";
+const FOUR: &str =
+    "read c;report t;open t;second t.2;report u;open u;second u.2;report 1;open 1;report 2;open 2;give up;";
 
-const ALL: &str = "read c;report t;open t;second t.2;report u;open u;second u.2;report 1;open 1;report 2;open 2;close all;";
+const ALL: &str =
+    "read c;report t;open t;second t.2;report u;open u;second u.2;report 1;open 1;report 2;open 2;close all;";
 
 static RUNS: &'static [Row<'static>] = &[
     (Failing::Nothing, RUN, ALL, "", DONE),
@@ -241,13 +244,16 @@ fn a_check_opens_both_files_to_read(rt: HostRuntime) -> Result<(), Fail> {
 
 const CHECK_ALL: &str = "vtl check --config c";
 
-const CHECKED_ALL: &str = "read c;look t;look t.2;close t;close t.2;look u;look u.2;close u;close u.2;\
+const CHECKED_ALL: &str =
+    "read c;look t;look t.2;close t;close t.2;look u;look u.2;close u;close u.2;\
     look 1;look 1.2;close 1;close 1.2;look 2;look 2.2;close 2;close 2.2;";
 
-const FIRST: &str = "T00001L6 t\ncartridge T00001L6 partitions 1 frames 0\npartition 0 objects 0 used 0\n";
+const FIRST: &str =
+    "T00001L6 t\ncartridge T00001L6 partitions 1 frames 0\npartition 0 objects 0 used 0\n";
 
 // The file of the second cartridge and that of the second drive are copies of the first ones.
-const BEHIND: &str = "T00002L6 u\ncartridge T00001L6 partitions 1 frames 0\npartition 0 objects 0 used 0\n\
+const BEHIND: &str =
+    "T00002L6 u\ncartridge T00001L6 partitions 1 frames 0\npartition 0 objects 0 used 0\n\
     configured as cartridge T00002L6\n\
     DRIVE1 1\nreservations DRIVE1 frames 0 registrations 0\n\
     DRIVE2 2\nreservations DRIVE1 frames 0 registrations 0\nconfigured as reservations DRIVE2\n";
@@ -259,7 +265,13 @@ type ConfigRow<'a> = (Failing, &'a str, &'a str, &'a str, (&'a str, u8));
 static CONFIG_CHECKS: &'static [ConfigRow<'static>] = &[
     (Failing::Nothing, CHECKED_ALL, FIRST, BEHIND, DONE),
     // No configuration.
-    (Failing::Call(1, FileError::Missing), "read c;", "", "", FAILED),
+    (
+        Failing::Call(1, FileError::Missing),
+        "read c;",
+        "",
+        "",
+        FAILED,
+    ),
     (Failing::Memory, "read c;", "", "", NO_MEMORY),
     // The first cartridge is in use, or its second file; or a call of its disk fails; or it is damaged, or no side.
     (
@@ -301,7 +313,12 @@ fn a_check_of_a_configuration_opens_each_file(rt: HostRuntime) -> Result<(), Fai
     let alloc = rt.alloc();
     for (at, &(failing, calls, first, behind, end)) in CONFIG_CHECKS.iter().enumerate() {
         let text = format!(in alloc; "{first}{behind}")?;
-        assert_row(&rt, alloc, (failing, CHECK_ALL, calls, text.as_str(), end), at)?;
+        assert_row(
+            &rt,
+            alloc,
+            (failing, CHECK_ALL, calls, text.as_str(), end),
+            at,
+        )?;
     }
     Ok(())
 }
