@@ -11,6 +11,7 @@ use std::{env, fs};
 use tape_disk::{Disk, MemDisk, OnceDisk};
 use test_assertions::assert_equal;
 use vtl_base::DevFault;
+use vtl_notes::at_once::failed_text;
 use vtl_notes::notes::Notes;
 use vtl_notes::open_files::{NotedDisk, OpenFiles, SaysFailed};
 
@@ -295,5 +296,43 @@ fn a_file_of_the_system_says_what_it_was_answered(rt: HostRuntime) -> Result<(),
     fs::write(&rt, path.as_str(), b"abcd")?;
     of_the_system(&rt, &rt, path.as_str())?;
     fs::remove_file(&rt, path.as_str())?;
+    Ok(())
+}
+
+// A call that failed, the byte that it was for, and the text of its line.
+static SAID: &'static [(FailedCall, Option<u64>, &'static str)] = &[
+    (
+        FULL,
+        Some(4096),
+        "failed: write at 4096 (the file system is full), of the file t1.tape",
+    ),
+    (
+        FailedCall {
+            call: SystemCall::ReadAt,
+            kind: ErrorKind::UnexpectedEof,
+            number: None,
+        },
+        Some(0),
+        "failed: read at 0 (the file has ended before all bytes were read), of the file t1.tape",
+    ),
+    (
+        SYNC,
+        None,
+        "failed: sync (Input/output error (os error 5)), of the file t1.tape",
+    ),
+    // A sync that writes bytes again knows no byte of the caller.
+    (
+        FULL,
+        None,
+        "failed: write at (the file system is full), of the file t1.tape",
+    ),
+];
+
+#[test]
+fn a_call_that_failed_is_said(rt: HostRuntime) -> Result<(), Fail> {
+    for &(failed, at, wanted) in SAID {
+        let text = failed_text(rt.alloc(), "t1.tape", failed, at)?;
+        assert_equal!(rt; text.as_str(), wanted);
+    }
     Ok(())
 }
