@@ -29,3 +29,5 @@ mod samples;
 mod side_tests;
 #[cfg(test)]
 mod stop_tests;
+#[cfg(test)]
+mod tail_tests;
