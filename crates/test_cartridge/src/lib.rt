@@ -4,6 +4,8 @@
 #[cfg(test)]
 mod asserted;
 #[cfg(test)]
+mod behind_tests;
+#[cfg(test)]
 mod block_tests;
 #[cfg(test)]
 mod journal_frames;
