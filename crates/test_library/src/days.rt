@@ -122,7 +122,8 @@ fn spend_over<
     requires host_ledger { IsBlankOf host_ledger H.name H.parts H.all × (H.all ≡ length hosts.now) }
 {
     match Library::<D, B, H>::new(alloc, bays, rings, slots, hosts, bay_ledger, host_ledger) {
-        Ok((library, seats)) => {
+        Ok((library, seats, operator)) => {
+            assert_equal!(rt; operator.moved(), 0);
             let mut seats = seats;
             all_play(rt, alloc, &library, stage, day.hosts, seats.as_mut_slice());
             have_amounts(rt, seats.as_slice(), day.amounts);
