@@ -48,11 +48,29 @@ impl<D: Disk + Drop, B: Parties + Rings, H: Parties> Library<D, B, H> {
         if from < to {
             let source = lock_both(source, rt);
             let destination = lock_both(destination, rt);
-            move_locked(source, destination, rt, self.alloc, &mut slots, mover, from, to)
+            move_locked(
+                source,
+                destination,
+                rt,
+                self.alloc,
+                &mut slots,
+                mover,
+                from,
+                to,
+            )
         } else {
             let destination = lock_both(destination, rt);
             let source = lock_both(source, rt);
-            move_locked(source, destination, rt, self.alloc, &mut slots, mover, from, to)
+            move_locked(
+                source,
+                destination,
+                rt,
+                self.alloc,
+                &mut slots,
+                mover,
+                from,
+                to,
+            )
         }
     }
 

@@ -39,7 +39,10 @@ fn is_refusal(reply: &Reply) -> bool
 fn is_write_error(sense: Sense) -> bool
     ensures { result ≡ false → IsWriteError sense → ⊥ }
 {
-    sense.key == SenseKey::MediumError && sense.code == 0x0c && sense.qualifier == 0 && !sense.deferred
+    sense.key == SenseKey::MediumError
+        && sense.code == 0x0c
+        && sense.qualifier == 0
+        && !sense.deferred
 }
 
 // Whether the reply to a command shows that no change was made. After a write error it does not.
