@@ -1,5 +1,5 @@
 //! The change that a drive accepted with a command is entered in the ledgers.
-ghost use Rattle.std.specs.Prelude.{◌≡◌, ◌≢◌, ◌+◌, ⊥, true, false, IfSome};
+ghost use Rattle.std.specs.Prelude.{◌≡◌, ◌≢◌, ◌+◌, true, false, IfSome};
 ghost use Rattle.drive_commands.specs.ShownChanges.{IsWriteError, ShowsWriteError, changes_medium};
 ghost use Rattle.drive_commands.specs.Synchronize.{Acknowledges};
 ghost use Rattle.library.specs.Inner.Entering.{CanEnter, ShowsNone};
