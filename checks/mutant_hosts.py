@@ -167,14 +167,14 @@ EDITS = [
     ("a closed library leaves its flushers asleep", "library", "src/libraries.rt", "                bay.ring(rt);\n",
      "                let _ = bay;\n", ["a_flusher_rests_until_a_change_is_accepted"]),
     ("the ledgers are locked while a drive carries a command out", "library", "src/places/answers.rt",
-     "    let before = count_below_limit(rt, &front);\n"
+     "    let before = front.accepted();\n"
      "    let (reply, front, back) = execute_both(front, back, seat.nexus(), cdb, sent);\n"
-     "    let after = front.accepted();\n    seat.count_answer(rt);\n"
+     "    let after = front.accepted();\n    wait_at_limit(rt, before, cdb, &reply);\n    seat.count_answer(rt);\n"
      "    enter_if_risen(rt, tally, share, seat, before, after);\n",
-     "    let mut held = tally.lock(rt);\n    let before = count_below_limit(rt, &front);\n"
+     "    let mut held = tally.lock(rt);\n    let before = front.accepted();\n"
      "    let (reply, front, back) = execute_both(front, back, seat.nexus(), cdb, sent);\n"
-     "    let after = front.accepted();\n    seat.count_answer(rt);\n"
-     "    if before != after {\n        held.enter(rt, share, seat);\n    }\n",
+     "    let after = front.accepted();\n    wait_at_limit(rt, before, cdb, &reply);\n    seat.count_answer(rt);\n"
+     "    if before != after {\n        seat.enter(rt, &mut held, share);\n    }\n",
      ["a_change_is_entered_while_another_drive_stores", "sixteen_hosts_of_a_phase_meet"]),
     ("the bytes that a host is given are changed", "library", "src/libraries.rt",
      "            Some(bay) => bay.serve(rt, &self.tally, seat, cdb, sent),\n",
