@@ -9,7 +9,7 @@ use crate::replies::{
 };
 use crate::samples::shelved;
 use crate::stages::Stage;
-use library::{Element, Inventory, Library, Parties, Rings, Seat};
+use library::{Element, Inventory, Library, Operator, Parties, Rings, Seat};
 use scsi_sense::Status;
 use std::alloc::Global;
 use std::process::Abort;
@@ -57,6 +57,18 @@ pub fn moves<D: Disk + Drop, B: Parties + Rings, H: Parties, R: Wait + Abort>(
         let moved = before.0.saturating_add(at as u64).saturating_add(1);
         assert_equal!(rt; (seat.moved(), seat.answered()), (moved, before.1); at);
     }
+}
+
+/// The operator has made no move; then a move of it is refused, and it has made one.
+pub fn counts_moves<D: Disk + Drop, B: Parties + Rings, H: Parties, R: Wait + Abort>(
+    rt: &R,
+    library: &Library<D, B, H>,
+    operator: Operator<H>,
+) {
+    let mut operator = operator;
+    assert_equal!(rt; operator.moved(), 0);
+    is_answer(rt, &library.move_medium(rt, &mut operator, 1001, 1300), NO_ADDRESS, 0);
+    assert_equal!(rt; operator.moved(), 1);
 }
 
 // Moves to and fro: each succeeds or not, depending on the other threads.

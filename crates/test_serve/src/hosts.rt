@@ -12,7 +12,7 @@ use crate::samples::row;
 use bay_moves::{Bay, Parked};
 use element_slots::Slots;
 use ledgers::Parties;
-use library::{Library, RingRow, Rings};
+use library::{Library, RingRow, Rings, Seat};
 use std::alloc::Global;
 use std::marker::Brand;
 use std::process::Abort;

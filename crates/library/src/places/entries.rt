@@ -1,6 +1,6 @@
 //! The change that a drive accepted with a command is entered in the ledgers.
 ghost use Rattle.std.specs.Prelude.{◌≡◌, ◌≢◌, ◌+◌, true, false, IfSome};
-ghost use Rattle.drive_commands.specs.ShownChanges.{IsWriteError, ShowsWriteError, changes_medium};
+ghost use Rattle.drive_commands.specs.ShownChanges.{IsChanging, IsWriteError, ShowsWriteError, changes_medium};
 ghost use Rattle.drive_commands.specs.Synchronize.{Acknowledges};
 ghost use Rattle.library.specs.Inner.Entering.{CanEnter, ShowsNone};
 
@@ -45,14 +45,24 @@ fn is_write_error(sense: Sense) -> bool
         && !sense.deferred
 }
 
+// Whether this is the block of a command that changes the medium.
+fn is_changing(cdb: &[u8]) -> bool
+    ensures { result ≡ false → IsChanging cdb.now → ⊥ }
+{
+    match Cdb::decode(cdb) {
+        Ok(command) => changes_medium(command),
+        Err(_) => false,
+    }
+}
+
 // Whether the reply to a command shows that no change was made. After a write error it does not.
 fn shows_none(cdb: &[u8], reply: &Reply) -> bool
     ensures { result ≡ true → ShowsNone cdb.now reply.now }
 {
-    match Cdb::decode(cdb) {
-        Ok(command) => !changes_medium(command) || is_refusal(reply),
-        Err(_) => true,
+    if is_changing(cdb) {
+        return is_refusal(reply);
     }
+    true
 }
 
 // Waits forever where a change may have been made by a drive that had counted 2^64 - 1 already: its share could not
