@@ -2,7 +2,7 @@
 ghost use Rattle.std.specs.Prelude.{◌≡◌, ◌≢◌, ◌<◌, None, Some};
 ghost use Rattle.std.specs.IoError.{error_kind};
 ghost use Rattle.file_disk.specs.FailedCall.{failed_by, none_moved};
-ghost use Rattle.file_disk.specs.FileDisk.{system_failed, system_file};
+ghost use Rattle.file_disk.specs.FileDisk.{system_failed, system_file, system_locked};
 
 use crate::failed::{FailedCall, SystemCall};
 use crate::raw::{CallFailed, RawFile, Stop};
@@ -16,6 +16,7 @@ use std::os::unix::fs::FileExt;
 pub struct SystemFile {
     file: Option<File>,
     failed: Option<FailedCall>,
+    is_locked: bool,
 }
 
 // What an error of the system means for a call that moves bytes.
@@ -40,9 +41,19 @@ impl SystemFile {
         ensures file { system_file result ≡ Some file }
         ensures failed { system_failed result ≡ None }
     {
+        SystemFile::over_locked(file, false)
+    }
+
+    // The same, of a file for which a lock was asked. `is_locked` is false where its file system has none.
+    pub(crate) fn over_locked(file: File, is_locked: bool) -> SystemFile
+        ensures file { system_file result ≡ Some file }
+        ensures failed { system_failed result ≡ None }
+        ensures locked { system_locked result ≡ is_locked }
+    {
         SystemFile {
             file: Some(file),
             failed: None,
+            is_locked,
         }
     }
 
@@ -55,7 +66,16 @@ impl SystemFile {
         SystemFile {
             file: None,
             failed: None,
+            is_locked: false,
         }
+    }
+
+    /// Whether this process holds the lock of the file. False where the file's file system has no locks, for a file
+    /// that somebody else opened (`over`), and without a file (`none`).
+    pub fn is_locked(&self) -> bool
+        ensures { result ≡ system_locked self.now }
+    {
+        self.is_locked
     }
 
     /// The call that failed last, and what the system answered; None where none failed. A read or a write that should
