@@ -15,9 +15,9 @@ system_file file = file.file
 abbrev pub system_failed : SystemFile → Option FailedCall
 system_failed file = file.failed
 
--- whether this process holds the lock of the file (own)
-abbrev pub system_locked : SystemFile → Bool
-system_locked file = file.is_locked
+-- a lock was asked for the file, and its file system has none (own)
+abbrev pub lacks_locks : SystemFile → Bool
+lacks_locks file = file.lacks_locks
 
 -- the state of a disk over a file of the system, of which no proof knows whether it is honest (own)
 abbrev pub file_state : OpenFile SystemFile → DiskState

@@ -1,8 +1,8 @@
 //! A file of the operating system, and the calls of the system for it.
-ghost use Rattle.std.specs.Prelude.{◌≡◌, ◌≢◌, ◌<◌, None, Some};
+ghost use Rattle.std.specs.Prelude.{◌≡◌, ◌≢◌, ◌<◌, None, Some, not};
 ghost use Rattle.std.specs.IoError.{error_kind};
 ghost use Rattle.file_disk.specs.FailedCall.{failed_by, none_moved};
-ghost use Rattle.file_disk.specs.FileDisk.{system_failed, system_file, system_locked};
+ghost use Rattle.file_disk.specs.FileDisk.{lacks_locks, system_failed, system_file};
 
 use crate::failed::{FailedCall, SystemCall};
 use crate::raw::{CallFailed, RawFile, Stop};
@@ -16,7 +16,7 @@ use std::os::unix::fs::FileExt;
 pub struct SystemFile {
     file: Option<File>,
     failed: Option<FailedCall>,
-    is_locked: bool,
+    lacks_locks: bool,
 }
 
 // What an error of the system means for a call that moves bytes.
@@ -41,19 +41,19 @@ impl SystemFile {
         ensures file { system_file result ≡ Some file }
         ensures failed { system_failed result ≡ None }
     {
-        SystemFile::over_locked(file, false)
+        SystemFile::over_locked(file, true)
     }
 
-    // The same, of a file for which a lock was asked. `is_locked` is false where its file system has none.
+    // The same, of a file for which a lock was asked. `is_locked` is false where its file system has no locks.
     pub(crate) fn over_locked(file: File, is_locked: bool) -> SystemFile
         ensures file { system_file result ≡ Some file }
         ensures failed { system_failed result ≡ None }
-        ensures locked { system_locked result ≡ is_locked }
+        ensures locked { lacks_locks result ≡ not is_locked }
     {
         SystemFile {
             file: Some(file),
             failed: None,
-            is_locked,
+            lacks_locks: !is_locked,
         }
     }
 
@@ -66,16 +66,16 @@ impl SystemFile {
         SystemFile {
             file: None,
             failed: None,
-            is_locked: false,
+            lacks_locks: false,
         }
     }
 
-    /// Whether this process holds the lock of the file. False where the file's file system has no locks, for a file
-    /// that somebody else opened (`over`), and without a file (`none`).
-    pub fn is_locked(&self) -> bool
-        ensures { result ≡ system_locked self.now }
+    /// Whether a lock was asked for the file, and its file system has none, so that the file is open without one. False
+    /// for a file that somebody else opened (`over`), and without a file (`none`).
+    pub fn lacks_locks(&self) -> bool
+        ensures { result ≡ lacks_locks self.now }
     {
-        self.is_locked
+        self.lacks_locks
     }
 
     /// The call that failed last, and what the system answered; None where none failed. A read or a write that should
