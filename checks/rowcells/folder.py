@@ -70,7 +70,10 @@ class Folder:
         second = self.find(name + ".2") if what == "cartridge" else None
         if second is FOLDER:
             return None, "a folder"
-        if what == "cartridge" and second is None:
+        if what == "cartridge" and second is None and is_paired(entry):
+            self.see("run | a second file behind an open pair gate is missing")
+            second = b""
+        elif what == "cartridge" and second is None:
             self.see("run | a second file is made")
             self.folder[at + b".2"] = second = b""
         is_second = False
@@ -105,6 +108,11 @@ class Folder:
             self.folder[name] = first[:9] + b"\xa5" + first[10:]
         else:
             first.is_paired = True
+
+
+def is_paired(entry):
+    """Whether the first file of a cartridge has an open pair gate."""
+    return entry.is_paired if isinstance(entry, sides.Side) else entry[9:10] == b"\xa5"
 
 
 def is_possible(name):
