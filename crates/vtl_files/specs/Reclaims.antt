@@ -157,9 +157,7 @@ module _ (looks : List ℕ → Result FileLook FileError → Type 0) (pairs : Li
   SeesPair (Some paired) = MayOpen paired
   SeesPair None = IsKeptBack
 
-module _ {D : Type 0} (state : D → DiskState) (looks : List ℕ → Result FileLook FileError → Type 0)
-    (pairs : List ℕ → Result Bool FileError → Type 0) (opens : List ℕ → Result D FileError → Type 0)
-    (opens_second : Bool → List ℕ → Result D FileError → Type 0)
+module _ {D : Type 0} (state : D → DiskState) (opens_second : Bool → List ℕ → Result D FileError → Type 0)
     (returns_disk closes_second : List ℕ → D → Type 0) (barcode : List ℕ) where
   module _ (file : List ℕ) (first : D) (second_file : List ℕ) (paired : Bool) where
     -- the second file of a cartridge was opened beside the first one, and both were reclaimed under this name; their
@@ -181,6 +179,10 @@ module _ {D : Type 0} (state : D → DiskState) (looks : List ℕ → Result Fil
         ⊎ ((result ≡ Err Device) × Known.Keeps before now × returns_disk file first
         × ((error : FileError) × opens_second paired second_file (Err error)))
 
+module _ {D : Type 0} (state : D → DiskState) (looks : List ℕ → Result FileLook FileError → Type 0)
+    (pairs : List ℕ → Result Bool FileError → Type 0) (opens : List ℕ → Result D FileError → Type 0)
+    (opens_second : Bool → List ℕ → Result D FileError → Type 0)
+    (returns_disk closes_second : List ℕ → D → Type 0) (barcode : List ℕ) where
   -- a cartridge is not reclaimed, since its second file is somebody else's: that is not opened, the first one's disk
   -- was returned as it was opened, and the line says so (own)
   abbrev pub ReclaimsNone : CartridgeEntry → (first : D) → (before now : Option (List ℕ)) → Result Verdict VtlFault
@@ -195,7 +197,8 @@ module _ {D : Type 0} (state : D → DiskState) (looks : List ℕ → Result Fil
       → Type 0
   ReclaimsOver entry first before now result =
       ((paired : Bool) × MayOpen looks pairs entry.file entry.second_file paired
-      × ReclaimsOpened entry.file first entry.second_file paired before now result)
+      × ReclaimsOpened state opens_second returns_disk closes_second barcode entry.file first entry.second_file paired
+      before now result)
       ⊎ (ReclaimsNone entry first before now result
       ⊎ ((result ≡ Err Device) × Known.Keeps before now × returns_disk entry.file first
       × IsUnseen looks pairs entry.file entry.second_file))

@@ -1,11 +1,12 @@
 //! Reads the configuration in a file.
 ghost use Rattle.std.specs.Prelude.{◌≡◌, IfOk, IfErr};
+ghost use Rattle.std.specs.List.{list_any};
 ghost use Rattle.vtl_config.specs.Configs.{Says};
 ghost use Rattle.vtl_files.specs.Configured.{IsNoConfig, ReadsConfig, ReadsToOpen, has_nul, names_nul};
 
 use crate::files::TextFiles;
 use std::alloc::Global;
-use vtl_config::{Config, ConfigError, FileName, read_config};
+use vtl_config::{CartridgeEntry, Config, ConfigError, DriveEntry, FileName, read_config};
 use vtl_faults::faults::VtlFault;
 
 /// Returns the configuration that a text spells, as `read_config` does. Errors: `Config` where the text is refused,
@@ -39,12 +40,25 @@ pub fn has_nul(name: &FileName) -> bool
     name.as_str().as_bytes().contains(&0)
 }
 
+// Whether the name of one of these cartridges has a NUL.
+fn cartridges_nul(entries: &[CartridgeEntry]) -> bool
+    ensures { result ≡ list_any (λ entry. has_nul entry.file) entries.now }
+{
+    entries.iter().any(|entry| has_nul(&entry.file))
+}
+
+// Whether a name of the reservations of these drives has a NUL.
+fn drives_nul(entries: &[DriveEntry]) -> bool
+    ensures { result ≡ list_any (λ entry. has_nul entry.reservations) entries.now }
+{
+    entries.iter().any(|entry| has_nul(&entry.reservations))
+}
+
 // Whether one of the names of a configuration has a NUL.
 fn names_nul(config: &Config) -> bool
     ensures { result ≡ names_nul config.now }
 {
-    config.cartridges.iter().any(|entry| has_nul(&entry.file))
-        || config.drives.iter().any(|entry| has_nul(&entry.reservations))
+    cartridges_nul(config.cartridges.as_slice()) || drives_nul(config.drives.as_slice())
 }
 
 /// Returns the configuration in the file of this name, whose files are to be made or opened. Errors: those of

@@ -23,12 +23,9 @@ pub fn opened_both<D, F: ChangeFiles<D> + LookFiles + SecondFiles<D>>(
         Ok(disk) => disk,
         Err(_) => return Err(VtlFault::Device),
     };
-    let is_paired = match files.is_paired(name.as_str()) {
-        Ok(is_paired) => is_paired,
-        Err(_) => {
-            files.return_disk(name, first);
-            return Err(VtlFault::Device);
-        }
+    let Ok(is_paired) = files.is_paired(name.as_str()) else {
+        files.return_disk(name, first);
+        return Err(VtlFault::Device);
     };
     let (second_name, opened) = files.open_second(second_file, is_paired);
     match opened {

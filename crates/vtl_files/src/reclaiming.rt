@@ -1,5 +1,5 @@
 //! Reclaims a cartridge of a configuration, and reports it by a line.
-ghost use Rattle.std.specs.Prelude.{◌≡◌, ◌≤◌, ◌+◌, ◌++◌, Some, Ok, bytes_eq, length, vec_capacity, vec_len};
+ghost use Rattle.std.specs.Prelude.{◌≡◌, ◌≤◌, ◌+◌, ◌++◌, IfErr, IfOk, Some, Ok, bytes_eq, length, vec_capacity, vec_len};
 ghost use Rattle.check_lines.specs.Disks.{both, disks_checked};
 ghost use Rattle.vtl_files.specs.Reclaims.{IsLine, IsUnseen, Reclaims, ReclaimsEntry, ReclaimsNamed, ReclaimsOpened, PrintsCause, PrintsReclaim, SeesPair, entry_with, not_reclaimed_line, reclaimed_line, verdict_shown};
 

@@ -25,7 +25,7 @@ returns-in-Ok-create-clause-ok g c =
       sure = λ honest images left.
           subst (λ (found : Contents). GivesContents found images) contents (new.sure honest images left);
     } in (
-      c.args.requires,
+      c.requires,
       c.in-Some.first,
       c.in-Ok.second,
       made.1,
