@@ -7,6 +7,13 @@ from .work import Cartridge
 FOLDER = "a folder"
 
 
+class Link:
+    """A link, and the name to which it leads."""
+
+    def __init__(self, to):
+        self.to = os.path.normpath(to)
+
+
 class Differs(Exception):
     """A row is not as the model has it."""
 
@@ -30,6 +37,8 @@ class Folder:
             self.folder[name] = step.content
         elif step.kind == "folder":
             self.folder[name] = FOLDER
+        elif step.kind == "link":
+            self.folder[name] = Link(step.content)
         elif step.kind == "remove":
             self.folder.pop(name, None)
         elif step.kind == "gone" and name in self.folder:
@@ -53,7 +62,12 @@ class Folder:
 
     def find(self, name):
         """What has this name of a configuration; the empty name is nobody's."""
-        return self.folder.get(os.path.normpath(os.fsencode(name))) if is_possible(name) else None
+        return self.folder.get(self.led_to(os.path.normpath(os.fsencode(name)))) if is_possible(name) else None
+
+    def led_to(self, name):
+        """The name to which a name leads, where it is a link's; else that name."""
+        entry = self.folder.get(name)
+        return entry.to if isinstance(entry, Link) else name
 
     def pair(self, name):
         """What has this name, and the same with `.2`."""
@@ -103,7 +117,7 @@ class Folder:
         if which:
             self.folder[name] = copy[:9] + b"\xa5" + copy[10:]
             return
-        self.folder[name + b".2"] = copy
+        self.folder[self.led_to(name + b".2")] = copy
         if isinstance(first, bytes):
             self.folder[name] = first[:9] + b"\xa5" + first[10:]
         else:

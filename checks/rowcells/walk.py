@@ -7,7 +7,7 @@ sys.path.insert(0, os.path.dirname(os.path.dirname(os.path.abspath(__file__))))
 import rowfile  # noqa: E402
 
 from . import sides, words  # noqa: E402
-from .folder import FOLDER, Differs, Folder, is_paired, is_possible  # noqa: E402
+from .folder import FOLDER, Differs, Folder, Link, is_paired, is_possible  # noqa: E402
 from .library import Library, stripped  # noqa: E402
 from .work import Cartridge  # noqa: E402
 
@@ -105,7 +105,8 @@ class Walk(Folder):
             self.ends(run, 2, DEVICE, "a file is missing", [])
             return
         is_open = is_paired(first)
-        if not is_open and isinstance(second, bytes) and len(second) > 10:
+        is_link = isinstance(self.folder.get(name + b".2"), Link)
+        if not is_open and isinstance(second, bytes) and (is_link or len(second) > 10):
             self.see("reclaim | somebody else's second file")
             self.ends(run, 1, None, "reclaim: not reclaimed", ["not reclaimed"])
             return
