@@ -4,6 +4,7 @@
 pub mod configs;
 pub mod creating;
 pub mod files;
+mod new_cartridges;
 pub mod opened;
 pub mod reclaiming;
 pub mod side_checks;

@@ -15,7 +15,7 @@ use tape_disk::{Disk, MemDisk};
 use vtl_config::{CartridgeEntry, DriveEntry};
 use vtl_faults::faults::VtlFault;
 use vtl_files::creating::slice_of;
-use vtl_files::files::{ChangeFiles, SecondFiles, TakesBack};
+use vtl_files::files::{ChangeFiles, LookFiles, SecondFiles, TakesBack};
 use vtl_files::opened::opened_both;
 
 /// A store of a drive's reservations, and what a loss of power left of them.
@@ -96,10 +96,10 @@ fn opened<D: Disk>(alloc: Global, disk: D) -> Result<DriveStore<D>, NoStore<D>>
 
 // No disk can be dropped here, and in the next block: each that was opened is in a side, or returned. A cartridge's
 // disk is not called.
-impl<'a, D: Disk, F: ChangeFiles<D> + SecondFiles<D>> Sides<D> for FileSides<'a, F> {
+impl<'a, D: Disk, F: ChangeFiles<D> + LookFiles + SecondFiles<D>> Sides<D> for FileSides<'a, F> {
     ghost use Rattle.vtl_power_on.specs.Sides.{file_sides};
 
-    ghost given = { file_sides D.state F.opens F.opens_second F.returns_disk };
+    ghost given = { file_sides D.state F.pairs F.opens F.opens_second F.returns_disk };
 
     fn cartridge(&self, alloc: Global, entry: CartridgeEntry) -> Result<Parked<D>, VtlFault> {
         match opened_both::<D, F>(self.files, entry.file, entry.second_file) {

@@ -3,7 +3,7 @@ use Rattle.cartridge_sides.specs.declared.which.Which.TheVariants.{First}
 use Rattle.cartridge.specs.Contents.{Contents, GivesContents, contents_from, heading_with, plain_head}
 use Rattle.check_lines.specs.Disks.{both}
 use Rattle.vtl_files.specs.Creating.{HasNewPair, new_bytes, new_contents}
-use Rattle.vtl_files.proofs.creating.create_cartridge.Goals as goal
+use Rattle.vtl_files.proofs.new_cartridges.make_pair.Goals as goal
 
 pub returns-in-Ok-create-clause-ok : goal.returns-in-Ok-create-clause-ok
 returns-in-Ok-create-clause-ok g c =
@@ -25,6 +25,7 @@ returns-in-Ok-create-clause-ok g c =
       sure = λ honest images left.
           subst (λ (found : Contents). GivesContents found images) contents (new.sure honest images left);
     } in (
+      c.requires,
       c.in-Some.first,
       c.in-Ok.second,
       made.1,
