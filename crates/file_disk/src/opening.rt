@@ -57,11 +57,12 @@ fn not_synced(file: &SystemFile) -> FileError
     }
 }
 
-/// Makes a file of no bytes, which its owner alone may read and write, and opens it, for this process alone. At Ok the file and its name are synced. Nothing that
-/// exists is touched. The name is used as it stands, relative to the working directory. The error is `Exists` where a
-/// regular file has the name. It is `NotAFile` where a folder, a pipe, a device or a link that leads nowhere has the
-/// name, or where the name ends in `/`. It is `Missing` where the folder does not exist. It is `InUse` where another
-/// process locked the new file first, and the file then stays. It is `Device` for every other error of the system.
+/// Makes a file of no bytes, which its owner alone may read and write, and opens it, for this process alone. At Ok the
+/// file and its name are synced. Nothing that exists is touched. The name is used as it stands, relative to the working
+/// directory. The error is `Exists` where a regular file has the name. It is `NotAFile` where a folder, a pipe, a
+/// device or a link that leads nowhere has the name, or where the name ends in `/`. It is `Missing` where the folder
+/// does not exist. It is `InUse` where another process locked the new file first, and the file then stays. It is
+/// `Device` for every other error of the system.
 pub fn create(rt: &HostRuntime, path: &str) -> Result<FileDisk, FileError>
     ensures ok { IfOk result (λ disk. disk.failures ≡ 0) }
 {

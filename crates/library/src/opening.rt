@@ -38,10 +38,10 @@ pub struct NotOpened<D: Disk> {
 
 impl<D: Disk + Drop, B: Parties + Rings, H: Parties> Library<D, B, H> {
     /// Opens a library, and returns it with a seat for each host, in the order of `hosts`, and with the operator's
-    /// token. `bays` has a place for each drive number, from 1 to 16, with the drive if there is one; `rings` has a ring
-    /// for each drive. No drive has accepted a change yet, and no host occurs twice. The library may have no drives, and
-    /// no hosts. Both ledgers are blank: `bay_ledger` has a party for each drive, and `host_ledger` one for each host.
-    /// If memory runs out, all parts but the rings are returned.
+    /// token. `bays` has a place for each drive number, from 1 to 16, with the drive if there is one; `rings` has a
+    /// ring for each drive. No drive has accepted a change yet, and no host occurs twice. The library may have no
+    /// drives, and no hosts. Both ledgers are blank: `bay_ledger` has a party for each drive, and `host_ledger` one for
+    /// each host. If memory runs out, all parts but the rings are returned.
     pub fn new(
         alloc: Global,
         bays: Vec<Option<Bay<D>>>,

@@ -212,8 +212,9 @@ fn make_stores<D: Disk + Drop, F: MakeFiles<D> + LookFiles + SecondFiles<D>, W: 
 /// something has the file's name already, which is not touched. NAME is the barcode of the cartridge, or `DRIVE` and
 /// the number of the drive. When the first file of a cartridge is made, its second file is made too, with no bytes, if
 /// it is missing. Where the first file is there already, the second is not looked for. Where it is missing, and its
-/// second file has a byte, that is a fault, and neither is made or changed. The first fault ends the call. If the fault came while a file was being made, that file is removed, if the system can remove it; a second file is
-/// not removed. Errors: `Device` where a file or the writer fails, `NoMemory` where memory runs out.
+/// second file has a byte, that is a fault, and neither is made or changed. The first fault ends the call. If the fault
+/// came while a file was being made, that file is removed, if the system can remove it; a second file is not removed.
+/// Errors: `Device` where a file or the writer fails, `NoMemory` where memory runs out.
 pub fn create_missing<D: Disk + Drop, F: MakeFiles<D> + LookFiles + SecondFiles<D>, W: Write>(
     alloc: Global,
     files: &F,

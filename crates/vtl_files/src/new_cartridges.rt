@@ -35,8 +35,8 @@ fn are_free<F: LookFiles>(
     }
 }
 
-/// Makes the first file of a cartridge, if it is missing and no second file holds a byte, and returns what became of it,
-/// and the barcode.
+/// Makes the first file of a cartridge, if it is missing and no second file holds a byte, and returns what became of
+/// it, and the barcode.
 pub(crate) fn create_cartridge<D: Disk + Drop, F: MakeFiles<D> + LookFiles + SecondFiles<D>>(
     alloc: Global,
     files: &F,
@@ -57,8 +57,8 @@ pub(crate) fn create_cartridge<D: Disk + Drop, F: MakeFiles<D> + LookFiles + Sec
     }
 }
 
-// Makes the first file of a cartridge, whose names were found free, and returns what became of it, and the barcode. With
-// the first file the second one is made, with no bytes, if it is missing; else that stays as it is.
+// Makes the first file of a cartridge, whose names were found free, and returns what became of it, and the barcode.
+// With the first file the second one is made, with no bytes, if it is missing; else that stays as it is.
 fn make_pair<D: Disk + Drop, F: MakeFiles<D> + LookFiles + SecondFiles<D>>(
     alloc: Global,
     files: &F,

@@ -8,8 +8,9 @@ use vtl_faults::faults::VtlFault;
 
 /// Opens both files of a cartridge, and returns the name of each with a disk over it, the first file first. The pair
 /// gate of the first one is looked at once it is open. If the second file is missing, it is made with no bytes where
-/// that gate is closed; where it is open, a disk of no bytes stands for it. The error is `Device` where one of the files
-/// is not opened, or the gate cannot be looked at. The disk of a first file that was opened is then returned to `files`.
+/// that gate is closed; where it is open, a disk of no bytes stands for it. The error is `Device` where one of the
+/// files is not opened, or the gate cannot be looked at. The disk of a first file that was opened is then returned to
+/// `files`.
 pub fn opened_both<D, F: ChangeFiles<D> + LookFiles + SecondFiles<D>>(
     files: &F,
     file: FileName,

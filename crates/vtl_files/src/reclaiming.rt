@@ -276,9 +276,9 @@ fn entry_with(entries: Vec<CartridgeEntry>, barcode: &Barcode) -> Option<Cartrid
 /// `not a side`. Where the side that counts is damaged or has a bad frame, the line is that of `vtl check`. Where there
 /// is no room or no epoch for the copy, the line is `not reclaimed`. That is the line, too, where the pair gate of the
 /// first file is closed, and the second file's name is a link's, or the second file has more than ten bytes: it is
-/// somebody else's, and is not opened. Returns `Done` where the cartridge was reclaimed, else `Refused`. Errors: `Words`
-/// where no cartridge has the barcode, `Device` where a file or the writer fails, `NoMemory` where memory runs out. A
-/// second file that is missing is made with no bytes, unless the pair gate is open.
+/// somebody else's, and is not opened. Returns `Done` where the cartridge was reclaimed, else `Refused`. Errors:
+/// `Words` where no cartridge has the barcode, `Device` where a file or the writer fails, `NoMemory` where memory runs
+/// out. A second file that is missing is made with no bytes, unless the pair gate is open.
 pub fn reclaim_named<D: Disk, F: ChangeFiles<D> + LookFiles + SecondFiles<D>, W: Write>(
     alloc: Global,
     files: &F,

@@ -232,8 +232,8 @@ fn has_open_pair(first: &[u8]) -> bool {
         .is_some_and(|start| start == b"VTLCART1\xa5".as_slice())
 }
 
-// Adds the lines of a second file that has no byte, or is missing, though the pair gate is open. For a reclaim they were
-// written as the file was opened.
+// Adds the lines of a second file that has no byte, or is missing, though the pair gate is open. For a reclaim they
+// were written as the file was opened.
 fn add_no_second(
     alloc: Global,
     file: String,

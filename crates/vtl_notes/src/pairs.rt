@@ -25,9 +25,9 @@ impl PairNote {
         }
     }
 
-    /// Notes what a look at the name `file` found. The file is noted where it may be a second file for which an order is
-    /// refused: it has a byte and the look before this one, at its first file's name, found nothing; or a reclaim may
-    /// not write over it. If memory runs out, nothing is noted.
+    /// Notes what a look at the name `file` found. The file is noted where it may be a second file for which an order
+    /// is refused: it has a byte and the look before this one, at its first file's name, found nothing; or a reclaim
+    /// may not write over it. If memory runs out, nothing is noted.
     pub fn look(&self, alloc: Global, file: &str, answer: &Result<FileLook, FileError>) {
         let was_lost = self.is_lost.take();
         self.is_lost

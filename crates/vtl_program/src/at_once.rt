@@ -41,8 +41,8 @@ fn unlocked(alloc: Global, name: &str) -> Result<Explanation, AllocError> {
     Ok(lines)
 }
 
-/// Says that the file of this name is open without a lock, since its folder has none, if an explanation is wanted. It is
-/// said once for files of one folder that are opened one after the other.
+/// Says that the file of this name is open without a lock, since its folder has none, if an explanation is wanted. It
+/// is said once for files of one folder that are opened one after the other.
 pub(crate) fn say_unlocked(rt: &HostRuntime, notes: &Notes, name: &str) {
     if notes.is_first_unlocked(rt.alloc(), name) {
         say(rt, unlocked(rt.alloc(), name));

@@ -172,8 +172,8 @@ fn add_frame(alloc: Global, notes: &Notes, lines: &mut Explanation) -> Result<()
     }
 }
 
-// Adds the lines of what failed: of a store's file that was opened and is refused, or else of calls that failed, or else
-// of a second file beside which no first one is made, or of a name with a NUL. A call
+// Adds the lines of what failed: of a store's file that was opened and is refused, or else of calls that failed, or
+// else of a second file beside which no first one is made, or of a name with a NUL. A call
 // for another file may have failed before that, as a cartridge was loaded; this does not end a run.
 fn add_failed(
     alloc: Global,

@@ -38,9 +38,9 @@ labels_after Check from to labels = labels
 labels_after Conflict from to labels = labels
 
 module _ {D : Type 0} (state : D → DiskState) where
-  -- A move is answered as MOVE MEDIUM is among these drives, with its tag, and at GOOD the cartridge's label moves. It is
-  -- one move of the operator. An inventory says what is at each address, and moves nothing (SMC-3, MOVE MEDIUM; the rest
-  -- own).
+  -- A move is answered as MOVE MEDIUM is among these drives, with its tag, and at GOOD the cartridge's label moves. It
+  -- is one move of the operator. An inventory says what is at each address, and moves nothing (SMC-3, MOVE MEDIUM; the
+  -- rest own).
   abbrev pub AnswersDesk : DeskState → Request → Answer → DeskState → Type 0
   AnswersDesk old (Command host drive cdb sent tag) answered new = ⊥
   AnswersDesk old (Move from to tag) answered new =

@@ -105,10 +105,10 @@ impl<D: Disk + Drop, B: Parties + Rings> FrontPlace<D, B> {
     /// Answers a command of the host that has `seat`, with the hosts' half of the drive alone. `cdb` is the command
     /// block, and `sent` are the data that came with it. Returns None if the command needs the disk's half too; then
     /// nothing has changed. Else the seat counts the command as answered. If the drive accepts a change, it is entered
-    /// in both ledgers (`tally`), and takes over the data of `sent` without a copy. The call waits forever if a change is
-    /// to be entered, and the drive or the ledgers had already 2^64 - 1. A write error of a drive that had that many is
-    /// such a case too, since the reply leaves open whether there was a change. The call also waits forever if that many
-    /// commands of the host were answered.
+    /// in both ledgers (`tally`), and takes over the data of `sent` without a copy. The call waits forever if a change
+    /// is to be entered, and the drive or the ledgers had already 2^64 - 1. A write error of a drive that had that many
+    /// is such a case too, since the reply leaves open whether there was a change. The call also waits forever if that
+    /// many commands of the host were answered.
     pub fn execute_alone<H: Parties, R: Wait>(
         &mut self,
         rt: &R,
