@@ -21,6 +21,7 @@ DOC = $(DESTDIR)$(PREFIX)/share/doc/vtl
 EXAMPLES = $(filter-out %.tape %.tape.2 %.pr,$(wildcard examples/*.*))
 
 vtl: need-rt
+	@python3 checks/build.py
 	@cd crates/vtl && rt run -- run < stdin > /dev/null
 	@echo "the proved program is crates/vtl/out/vtl"
 

@@ -7,6 +7,9 @@ gate.py [--log FILE] [CRATE..]         with names: these crates and those below 
 gate.py [--log FILE] [--write] --here  runs the gate itself, .ci/run, where it stands; with --write, if it passes, the
                                        table and the paragraph over it replace those of docs/GATE.md
 
+`rt selftest` is run three times before and three times after. The median of their processor time is the unit in which
+machines are compared.
+
 A processor minute is user and system time. The gate's processes are looked at ten times a second. Each counts for the
 crate that its command line names: as proofs, as tests, or, on a copy, as edits. The rest of the whole time is the row
 of the rest: rt itself, linking, the runs of programs and tests, and what a process did after the last look."""
@@ -15,6 +18,7 @@ import os
 import re
 import resource
 import shutil
+import statistics
 import subprocess
 import sys
 import tempfile
@@ -102,6 +106,17 @@ def measured(command, room, log):
     return spent, whole, time.monotonic() - started, said, child.returncode
 
 
+def selftests():
+    """The processor seconds of each of three runs of `rt selftest`."""
+    found = []
+    for _ in range(3):
+        before = resource.getrusage(resource.RUSAGE_CHILDREN)
+        subprocess.run(["rt", "selftest"], stdin=subprocess.DEVNULL, stdout=subprocess.DEVNULL, check=True)
+        after = resource.getrusage(resource.RUSAGE_CHILDREN)
+        found.append(after.ru_utime + after.ru_stime - before.ru_utime - before.ru_stime)
+    return found
+
+
 def table(names, spent, whole):
     minutes = lambda seconds: f"{seconds / 60:.1f}"
     rows = ["| Crate | Proofs | Tests | Edits | Tried | All |", "|---|---|---|---|---|---|"]
@@ -115,11 +130,13 @@ def table(names, spent, whole):
     return "\n".join([*rows, f"| all | {' | '.join(map(minutes, sums))} | | {minutes(whole)} |"])
 
 
-def measurement(whole, seconds, ended):
-    """The line over the table: when and on what the gate was measured, and how it ended."""
-    cores = len(os.sched_getaffinity(0))
+def measurement(whole, seconds, units, ended):
+    """The lines over the table: when and on what the gate was measured, in which units, and how it ended."""
+    cores, unit = len(os.sched_getaffinity(0)), statistics.median(units)
     return (f"Measured on {datetime.date.today()} on {cores} processors: {whole / 60:.0f} processor minutes, "
-            f"{seconds / 60:.0f} minutes by the clock; {ended}.")
+            f"{seconds / 60:.0f} minutes by the clock; {ended}.\n"
+            f"These are {whole / unit:.0f} times `rt selftest`, of which six runs there took {min(units):.0f} to "
+            f"{max(units):.0f} processor seconds, in the median {unit:.0f}.")
 
 
 def write(made, line):
@@ -159,12 +176,14 @@ def main(words):
             place = TOP if is_here else os.path.join(room, "copy")
             if not is_here:
                 copied(place, names, rows)
+            units = selftests()
             spent, whole, seconds, said, status = measured([".ci/run"] if is_here else ["rt", "ci"], place, log)
+            units += selftests()
     for line in said:
         if re.search(r"NOT PROVED|NOT REFUSED|BAD EDIT|FAILED", line):
             print(line)
     made = table(names, spent, whole)
-    line = measurement(whole, seconds, said[-1] if said else "nothing was printed")
+    line = measurement(whole, seconds, units, said[-1] if said else "nothing was printed")
     print(f"{line}\n\n{made}")
     if writes and not status:
         write(made, line)

@@ -97,17 +97,6 @@ EDITS = [
      "                let other = if library.configured(one) { one } else { drive };\n"
      "                let reply = library.command(rt, seat, other, cdb.as_slice(), &mut sent);\n",
      ["a_host_is_served"]),
-    ("a move that is served is made twice", "vtl_serve", "src/desks.rt",
-     "                let reply = library.move_medium(rt, from, to);\n",
-     "                let _first = library.move_medium(rt, from, to);\n"
-     "                let reply = library.move_medium(rt, from, to);\n", ["moves_and_inventories_are_served"]),
-    ("a move is made as it is read", "vtl_serve", "src/desks.rt",
-     "            Request::Move { .. } | Request::Inventory { .. } => true,\n        }\n    }\n\n    fn serve(",
-     "            Request::Move { from, to, .. } => {\n"
-     "                let _early = self.library.move_medium(self.rt, *from, *to);\n"
-     "                true\n            }\n"
-     "            Request::Inventory { .. } => true,\n        }\n    }\n\n    fn serve(",
-     ["moves_and_inventories_are_served"]),
     ("a read that failed behind an answer is a write fault", "vtl_hosts", "src/turns.rt",
      "    let round = serve_round(rt, desk, ends, frames, reader, writer);\n    if !round.whole {\n",
      "    let seen = frames.frames();\n    let round = serve_round(rt, desk, ends, frames, reader, writer);\n"
@@ -119,10 +108,6 @@ EDITS = [
      "    let is_refused = matches!(round.read, Err(WireFault::BadFrame { .. }));\n"
      "    if !round.whole || is_refused && frames.frames() > seen {\n",
      ["what_stands_before_a_refused_frame_is_answered"]),
-    ("a move that is served is taken back", "vtl_serve", "src/desks.rt",
-     "                let reply = library.move_medium(rt, from, to);\n",
-     "                let reply = library.move_medium(rt, from, to);\n"
-     "                let _back = library.move_medium(rt, to, from);\n", ["moves_and_inventories_are_served"]),
     ("drive 1 of a served library has no flusher", "vtl_serve", "src/libraries.rt",
      "    beside_flushers(rt, library, gate, 1, &mut work)\n",
      "    beside_flushers(rt, library, gate, 2, &mut work)\n", ["each_drive_has_a_flusher"]),
@@ -182,14 +167,14 @@ EDITS = [
     ("a closed library leaves its flushers asleep", "library", "src/libraries.rt", "                bay.ring(rt);\n",
      "                let _ = bay;\n", ["a_flusher_rests_until_a_change_is_accepted"]),
     ("the ledgers are locked while a drive carries a command out", "library", "src/places/answers.rt",
-     "    let before = count_below_limit(rt, &front);\n"
+     "    let before = front.accepted();\n"
      "    let (reply, front, back) = execute_both(front, back, seat.nexus(), cdb, sent);\n"
-     "    let after = front.accepted();\n    seat.count_answer(rt);\n"
+     "    let after = front.accepted();\n    wait_at_limit(rt, before, cdb, &reply);\n    seat.count_answer(rt);\n"
      "    enter_if_risen(rt, tally, share, seat, before, after);\n",
-     "    let mut held = tally.lock(rt);\n    let before = count_below_limit(rt, &front);\n"
+     "    let mut held = tally.lock(rt);\n    let before = front.accepted();\n"
      "    let (reply, front, back) = execute_both(front, back, seat.nexus(), cdb, sent);\n"
-     "    let after = front.accepted();\n    seat.count_answer(rt);\n"
-     "    if before != after {\n        held.enter(rt, share, seat);\n    }\n",
+     "    let after = front.accepted();\n    wait_at_limit(rt, before, cdb, &reply);\n    seat.count_answer(rt);\n"
+     "    if before != after {\n        seat.enter(rt, &mut held, share);\n    }\n",
      ["a_change_is_entered_while_another_drive_stores", "sixteen_hosts_of_a_phase_meet"]),
     ("the bytes that a host is given are changed", "library", "src/libraries.rt",
      "            Some(bay) => bay.serve(rt, &self.tally, seat, cdb, sent),\n",
@@ -225,34 +210,24 @@ EDITS = [
      "        row.put(0, second);\n        row.put(1, first);\n    }\n",
      ["all_hosts_come_to_one_drive_at_once"]),
     ("the slots are others at the end", "library", "src/finishing.rt",
-     ("            alloc: _,\n", "        let slots = slots.into_inner();\n"),
+     ("            alloc: _,\n", "        let slots = slots.into_inner().into_slots();\n"),
      ("            alloc,\n",
       "        let slots = match Slots::new(alloc) {\n            Ok(other) => {\n"
       "                drop(slots.into_inner());\n                other\n            }\n"
-      "            Err(_) => slots.into_inner(),\n        };\n"),
+      "            Err(_) => slots.into_inner().into_slots(),\n        };\n"),
      ["cartridges_are_moved_while_hosts_write"]),
     ("a cartridge that has failed is unloaded before the last turn", "library", "src/places/ending.rt",
      "        let written = bay.write_out();\n",
      "        if bay.drive().has_failed() {\n            if let Ok(cartridge) = bay.unload() {\n"
      "                bay.insert(cartridge);\n            }\n        }\n        let written = bay.write_out();\n",
      ["a_turn_in_which_the_device_fails"]),
-    ("a move of a script is made twice", "library_scripts", "src/stages.rt",
-     "        replies\n            .push(self.library.move_medium(self.rt, from, to))\n",
-     "        let _ = self.library.move_medium(self.rt, from, to);\n"
-     "        replies\n            .push(self.library.move_medium(self.rt, from, to))\n",
-     ["a_crowd_ends_at_any_line"]),
     ("what is seen of the drives is the wrong way round", "library", "src/inventories.rt",
      "            Some(bay) => bay.front.lock(rt).seen(),\n",
      "            Some(bay) => match bay.front.lock(rt).seen() {\n                Element::Full => Element::Empty,\n"
      "                _ => Element::Full,\n            },\n",
      ["a_cartridge_goes_round_both_drives"]),
     ("an inventory lets the slots go before it looks at the drives", "library", "src/inventories.rt",
-     ("        let slots = self.slots.lock(rt);\n", "            slots: seen_in_slots(&slots),\n"),
-     ("        let slots = seen_in_slots(&self.slots.lock(rt));\n", "            slots,\n"),
+     ("        let slots = self.slots.lock(rt);\n", "            slots: slots.seen(),\n"),
+     ("        let slots = self.slots.lock(rt).seen();\n", "            slots,\n"),
      ["cartridges_are_moved_while_hosts_write"]),
-    ("a move of a script is made back", "library_scripts", "src/stages.rt",
-     "            .push(self.library.move_medium(self.rt, from, to))\n",
-     "            .push({\n                let reply = self.library.move_medium(self.rt, from, to);\n"
-     "                let _ = self.library.move_medium(self.rt, to, from);\n                reply\n            })\n",
-     ["rows/11-moves/slot-to-slot.row"]),
 ]

@@ -7,7 +7,7 @@ MANY = re.compile(rb"([0-9a-fA-F]{2})\*([0-9]+),?")
 ESCAPE = re.compile(rb"\\(?:x([0-9a-fA-F]{2})(?:\*([0-9]+))?|(.?))", re.DOTALL)
 REFUSED = re.compile(rb"vtl: script line ([0-9]+) refused")
 NAMES = {b"r": b"\r", b"t": b"\t", b"s": b" ", b"\\": b"\\", b"#": b"#", b">": b">"}
-STEPS = ("config", "file", "folder", "remove", "bytes", "gone", "exit", "error", "because", "means", "says")
+STEPS = ("config", "file", "folder", "link", "remove", "bytes", "gone", "exit", "error", "because", "means", "says")
 
 
 class Bad(Exception):
@@ -55,7 +55,8 @@ class Run:
 
 
 class Step:
-    """What is done, or looked at, between runs: a file with its bytes, a folder, something that is removed or gone."""
+    """What is done, or looked at, between runs: a file with its bytes, a folder, a link with what it leads to, something
+    that is removed or gone."""
 
     def __init__(self, number, kind, name):
         self.number, self.kind, self.name, self.content = number, kind, name, b""
@@ -152,10 +153,14 @@ class Reader:
             rest = rest or b"library.toml"
         if not rest:
             raise self.bad(number, f"`{kind}` has no name")
-        name = unescaped(rest)
-        if name is None:
+        rest, _, target = rest.partition(b" ") if kind == "link" else (rest, b"", b"")
+        name, target = unescaped(rest), unescaped(target)
+        if name is None or target is None:
             raise self.bad(number, "an escape that is none")
+        if kind == "link" and not target:
+            raise self.bad(number, "`link` leads to no name")
         self.open = Step(number, kind, name)
+        self.open.content = target
         self.steps.append(self.open)
 
     def ending(self, number, kind, rest):

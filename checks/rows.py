@@ -115,6 +115,8 @@ class Room:
                     file.write(step.content)
             elif step.kind == "folder":
                 os.makedirs(self.path(step))
+            elif step.kind == "link":
+                os.symlink(step.content, self.path(step))
             elif step.kind == "remove":
                 (shutil.rmtree if os.path.isdir(self.path(step)) else os.remove)(self.path(step))
             elif step.kind == "gone":

@@ -144,6 +144,7 @@ WRONG = [
     ("an escape that is none", "  \\#x\n", "  \\q\n", ":13: an escape that is none"),
     ("two hosts at one drive in a phase", "  2 2 01", "  2 1 01", ":6: two hosts at one drive in one phase"),
     ("a script of another word", "  > check a\n", "  1 1 00\n", ":27: only `$ vtl run ..` has a script"),
+    ("a link that leads nowhere", "bytes held\n", "link held\nbytes held\n", "`link` leads to no name"),
     ("an indented line behind a folder", "bytes held\n", "folder held\n", "an indented line belongs to nothing"),
     ("a status without its line", "error vtl: script line 4 refused\n", "", "do not go together"),
     ("a refused line that the script lacks", "line 4", "line 40", ":25: the script has no line 40"),

@@ -7,6 +7,13 @@ from .work import Cartridge
 FOLDER = "a folder"
 
 
+class Link:
+    """A link, and the name to which it leads."""
+
+    def __init__(self, to):
+        self.to = os.path.normpath(to)
+
+
 class Differs(Exception):
     """A row is not as the model has it."""
 
@@ -30,6 +37,8 @@ class Folder:
             self.folder[name] = step.content
         elif step.kind == "folder":
             self.folder[name] = FOLDER
+        elif step.kind == "link":
+            self.folder[name] = Link(step.content)
         elif step.kind == "remove":
             self.folder.pop(name, None)
         elif step.kind == "gone" and name in self.folder:
@@ -53,7 +62,12 @@ class Folder:
 
     def find(self, name):
         """What has this name of a configuration; the empty name is nobody's."""
-        return self.folder.get(os.path.normpath(os.fsencode(name))) if is_possible(name) else None
+        return self.folder.get(self.led_to(os.path.normpath(os.fsencode(name)))) if is_possible(name) else None
+
+    def led_to(self, name):
+        """The name to which a name leads, where it is a link's; else that name."""
+        entry = self.folder.get(name)
+        return entry.to if isinstance(entry, Link) else name
 
     def pair(self, name):
         """What has this name, and the same with `.2`."""
@@ -70,7 +84,10 @@ class Folder:
         second = self.find(name + ".2") if what == "cartridge" else None
         if second is FOLDER:
             return None, "a folder"
-        if what == "cartridge" and second is None:
+        if what == "cartridge" and second is None and is_paired(entry):
+            self.see("run | a second file behind an open pair gate is missing")
+            second = b""
+        elif what == "cartridge" and second is None:
             self.see("run | a second file is made")
             self.folder[at + b".2"] = second = b""
         is_second = False
@@ -100,11 +117,16 @@ class Folder:
         if which:
             self.folder[name] = copy[:9] + b"\xa5" + copy[10:]
             return
-        self.folder[name + b".2"] = copy
+        self.folder[self.led_to(name + b".2")] = copy
         if isinstance(first, bytes):
             self.folder[name] = first[:9] + b"\xa5" + first[10:]
         else:
             first.is_paired = True
+
+
+def is_paired(entry):
+    """Whether the first file of a cartridge has an open pair gate."""
+    return entry.is_paired if isinstance(entry, sides.Side) else entry[9:10] == b"\xa5"
 
 
 def is_possible(name):

@@ -137,7 +137,10 @@ def of_sides():
     cells += [f"reclaim | {what}" for what in (
         "no such barcode", "no file", "a folder under the second name", "a second file is made", "the last epoch",
         "a copy in the first file", "a copy in the second file", "each step of it, stopped", "a device fault")]
-    cells += ["create | a second file is made", "create | a second file is there", "run | a second file is made"]
+    cells += ["create | a second file is made", "create | a second file is there, of no byte",
+              "create | a second file with a byte", "run | a second file is made",
+              "reclaim | somebody else's second file", "configuration | a name with a NUL"]
+    cells += [f"{order} | a second file behind an open pair gate is missing" for order in ("run", "reclaim")]
     cells += [f"damaged | {order} | {line}" for order in ("check", "run", "reclaim")
               for line in ("not a side", "damaged", "bad record")]
     cells += [f"damaged | check --config | {line}" for line in ("not a side", "damaged", "bad record")]

@@ -7,13 +7,19 @@ sys.path.insert(0, os.path.dirname(os.path.dirname(os.path.abspath(__file__))))
 import rowfile  # noqa: E402
 
 from . import sides, words  # noqa: E402
-from .folder import FOLDER, Differs, Folder, is_possible  # noqa: E402
+from .folder import FOLDER, Differs, Folder, Link, is_paired, is_possible  # noqa: E402
 from .library import Library, stripped  # noqa: E402
 from .work import Cartridge  # noqa: E402
 
 BUILT_IN = {"drive": [{"number": 1, "reservations": "drive1.pr"}],
             "cartridge": [{"barcode": "BUILTIN", "file": "builtin.tape", "capacities": [16_777_216], "home": 1}]}
 DEVICE = "vtl: device fault"
+
+
+def names_nul(config):
+    """Whether a name of the configuration has a NUL."""
+    return any("\0" in name for name in [*(it["file"] for it in config["cartridge"]),
+                                         *(it["reservations"] for it in config["drive"])])
 
 
 class Walk(Folder):
@@ -143,7 +149,16 @@ class Walk(Folder):
             self.see(f"reclaim | {'a folder under the second name' if first else 'no file'}")
             self.ends(run, 2, DEVICE, "a file is missing", [])
             return
-        if second is None:
+        is_open = is_paired(first)
+        is_link = isinstance(self.folder.get(name + b".2"), Link)
+        if not is_open and isinstance(second, bytes) and (is_link or len(second) > 10):
+            self.see("reclaim | somebody else's second file")
+            self.ends(run, 1, None, "reclaim: not reclaimed", ["not reclaimed"])
+            return
+        if second is None and is_open:
+            self.see("reclaim | a second file behind an open pair gate is missing")
+            second = b""
+        elif second is None:
             self.see("reclaim | a second file is made")
             self.folder[name + b".2"] = second = b""
         try:
@@ -179,6 +194,10 @@ class Walk(Folder):
                     self.see("faults | 2 before 5")
                 self.ends(run, 1, "vtl: configuration refused", "the configuration's file is not UTF-8", [])
                 return
+        if raw is not None and not (asked.memory and asked.kind in ("run", "serve")) and names_nul(config):
+            self.see("configuration | a name with a NUL")
+            self.ends(run, 2, DEVICE, "a file is missing", [])
+            return
         if asked.kind == "create":
             self.create(run, config, raw)
         elif asked.kind == "reclaim":
@@ -210,14 +229,16 @@ class Walk(Folder):
                 if not is_possible(name) or folder and self.folder.get(folder) is not FOLDER:
                     failed = True
                     break
-                if what == "cartridge" and self.folder.get(at + b".2") is FOLDER:
+                if what == "cartridge" and self.folder.get(at + b".2"):
+                    if self.folder[at + b".2"] is not FOLDER:
+                        self.see("create | a second file with a byte")
                     failed = True
                     break
                 content = Cartridge(entry["capacities"]) if what == "cartridge" else sides.Reservations()
                 self.folder[at] = sides.Side("cartridge" if what == "cartridge" else "store", shown, content)
                 self.see(f"create | created: a {self.folder[at].kind}")
                 if what == "cartridge":
-                    self.see("create | a second file is " + ("there" if at + b".2" in self.folder else "made"))
+                    self.see("create | a second file is " + ("there, of no byte" if at + b".2" in self.folder else "made"))
                     self.folder.setdefault(at + b".2", b"")
                 lines.append(f"created {shown}")
             if failed:

@@ -3,7 +3,7 @@ use Rattle.std.specs.Prelude.{◌≤◌, ◌<◌, ℕ, zero, suc, List, [], ◌�
 use Rattle.std.proofs.Common.{inl, inr, ⊎_elim, sym, subst, arith, append-nil}
 use Rattle.std.proofs.lemmas.List.{take_all}
 use Rattle.accepted_changes.specs.Device.{Device, IsDevice}
-use Rattle.accepted_changes.specs.Core.{Rules, Core, CoreStep, Accept, Store, Safe, Ack, Fault, Stop, Rebase, AllMayCome, AllStepTo, CanAcknowledge, IsCore, IsKept, NeverRebases, NoneRebases, kept_begins}
+use Rattle.accepted_changes.specs.Core.{Rules, Core, CoreStep, Accept, Store, Safe, Ack, Fault, Stick, Tell, Stop, Rebase, AllMayCome, AllStepTo, CanAcknowledge, IsCore, IsKept, NeverRebases, NoneRebases, kept_begins}
 use Rattle.accepted_changes.specs.Events.{GivesAcknowledged, ShowsBetween}
 use Rattle.accepted_changes.specs.Laws.{AcknowledgedBegins, CrashesKeepAcknowledged, EventsKeepBase, FailuresKeepAccepted, RebasesKeepAccepted}
 use Rattle.accepted_changes.specs.Rebasing.{GivesKept, ShowsEither, rebasing_shows, rebasing_steps}
@@ -28,6 +28,8 @@ module _ (rules : Rules) where
   still_steps old new (Safe ∷ steps) none leads = (leads.0, leads.1, still_steps leads.0 new steps none leads.2)
   still_steps old new (Ack ∷ steps) none leads = (leads.0, leads.1, still_steps leads.0 new steps none leads.2)
   still_steps old new (Fault ∷ steps) none leads = (leads.0, leads.1, still_steps leads.0 new steps none leads.2)
+  still_steps old new (Stick ∷ steps) none leads = (leads.0, leads.1, still_steps leads.0 new steps none leads.2)
+  still_steps old new (Tell ∷ steps) none leads = (leads.0, leads.1, still_steps leads.0 new steps none leads.2)
   still_steps old new (Stop kept ∷ steps) none leads =
       (leads.0, leads.1, still_steps leads.0 new steps none leads.2)
   still_steps old new (Rebase ∷ steps) none leads = absurd none
@@ -41,6 +43,8 @@ module _ (rules : Rules) where
   none_in_first (suc n) (Safe ∷ steps) none = none_in_first n steps none
   none_in_first (suc n) (Ack ∷ steps) none = none_in_first n steps none
   none_in_first (suc n) (Fault ∷ steps) none = none_in_first n steps none
+  none_in_first (suc n) (Stick ∷ steps) none = none_in_first n steps none
+  none_in_first (suc n) (Tell ∷ steps) none = none_in_first n steps none
   none_in_first (suc n) (Stop kept ∷ steps) none = none_in_first n steps none
   none_in_first (suc n) (Rebase ∷ steps) none = absurd none
 
@@ -53,6 +57,8 @@ module _ (rules : Rules) where
   none_may failed old new (Safe ∷ steps) leads may = none_may failed leads.0 new steps leads.2 may.1
   none_may failed old new (Ack ∷ steps) leads may = none_may failed leads.0 new steps leads.2 may.1
   none_may failed old new (Fault ∷ steps) leads may = none_may failed leads.0 new steps leads.2 may.1
+  none_may failed old new (Stick ∷ steps) leads may = none_may failed leads.0 new steps leads.2 may.1
+  none_may failed old new (Tell ∷ steps) leads may = none_may failed leads.0 new steps leads.2 may.1
   none_may failed old new (Stop kept ∷ steps) leads may = none_may failed leads.0 new steps leads.2 may.1
   none_may failed old new (Rebase ∷ steps) leads may = absurd may.0
 

@@ -2,7 +2,7 @@
 use Rattle.std.specs.Prelude.{suc, ◌⊎◌, false, true}
 use Rattle.std.proofs.Common.{◌≡◌, ℕ, ◌+◌, inl, inr, ◌≤◌, List, [], ◌∷◌, ◌++◌, length, take, drop, refl, sym, ◌∙◌, ap, subst, arith, ⊎_elim, length-append}
 use Rattle.std.proofs.lemmas.List.{take-append-drop, take-append-le, take-take, length-take-le, take_all}
-use Rattle.accepted_changes.specs.Core.{Rules, Core, CoreStep, Accept, Store, Safe, Ack, Fault, Stop, Rebase, IsCore, IsPrefix, IsKept, KeptThrough, NeverRebases, StepsTo, AllStepTo, kept_begins, stopped}
+use Rattle.accepted_changes.specs.Core.{Rules, Core, CoreStep, Accept, Store, Safe, Ack, Fault, Stick, Tell, Stop, Rebase, IsCore, IsPrefix, IsKept, KeptThrough, NeverRebases, StepsTo, AllStepTo, kept_begins, stopped, told}
 
 module _ (rules : Rules) where
   -- these items were accepted first and are safe, from that base
@@ -69,6 +69,14 @@ module _ (rules : Rules) where
   step_holds base xs s t Fault to h =
       subst (Holds base xs) (sym to)
       (stays base xs s (record s { fault = true }) (record { safe = h.core.safe; stored = h.core.stored }) refl
+      (λ le. le) (λ le. refl) h)
+  step_holds base xs s t Stick to h =
+      subst (Holds base xs) (sym to)
+      (stays base xs s (record s { stuck = true }) (record { safe = h.core.safe; stored = h.core.stored }) refl
+      (λ le. le) (λ le. refl) h)
+  step_holds base xs s t Tell to h =
+      subst (Holds base xs) (sym to)
+      (stays base xs s (told s) (record { safe = h.core.safe; stored = h.core.stored }) refl
       (λ le. le) (λ le. refl) h)
   step_holds base xs s t (Stop k) to h =
       let low : s.safe ≤ k =

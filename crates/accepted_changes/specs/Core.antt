@@ -1,5 +1,5 @@
 -- What was accepted, how much of it is stored and how much is safe; and the steps that change this.
-use Rattle.std.specs.Prelude.{◌≡◌, ◌⊎◌, ℕ, zero, suc, ◌+◌, ◌≤◌, List, [], ◌∷◌, ◌++◌, length, take, drop, Bool, true, false, IsTrue}
+use Rattle.std.specs.Prelude.{◌≡◌, ◌⊎◌, ℕ, zero, suc, ◌+◌, ◌≤◌, List, [], ◌∷◌, ◌++◌, length, take, drop, Bool, true, false, IsTrue, ◌||◌}
 
 -- What is accepted, and what an image gives: changes of a cartridge, for example, or states of a reservation store
 -- (own).
@@ -28,8 +28,7 @@ pub record Core (S C : Type 0) : Type 0 where
   pub safe : ℕ
   -- the device failed, and that was reported: nothing more is stored or accepted
   pub fault : Bool
-  -- the device failed, and that is not reported yet: nothing more is stored. No step sets it while each fault is
-  -- reported at once.
+  -- the device failed, and that is not reported yet: nothing more is stored, but more may be accepted
   pub stuck : Bool
   -- there was a stop, and what it left is not made safe yet
   pub recovering : Bool
@@ -44,8 +43,12 @@ pub data CoreStep (C : Type 0) : Type 0 where
   Safe : CoreStep C
   -- all that was accepted is acknowledged
   Ack : CoreStep C
-  -- the device fails
+  -- the device fails, and that is reported at once
   Fault : CoreStep C
+  -- the device fails, and that is not reported yet
+  Stick : CoreStep C
+  -- a fault that was not reported is reported; where there is none, nothing changes
+  Tell : CoreStep C
   -- a stop leaves the first `kept` items
   Stop : (kept : ℕ) → CoreStep C
   -- all that was accepted goes into a new base, from which the next items apply
@@ -63,6 +66,8 @@ accepted_in (Store count ∷ steps) = accepted_in steps
 accepted_in (Safe ∷ steps) = accepted_in steps
 accepted_in (Ack ∷ steps) = accepted_in steps
 accepted_in (Fault ∷ steps) = accepted_in steps
+accepted_in (Stick ∷ steps) = accepted_in steps
+accepted_in (Tell ∷ steps) = accepted_in steps
 accepted_in (Stop kept ∷ steps) = accepted_in steps
 accepted_in (Rebase ∷ steps) = accepted_in steps
 
@@ -74,8 +79,28 @@ NoneRebases (Store count ∷ steps) = NoneRebases steps
 NoneRebases (Safe ∷ steps) = NoneRebases steps
 NoneRebases (Ack ∷ steps) = NoneRebases steps
 NoneRebases (Fault ∷ steps) = NoneRebases steps
+NoneRebases (Stick ∷ steps) = NoneRebases steps
+NoneRebases (Tell ∷ steps) = NoneRebases steps
 NoneRebases (Stop kept ∷ steps) = NoneRebases steps
 NoneRebases (Rebase ∷ steps) = ⊥
+
+-- none of these steps is a stop (own)
+abbrev pub NoneStop : {C : Type 0} → List (CoreStep C) → Type 0
+NoneStop [] = Unit {0}
+NoneStop (Stop kept ∷ steps) = ⊥
+NoneStop (step ∷ steps) = NoneStop steps
+
+-- none of these steps acknowledges (own)
+abbrev pub NoneAck : {C : Type 0} → List (CoreStep C) → Type 0
+NoneAck [] = Unit {0}
+NoneAck (Ack ∷ steps) = ⊥
+NoneAck (step ∷ steps) = NoneAck steps
+
+-- none of these steps reports a fault (own)
+abbrev pub NoneTell : {C : Type 0} → List (CoreStep C) → Type 0
+NoneTell [] = Unit {0}
+NoneTell (Tell ∷ steps) = ⊥
+NoneTell (step ∷ steps) = NoneTell steps
 
 module _ {S C : Type 0} where
   -- what is safe is stored, and what is stored was accepted (own)
@@ -125,6 +150,14 @@ module _ {S C : Type 0} where
   abbrev pub broken_in : ℕ → Core S C → Core S C
   broken_in count core = record core { stored = core.stored + count; fault = true }
 
+  -- the device failed while `count` more items were stored, and that is not reported yet (own)
+  abbrev pub stuck_in : ℕ → Core S C → Core S C
+  stuck_in count core = record core { stored = core.stored + count; stuck = true }
+
+  -- a fault that was not reported is reported: nothing more is accepted. Else nothing changes (own).
+  abbrev pub told : Core S C → Core S C
+  told core = record core { fault = core.fault || core.stuck; stuck = false }
+
   -- the items that a stop left were found and made safe (own)
   abbrev pub recovered : ℕ → Core S C → Core S C
   recovered kept core =
@@ -153,9 +186,10 @@ module _ {S C : Type 0} where
   rebased base core = record core { base = base; accepted = []; stored = 0; safe = 0 }
 
 module _ (rules : Rules) where
-  -- One step leads from old to new. Nothing is accepted after a fault, or after a stop until what was found is safe.
-  -- Nothing is stored while something is in flight. A stop leaves what is safe or what is stored. The base changes only
-  -- where all may be acknowledged (own).
+  -- One step leads from old to new. After a fault, reported or not, nothing is stored or acknowledged, and nothing is
+  -- made safe but what a stop left. Nothing is accepted after a fault that was reported, or after a stop until what was
+  -- found is safe. Nothing is stored while something is in flight. A stop leaves what is safe or what is stored. The
+  -- base changes only where all may be acknowledged (own).
   abbrev pub StepsTo : Core rules.Base rules.Item → CoreStep rules.Item → Core rules.Base rules.Item → Type 0
   StepsTo old (Accept item) new =
       (old.fault ≡ false) × (old.recovering ≡ false) × IsTrue (rules.applies old.base old.accepted item)
@@ -168,6 +202,8 @@ module _ (rules : Rules) where
       × (new ≡ record old { safe = old.stored; recovering = false })
   StepsTo old Ack new = CanAcknowledge old × (new ≡ old)
   StepsTo old Fault new = new ≡ record old { fault = true }
+  StepsTo old Stick new = new ≡ record old { stuck = true }
+  StepsTo old Tell new = new ≡ told old
   StepsTo old (Stop kept) new = ((kept ≡ old.safe) ⊎ (kept ≡ old.stored)) × (new ≡ stopped kept old)
   StepsTo old Rebase new =
       CanAcknowledge old
@@ -201,11 +237,12 @@ module _ (rules : Rules) where
   kept_begins never base base' items items' (zero, kept) = kept
   kept_begins never base base' items items' (suc n, kept) = absurd (never kept.0 base' kept.1 kept.3)
 
-  -- The steps that may come in a call. The device fails only where it did in the call. A stop comes only after a fault,
-  -- or while what an earlier stop left is not safe yet, or where all that was accepted is safe. The base never changes
-  -- in a call (own).
+  -- The steps that may come in a call. The device fails only where it did in the call. A stop comes only after a fault
+  -- that was reported, or while what an earlier stop left is not safe yet, or where all that was accepted is safe. The
+  -- base never changes in a call (own).
   abbrev pub MayCome : Type 0 → Core rules.Base rules.Item → CoreStep rules.Item → Type 0
   MayCome failed core Fault = failed
+  MayCome failed core Stick = failed
   MayCome failed core (Stop kept) =
       (core.fault ≡ true) ⊎ (core.recovering ≡ true) ⊎ (core.safe ≡ length core.accepted)
   MayCome failed core Rebase = ⊥

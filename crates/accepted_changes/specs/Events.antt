@@ -3,7 +3,7 @@ use Rattle.std.specs.Prelude.{◌≡◌, ◌⊎◌, ◌≤◌, ◌<◌, ℕ, zer
 use Rattle.std.proofs.Common.{◌∙◌, ap, subst, sym, arith}
 use mathlib.Core.Path.{path_j, subst_refl}
 use Rattle.accepted_changes.specs.Device.{Device, IsDevice, KeepsDevice}
-use Rattle.accepted_changes.specs.Core.{Rules, Core, CoreStep, Accept, Store, Safe, Ack, Fault, Stop, Rebase, AllMayCome, AllStepTo, IsPrefix, MayCome, accepted_in}
+use Rattle.accepted_changes.specs.Core.{Rules, Core, CoreStep, Accept, Store, Safe, Ack, Fault, Stick, Tell, Stop, Rebase, AllMayCome, AllStepTo, IsPrefix, MayCome, accepted_in}
 
 module _ (rules : Rules) where
   -- the image gives what is safe, or what is stored (own)
@@ -45,6 +45,8 @@ module _ (rules : Rules) where
   step_comes_so failed more so core Safe may = tt
   step_comes_so failed more so core Ack may = tt
   step_comes_so failed more so core Fault may = so may
+  step_comes_so failed more so core Stick may = so may
+  step_comes_so failed more so core Tell may = tt
   step_comes_so failed more so core (Stop kept) may = may
   step_comes_so failed more so core Rebase may = may
 
@@ -63,6 +65,8 @@ module _ (rules : Rules) where
   accepted_on (Safe ∷ steps) second = accepted_on steps second
   accepted_on (Ack ∷ steps) second = accepted_on steps second
   accepted_on (Fault ∷ steps) second = accepted_on steps second
+  accepted_on (Stick ∷ steps) second = accepted_on steps second
+  accepted_on (Tell ∷ steps) second = accepted_on steps second
   accepted_on (Stop kept ∷ steps) second = accepted_on steps second
   accepted_on (Rebase ∷ steps) second = accepted_on steps second
 

@@ -3,7 +3,7 @@ use Rattle.std.specs.Prelude.{◌≡◌, ◌⊎◌, ℕ, ◌+◌, ◌≤◌, ◌
 use Rattle.std.proofs.Common.{inl, inr, sym, ap, subst, arith, ⊎_elim}
 use Rattle.std.proofs.lemmas.List.{take-append-le, take-take}
 use Rattle.accepted_changes.specs.Device.{Device, IsDevice, KeepsDevice}
-use Rattle.accepted_changes.specs.Core.{Rules, Core, Accept, Store, Safe, Fault, Stop, IsCore, IsWorking, broken_in, recovered, settled, stopped, with_item, with_stored}
+use Rattle.accepted_changes.specs.Core.{Rules, Core, Accept, Store, Safe, Fault, Stick, Tell, Stop, IsCore, IsWorking, broken_in, recovered, settled, stopped, stuck_in, told, with_item, with_stored}
 use Rattle.accepted_changes.specs.Events.{CoreMoves, ShowsCore, ShowsBetween, keeps_nowhere}
 
 module _ (rules : Rules) where
@@ -164,6 +164,61 @@ module _ (rules : Rules) (device : Device rules.Image) (laws : IsDevice device) 
               (λ g. inl (gives_as rules old.base (take old.stored old.accepted) (take old.safe old.accepted) image
               (ap (λ n. take n old.accepted) same) g))
               inr left),
+        );
+      }
+
+  -- the device fails while more items are stored, and that is not reported yet
+  pub moves_sticking : (disk disk' : device.State) (old : Core rules.Base rules.Item) (count : ℕ)
+      → (device.honest disk' → device.sound disk')
+      → KeepsDevice device disk disk' → device.failures disk < device.failures disk'
+      → IsWorking old → old.safe ≡ old.stored → old.stored + count ≤ length old.accepted
+      → (device.honest disk → device.leaves disk disk' (GivesSoMany rules old count))
+      → CoreMoves rules device disk disk' old (stuck_in count old) []
+  moves_sticking disk disk' old count is_sound keeps rose works same fits leaves =
+      record {
+        keeps = keeps;
+        goes = λ honest shows. (
+          record {
+            steps = Store count ∷ Stick ∷ [];
+            leads = (with_stored count old, (works, same, fits, refl), (stuck_in count old, refl, refl));
+            may_come = (tt, (rose, tt));
+            accepts = refl;
+            moments =
+                laws.weakened disk disk' (GivesSoMany rules old count)
+                (ShowsBetween rules old (Store count ∷ Stick ∷ []))
+                (leaves honest)
+                (λ image gives. ⊎_elim (λ g. (0, old, refl, inr g))
+                (λ g. (1, with_stored count old, (with_stored count old, (works, same, fits, refl), refl), inr g))
+                gives);
+          },
+          laws.each_weakened disk' (GivesSoMany rules old count) (ShowsCore rules (stuck_in count old))
+              (laws.holds_now disk disk' (GivesSoMany rules old count) (is_sound (keeps.stays_honest honest))
+              (leaves honest))
+              (λ image left. ⊎_elim
+              (λ g. inl (gives_as rules old.base (take old.stored old.accepted) (take old.safe old.accepted) image
+              (ap (λ n. take n old.accepted) same) g))
+              inr left),
+        );
+      }
+
+  -- a fault is reported where it was not, with no call of the device
+  pub moves_telling : (disk : device.State) (core : Core rules.Base rules.Item)
+      → (device.honest disk → device.sound disk) → CoreMoves rules device disk disk core (told core) []
+  moves_telling disk core is_sound =
+      record {
+        keeps = keeps_nowhere rules device disk;
+        goes = λ honest shows. (
+          record {
+            steps = Tell ∷ [];
+            leads = (told core, refl, refl);
+            may_come = (tt, tt);
+            accepts = refl;
+            moments =
+                laws.no_call disk (ShowsBetween rules core (Tell ∷ [])) (is_sound honest)
+                (laws.each_weakened disk (ShowsCore rules core) (ShowsBetween rules core (Tell ∷ [])) shows
+                (λ image s. (0, core, refl, s)));
+          },
+          shows,
         );
       }
 

@@ -1,7 +1,7 @@
 -- What holds of all accepting types, whatever their rules are.
-use Rattle.std.specs.Prelude.{◌≡◌, ◌++◌, List, [], ◌∷◌, false, take}
+use Rattle.std.specs.Prelude.{◌≡◌, ◌⊎◌, ◌++◌, ℕ, List, [], ◌∷◌, true, false, take}
 use Rattle.accepted_changes.specs.Device.{Device}
-use Rattle.accepted_changes.specs.Core.{Rules, Core, CoreStep, Ack, Rebase, IsCore, IsKept, IsPrefix, AllStepTo, CanAcknowledge, NeverRebases, NoneRebases}
+use Rattle.accepted_changes.specs.Core.{Rules, Core, CoreStep, Ack, Tell, Stop, Rebase, IsCore, IsKept, IsPrefix, IsWorking, AllStepTo, CanAcknowledge, NeverRebases, NoneAck, NoneRebases, NoneStop, NoneTell, StepsTo, accepted_in}
 use Rattle.accepted_changes.specs.Events.{CoreMoves, GivesAcknowledged, IsEvent, ShowsCore}
 use Rattle.accepted_changes.specs.Rebasing.{FailsToRebase, GivesKept, Rebases, ShowsRebase}
 
@@ -49,6 +49,38 @@ module _ (rules : Rules) where
       → IsKept rules base items base' items' → IsKept rules base' items' base'' items''
       → IsKept rules base items base'' items''
 
+  -- the device failed, whether that was reported or not (own)
+  abbrev pub HadFault : Core rules.Base rules.Item → Type 0
+  HadFault core = (core.fault ≡ true) ⊎ (core.stuck ≡ true)
+
+  -- What stays after a fault while no stop comes. Nothing more is stored or acknowledged, and nothing is made safe, but
+  -- what an earlier stop left. Once the fault was reported, nothing is accepted (own).
+  pub record StaysBroken
+      (old : Core rules.Base rules.Item) (steps : List (CoreStep rules.Item)) (new : Core rules.Base rules.Item)
+      : Type 0 where
+    pub broken : HadFault new
+    pub stored : new.stored ≡ old.stored
+    pub safe : old.recovering ≡ false → (new.recovering ≡ false) × (new.safe ≡ old.safe)
+    pub acks : NoneAck steps
+    pub reported :
+        old.fault ≡ true → (new.fault ≡ true) × (new.accepted ≡ old.accepted) × (accepted_in steps ≡ [])
+
+  -- this holds for any list of steps without a stop, from a core whose device failed (own)
+  abbrev pub FaultsStayUntilStopped : Type 0
+  FaultsStayUntilStopped =
+      (old new : Core rules.Base rules.Item) (steps : List (CoreStep rules.Item)) → AllStepTo rules old steps new
+      → NoneStop steps → HadFault old → StaysBroken old steps new
+
+  -- after a stop the device works, whatever it was before (own)
+  abbrev pub StopsClearFaults : Type 0
+  StopsClearFaults =
+      (old new : Core rules.Base rules.Item) (kept : ℕ) → StepsTo rules old (Stop kept) new → IsWorking new
+
+  -- to report a fault a second time changes nothing (own)
+  abbrev pub IsToldOnce : Type 0
+  IsToldOnce =
+      (old mid new : Core rules.Base rules.Item) → StepsTo rules old Tell mid → StepsTo rules mid Tell new → new ≡ mid
+
 module _ (rules : Rules) (device : Device rules.Image) where
   -- where nothing is done, nothing is accepted (own)
   abbrev pub NothingMoves : Type 0
@@ -73,13 +105,14 @@ module _ (rules : Rules) (device : Device rules.Image) where
       → (event : IsEvent rules device disk disk' old new made)
       × device.leaves disk disk' (GivesAcknowledged rules old event.steps)
 
-  -- A call without a failure of a working device drops nothing: what was accepted before it and in it is accepted after
-  -- it (own).
+  -- A call without a failure drops nothing, where no fault was reported before it, nor one of before it is reported in
+  -- it: what was accepted before it and in it is accepted after it (own).
   abbrev pub CallsDropNothing : Type 0
   CallsDropNothing =
       (disk disk' : device.State) (old new : Core rules.Base rules.Item) (made : List rules.Item)
       → device.failures disk' ≡ device.failures disk → IsCore old → old.fault ≡ false → old.recovering ≡ false
-      → IsEvent rules device disk disk' old new made → new.accepted ≡ old.accepted ++ made
+      → (event : IsEvent rules device disk disk' old new made) → (old.stuck ≡ false) ⊎ NoneTell event.steps
+      → new.accepted ≡ old.accepted ++ made
 
   -- after an event the core is well-formed, the base is the same, and what is accepted begins with what was safe (own)
   pub record KeptInEvent (old new : Core rules.Base rules.Item) : Type 0 where

@@ -1,5 +1,5 @@
 //! Laws of accepting types. Each is a function that does nothing, and its contract is the law.
-ghost use Rattle.accepted_changes.specs.Laws.{AcknowledgedBegins, AcknowledgedIsKept, CallsDropNothing, CrashesKeepAcknowledged, EventsKeepBase, FailuresKeepAccepted, KeptBegins, KeptStaysKept, MovesAppend, NothingMoves, RebasesKeepAccepted, SafeIsKept, StepsKeepCores};
+ghost use Rattle.accepted_changes.specs.Laws.{AcknowledgedBegins, AcknowledgedIsKept, CallsDropNothing, CrashesKeepAcknowledged, EventsKeepBase, FailuresKeepAccepted, FaultsStayUntilStopped, IsToldOnce, KeptBegins, KeptStaysKept, MovesAppend, NothingMoves, RebasesKeepAccepted, SafeIsKept, StepsKeepCores, StopsClearFaults};
 
 use crate::accepting::Accepting;
 
@@ -71,8 +71,18 @@ pub fn a_crash_leaves_what_was_acknowledged<A: Accepting>()
     ensures { CrashesKeepAcknowledged A.rules A.device }
 {}
 
-/// An event (a run of calls of the device) drops nothing where no call fails, no fault was reported before, and what an
-/// earlier stop left is safe. What was accepted before the event and in it is accepted after it.
+/// An event (a run of calls of the device) drops nothing where no call fails, no fault was reported before, none of
+/// before is reported in it, and what an earlier stop left is safe. What was accepted before the event and in it is
+/// accepted after it.
 pub fn calls_drop_nothing<A: Accepting>()
     ensures { CallsDropNothing A.rules A.device }
+{}
+
+/// After a fault of the device, reported or not, nothing more is stored or acknowledged until a stop comes, and nothing
+/// is made safe but what an earlier stop left. Once the fault was reported, nothing is accepted. A stop ends this. To
+/// report a fault a second time changes nothing.
+pub fn faults_stay_until_stopped<A: Accepting>()
+    ensures stay { FaultsStayUntilStopped A.rules }
+    ensures cleared { StopsClearFaults A.rules }
+    ensures once { IsToldOnce A.rules }
 {}

@@ -2,7 +2,7 @@
 use Rattle.std.proofs.Common.{◌≡◌, ◌⊎◌, inl, inr, ℕ, zero, suc, ◌≤◌, ◌<◌, ◌+◌, List, [], ◌∷◌, ◌++◌, length, take, refl, sym, ◌∙◌, ap, subst, arith, length-append}
 use Rattle.std.proofs.lemmas.Bool.{cases_lt}
 use Rattle.std.proofs.lemmas.List.{length-take-le, take_all, take_at}
-use Rattle.accepted_changes.specs.Core.{Rules, Core, CoreStep, Accept, Store, Safe, Ack, Fault, Stop, Rebase, AllStepTo, NeverRebases, accepted_in}
+use Rattle.accepted_changes.specs.Core.{Rules, Core, CoreStep, Accept, Store, Safe, Ack, Fault, Stick, Tell, Stop, Rebase, AllStepTo, NeverRebases, accepted_in}
 
 -- the first item, or this one
 abbrev head_or : {A : Type 0} → A → List A → A
@@ -93,6 +93,22 @@ module _ (rules : Rules) (base : rules.Base) (states : List rules.Item) (more : 
         stored = is.stored;
         all = is.all;
       })) (subst (λ (c : Core rules.Base rules.Item). MayAccept steps c.accepted) (sym leads.1) may) leads.2
+  within_steps never (Stick ∷ steps) old new is may leads =
+      within_steps never steps leads.0 new (subst Within (sym leads.1) (record {
+        base_is = is.base_is;
+        accepted = is.accepted;
+        safe = is.safe;
+        stored = is.stored;
+        all = is.all;
+      })) (subst (λ (c : Core rules.Base rules.Item). MayAccept steps c.accepted) (sym leads.1) may) leads.2
+  within_steps never (Tell ∷ steps) old new is may leads =
+      within_steps never steps leads.0 new (subst Within (sym leads.1) (record {
+        base_is = is.base_is;
+        accepted = is.accepted;
+        safe = is.safe;
+        stored = is.stored;
+        all = is.all;
+      })) (subst (λ (c : Core rules.Base rules.Item). MayAccept steps c.accepted) (sym leads.1) may) leads.2
   within_steps never (Stop kept ∷ steps) old new is may leads =
       within_steps never steps leads.0 new (subst Within (sym leads.1.1) (record {
         base_is = is.base_is;
@@ -139,6 +155,8 @@ module _ (rules : Rules) (base : rules.Base) (states : List rules.Item) (more : 
   fewer_none (Safe ∷ steps) (suc count) none = fewer_none steps count none
   fewer_none (Ack ∷ steps) (suc count) none = fewer_none steps count none
   fewer_none (Fault ∷ steps) (suc count) none = fewer_none steps count none
+  fewer_none (Stick ∷ steps) (suc count) none = fewer_none steps count none
+  fewer_none (Tell ∷ steps) (suc count) none = fewer_none steps count none
   fewer_none (Stop n ∷ steps) (suc count) none = fewer_none steps count none
   fewer_none (Rebase ∷ steps) (suc count) none = fewer_none steps count none
 
@@ -154,5 +172,7 @@ module _ (rules : Rules) (base : rules.Base) (states : List rules.Item) (more : 
   fewer_accept (Safe ∷ steps) (suc count) accepted may = fewer_accept steps count accepted may
   fewer_accept (Ack ∷ steps) (suc count) accepted may = fewer_accept steps count accepted may
   fewer_accept (Fault ∷ steps) (suc count) accepted may = fewer_accept steps count accepted may
+  fewer_accept (Stick ∷ steps) (suc count) accepted may = fewer_accept steps count accepted may
+  fewer_accept (Tell ∷ steps) (suc count) accepted may = fewer_accept steps count accepted may
   fewer_accept (Stop n ∷ steps) (suc count) accepted may = fewer_accept steps count accepted may
   fewer_accept (Rebase ∷ steps) (suc count) accepted may = fewer_accept steps count accepted may

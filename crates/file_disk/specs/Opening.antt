@@ -1,5 +1,6 @@
 -- How an earlier process has to leave a file.
-use Rattle.std.specs.Prelude.{◌≡◌, ◌≢◌, ◌⊎◌, ℕ, ◌<◌, ◌++◌, List, length}
+use Rattle.std.specs.Prelude.{◌≡◌, ◌≢◌, ◌⊎◌, ℕ, ◌<◌, ◌≤◌, ◌+◌, ◌++◌, List, length}
+use Rattle.vtl_base.specs.declared.limits.TheConstants.{MAX_BODY}
 use Rattle.gate_journal.specs.Gates.{last_gate}
 use Rattle.gate_journal.specs.Side.{Front, OPEN, StandsFor, spell, start}
 use Rattle.gate_journal.specs.declared.header.SideKind.TheVariants.{Cartridge}
@@ -9,12 +10,20 @@ use Rattle.file_disk.specs.RawFile.{ReachesAll}
 abbrev pub START_BYTES : ℕ
 START_BYTES = 10
 
--- the place is that of the last open gate, or lies behind the end gate (own)
-abbrev pub IsLastOrBehind : Front → List (List ℕ) → ℕ → Type 0
-IsLastOrBehind front bodies place = (place ≡ last_gate front bodies) ⊎ (length (spell front bodies) < place)
+-- how many bytes an append writes behind the end gate, at most: a length, the longest body and a gate (own)
+abbrev pub MOST_BEHIND : ℕ
+MOST_BEHIND = MAX_BODY + 5
 
--- the place is one of the first ten of a cartridge's side, where it has two gates, or its last open gate, or it lies
--- behind its end gate (own)
+-- the place is one of those behind the end gate that an append may write, since it cuts the disk there first (own)
+abbrev pub IsBehind : (end place : ℕ) → Type 0
+IsBehind end place = (end < place) × (place ≤ end + MOST_BEHIND)
+
+-- the place is that of the last open gate, or one that an append may write behind the end gate (own)
+abbrev pub IsLastOrBehind : Front → List (List ℕ) → ℕ → Type 0
+IsLastOrBehind front bodies place = (place ≡ last_gate front bodies) ⊎ IsBehind (length (spell front bodies)) place
+
+-- the place is one of the first ten of a cartridge's side, where it has two gates, or its last open gate, or one that
+-- an append may write behind its end gate (own)
 abbrev pub MayBeInDoubt : Front → List (List ℕ) → ℕ → Type 0
 MayBeInDoubt front bodies place =
     ((front.head.heading.kind ≡ Cartridge) × (place < START_BYTES)) ⊎ IsLastOrBehind front bodies place

@@ -12,7 +12,7 @@ use tape_disk::Disk;
 /// How many bytes a side begins with before its head: its own gate, the mark of its kind, the pair gate.
 pub(crate) const START_BYTES: usize = 10;
 
-const OPEN: u8 = 0xa5;
+pub(crate) const OPEN: u8 = 0xa5;
 
 const MARK: &[u8] = b"VTLCART1";
 

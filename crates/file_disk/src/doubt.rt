@@ -1,7 +1,7 @@
 //! What a sync of an open file may pass over, that is report as done though it never reached the device, and how this
 //! is written again.
 ghost use Rattle.std.specs.Prelude.{◌≡◌, ◌≢◌, ◌⊎◌, ◌<◌, ◌≤◌, ◌^◌, ℕ, false, length, IfSome, OnOk};
-ghost use Rattle.file_disk.specs.Opening.{IsLeftWell};
+ghost use Rattle.file_disk.specs.Opening.{IsBehind, IsLeftWell};
 ghost use Rattle.file_disk.specs.RawFile.{ReachesAll};
 ghost use Rattle.file_disk.specs.Inner.Doubts.{BeginsSo, Covers, InSpan, IsInDoubt, IsLookedAt, LieIn};
 ghost use Rattle.file_disk.specs.Inner.Rested.{OnlyReadFile, Rested};
@@ -13,6 +13,7 @@ use crate::looked::Looked;
 use crate::raw::{CallFailed, RawFile};
 use crate::written::{Span, Written};
 use gate_journal::{Gates, last_gates};
+use vtl_base::limits::MAX_BODY;
 
 /// What is known of the places of a file that the next sync may pass over.
 #[derive(Clone, Copy)]
@@ -26,12 +27,15 @@ pub(crate) enum Doubt {
     SyncFailed,
 }
 
-// What a sync may pass over in a side of `bytes` bytes that begins so and has these gates: the last open gate, what
-// stands after the end gate, and in a cartridge's side its first ten bytes. None where the gates do not lie inside
-// these bytes.
+// How many bytes an append writes behind the end gate, at most: a length, the longest body and a gate.
+const MOST_BEHIND: u64 = MAX_BODY as u64 + 5;
+
+// What a sync may pass over in a side of `bytes` bytes that begins so and has these gates: the last open gate, what an
+// append may have written behind the end gate, and in a cartridge's side its first ten bytes. None where the gates do
+// not lie inside these bytes.
 fn doubt_of(begins: Begins, gates: Gates, bytes: u64) -> Option<Written>
     ensures gates { IfSome result (λ written. (place : ℕ) →
-        (place ≡ gates.last) ⊎ ((gates.end < place) × (place < bytes)) → Covers written place) }
+        (place ≡ gates.last) ⊎ (IsBehind gates.end place × (place < bytes)) → Covers written place) }
     ensures start { IfSome result (λ written. (place : ℕ) →
         begins ≡ Begins.Cartridge → place < 10 → Covers written place) }
 {
@@ -45,7 +49,7 @@ fn doubt_of(begins: Begins, gates: Gates, bytes: u64) -> Option<Written>
         },
         other: Span {
             from: gates.end + 1,
-            end: bytes,
+            end: bytes.min((gates.end + 1).saturating_add(MOST_BEHIND)),
         },
         ..started(begins)
     })

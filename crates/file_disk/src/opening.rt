@@ -14,9 +14,13 @@ use crate::system::SystemFile;
 use std::fs::{File, OpenOptions, TryLockError};
 use std::io::ErrorKind;
 use std::os::fd::AsRawFd;
+use std::os::unix::fs::OpenOptionsExt;
 use std::path::Path;
 use std::{fs, io};
 use tape_disk::Disk;
+
+// The permissions of a file that is made: its owner alone reads and writes it (own).
+const OWNER_ALONE: u32 = 0o600;
 
 // What a file is opened for.
 #[derive(Clone, Copy, PartialEq, Eq, Debug)]
@@ -25,14 +29,14 @@ enum Access {
     Read,
 }
 
-fn device(call: SystemCall, error: &io::Error) -> FileError
+pub(crate) fn device(call: SystemCall, error: &io::Error) -> FileError
     ensures { result ≡ FileError.Device (failed_by call error.now) }
 {
     FileError::Device(FailedCall::of(call, error))
 }
 
 // The error for a file of this name, by what the system reported in this call.
-fn error_of(call: SystemCall, error: &io::Error) -> FileError
+pub(crate) fn error_of(call: SystemCall, error: &io::Error) -> FileError
     ensures { IsErrorOf call error.now result }
 {
     match error.kind() {
@@ -53,22 +57,24 @@ fn not_synced(file: &SystemFile) -> FileError
     }
 }
 
-/// Makes a file of no bytes and opens it, for this process alone. At Ok the file and its name are synced. Nothing that
-/// exists is touched. The name is used as it stands, relative to the working directory. The error is `Exists` where a
-/// regular file has the name. It is `NotAFile` where a folder, a pipe, a device or a link that leads nowhere has the
-/// name, or where the name ends in `/`. It is `Missing` where the folder does not exist. It is `InUse` where another
-/// process locked the new file first, and the file then stays. It is `Device` for every other error of the system.
+/// Makes a file of no bytes, which its owner alone may read and write, and opens it, for this process alone. At Ok the
+/// file and its name are synced. Nothing that exists is touched. The name is used as it stands, relative to the working
+/// directory. The error is `Exists` where a regular file has the name. It is `NotAFile` where a folder, a pipe, a
+/// device or a link that leads nowhere has the name, or where the name ends in `/`. It is `Missing` where the folder
+/// does not exist. It is `InUse` where another process locked the new file first, and the file then stays. It is
+/// `Device` for every other error of the system.
 pub fn create(rt: &HostRuntime, path: &str) -> Result<FileDisk, FileError>
     ensures ok { IfOk result (λ disk. disk.failures ≡ 0) }
 {
     let mut options = OpenOptions::new();
     options.read(true).write(true).create_new(true);
+    options.mode(OWNER_ALONE);
     let file = match options.open(rt, path) {
         Ok(file) => file,
         Err(error) => return Err(not_made(rt, path, &error)),
     };
     let mut file = match locked(file, Access::Change) {
-        Ok(file) => SystemFile::over(file),
+        Ok(file) => file,
         // Another process has opened it meanwhile.
         Err(FileError::InUse) => return Err(FileError::InUse),
         Err(error) => {
@@ -195,7 +201,7 @@ fn prepared(file: File, access: Access) -> Result<FileDisk, FileError>
     ensures ok { IfOk result (λ disk. disk.failures ≡ 0) }
 {
     let mut file = match locked(file, access) {
-        Ok(file) => SystemFile::over(file),
+        Ok(file) => file,
         Err(error) => return Err(error),
     };
     match access {
@@ -207,8 +213,9 @@ fn prepared(file: File, access: Access) -> Result<FileDisk, FileError>
     }
 }
 
-// Gives an open file a number above those of the standard streams, checks that it is a regular file, and locks it.
-fn locked(file: File, access: Access) -> Result<File, FileError> {
+// Gives an open file a number above those of the standard streams, checks that it is a regular file, and locks it, if
+// its file system has locks.
+fn locked(file: File, access: Access) -> Result<SystemFile, FileError> {
     let file = match above_streams(file) {
         Ok(file) => file,
         Err(error) => return Err(device(SystemCall::Renumber, &error)),
@@ -219,7 +226,7 @@ fn locked(file: File, access: Access) -> Result<File, FileError> {
         Err(error) => return Err(device(SystemCall::Look, &error)),
     }
     match lock(&file, access) {
-        Ok(()) => Ok(file),
+        Ok(is_locked) => Ok(SystemFile::over_locked(file, is_locked)),
         Err(error) => Err(error),
     }
 }
@@ -234,25 +241,26 @@ fn above_streams(file: File) -> io::Result<File> {
     }
 }
 
-// Locks a file: for this process alone where it may be changed, and beside other readers where it is only read.
-fn lock(file: &File, access: Access) -> Result<(), FileError> {
+// Locks a file: for this process alone where it may be changed, and beside other readers where it is only read. False
+// where its file system has no locks.
+fn lock(file: &File, access: Access) -> Result<bool, FileError> {
     let taken = match access {
         Access::Change => file.try_lock(),
         Access::Read => file.try_lock_shared(),
     };
     match taken {
-        Ok(()) => Ok(()),
+        Ok(()) => Ok(true),
         Err(error) => lock_answer(&error),
     }
 }
 
-// What an error in taking the lock means. Where the file system has no locks, the file is taken without one.
-fn lock_answer(error: &TryLockError) -> Result<(), FileError>
+// What an error in taking the lock means. Where the file system has no locks, the file is taken without one: false.
+fn lock_answer(error: &TryLockError) -> Result<bool, FileError>
     ensures { IsLockAnswer error.now result }
 {
     match error {
         TryLockError::WouldBlock => Err(FileError::InUse),
-        TryLockError::Error(error) if error.kind() == ErrorKind::Unsupported => Ok(()),
+        TryLockError::Error(error) if error.kind() == ErrorKind::Unsupported => Ok(false),
         TryLockError::Error(error) => Err(device(SystemCall::Lock, error)),
     }
 }

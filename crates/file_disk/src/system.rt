@@ -1,8 +1,8 @@
 //! A file of the operating system, and the calls of the system for it.
-ghost use Rattle.std.specs.Prelude.{◌≡◌, ◌≢◌, ◌<◌, None, Some};
+ghost use Rattle.std.specs.Prelude.{◌≡◌, ◌≢◌, ◌<◌, None, Some, not};
 ghost use Rattle.std.specs.IoError.{error_kind};
 ghost use Rattle.file_disk.specs.FailedCall.{failed_by, none_moved};
-ghost use Rattle.file_disk.specs.FileDisk.{system_failed, system_file};
+ghost use Rattle.file_disk.specs.FileDisk.{lacks_locks, system_failed, system_file};
 
 use crate::failed::{FailedCall, SystemCall};
 use crate::raw::{CallFailed, RawFile, Stop};
@@ -16,6 +16,7 @@ use std::os::unix::fs::FileExt;
 pub struct SystemFile {
     file: Option<File>,
     failed: Option<FailedCall>,
+    lacks_locks: bool,
 }
 
 // What an error of the system means for a call that moves bytes.
@@ -40,9 +41,19 @@ impl SystemFile {
         ensures file { system_file result ≡ Some file }
         ensures failed { system_failed result ≡ None }
     {
+        SystemFile::over_locked(file, true)
+    }
+
+    // The same, of a file for which a lock was asked. `is_locked` is false where its file system has no locks.
+    pub(crate) fn over_locked(file: File, is_locked: bool) -> SystemFile
+        ensures file { system_file result ≡ Some file }
+        ensures failed { system_failed result ≡ None }
+        ensures locked { lacks_locks result ≡ not is_locked }
+    {
         SystemFile {
             file: Some(file),
             failed: None,
+            lacks_locks: !is_locked,
         }
     }
 
@@ -55,7 +66,16 @@ impl SystemFile {
         SystemFile {
             file: None,
             failed: None,
+            lacks_locks: false,
         }
+    }
+
+    /// Whether a lock was asked for the file, and its file system has none, so that the file is open without one. False
+    /// for a file that somebody else opened (`over`), and without a file (`none`).
+    pub fn lacks_locks(&self) -> bool
+        ensures { result ≡ lacks_locks self.now }
+    {
+        self.lacks_locks
     }
 
     /// The call that failed last, and what the system answered; None where none failed. A read or a write that should

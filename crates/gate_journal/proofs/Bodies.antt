@@ -12,7 +12,7 @@ use Rattle.tape_disk.specs.Moments.{LeavesOnly, no_call, weakened, holds_now}
 use Rattle.gate_journal.specs.Side.{OPEN, Front, Heading, IsHeading, IsBody, IsSide, frame, plain, spell_front, spell, StandsFor}
 use Rattle.gate_journal.specs.Crash.{WithOrWithout}
 use Rattle.gate_journal.specs.State.{StoresSide, bodies_at, extents_from}
-use Rattle.gate_journal.specs.Inner.Writing.{BehindOrGated, Opened, tail_of}
+use Rattle.gate_journal.specs.Inner.Writing.{BehindOrGated, opened, tail_of}
 use Rattle.gate_journal.specs.Inner.Frames.{length-frame}
 use Rattle.gate_journal.specs.Inner.Fronts.{plain_front}
 
@@ -155,18 +155,21 @@ module _ (d : DiskState) (front : Front) (bodies : List (List ℕ)) (extents : L
         (λ e. stands.1.2 (sym gate_is ∙ e))
         (subst (λ (l : List ℕ). BehindOrGated l (get_or d.seen end 0) (tail_of body) image) front_is b)
 
-    pub added : (d' : DiskState) (size : ℕ) → size ≡ length body → Opened (take end d.seen) (tail_of body) d'.seen →
+    pub whole : (d' : DiskState) → d'.seen ≡ opened (take end d.seen) (tail_of body) →
+        d'.seen ≡ spell front (bodies ++ body ∷ []) ++ 0 ∷ []
+    whole d' is = is ∙ ap (λ (l : List ℕ). opened l (tail_of body)) front_is
+        ∙ sym (append-nil (opened (spell front bodies) (tail_of body)))
+        ∙ counted front bodies body on.side ok []
+
+    pub added : (d' : DiskState) (size : ℕ) → size ≡ length body → d'.seen ≡ opened (take end d.seen) (tail_of body) →
         Only d'.seen d'.may_leave → StoresSide d' front (bodies ++ body ∷ []) (extents ++ (end + 5, size) ∷ [])
         (end + 5 + size) false
-    added d' size is opened kept =
-        let whole : d'.seen ≡ spell front (bodies ++ body ∷ []) ++ 0 ∷ opened.0 =
-        opened.1 ∙ ap (λ (l : List ℕ). l ++ OPEN ∷ tail_of body ++ opened.0) front_is
-        ∙ counted front bodies body on.side ok opened.0 in
+    added d' size is holds kept =
         let far : end + 5 ≡ length (spell_front front) + length (flat_map frame bodies) + 5 =
         omega (arith, on.end_is, length-append (spell_front front) (flat_map frame bodies)) in
         record {
           side = side_push front bodies body on.side ok;
-          begins = (0 ∷ opened.0, whole);
+          begins = (0 ∷ [], whole d' holds);
           extents_are = (λ i. on.extents_are i ++ (far i, is i) ∷ [])
               ∙ sym (extents_push (length (spell_front front)) bodies body);
           end_is = omega (
@@ -177,7 +180,7 @@ module _ (d : DiskState) (front : Front) (bodies : List (List ℕ)) (extents : L
             length-append (spell front bodies) (frame body),
             length-frame body,
           );
-          at_rest = λ e. ((side_push front bodies body on.side ok, (0, opened.0, (λ z. omega arith), whole)), kept);
+          at_rest = λ e. ((side_push front bodies body on.side ok, (0, [], (λ z. omega arith), whole d' holds)), kept);
         }
 
     pub torn : (d' : DiskState) → IsDisk d' →
@@ -242,13 +245,15 @@ module _ (d : DiskState) (front : Front) (extents : List (ℕ × ℕ)) (end : �
       failed_on = as_view d' front bodies extents end true failed_on_old
 
     module _ (extents' : List (ℕ × ℕ)) (extents_are : extents' ≡ extents ++ (end + 5, length body) ∷ [])
-        (opened : Opened (take end d.seen) bytes d'.seen × Only d'.seen d'.may_leave) where
+        (done : (d'.seen ≡ opened (take end d.seen) bytes) × Only d'.seen d'.may_leave) where
+      spelled : d'.seen ≡ opened (take end d.seen) (tail_of body)
+      spelled = done.0 ∙ ap (λ (l : List ℕ). opened (take end d.seen) l) bytes_are
+
       opened_on : StoresSide d' front (bodies ++ body ∷ []) extents' (end + 5 + length body) false
       opened_on =
           subst (λ (l : List (ℕ × ℕ)). StoresSide d' front (bodies ++ body ∷ []) l (end + 5 + length body) false)
           (sym extents_are)
-          (added d front bodies extents end open_on body ok d' (length body) refl
-          (subst (λ (l : List ℕ). Opened (take end d.seen) l d'.seen) bytes_are opened.0) opened.1)
+          (added d front bodies extents end open_on body ok d' (length body) refl spelled done.1)
 
       pub added_bodies : bodies_at d'.seen extents' ≡ bodies ++ body ∷ []
       added_bodies = bodies_are d' front (bodies ++ body ∷ []) extents' (end + 5 + length body) false opened_on
@@ -260,12 +265,25 @@ module _ (d : DiskState) (front : Front) (extents : List (ℕ × ℕ)) (end : �
           (subst (λ (n : ℕ). StoresSide d' front (bodies_at d'.seen extents') extents' n false) (sym e)
           (as_view d' front (bodies ++ body ∷ []) extents' (end + 5 + length body) false opened_on))
 
-      pub added_each : (image : List ℕ) → d'.may_leave image → StandsFor front (bodies_at d'.seen extents') image
+      added_each : (image : List ℕ) → d'.may_leave image → StandsFor front (bodies_at d'.seen extents') image
       added_each image left =
           let at_rest = opened_on.at_rest refl in
           let side = side_push front bodies body on.side ok in
           subst (λ (l : List (List ℕ)). StandsFor front l image) (sym added_bodies)
           (side, (at_rest.0.1.0, at_rest.0.1.1, at_rest.0.1.2, at_rest.1 image left ∙ at_rest.0.1.3))
+
+      pub added_sure : (end' : ℕ) → end' ≡ end + 5 + length body →
+          Each d' (StandsFor front (bodies_at d'.seen extents')) × (length d'.seen ≡ end' + 1)
+      added_sure end' e = (
+        added_each,
+        omega (
+          arith,
+          e,
+          opened_on.end_is,
+          ap length (whole d front bodies extents end open_on body ok d' spelled),
+          length-append (spell front (bodies ++ body ∷ [])) (0 ∷ []),
+        ),
+      )
 
 -- a side with no frames, which is no copy and whose pair gate is closed
 pub fresh : (d : DiskState) (heading : Heading) (extents : List (ℕ × ℕ)) (end : ℕ) → IsHeading heading →

@@ -1,4 +1,5 @@
 mod AskedLemmas
+mod BehindLemmas
 mod Bodies
 mod DecodingLemmas
 mod Extents

@@ -1,4 +1,5 @@
 pub mod Asked
+pub mod Behind
 pub mod Deciding
 pub mod Decoding
 pub mod Found

@@ -1,4 +1,5 @@
 pub mod Answers
+pub mod Behind
 pub mod Crash
 pub mod Decoding
 pub mod Followed

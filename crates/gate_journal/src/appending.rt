@@ -30,9 +30,10 @@ impl<D: Disk> Journal<D> {
         Ok(())
     }
 
-    /// Adds a frame with the body `body`, of 1 to 8,388,608 bytes. At Ok each image that a crash may leave has the
-    /// frame, and the room is less by the length of the body and 5 bytes. After `Device` the frame may be there or not,
-    /// and the side has failed: nothing more is written. After every other error nothing has changed.
+    /// Adds a frame with the body `body`, of 1 to 8,388,608 bytes. What stands behind the end gate is cut off first.
+    /// At Ok each image that a crash may leave has the frame, the disk ends with the new end gate, and the room is less
+    /// by the length of the body and 5 bytes. After `Device` the frame may be there or not, and the side has failed:
+    /// nothing more is written. After every other error nothing has changed.
     pub fn append(&mut self, body: &[u8]) -> Result<(), JournalError>
         requires { IsBody body.now }
         ensures disk { Keeps (D.state self.old.disk) (D.state self.new.disk) }
@@ -50,7 +51,8 @@ impl<D: Disk> Journal<D> {
         ensures bodies { (D.state self.old.disk).honest → self.new.bodies
             ≡ (if is_ok result then self.old.bodies ++ body.now ∷ [] else self.old.bodies) }
         ensures sure { (D.state self.old.disk).honest → OnOk result
-            (Each (D.state self.new.disk) (StandsFor self.new.front self.new.bodies)) }
+            (Each (D.state self.new.disk) (StandsFor self.new.front self.new.bodies)
+            × (length (D.state self.new.disk).seen ≡ self.new.end + 1)) }
         ensures any_moment { (D.state self.old.disk).honest → self.old.failed ≡ false →
             LeavesOnly (D.state self.old.disk) (D.state self.new.disk)
             (WithOrWithout self.old.front self.old.bodies body.now) }

@@ -5,7 +5,7 @@ ghost use Rattle.tape_disk.specs.Disk.{DiskState, Only, Passes, Smeared, overwri
 ghost use Rattle.tape_disk.specs.Moments.{LeavesOnly};
 ghost use Rattle.gate_journal.specs.Followed.{KeepsRoom, followed};
 ghost use Rattle.gate_journal.specs.Side.{CLOSED, OPEN};
-ghost use Rattle.gate_journal.specs.Inner.Writing.{BehindOrGated, Opened, Touched};
+ghost use Rattle.gate_journal.specs.Inner.Writing.{BehindOrGated, CutFrom, Touched, opened};
 
 use crate::body_parts::BodyParts;
 use crate::gathering::store_parts;
@@ -44,8 +44,25 @@ fn open_gate<D: Disk>(disk: &mut D, at: u64) -> Result<(), DevFault>
     store_at(disk, at, &[OPEN])
 }
 
-// Writes the gathered bytes, the parts behind them and a closed gate behind the gate at place `end`, and then opens the
-// gate at `end`.
+// Cuts the disk after its first `len` bytes where it is longer. Else nothing is called.
+fn cut_behind<D: Disk>(disk: &mut D, len: u64) -> Result<(), DevFault>
+    requires { (D.state disk.old).honest → len ≤ length (D.state disk.old).seen }
+    ensures passes { Passes (D.state disk.old) (D.state disk.new) result }
+    ensures untouched { (D.state disk.old).honest → length (D.state disk.old).seen ≡ len → disk.new ≡ disk.old }
+    ensures any_moment { (D.state disk.old).honest →
+        LeavesOnly (D.state disk.old) (D.state disk.new)
+        (CutFrom len (D.state disk.old).may_leave) }
+    ensures cut { (D.state disk.old).honest → OnOk result
+        ((D.state disk.new).seen ≡ take len (D.state disk.old).seen) }
+{
+    if disk.len() <= len {
+        return Ok(());
+    }
+    disk.cut(len)
+}
+
+// Removes what stands behind the gate at place `end`, writes the gathered bytes, the parts behind them and a closed
+// gate there, and then opens the gate at `end`. At Ok the disk ends with the closed gate.
 pub(crate) fn write_frame<D: Disk, P: BodyParts>(
     disk: &mut D,
     end: u64,
@@ -64,11 +81,12 @@ pub(crate) fn write_frame<D: Disk, P: BodyParts>(
         (slice_index (D.state disk.old).seen end)
         (followed bytes.old.items (P.parts parts.now) ++ CLOSED ∷ [])) }
     ensures opened { (D.state disk.old).honest → OnOk result
-        (Opened (take end (D.state disk.old).seen)
-        (followed bytes.old.items (P.parts parts.now) ++ CLOSED ∷ []) (D.state disk.new).seen
+        (((D.state disk.new).seen
+        ≡ opened (take end (D.state disk.old).seen) (followed bytes.old.items (P.parts parts.now) ++ CLOSED ∷ []))
         × Only (D.state disk.new).seen (D.state disk.new).may_leave) }
     ensures room { KeepsRoom (P.parts parts.now) (vec_capacity bytes.old) (vec_capacity bytes.new) }
 {
+    cut_behind(disk, end + 1)?;
     store_parts(bytes, disk, end + 1, parts)?;
     open_gate(disk, end)
 }

@@ -6,7 +6,7 @@ ghost use Rattle.std.specs.Int.{to_be_bytes, w32};
 ghost use Rattle.gate_journal.specs.Followed.{FrameHasRoom, KeepsRoom, followed};
 ghost use Rattle.gate_journal.specs.Side.{IsBody};
 ghost use Rattle.gate_journal.specs.Spelled.{body_taken};
-ghost use Rattle.gate_journal.specs.Inner.Writing.{BehindOrGated, Opened, tail_of};
+ghost use Rattle.gate_journal.specs.Inner.Writing.{BehindOrGated, opened, tail_of};
 
 use crate::body_parts::BodyParts;
 use crate::device::write_frame;
@@ -127,8 +127,9 @@ impl Frame {
         (self.body().len() + parts.size()) as u32
     }
 
-    // Writes the length, the body with the parts behind it and the next gate, closed, after the gate at place `end`,
-    // and then opens the gate at `end`. The body is removed from the frame, after a fault too.
+    // Removes what stands after the gate at place `end`, writes the length, the body with the parts behind it and the
+    // next gate, closed, there, and then opens the gate at `end`. At Ok the disk ends with the next gate. The body is
+    // removed from the frame, after a fault too.
     pub(crate) fn write_behind<D: Disk, P: BodyParts>(
         &mut self,
         disk: &mut D,
@@ -149,8 +150,8 @@ impl Frame {
             (BehindOrGated (take end (D.state disk.old).seen)
             (slice_index (D.state disk.old).seen end) (tail_of (followed self.old.body (P.parts parts.now)))) }
         ensures opened { (D.state disk.old).honest → OnOk result
-            (Opened (take end (D.state disk.old).seen) (tail_of (followed self.old.body (P.parts parts.now)))
-            (D.state disk.new).seen
+            (((D.state disk.new).seen
+            ≡ opened (take end (D.state disk.old).seen) (tail_of (followed self.old.body (P.parts parts.now))))
             × Only (D.state disk.new).seen (D.state disk.new).may_leave) }
     {
         let size = self.size_with(parts);

@@ -1,6 +1,7 @@
 //! The last gates of a side. After a failed sync they may not be on the device, so `file_disk` looks for them.
 ghost use Rattle.std.specs.Prelude.{◌≤◌, length};
 ghost use Rattle.tape_disk.specs.Disk.{Keeps};
+ghost use Rattle.gate_journal.specs.Crash.{Unwritten};
 ghost use Rattle.gate_journal.specs.Gates.{FindsGates};
 ghost use Rattle.gate_journal.specs.Reads.{OnlyReads};
 ghost use Rattle.gate_journal.specs.Inner.Gates.{FindsLast, FindsWhole};
@@ -24,6 +25,8 @@ pub struct Gates {
 /// side, or a damaged one. The call only reads the disk, does not sync it, and allocates nothing.
 pub fn last_gates<D: Disk>(disk: &mut D) -> Result<Option<Gates>, DevFault>
     ensures disk { Keeps (D.state disk.old) (D.state disk.new) }
+    ensures unwritten { (D.state disk.old).honest →
+        Unwritten (D.state disk.old) (D.state disk.new) }
     ensures reads { OnlyReads D.effect disk.old disk.new }
     ensures answer { FindsGates result (D.state disk.old) (D.state disk.new) }
 {
@@ -42,6 +45,8 @@ pub fn last_gates<D: Disk>(disk: &mut D) -> Result<Option<Gates>, DevFault>
 // The last gates of the side on the disk, or why it holds none.
 fn find_gates<D: Disk>(disk: &mut D) -> Result<Gates, JournalError>
     ensures disk { Keeps (D.state disk.old) (D.state disk.new) }
+    ensures unwritten { (D.state disk.old).honest →
+        Unwritten (D.state disk.old) (D.state disk.new) }
     ensures reads { OnlyReads D.effect disk.old disk.new }
     ensures answer { FindsWhole result (D.state disk.old) (D.state disk.new) }
 {
@@ -54,6 +59,8 @@ fn find_gates<D: Disk>(disk: &mut D) -> Result<Gates, JournalError>
 fn walk_frames<D: Disk>(disk: &mut D, start: u64, base: u32) -> Result<Gates, JournalError>
     requires { (D.state disk.old).honest → start ≤ length (D.state disk.old).seen }
     ensures disk { Keeps (D.state disk.old) (D.state disk.new) }
+    ensures unwritten { (D.state disk.old).honest →
+        Unwritten (D.state disk.old) (D.state disk.new) }
     ensures reads { OnlyReads D.effect disk.old disk.new }
     ensures answer { FindsLast result start base (D.state disk.old) (D.state disk.new) }
 {

@@ -3,6 +3,7 @@
 #![tactic(auto)]
 
 mod appending;
+pub mod behind;
 pub mod body_parts;
 pub mod decoders;
 mod decoding;
@@ -24,6 +25,7 @@ mod reading;
 mod room;
 mod spelling;
 
+pub use behind::frames_behind;
 pub use body_parts::{BodyParts, NoParts};
 pub use decoders::Decodes;
 pub use error::{JournalError, NotDecoded, OpenError, Refused};

@@ -65,7 +65,8 @@ impl<D: Disk> Journal<D> {
             ≡ (if is_ok result then self.old.bodies ++ followed frame.old.body (P.parts parts.now) ∷ []
             else self.old.bodies) }
         ensures sure { (D.state self.old.disk).honest → OnOk result
-            (Each (D.state self.new.disk) (StandsFor self.new.front self.new.bodies)) }
+            (Each (D.state self.new.disk) (StandsFor self.new.front self.new.bodies)
+            × (length (D.state self.new.disk).seen ≡ self.new.end + 1)) }
         ensures any_moment { (D.state self.old.disk).honest → self.old.failed ≡ false →
             LeavesOnly (D.state self.old.disk) (D.state self.new.disk)
             (WithOrWithout self.old.front self.old.bodies (followed frame.old.body (P.parts parts.now))) }

@@ -15,12 +15,6 @@ pub record TallyState : Type 0 where
   pub bays_left : ℕ
   pub hosts_left : ℕ
 
--- the nexus of a host, how many of its commands were answered, and how many changes were entered for it (own)
-pub record SeatState : Type 0 where
-  pub nexus : ℕ
-  pub answered : ℕ
-  pub amount : ℕ
-
 -- what was gathered of a ledger: how many shares, and how many changes were entered for them (own)
 pub record Gathered : Type 0 where
   pub shares : ℕ

@@ -4,7 +4,6 @@ ghost use Rattle.ledgers.specs.Ledgers.{and_share, no_share};
 
 use crate::books::ClosedBook;
 use crate::parties::Parties;
-use crate::seats::Seat;
 use crate::shares::PartyShare;
 use std::marker::Model;
 use thiserror::Error;
@@ -65,12 +64,12 @@ impl<B: Parties, H: Parties> Gathering<B, H> {
         self.bays.take(share);
     }
 
-    /// Takes back a host's seat.
-    pub fn take_seat(&mut self, seat: Seat<H>)
-        ensures { self.new ≡ record self.old { hosts = and_share self.old.hosts seat.amount } }
+    /// Takes back the share of a host, from its seat.
+    pub fn take_host(&mut self, share: PartyShare<H>)
+        ensures { self.new ≡ record self.old { hosts = and_share self.old.hosts share } }
     {
-        let amount = seat.amount();
-        self.hosts.take(seat.into_share());
+        let amount = share.amount();
+        self.hosts.take(share);
         self.seats += amount;
     }
 

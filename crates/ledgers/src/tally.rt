@@ -4,13 +4,12 @@ ghost use Rattle.ledgers.specs.Ledgers.{IsBlankOf, no_share};
 
 use crate::books::OpenBook;
 use crate::gathering::Gathering;
+use crate::moves::{MoveBook, Moves};
 use crate::parties::Parties;
-use crate::seats::Seat;
 use crate::shares::PartyShare;
 use std::marker::Model;
 use std::sync::Wait;
 use std::sync::ledger::Blank;
-use vtl_base::Nexus;
 
 /// The ledger of the bays and the ledger of the hosts, to be guarded by a lock of their own. Their totals are always
 /// equal, since one call enters a change in both (own).
@@ -33,17 +32,20 @@ impl<B: Parties, H: Parties> Model for Tally<B, H> {
 }
 
 impl<B: Parties, H: Parties> Tally<B, H> {
-    /// Opens both ledgers, which must be blank. No change is entered, and no party has its share yet.
-    pub fn open(bay_ledger: Blank, host_ledger: Blank) -> Tally<B, H>
+    /// Opens both ledgers, which must be blank. No change is entered, and no party has its share yet. With them come
+    /// the book of the moves, and the count of the moves that the operator makes; none is entered.
+    pub fn open(bay_ledger: Blank, host_ledger: Blank) -> (Tally<B, H>, MoveBook<H>, Moves<H>)
         requires bays { IsBlankOf bay_ledger B.name B.parts B.all }
         requires hosts { IsBlankOf host_ledger H.name H.parts H.all }
-        ensures { result ≡ record { total = 0; bays_left = B.all; hosts_left = H.all } }
+        ensures tally { result.0 ≡ record { total = 0; bays_left = B.all; hosts_left = H.all } }
+        ensures moves { (result.1 ≡ 0) × (result.2 ≡ 0) }
     {
-        Tally {
+        let tally = Tally {
             total: 0,
             bays: OpenBook::open(bay_ledger),
             hosts: OpenBook::open(host_ledger),
-        }
+        };
+        (tally, MoveBook::none(), Moves::none())
     }
 
     /// Returns the share of one more bay, for which no change is entered yet. At least one bay must still be without a
@@ -56,31 +58,30 @@ impl<B: Parties, H: Parties> Tally<B, H> {
         self.bays.give()
     }
 
-    /// Returns the seat of one more host, with this nexus; no command of it was answered, and no change is entered for
-    /// it yet. At least one host must still be without a seat. The caller ensures that different seats have different
-    /// nexuses.
-    pub fn add_host(&mut self, nexus: Nexus) -> Seat<H>
+    /// Returns the share of one more host, for which no change is entered yet, and the count of its moves, of which
+    /// none is entered. At least one host must still be without a share.
+    pub fn add_host(&mut self) -> (PartyShare<H>, Moves<H>)
         requires { 0 < self.old.hosts_left }
-        ensures seat { result ≡ record { nexus = nexus; answered = 0; amount = 0 } }
+        ensures share { (result.0 ≡ 0) × (result.1 ≡ 0) }
         ensures left { self.new ≡ record self.old { hosts_left = self.old.hosts_left - 1 } }
     {
-        Seat::of(nexus, self.hosts.give())
+        (self.hosts.give(), Moves::none())
     }
 
-    /// Enters in both ledgers one change that a bay accepted from a host. `bay` is the share of that bay, `seat` the
-    /// seat of that host. Where 2^64 - 1 changes are entered already, the call waits on `rt` and never returns.
-    pub fn enter<R: Wait>(&mut self, rt: &R, bay: &mut PartyShare<B>, seat: &mut Seat<H>)
+    /// Enters in both ledgers one change that a bay accepted from a host, by the shares of both. Where 2^64 - 1 changes
+    /// are entered already, the call waits on `rt` and never returns.
+    pub fn enter<R: Wait>(&mut self, rt: &R, bay: &mut PartyShare<B>, host: &mut PartyShare<H>)
         ensures bay { bay.new ≡ bay.old + 1 }
-        ensures seat { seat.new ≡ record seat.old { amount = seat.old.amount + 1 } }
+        ensures host { host.new ≡ host.old + 1 }
         ensures total { self.new ≡ record self.old { total = self.old.total + 1 } }
-        ensures bounds { (bay.new < 2 ^ 64) × (seat.new.amount < 2 ^ 64) }
+        ensures bounds { (bay.new < 2 ^ 64) × (host.new < 2 ^ 64) }
     {
         if self.total == u64::MAX {
             for _ in rt.forever() {}
             unreachable!()
         }
         self.bays.enter(bay);
-        seat.enter(&mut self.hosts);
+        self.hosts.enter(host);
         self.total += 1;
     }
 

@@ -1,8 +1,8 @@
 -- What the halves of a drive answer, and the share of the drive then.
-use Rattle.std.proofs.Common.{◌≡◌, ◌≢◌, ◌+◌, ◌^◌, ◌<◌, ◌∙◌, ℕ, List, Option, None, Some, is_some, true, false, Bool, refl, sym, ap, subst}
+use Rattle.std.proofs.Common.{◌≡◌, ◌≢◌, ◌+◌, ◌∙◌, ℕ, List, Option, None, Some, is_some, true, false, Bool, refl, sym, ap, subst}
 use Rattle.std.specs.Prelude.{IfSome}
 use Rattle.tape_disk.specs.Disk.{DiskState}
-use Rattle.ledgers.specs.Ledgers.{SeatState}
+use Rattle.library.specs.Seats.{SeatState}
 use Rattle.scsi_sense.specs.declared.replies.Reply.{Reply}
 use Rattle.tape_buffer.specs.Moves.{buffer_below}
 use Rattle.tape_buffer.specs.State.{state_of}
@@ -21,6 +21,7 @@ use Rattle.split_bay.specs.Halves.{ExecutesBoth, ReportsBoth}
 use Rattle.split_bay.specs.Nears.{alone_near, near_below, state_near}
 use Rattle.split_bay.specs.Rings.{SendingState}
 use Rattle.library.specs.Halves.{EndsHeld, HasShare, HoldsBoth, JoinsHeld, PartsHeld}
+use Rattle.library.specs.Inner.Entering.{CanEnter}
 use Rattle.library.specs.Keeps.{IsLeftBy}
 use Rattle.library.specs.Served.{ServesFront, ServesHalves}
 use Rattle.library.proofs.CountLemmas.{seat_grows, share_stands}
@@ -41,7 +42,7 @@ module _ {D : Type 0} (state : D → DiskState) where
       → ((reply : Reply)
       → (step : Answers state_near near_below store_kept (store_below state) old.drive request reply new.drive)
       → ShowsChanges request.cdb reply step.taken.made.changes)
-      → low ≡ old.drive.accepted → high ≡ new.drive.accepted → low + 1 < 2 ^ 64
+      → low ≡ old.drive.accepted → high ≡ new.drive.accepted → IfSome reply (λ reply. CanEnter low request.cdb reply)
       → (reply ≡ None → counted ≡ before)
       → (is_some reply ≡ true → counted ≡ record before { answered = before.answered + 1 })
       → (low ≡ high → after ≡ counted) → (low ≢ high → after ≡ record counted { amount = counted.amount + 1 })
@@ -75,7 +76,8 @@ module _ {D : Type 0} (state : D → DiskState) where
       → ((reply : Reply)
       → (step : Answers state_near near_below store_kept (store_below state) old.drive request reply new.drive)
       → ShowsChanges request.cdb reply step.taken.made.changes)
-      → low ≡ old.drive.accepted → high ≡ new.drive.accepted → low + 1 < 2 ^ 64 → held ≡ old.drive.accepted
+      → low ≡ old.drive.accepted → high ≡ new.drive.accepted → IfSome reply (λ reply. CanEnter low request.cdb reply)
+      → held ≡ old.drive.accepted
       → (low ≡ high → held' ≡ held) → (low ≢ high → held' ≡ held + 1) → held' ≡ new.drive.accepted
   front_share old new request (Some reply) left low high held held' step law was is below stood same risen =
       share_stands state_near near_below store_kept (store_below state) old.drive request reply new.drive low high held
@@ -92,7 +94,7 @@ module _ {D : Type 0} (state : D → DiskState) where
       → ((old new : BayState D)
       → (step : Answers (state_of state) (buffer_below state) store_kept (store_below state) old request reply new)
       → ShowsChanges request.cdb reply step.taken.made.changes)
-      → low ≡ front.drive.accepted → high ≡ front'.drive.accepted → low + 1 < 2 ^ 64
+      → low ≡ front.drive.accepted → high ≡ front'.drive.accepted → CanEnter low request.cdb reply
       → counted ≡ record before { answered = before.answered + 1 }
       → (low ≡ high → after ≡ counted) → (low ≢ high → after ≡ record counted { amount = counted.amount + 1 })
       → ServesHalves state front back request before reply front' back' left after
@@ -115,7 +117,7 @@ module _ {D : Type 0} (state : D → DiskState) where
       → ((old new : BayState D)
       → (step : Answers (state_of state) (buffer_below state) store_kept (store_below state) old request reply new)
       → ShowsChanges request.cdb reply step.taken.made.changes)
-      → low ≡ front.drive.accepted → high ≡ front'.drive.accepted → low + 1 < 2 ^ 64 → held ≡ front.drive.accepted
+      → low ≡ front.drive.accepted → high ≡ front'.drive.accepted → CanEnter low request.cdb reply → held ≡ front.drive.accepted
       → (low ≡ high → held' ≡ held) → (low ≢ high → held' ≡ held + 1) → held' ≡ front'.drive.accepted
   halves_share front front' back back' request reply left low high held held' both law was is below stood same risen =
       let step = both.answers.step.step in

@@ -1,7 +1,7 @@
 -- The reply to a host's command, by the hosts' half of a drive or by both halves.
 use Rattle.std.proofs.Common.{◌≡◌, ◌∙◌, ℕ, List, Option, None, Some, inl, inr, ap, sym, subst}
 use Rattle.tape_disk.specs.Disk.{DiskState}
-use Rattle.ledgers.specs.Ledgers.{SeatState}
+use Rattle.library.specs.Seats.{SeatState}
 use Rattle.scsi_sense.specs.declared.replies.Reply.{Reply}
 use Rattle.volume_core.specs.declared.changes.Change.{Change}
 use Rattle.drive_commands.specs.Data.{data_left}

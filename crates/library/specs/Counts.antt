@@ -1,6 +1,6 @@
 -- Which drives a library has, and their counts of changes.
 use Rattle.std.specs.Prelude.{◌≡◌, ℕ, ◌-◌, nat_le, Bool, false, List, slice_index_or, Option, None, Some, is_some, map, sum_by, if◌then◌else◌}
-use Rattle.ledgers.specs.Ledgers.{SeatState}
+use Rattle.library.specs.Seats.{SeatState}
 use Rattle.bay_moves.specs.Elements.{BayState}
 
 -- there is a drive of this number, by a list that says it for each number from 1 on (own)
@@ -37,6 +37,6 @@ module _ {D : Type 0} where
   abbrev pub AcceptedNone : Option (BayState D) → Type 0
   AcceptedNone bay = or_none (count_of_drive bay) ≡ 0
 
--- the seat of a host for which nothing was entered yet (own)
+-- the seat of a host that made no move, and for which nothing was entered yet (own)
 abbrev pub new_seat : ℕ → SeatState
-new_seat nexus = record { nexus = nexus; answered = 0; amount = 0 }
+new_seat nexus = record { nexus = nexus; answered = 0; moved = 0; amount = 0 }

@@ -1,7 +1,7 @@
 -- The end of a library that threads shared.
 use Rattle.std.specs.Prelude.{◌≡◌, ◌≢◌, ◌<◌, ◌≤◌, ℕ, List, Option, Result, Err, IfErr, map, sum_by}
 use Rattle.tape_disk.specs.Disk.{DiskState}
-use Rattle.ledgers.specs.Ledgers.{SeatState}
+use Rattle.library.specs.Seats.{SeatState}
 use Rattle.tape_buffer.specs.State.{BufferState}
 use Rattle.bay_moves.specs.Elements.{BayState, bay_at}
 use Rattle.bay_moves.specs.Finish.{HasFailedAt, IsWrittenAt}

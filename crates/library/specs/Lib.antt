@@ -5,6 +5,7 @@ pub mod Inner
 pub mod Keeps
 pub mod MovesAt
 pub mod RingRows
+pub mod Seats
 pub mod Seen
 pub mod Served
 pub mod Sessions

@@ -9,6 +9,11 @@ use Rattle.bay_moves.specs.Moves.{KeepsCartridges, MovesMedium}
 use Rattle.library.specs.Counts.{has_drive}
 use Rattle.library.specs.Keeps.{KeepsLent}
 
+-- the slots of a library, and how many moves were made in it (own)
+pub record SlotsState (D : Type 0) : Type 0 where
+  pub slots : List (Option (BufferState D))
+  pub moves : ℕ
+
 module _ {D : Type 0} (state : D → DiskState) where
   -- In each library that has these slots, and these drives at the two addresses, a cartridge is moved, and none is
   -- lost. Slots and drives have their invariants before the move and after it (own).

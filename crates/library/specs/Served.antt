@@ -1,7 +1,7 @@
 -- The reply to a host's command at a drive that threads share, and by how much the host's seat grows.
 use Rattle.std.specs.Prelude.{◌≡◌, ◌⊎◌, ◌+◌, ℕ, List, length, Option, None, Some}
 use Rattle.tape_disk.specs.Disk.{DiskState}
-use Rattle.ledgers.specs.Ledgers.{SeatState}
+use Rattle.library.specs.Seats.{SeatState}
 use Rattle.scsi_sense.specs.declared.replies.Reply.{Reply}
 use Rattle.volume_core.specs.declared.changes.Change.{Change}
 use Rattle.aptpl_store.specs.Kept.{store_below, store_kept}
@@ -24,13 +24,14 @@ pub record GrowsAsShown (cdb : List ℕ) (reply : Reply) (before after : ℕ) : 
   pub none : (IsChanging cdb → Acknowledges reply → ⊥) → (ShowsWriteError reply → ⊥) → after ≡ before
   pub other : (IsChanging cdb → ⊥) → after ≡ before
 
--- The seat of the host that gave a command has one more command answered. It grows by one for each change that a drive
--- accepted with the command, as the reply says (own).
+-- The seat of the host that gave a command has one more command answered, and no move was made by it. It grows by one
+-- for each change that a drive accepted with the command, as the reply says (own).
 pub record SeatGrows (request : Request) (before : SeatState) (reply : Reply) (made : List Change) (after : SeatState)
     : Type 0 where
   pub host : request.nexus ≡ before.nexus
   pub nexus : after.nexus ≡ before.nexus
   pub answered : after.answered ≡ before.answered + 1
+  pub moved : after.moved ≡ before.moved
   pub grown : after.amount ≡ before.amount + length made
   pub reported : GrowsAsShown request.cdb reply before.amount after.amount
 

@@ -12,12 +12,12 @@ ghost use Rattle.library.specs.Keeps.{AreLeft, IsLeftAt, IsLeftByTurn};
 
 use crate::inventories::known_slots;
 use crate::libraries::Library;
-use crate::places::EndedPlace;
+use crate::places::{EndedPlace, Seat};
 use crate::rows::Row;
 use crate::shared::SharedBay;
 use bay_moves::{Bay, Parked, Unwritten};
 use element_slots::Slots;
-use ledgers::{Gathering, Parties, Seat, SeatsMissing};
+use ledgers::{Gathering, Parties, SeatsMissing};
 use split_bay::Rings;
 use std::fmt::Debug;
 use std::sync::Wait;
@@ -87,7 +87,7 @@ impl<D: Disk + Drop, B: Parties + Rings, H: Parties> Library<D, B, H> {
         let written = end_drives(rt, bays, &mut row, &mut gathering);
         take_seats(seats, &mut gathering);
         let counts = outcome(written, counts_in(&row), gathering.compare());
-        let slots = slots.into_inner();
+        let slots = slots.into_inner().into_slots();
         known_slots(&slots);
         Finished {
             slots,
@@ -217,6 +217,6 @@ fn take_seats<B: Parties, H: Parties>(seats: Vec<Seat<H>>, gathering: &mut Gathe
 {
     let mut seats = seats;
     while let Some(seat) = seats.pop() {
-        gathering.take_seat(seat);
+        gathering.take_host(seat.into_share());
     }
 }

@@ -85,7 +85,7 @@ impl<D: Disk + Drop, B: Parties + Rings, H: Parties> Library<D, B, H> {
             drives[place] = self.seen_in_drive(rt, place);
         }
         Inventory {
-            slots: seen_in_slots(&slots),
+            slots: slots.seen(),
             drives,
         }
     }

@@ -6,11 +6,11 @@ ghost use Rattle.bay_moves.specs.Lent.{IsDriveAddress};
 ghost use Rattle.library.specs.Counts.{has_drive};
 ghost use Rattle.library.specs.Served.{IsServed};
 
+use crate::places::{Seat, SlotsPlace};
 use crate::rows::Row;
 use crate::shared::SharedBay;
-use bay_moves::{Parked, drive_of};
-use element_slots::Slots;
-use ledgers::{Parties, Seat, Tally};
+use bay_moves::drive_of;
+use ledgers::{Parties, Tally};
 use scsi_sense::Reply;
 use split_bay::Rings;
 use std::alloc::Global;
@@ -28,7 +28,7 @@ use vtl_base::{Bytes, DriveNo};
 pub struct Library<D: Disk, B: Parties + Rings, H: Parties> {
     pub(crate) alloc: Global,
     pub(crate) bays: Vec<Option<SharedBay<D, B>>>,
-    pub(crate) slots: Mutex<Slots<Parked<D>>>,
+    pub(crate) slots: Mutex<SlotsPlace<D, H>>,
     pub(crate) tally: Mutex<Tally<B, H>>,
     // Where the drives go at the end. It has a lock so that threads may share it; no thread takes the lock.
     pub(crate) row: Mutex<Row<D>>,

@@ -5,7 +5,7 @@ ghost use Rattle.library.specs.Counts.{has_drive};
 ghost use Rattle.library.specs.MovesAt.{IsMovedAmong};
 
 use crate::libraries::Library;
-use crate::places::{LockedBay, move_locked};
+use crate::places::{LockedBay, Mover, move_locked};
 use crate::shared::SharedBay;
 use ledgers::Parties;
 use scsi_sense::Reply;
@@ -28,10 +28,19 @@ fn lock_both<'a, D: Disk + Drop, B: Parties + Rings, R: Wait>(
 
 impl<D: Disk + Drop, B: Parties + Rings, H: Parties> Library<D, B, H> {
     /// Moves a cartridge from the element address `from` to the element address `to`, as `move_lent` of the crate
-    /// `bays` does, and returns the reply to the move. The slots' lock is held meanwhile. While it is held, both locks
-    /// of each drive at the two addresses are taken, those of the drive with the lower number first.
-    pub fn move_medium<R: Wait>(&self, rt: &R, from: u32, to: u32) -> Reply
-        ensures { IsMovedAmong D.state self.now from to result }
+    /// `bay_moves` does, and returns the reply to the move. `mover` shows who moves: the operator, or a host by its
+    /// seat. It counts the move, whatever the reply is. The slots' lock is held meanwhile. While it is held, both locks
+    /// of each drive at the two addresses are taken, those of the drive with the lower number first. The call waits
+    /// forever if 2^64 - 1 moves were made already.
+    pub fn move_medium<R: Wait, M: Mover<H>>(
+        &self,
+        rt: &R,
+        mover: &mut M,
+        from: u32,
+        to: u32,
+    ) -> Reply
+        ensures moved { IsMovedAmong D.state self.now from to result }
+        ensures counted { mover.new ≡ M.moved_once mover.old }
     {
         let source = self.drive_at(from);
         let destination = self.other_drive_at(from, to);
@@ -39,11 +48,29 @@ impl<D: Disk + Drop, B: Parties + Rings, H: Parties> Library<D, B, H> {
         if from < to {
             let source = lock_both(source, rt);
             let destination = lock_both(destination, rt);
-            move_locked(source, destination, rt, self.alloc, &mut slots, from, to)
+            move_locked(
+                source,
+                destination,
+                rt,
+                self.alloc,
+                &mut slots,
+                mover,
+                from,
+                to,
+            )
         } else {
             let destination = lock_both(destination, rt);
             let source = lock_both(source, rt);
-            move_locked(source, destination, rt, self.alloc, &mut slots, from, to)
+            move_locked(
+                source,
+                destination,
+                rt,
+                self.alloc,
+                &mut slots,
+                mover,
+                from,
+                to,
+            )
         }
     }
 

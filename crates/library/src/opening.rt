@@ -7,13 +7,13 @@ ghost use Rattle.library.specs.Counts.{AcceptedNone, new_seat, one_if_there, pla
 ghost use Rattle.library.specs.RingRows.{AreRings};
 
 use crate::libraries::Library;
-use crate::places::{BackPlace, FrontPlace};
+use crate::places::{BackPlace, FrontPlace, Operator, Seat, SlotsPlace};
 use crate::ring_rows::RingRow;
 use crate::rows::Row;
 use crate::shared::SharedBay;
 use bay_moves::{Bay, Parked};
 use element_slots::Slots;
-use ledgers::{Parties, PartyShare, Seat, Tally};
+use ledgers::{Parties, PartyShare, Tally};
 use split_bay::{Ends, NewRing, Rings, part};
 use std::alloc::Global;
 use std::sync::Mutex;
@@ -37,11 +37,11 @@ pub struct NotOpened<D: Disk> {
 }
 
 impl<D: Disk + Drop, B: Parties + Rings, H: Parties> Library<D, B, H> {
-    /// Opens a library, and returns it with a seat for each host, in the order of `hosts`. `bays` has a place for each
-    /// drive number, from 1 to 16, with the drive if there is one; `rings` has a ring for each drive. No drive has
-    /// accepted a change yet, and no host occurs twice. The library may have no drives, and no hosts. Both ledgers are
-    /// blank: `bay_ledger` has a party for each drive, and `host_ledger` one for each host. If memory runs out, all
-    /// parts but the rings are returned.
+    /// Opens a library, and returns it with a seat for each host, in the order of `hosts`, and with the operator's
+    /// token. `bays` has a place for each drive number, from 1 to 16, with the drive if there is one; `rings` has a
+    /// ring for each drive. No drive has accepted a change yet, and no host occurs twice. The library may have no
+    /// drives, and no hosts. Both ledgers are blank: `bay_ledger` has a party for each drive, and `host_ledger` one for
+    /// each host. If memory runs out, all parts but the rings are returned.
     pub fn new(
         alloc: Global,
         bays: Vec<Option<Bay<D>>>,
@@ -50,7 +50,7 @@ impl<D: Disk + Drop, B: Parties + Rings, H: Parties> Library<D, B, H> {
         hosts: &[Nexus],
         bay_ledger: Blank,
         host_ledger: Blank,
-    ) -> Result<(Library<D, B, H>, Vec<Seat<H>>), NotOpened<D>>
+    ) -> Result<(Library<D, B, H>, Vec<Seat<H>>, Operator<H>), NotOpened<D>>
         requires places { length bays.items ≡ DRIVES }
         requires fresh { All (λ bay. AcceptedNone bay) bays.items }
         requires rings { (which_are_there rings ≡ which_are_there bays.items) × AreRings B.ring rings }
@@ -59,6 +59,7 @@ impl<D: Disk + Drop, B: Parties + Rings, H: Parties> Library<D, B, H> {
         requires host_ledger { IsBlankOf host_ledger H.name H.parts H.all × (H.all ≡ length hosts.now) }
         ensures drives { IfOk result (λ opened. opened.0 ≡ which_are_there bays.items) }
         ensures seats { IfOk result (λ opened. opened.1.items ≡ map new_seat hosts.now) }
+        ensures operator { IfOk result (λ opened. opened.2 ≡ 0) }
         ensures back { IfErr result (λ back. (back.bays ≡ bays) × (back.slots ≡ slots)
             × (back.bay_ledger ≡ bay_ledger) × (back.host_ledger ≡ host_ledger)) }
     {
@@ -78,19 +79,19 @@ impl<D: Disk + Drop, B: Parties + Rings, H: Parties> Library<D, B, H> {
                 host_ledger,
             });
         };
-        let mut tally = Tally::open(bay_ledger, host_ledger);
+        let (mut tally, book, moves) = Tally::open(bay_ledger, host_ledger);
         let mut row = Row::of(bays);
         let shared = share_all(shared, &mut row, rings, &mut tally);
         let seats = seat_all(seats, hosts, &mut tally);
         let library = Library {
             alloc,
             bays: shared,
-            slots: Mutex::new(slots),
+            slots: Mutex::new(SlotsPlace::new(slots, book)),
             tally: Mutex::new(tally),
             row: Mutex::new(row),
             closed: AtomicBool::new(false),
         };
-        Ok((library, seats))
+        Ok((library, seats, Operator::of(moves)))
     }
 }
 
@@ -177,8 +178,8 @@ fn seat_all<B: Parties, H: Parties>(
 {
     let mut seats = room;
     for nexus in hosts {
-        let seat = tally.add_host(*nexus);
-        seats.push(seat).unwrap();
+        let (share, moves) = tally.add_host();
+        seats.push(Seat::of(*nexus, share, moves)).unwrap();
     }
     seats
 }

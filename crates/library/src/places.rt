@@ -1,18 +1,25 @@
-//! The two halves of a drive, each in a place that a lock of its own is to guard. The drive is reached only through
-//! these.
+//! What locks guard: the two halves of a drive, each in a place with a lock of its own, and the slots. Drives and slots
+//! are reached only through these. With them stand those who reach them: a host by its seat, and the operator.
 ghost use Rattle.std.specs.Prelude.{◌≡◌, Some, is_some, true};
 ghost use Rattle.library.specs.Halves.{HasShare, IsAccepted, TurnsHeld};
 ghost use Rattle.library.specs.Seen.{is_place_seen, seen_of_front};
 
 mod answers;
 mod ending;
+mod entries;
 mod held;
+mod movers;
 mod moves;
+mod seats;
+mod slots;
 
 use crate::inventories::Element;
 pub use ending::EndedPlace;
 use ledgers::{Parties, PartyShare};
+pub use movers::{Mover, Operator};
 pub(crate) use moves::{LockedBay, move_locked};
+pub use seats::Seat;
+pub(crate) use slots::SlotsPlace;
 use split_bay::{Back, Front, Rings};
 use std::marker::Model;
 use tape_disk::Disk;

@@ -7,7 +7,8 @@ ghost use Rattle.library.specs.Served.{IsServed};
 ghost use Rattle.library.specs.Sessions.{AnswersSession};
 
 use crate::libraries::Library;
-use ledgers::{Parties, Seat};
+use crate::places::Seat;
+use ledgers::Parties;
 use scsi_sense::Reply;
 use split_bay::Rings;
 use std::alloc::Global;

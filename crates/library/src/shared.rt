@@ -5,8 +5,8 @@ ghost use Rattle.drive_commands.specs.Execute.{asked};
 ghost use Rattle.library.specs.Served.{IsServed};
 
 use crate::flushers::Gate;
-use crate::places::{BackPlace, FrontPlace};
-use ledgers::{Parties, Seat, Tally};
+use crate::places::{BackPlace, FrontPlace, Seat};
+use ledgers::{Parties, Tally};
 use scsi_sense::Reply;
 use split_bay::Rings;
 use std::sync::atomic::{AtomicBool, AtomicU64, Ordering};

@@ -7,7 +7,7 @@ use Rattle.std.specs.Prelude.{OnErr}
 use Rattle.std.specs.List.{slice_get}
 use Rattle.tape_disk.specs.Disk.{DiskState}
 use Rattle.scsi_sense.specs.declared.replies.Reply.{Reply}
-use Rattle.ledgers.specs.Ledgers.{SeatState}
+use Rattle.library.specs.Seats.{SeatState}
 use Rattle.vtl_script.specs.Answered.{none_of_item}
 use Rattle.vtl_script.specs.Runs.{AnswersSome}
 use Rattle.vtl_script.specs.declared.lines.Line.{Line}
@@ -125,19 +125,25 @@ module _ {D : Type 0} (state : D → DiskState) where
 
   -- where a phase's lines are answered, the crew answers the phase
   pub phase_answers : {V E : Type 0} (items : V → List Reply) (drives : List Bool) (old new : List SeatState)
-      (lines : List Line) (result : Result V E)
+      (moved : ℕ) (lines : List Line) (result : Result V E)
       → IfOk result (λ v. AnswersAllAmong state drives old (map line_event lines) (items v) new)
-      → IfOk result (λ v. AnswersCrew state (record { drives = drives; seats = old }) (Phase lines ∷ []) (items v)
-      (record { drives = drives; seats = new }))
-  phase_answers items drives old new lines (Ok v) done = record {
+      → IfOk result (λ v. AnswersCrew state (record { drives = drives; seats = old; moved = moved }) (Phase lines ∷ [])
+      (items v) (record { drives = drives; seats = new; moved = moved }))
+  phase_answers items drives old new moved lines (Ok v) done = record {
     drives = refl;
     answered =
         subst (λ (events : List (Event OfLibrary)). AnswersAllAmong state drives old events (items v) new)
         (sym (append-nil (map line_event lines))) done;
+    moved = omega arith;
   }
-  phase_answers items drives old new lines (Err fault) done = tt
+  phase_answers items drives old new moved lines (Err fault) done = tt
 
   -- where a cartridge is moved, the crew answers the move
   pub move_answers : (crew : CrewState) (from to : ℕ) (reply : Reply) → IsMovedAmong state crew.drives from to reply
-      → AnswersCrew state crew (Move from to ∷ []) (reply ∷ []) crew
-  move_answers crew from to reply moved = record { drives = refl; answered = (crew.seats, (moved, refl), refl) }
+      → AnswersCrew state crew (Move from to ∷ []) (reply ∷ [])
+      (record { drives = crew.drives; seats = crew.seats; moved = crew.moved + 1 })
+  move_answers crew from to reply moved = record {
+    drives = refl;
+    answered = (crew.seats, (moved, refl), refl);
+    moved = omega arith;
+  }

@@ -7,7 +7,7 @@ use Rattle.std.proofs.lemmas.List.Folds.{list_all-append}
 use Rattle.std.specs.List.{list_all}
 use Rattle.scsi_sense.specs.declared.replies.Reply.{Reply}
 use Rattle.vtl_script.specs.declared.lines.Line.{Line}
-use Rattle.ledgers.specs.Ledgers.{SeatState}
+use Rattle.library.specs.Seats.{SeatState}
 use Rattle.library_scripts.specs.Inner.InPlace.{AreInPlace}
 use Rattle.library_scripts.specs.Inner.Jobs.{IsDealt, JobState, lines_of, replies_of, seats_of}
 

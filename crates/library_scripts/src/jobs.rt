@@ -6,8 +6,8 @@ ghost use Rattle.library.specs.Served.{IsServed};
 ghost use Rattle.library_scripts.specs.Inner.Jobs.{IsDone, IsReady};
 
 use crate::threads::Idle;
-use ledgers::{Parties, Seat};
-use library::{Library, Rings};
+use ledgers::Parties;
+use library::{Library, Rings, Seat};
 use scsi_sense::Reply;
 use std::alloc::Global;
 use std::marker::Model;

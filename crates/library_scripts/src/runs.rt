@@ -19,8 +19,10 @@ use crate::serving::serve_all;
 use crate::stages::Stage;
 use bay_moves::{Bay, Parked};
 use element_slots::Slots;
-use ledgers::{Parties, Seat};
-use library::{Finished, Gate, Library, NotOpened, RingRow, Rings, beside_flushers};
+use ledgers::Parties;
+use library::{
+    Finished, Gate, Library, NotOpened, Operator, RingRow, Rings, Seat, beside_flushers,
+};
 use std::alloc::Global;
 use std::io::{Read, Write};
 use std::marker::{Send, Sync};
@@ -105,10 +107,11 @@ fn run_beside<
     beside_flushers(rt, library, gate, 1, &mut work)
 }
 
-// The seats after a script over a library, and how the script ended.
+// The seats and the operator after a script over a library, and how the script ended.
 #[derive(Drop)]
 struct RanFor<H: Parties> {
     seats: Vec<Seat<H>>,
+    operator: Operator<H>,
     outcome: Result<(), ScriptFault>,
 }
 
@@ -130,7 +133,7 @@ fn make_rooms<H: Parties>(alloc: Global) -> Result<Rooms<H>, NoMemory>
     })
 }
 
-// Runs the script over an open library, for the hosts of these seats.
+// Runs the script over an open library, for the hosts of these seats, and for the operator, who makes the moves.
 fn run_opened<
     'a,
     D: Disk + Drop + Send,
@@ -146,6 +149,7 @@ fn run_opened<
     library: &'a Library<D, B, H>,
     rooms: Rooms<H>,
     seats: Vec<Seat<H>>,
+    operator: Operator<H>,
     gate: &G,
     reader: &mut I,
     writer: &mut O,
@@ -154,8 +158,10 @@ fn run_opened<
     requires seats { (rooms.seats.items ≡ []) × (NEXUSES ≤ vec_capacity rooms.seats) }
     requires places { AreInPlace seats.items }
     ensures runs { RunsScript (has_drive library.now) (AnswersCrew D.state)
-        (record { drives = library.now; seats = seats.items }) (I.remaining reader.old) (O.contents writer.old)
-        (record { drives = library.now; seats = result.seats.items }) (O.contents writer.new) result.outcome }
+        (record { drives = library.now; seats = seats.items; moved = operator })
+        (I.remaining reader.old) (O.contents writer.old)
+        (record { drives = library.now; seats = result.seats.items; moved = result.operator })
+        (O.contents writer.new) result.outcome }
     ensures past { result.outcome ≢ Err ScriptFault.ReadFault →
         TakesWithin (I.remaining reader.old) 0 (I.remaining reader.new) }
     ensures places { AreInPlace result.seats.items }
@@ -165,12 +171,14 @@ fn run_opened<
         ensures { IsServedStage D.state stage.entry.now stage.exit.now }
     { serve_all(stage) };
     let mut crew = Crew {
-        hosts: Stage::of(rt, alloc, library, rooms.jobs, seats),
+        hosts: Stage::of(rt, alloc, library, rooms.jobs, seats, operator),
         serve,
     };
     let outcome = run_beside(rt, alloc, library, gate, &mut crew, reader, writer);
+    let (seats, operator) = crew.hosts.into_parts(rooms.seats);
     RanFor {
-        seats: crew.hosts.into_seats(rooms.seats),
+        seats,
+        operator,
         outcome,
     }
 }
@@ -232,7 +240,7 @@ pub fn run_library<
             host_ledger,
         });
     };
-    let (library, seats) = Library::<D, B, H>::new(
+    let (library, seats, operator) = Library::<D, B, H>::new(
         alloc,
         bays,
         rings,
@@ -241,8 +249,12 @@ pub fn run_library<
         bay_ledger,
         host_ledger,
     )?;
-    let RanFor { seats, outcome } = run_opened(
-        rt, alloc, &library, rooms, seats, gate, reader, writer,
+    let RanFor {
+        seats,
+        operator: _,
+        outcome,
+    } = run_opened(
+        rt, alloc, &library, rooms, seats, operator, gate, reader, writer,
     );
     Ok(Ran {
         finished: library.finish(rt, seats),

@@ -11,8 +11,8 @@ ghost use Rattle.library_scripts.specs.Inner.StagesOn.{stage_answered, stage_cou
 use crate::hosts::Hosts;
 use crate::jobs::Job;
 use crate::phases::{begin_all, deal_all, give_all, serve_in_turn};
-use ledgers::{Parties, Seat};
-use library::{Library, Rings};
+use ledgers::Parties;
+use library::{Library, Operator, Rings, Seat};
 use scsi_sense::Reply;
 use std::alloc::Global;
 use std::marker::Model;
@@ -21,13 +21,14 @@ use tape_disk::Disk;
 use vtl_base::{DriveNo, NoMemory};
 use vtl_script::Line;
 
-/// The hosts of a library, from number 1 on. A contract sees which drives are configured, and the job of each host: its
-/// seat and its lines of a phase.
+/// The hosts of a library, from number 1 on, and the operator. A contract sees which drives are configured, the job of
+/// each host (its seat and its lines of a phase), and how many moves the operator made.
 #[derive(Drop)]
 pub(crate) struct Stage<'a, D: Disk, B: Parties + Rings, H: Parties, R> {
     pub(crate) rt: &'a R,
     pub(crate) library: &'a Library<D, B, H>,
     pub(crate) jobs: Vec<Job<H>>,
+    operator: Operator<H>,
 }
 
 impl<'a, D: Disk, B: Parties + Rings, H: Parties, R> Model for Stage<'a, D, B, H, R> {
@@ -36,7 +37,7 @@ impl<'a, D: Disk, B: Parties + Rings, H: Parties, R> Model for Stage<'a, D, B, H
 
     ghost Value = { StageState };
 
-    ghost view = { λ s. record { drives = s.library.now; jobs = s.jobs.items } };
+    ghost view = { λ s. record { drives = s.library.now; jobs = s.jobs.items; moved = s.operator } };
 
     ghost invariant = { λ s. AreInPlace (seats_of s.jobs.items) };
 }
@@ -66,35 +67,39 @@ fn seats_in<H: Parties>(room: Vec<Seat<H>>, jobs: Vec<Job<H>>) -> Vec<Seat<H>>
 }
 
 impl<'a, D: Disk + Drop, B: Parties + Rings, H: Parties, R> Stage<'a, D, B, H, R> {
-    /// The hosts that have these seats. `room` is empty, with room for a job for each of them. The call takes no
-    /// memory.
+    /// The hosts that have these seats, and the operator. `room` is empty, with room for a job for each seat. The call
+    /// takes no memory.
     pub(crate) fn of(
         rt: &'a R,
         alloc: Global,
         library: &'a Library<D, B, H>,
         room: Vec<Job<H>>,
         seats: Vec<Seat<H>>,
+        operator: Operator<H>,
     ) -> Stage<'a, D, B, H, R>
         requires room { (room.items ≡ []) × (length seats.items ≤ vec_capacity room) }
         requires places { AreInPlace seats.items }
         ensures drives { result.drives ≡ library.now }
         ensures seats { seats_of result.jobs ≡ seats.items }
+        ensures operator { result.moved ≡ operator }
     {
         Stage {
             rt,
             library,
             jobs: jobs_of(alloc, room, seats),
+            operator,
         }
     }
 
-    /// Returns the seats, by rising host, in `room`, which has to be empty and to have room for 64 seats. It takes no
-    /// memory.
-    pub(crate) fn into_seats(self, room: Vec<Seat<H>>) -> Vec<Seat<H>>
+    /// Returns the seats, by rising host, in `room`, which has to be empty and to have room for 64 seats; and the
+    /// operator's token. It takes no memory.
+    pub(crate) fn into_parts(self, room: Vec<Seat<H>>) -> (Vec<Seat<H>>, Operator<H>)
         requires { (room.items ≡ []) × (NEXUSES ≤ vec_capacity room) }
-        ensures seats { result.items ≡ seats_of self.entry.jobs }
-        ensures places { AreInPlace result.items }
+        ensures seats { result.0.items ≡ seats_of self.entry.jobs }
+        ensures places { AreInPlace result.0.items }
+        ensures operator { result.1 ≡ self.entry.moved }
     {
-        seats_in(room, self.jobs)
+        (seats_in(room, self.jobs), self.operator)
     }
 }
 
@@ -132,9 +137,10 @@ impl<'a, D: Disk + Drop, B: Parties + Rings, H: Parties, R: Wait> Hosts for Stag
 
     fn run_move(&mut self, alloc: Global, from: u32, to: u32) -> Result<Vec<Reply>, NoMemory> {
         let mut replies = Vec::with_capacity(alloc, 1)?;
-        replies
-            .push(self.library.move_medium(self.rt, from, to))
-            .unwrap();
+        let rt = self.rt;
+        let library = self.library;
+        let reply = library.move_medium(rt, &mut self.operator, from, to);
+        replies.push(reply).unwrap();
         Ok(replies)
     }
 

@@ -15,7 +15,7 @@ use Rattle.tape_buffer.specs.declared.holding.Holding.{Holding}
 use Rattle.tape_buffer.specs.declared.holding.Holding.TheVariants.{Open, Closed, Between}
 use Rattle.accepted_changes.specs.Core.{IsCore}
 use Rattle.tape_buffer.specs.Catalogs.{IsCataloged}
-use Rattle.tape_buffer.specs.Moves.{medium_core}
+use Rattle.tape_buffer.specs.Moves.{MovesUnreported, medium_core}
 use Rattle.tape_buffer.specs.State.{BufferState, awake_is_read, state_held, state_of}
 use Rattle.tape_buffer.specs.Taking.{LendsFrom, LendsHeld, LentState}
 use Rattle.split_bay.specs.declared.items.Item.{Item}
@@ -28,7 +28,6 @@ use Rattle.split_bay.specs.Nears.{IsRoomSeen, KnowsSpan, ShowsSpanIn}
 use Rattle.split_bay.specs.Rings.{ReceivingState, SendingState}
 use Rattle.split_bay.specs.Spans.{KeepsLimits, Span, medium_begun, medium_seen, new_span, span_of, spans_in}
 use Rattle.split_bay.specs.Taken.{TakesKnown}
-use Rattle.split_bay.specs.Unreported.{AcceptsUnreported}
 use Rattle.split_bay.proofs.JoinedLemmas.{nothing_waits, spans_behind}
 use Rattle.split_bay.proofs.LookLemmas.{looked_same, not_both}
 use Rattle.split_bay.proofs.SpanLemmas.{span_more}
@@ -80,7 +79,7 @@ module _ {D : Type 0} (state : D → DiskState) where
               all_received follows.looked;
           advances = takes.takes.advances;
           accepts =
-              subst (λ (b : BufferState D). AcceptsUnreported state medium.buffer takes.takes.found b)
+              subst (λ (b : BufferState D). MovesUnreported state medium.buffer takes.takes.found b)
               (sym takes.takes.pending)
               (accepts_waiting state is_disk (span_of old.received) medium.buffer takes.takes.found
               before.looked.volume before.looked.awake before.rests

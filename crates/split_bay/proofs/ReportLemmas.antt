@@ -9,9 +9,10 @@ use Rattle.drive_commands.specs.declared.bays.Bay.{Bay}
 use Rattle.drive_commands.specs.declared.bays.Bay.TheVariants.{Empty, Unloaded, Loaded}
 use Rattle.drive_commands.specs.State.{IsBayPositioned, Machine, bay_of, has_failed_in, medium_in}
 use Rattle.bay_moves.specs.Elements.{BayState}
+use Rattle.tape_buffer.specs.Moves.{with_changes}
 use Rattle.tape_buffer.specs.State.{BufferState, state_of}
 use Rattle.tape_buffer.specs.Taking.{LentState}
-use Rattle.split_bay.specs.Backs.{BackState, is_stuck_in, with_changes}
+use Rattle.split_bay.specs.Backs.{BackState, is_stuck_in}
 use Rattle.split_bay.specs.Fronts.{FrontState}
 use Rattle.split_bay.specs.Halves.{Joins, Parts, ReportsBoth, ReportsFault, is_unreported}
 use Rattle.split_bay.specs.Looks.{LookedIn, deferred_after, fails_anew, is_broken}

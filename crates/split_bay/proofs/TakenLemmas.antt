@@ -15,12 +15,12 @@ use Rattle.cartridge.specs.State.{ClosedCartridge, OpenCartridge}
 use Rattle.tape_buffer.specs.declared.budgets.Budget.{Budget}
 use Rattle.tape_buffer.specs.declared.holding.Holding.{Holding}
 use Rattle.tape_buffer.specs.declared.holding.Holding.TheVariants.{Open, Closed, Between}
-use Rattle.tape_buffer.specs.Moves.{buffer_below, medium_moves_on}
+use Rattle.tape_buffer.specs.Moves.{StoresBehind, buffer_below, medium_moves_on, with_changes}
 use Rattle.tape_buffer.specs.State.{BufferState, awake_is_read, state_held, state_of}
 use Rattle.tape_buffer.specs.Taking.{KeepsBudget, LentState, budget_after}
 use Rattle.split_bay.specs.declared.items.Item.{Item}
 use Rattle.split_bay.specs.declared.items.Item.TheVariants.{Sent}
-use Rattle.split_bay.specs.Backs.{FollowsSpan, LeavesBudget, TurnsBack, with_changes}
+use Rattle.split_bay.specs.Backs.{FollowsSpan, LeavesBudget, TurnsBack}
 use Rattle.split_bay.specs.Rings.{ReceivingState}
 use Rattle.split_bay.specs.Spans.{KeepsLimits, Span, medium_begun, medium_seen, span_with, volume_seen}
 use Rattle.split_bay.specs.Taken.{TakesKnown, TakesWaiting}
@@ -189,11 +189,12 @@ module _ {D : Type 0} (state : D → DiskState) where
       → IsOneFrameIn turn (frames_in taken.buffer) taken.buffer.pending (frames_in medium'.buffer)
       → Stores (state_of state taken.buffer) [] (state_of state medium'.buffer)
       → Advances (buffer_below state) taken.buffer [] (turn_met_fault turn) medium'.buffer
+      → StoresBehind state taken.buffer medium'.buffer
       → TurnsBack state true
       (record { number = old.number; received = old.received; waiting = old.waiting; medium = Some medium })
       turn
       (record { number = new.number; received = new.received; waiting = new.waiting; medium = Some medium' })
-  turns_back old looked new medium taken medium' turn same more takes works answer frame stores advances =
+  turns_back old looked new medium taken medium' turn same more takes works answer frame stores advances behind =
       let some = takes.takes in
       let found = some.found in (
         looked.waiting,
@@ -225,6 +226,8 @@ module _ {D : Type 0} (state : D → DiskState) where
                     (append-nil found)
                     (advances_on (buffer_below state) (medium_moves_on state) medium.buffer taken.buffer
                     medium'.buffer found [] (turn_met_fault turn) (some.advances works) advances);
+                behind =
+                    subst (λ (b : BufferState D). StoresBehind state b medium'.buffer) some.pending behind;
               };
         },
       )

@@ -16,31 +16,31 @@ use Rattle.accepted_changes.specs.Events.{CoreMoves, core_moves_nowhere, core_mo
 use Rattle.accepted_changes.specs.Kinds.{moves_accepting}
 use Rattle.tape_buffer.specs.declared.holding.Holding.{Holding}
 use Rattle.tape_buffer.specs.declared.holding.Holding.TheVariants.{Open, Closed, Between}
-use Rattle.tape_buffer.specs.Moves.{MovesOn, medium_core}
+use Rattle.tape_buffer.specs.Moves.{MovesOn, MovesUnreported, as_told, medium_core, with_changes}
 use Rattle.tape_buffer.specs.Rules.{applies_behind, is_unrefused, medium_rules}
 use Rattle.tape_buffer.specs.State.{BufferState, core_held, disks_in, found_core, found_in, open_core, state_held, state_of, torn_in}
-use Rattle.split_bay.specs.Backs.{with_changes}
 use Rattle.split_bay.specs.Spans.{KeepsLimits, Span, medium_begun, medium_seen}
-use Rattle.split_bay.specs.Unreported.{AcceptsUnreported, unreported}
 use Rattle.split_bay.proofs.SpanLemmas.{apply_rest}
 
 module _ {D : Type 0} (state : D → DiskState) (is_disk : (disk : D) → (state disk).honest → IsDisk (state disk)) where
   -- one change is accepted over an open cartridge
   taken_one : (c : OpenCartridge D) (pending : List Change) (change : Change)
       → refusal_of (after (volume_made c.contents) pending) change ≡ None → IsCore (open_core c pending)
-      → CoreMoves medium_rules (two_disks state) c.disks c.disks (unreported (open_core c pending))
-      (unreported (open_core c (pending ++ change ∷ []))) (change ∷ [])
+      → CoreMoves medium_rules (two_disks state) c.disks c.disks (as_told false (open_core c pending))
+      (as_told false (open_core c (pending ++ change ∷ []))) (change ∷ [])
   taken_one c pending change none core =
       subst
       (λ (new : Core Start Change).
-      CoreMoves medium_rules (two_disks state) c.disks c.disks (unreported (open_core c pending)) new (change ∷ []))
+      CoreMoves medium_rules (two_disks state) c.disks c.disks (as_told false (open_core c pending)) new
+      (change ∷ []))
       (sym with_change)
-      (moves_accepting medium_rules (two_disks state) (two_is_device state) c.disks (unreported (open_core c pending))
-      change (λ honest. (is_disk c.disks.first honest.0, is_disk c.disks.second honest.1))
+      (moves_accepting medium_rules (two_disks state) (two_is_device state) c.disks
+      (as_told false (open_core c pending)) change
+      (λ honest. (is_disk c.disks.first honest.0, is_disk c.disks.second honest.1))
       (record { safe = core.safe; stored = core.stored }) refl refl applies)
     where
-      with_change : unreported (open_core c (pending ++ change ∷ [])) ≡ with_item change
-          (unreported (open_core c pending))
+      with_change : as_told false (open_core c (pending ++ change ∷ [])) ≡ with_item change
+          (as_told false (open_core c pending))
       with_change =
           λ i. record {
             base = start_of c.contents;
@@ -62,25 +62,27 @@ module _ {D : Type 0} (state : D → DiskState) (is_disk : (disk : D) → (state
   -- and so are more
   taken_open : (c : OpenCartridge D) (pending changes : List Change)
       → AllApply (after (volume_made c.contents) pending) changes → IsCore (open_core c pending)
-      → CoreMoves medium_rules (two_disks state) c.disks c.disks (unreported (open_core c pending))
-      (unreported (open_core c (pending ++ changes))) changes
+      → CoreMoves medium_rules (two_disks state) c.disks c.disks (as_told false (open_core c pending))
+      (as_told false (open_core c (pending ++ changes))) changes
   taken_open c pending [] apply core =
       subst
       (λ (l : List Change).
-      CoreMoves medium_rules (two_disks state) c.disks c.disks (unreported (open_core c pending))
-      (unreported (open_core c l)) [])
+      CoreMoves medium_rules (two_disks state) c.disks c.disks (as_told false (open_core c pending))
+      (as_told false (open_core c l)) [])
       (sym (append-nil pending))
       (core_moves_nowhere medium_rules (two_disks state) (two_is_device state) c.disks
-      (unreported (open_core c pending)) (λ honest. (is_disk c.disks.first honest.0, is_disk c.disks.second honest.1)))
+      (as_told false (open_core c pending))
+      (λ honest. (is_disk c.disks.first honest.0, is_disk c.disks.second honest.1)))
   taken_open c pending (change ∷ changes) apply core =
       let next = pending ++ change ∷ [] in
       subst
       (λ (l : List Change).
-      CoreMoves medium_rules (two_disks state) c.disks c.disks (unreported (open_core c pending))
-      (unreported (open_core c l)) (change ∷ changes))
+      CoreMoves medium_rules (two_disks state) c.disks c.disks (as_told false (open_core c pending))
+      (as_told false (open_core c l)) (change ∷ changes))
       (append_assoc pending (change ∷ []) changes)
       (core_moves_on medium_rules (two_disks state) (two_is_device state) c.disks c.disks c.disks
-      (unreported (open_core c pending)) (unreported (open_core c next)) (unreported (open_core c (next ++ changes)))
+      (as_told false (open_core c pending)) (as_told false (open_core c next))
+      (as_told false (open_core c (next ++ changes)))
       (change ∷ []) changes (taken_one c pending change apply.0 core)
       (taken_open c next changes
       (subst (λ (v : List Part). AllApply v changes)
@@ -101,11 +103,11 @@ module _ {D : Type 0} (state : D → DiskState) (is_disk : (disk : D) → (state
   taken_held : (held : Holding (OpenCartridge D) (ClosedCartridge D)) (pending changes : List Change)
       → AllApply (volume_of (state_held state held pending)) changes
       → ((state_held state held pending).awake ≡ false → changes ≡ []) → IsCore (core_held state held pending)
-      → MovesOn state (disks_in held) (disks_in held) (unreported (core_held state held pending))
-      (unreported (core_held state held (pending ++ changes))) changes
+      → MovesOn state (disks_in held) (disks_in held) (as_told false (core_held state held pending))
+      (as_told false (core_held state held (pending ++ changes))) changes
   taken_held (Open c) pending changes apply none core = taken_open c pending changes apply core
   taken_held (Closed c) pending changes apply none core =
-      let rests = unreported (found_core (found_in state c) (torn_in state c)) in
+      let rests = as_told false (found_core (found_in state c) (torn_in state c)) in
       subst
       (λ (l : List Change). CoreMoves medium_rules (two_disks state) c.disks c.disks rests rests l)
       (sym (none refl))
@@ -119,7 +121,7 @@ module _ {D : Type 0} (state : D → DiskState) (is_disk : (disk : D) → (state
       → (state_of state medium).awake ≡ (medium_begun span).awake
       → ((medium_begun span).awake ≡ false → span.begin.left ≡ 0)
       → KeepsLimits (record span { since = span.since ++ changes }) → IsCore (medium_core state medium)
-      → AcceptsUnreported state medium changes (with_changes medium changes)
+      → MovesUnreported state medium changes (with_changes medium changes)
   accepts_waiting span medium changes volume awake rests within core =
       taken_held medium.held medium.pending changes
       (subst (λ (v : List Part). AllApply v changes)

@@ -10,7 +10,7 @@ use Rattle.volume_core.specs.Medium.{Turns, block_bytes, frame_size, turn_met_fa
 use Rattle.volume_core.specs.Stores.{Stores}
 use Rattle.tape_buffer.specs.declared.budgets.Budget.{Budget}
 use Rattle.tape_buffer.specs.Frames.{IsOneFrameIn, frames_in}
-use Rattle.tape_buffer.specs.Moves.{buffer_below}
+use Rattle.tape_buffer.specs.Moves.{StoresBehind, buffer_below, with_changes}
 use Rattle.tape_buffer.specs.State.{BufferState, state_of}
 use Rattle.tape_buffer.specs.Taking.{LentState}
 use Rattle.bay_moves.specs.Bays.{KeepsCartridgeIn}
@@ -32,10 +32,6 @@ pub record LeavesBudget (span : Span) (budget : Budget) : Type 0 where
   pub records : span.begin.left ≤ budget.records + length span.since
   pub bytes : span.begin.bytes ≤ budget.bytes + sum_by block_bytes span.since
   pub room : span.begin.room ≤ budget.room + sum_by frame_size span.since
-
--- a medium with these changes pending more (own)
-abbrev pub with_changes : {D : Type 0} → BufferState D → List Change → BufferState D
-with_changes medium changes = record medium { pending = medium.pending ++ changes }
 
 module _ {D : Type 0} (state : D → DiskState) where
   -- The medium of the disk's half stands as the span says: it is as hosts see it, as far as it was stored; it takes
@@ -70,13 +66,14 @@ module _ {D : Type 0} (state : D → DiskState) where
 
   -- What is pending in a medium, with these changes behind it, is stored as one frame, or nothing is pending; or the
   -- device failed while it was. Exactly these changes are accepted; the medium's relation says what is left at each
-  -- moment (own).
+  -- moment, also with whatever hosts accept meanwhile, behind what was found (own).
   pub record StoresFound (old : BufferState D) (found : List Change) (turn : Turn) (new : BufferState D) : Type 0 where
     pub answer : Turns (state_of state (with_changes old found)) turn (state_of state new)
     pub frame :
         IsOneFrameIn turn (frames_in (with_changes old found)) (with_changes old found).pending (frames_in new)
     pub stores : Stores (state_of state (with_changes old found)) [] (state_of state new)
     pub advances : Advances (buffer_below state) old found (turn_met_fault turn) new
+    pub behind : StoresBehind state (with_changes old found) new
 
   -- the same of a medium that is in the drive (own)
   abbrev pub StoresFoundIn : Option (LentState D) → List Change → Turn → Option (LentState D) → Type 0

@@ -11,21 +11,20 @@ use Rattle.drive_commands.specs.State.{IsBayPositioned, bay_of, has_failed_in, m
 use Rattle.drive_commands.specs.Synchronize.{Acknowledges, IsSynchronizing, NothingPending}
 use Rattle.drive_commands.specs.Work.{Request}
 use Rattle.aptpl_store.specs.Kept.{store_kept}
-use Rattle.tape_buffer.specs.Moves.{buffer_below}
+use Rattle.tape_buffer.specs.Moves.{MovesUnreported, buffer_below, with_changes}
 use Rattle.tape_buffer.specs.State.{BufferState, state_of}
 use Rattle.tape_buffer.specs.Taking.{LentState}
 use Rattle.bay_moves.specs.Bays.{AnswersLentInEvent, IsSafeIn, KeepsBoth}
 use Rattle.bay_moves.specs.Elements.{BayState}
 use Rattle.split_bay.specs.declared.items.Item.{Item}
 use Rattle.split_bay.specs.declared.items.Item.TheVariants.{Sent}
-use Rattle.split_bay.specs.Backs.{BackState, KeepsDiskHalf, is_stuck_in, with_changes}
+use Rattle.split_bay.specs.Backs.{BackState, KeepsDiskHalf, is_stuck_in}
 use Rattle.split_bay.specs.Fronts.{FrontState, HasEnd, KeepsHostsHalf, end_in, end_of}
 use Rattle.split_bay.specs.Halving.{BeginsNext, IsAllowed, IsLent, JoinsMedium}
 use Rattle.split_bay.specs.Looks.{LookedIn, Looks, fails_anew}
 use Rattle.split_bay.specs.Nears.{state_near}
 use Rattle.split_bay.specs.Rings.{SendingState}
 use Rattle.split_bay.specs.Spans.{span_of}
-use Rattle.split_bay.specs.Unreported.{AcceptsUnreported}
 
 module _ {D : Type 0} (state : D → DiskState) where
   -- A medium accepts exactly these changes: one that works, and, with no call of a disk, one whose fault was not
@@ -33,7 +32,7 @@ module _ {D : Type 0} (state : D → DiskState) where
   pub record AcceptsAll (old : LentState D) (made : List Change) (new : BufferState D) : Type 0 where
     pub advances :
         (state_of state old.buffer).failed ≡ false → Advances (buffer_below state) old.buffer made false new
-    pub accepts : AcceptsUnreported state old.buffer made new
+    pub accepts : MovesUnreported state old.buffer made new
 
   -- the same of a medium that may be there; by none, none (own)
   abbrev pub AcceptsIn : Option (LentState D) → List Change → Option (BufferState D) → Type 0

@@ -5,19 +5,18 @@ use Rattle.vtl_base.specs.declared.limits.TheConstants.{BUFFER_BYTES, BUFFER_REC
 use Rattle.tape_disk.specs.Disk.{DiskState}
 use Rattle.volume_core.specs.declared.changes.Change.{Change}
 use Rattle.volume_core.specs.Medium.{MediumState, block_bytes}
-use Rattle.tape_buffer.specs.Moves.{buffer_below}
+use Rattle.tape_buffer.specs.Moves.{MovesUnreported, buffer_below, with_changes}
 use Rattle.tape_buffer.specs.State.{BufferState, state_of}
 use Rattle.tape_buffer.specs.Taking.{LendsFrom, LentState}
 use Rattle.split_bay.specs.declared.items.Item.{Item}
 use Rattle.split_bay.specs.declared.items.Item.TheVariants.{Begins, Sent}
 use Rattle.split_bay.specs.declared.noted.NotedBeginning.{NotedBeginning}
-use Rattle.split_bay.specs.Backs.{BackState, with_changes}
+use Rattle.split_bay.specs.Backs.{BackState}
 use Rattle.split_bay.specs.Beginnings.{Beginning}
 use Rattle.split_bay.specs.Looks.{Looked}
 use Rattle.split_bay.specs.Nears.{IsRoomSeen, IsThere, state_near}
 use Rattle.split_bay.specs.Rings.{SendingState}
 use Rattle.split_bay.specs.Spans.{span_of}
-use Rattle.split_bay.specs.Unreported.{AcceptsUnreported}
 
 -- the ends of a ring, where one began a span more: all that was sent is received (own)
 pub record BeginsNext (old new : SendingState) : Type 0 where
@@ -47,7 +46,7 @@ module _ {D : Type 0} (state : D → DiskState) where
     pub looked : Looked (state_near near) (state_of state new)
     pub advances :
         (state_of state old.buffer).failed ≡ false → Advances (buffer_below state) old.buffer waiting false new
-    pub accepts : AcceptsUnreported state old.buffer waiting new
+    pub accepts : MovesUnreported state old.buffer waiting new
 
   -- A medium is lent, as it was except for the memory that is reserved. Nothing was called (own).
   pub record IsLent (old : BufferState D) (new : LentState D) : Type 0 where

@@ -6,7 +6,6 @@ pub mod Looks
 pub mod Found
 pub mod Backs
 pub mod Taken
-pub mod Unreported
 pub mod Halving
 pub mod Hosts
 pub mod Fronts

@@ -3,11 +3,10 @@ use Rattle.std.specs.Prelude.{◌≡◌, ◌++◌, List, map, false}
 use Rattle.vtl_base.specs.Below.{Advances}
 use Rattle.tape_disk.specs.Disk.{DiskState}
 use Rattle.volume_core.specs.declared.changes.Change.{Change}
-use Rattle.tape_buffer.specs.Moves.{buffer_below}
+use Rattle.tape_buffer.specs.Moves.{buffer_below, with_changes}
 use Rattle.tape_buffer.specs.State.{state_of}
 use Rattle.tape_buffer.specs.Taking.{LentState}
 use Rattle.split_bay.specs.declared.items.Item.TheVariants.{Sent}
-use Rattle.split_bay.specs.Backs.{with_changes}
 use Rattle.split_bay.specs.Rings.{ReceivingState}
 use Rattle.split_bay.specs.Spans.{NoChangeFirst}
 

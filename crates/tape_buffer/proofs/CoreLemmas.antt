@@ -1,7 +1,7 @@
 -- What was accepted, stored and safe, before and after each call over an open cartridge.
 use Rattle.std.specs.Prelude.{◌≡◌, ◌+◌, ◌++◌, ◌≤◌, ◌<◌, ℕ, List, [], ◌∷◌, true, false, length, take, refl}
 use Rattle.std.proofs.Common.{inl, inr, sym, ◌∙◌, ap, subst, arith, ⊎_elim, append_assoc, length-append}
-use Rattle.std.proofs.lemmas.List.{append-nil, take_at, take_all}
+use Rattle.std.proofs.lemmas.List.{append-nil, take-append-le, take_at, take_all}
 use Rattle.vtl_base.specs.Below.{Advances, advances_nowhere}
 use Rattle.vtl_base.specs.declared.faults.DevFault.{DevFault}
 use Rattle.tape_disk.specs.Disk.{DiskState, IsDisk}
@@ -13,12 +13,12 @@ use Rattle.cartridge.specs.Contents.{Contents, GivesContents, IsContents, ShowsC
 use Rattle.cartridge.specs.Disks.{IsFaultOfTwo, NoneOfTwo}
 use Rattle.cartridge.specs.Extending.{since_with, start_with}
 use Rattle.cartridge.specs.State.{OpenCartridge}
-use Rattle.accepted_changes.specs.Core.{Core, IsCore, broken_in, settled}
+use Rattle.accepted_changes.specs.Core.{Core, IsCore, broken_in, settled, stuck_in}
 use Rattle.accepted_changes.specs.Device.{two_disks, two_is_device, two_keep}
 use Rattle.accepted_changes.specs.Events.{CoreMoves, ShowsCore}
-use Rattle.accepted_changes.specs.Kinds.{GivesSoMany, moves_failing, moves_storing}
+use Rattle.accepted_changes.specs.Kinds.{GivesSoMany, moves_failing, moves_sticking, moves_storing}
 use Rattle.tape_buffer.specs.Rules.{GivesChanges, medium_rules}
-use Rattle.tape_buffer.specs.Moves.{buffer_below, medium_moves_nowhere}
+use Rattle.tape_buffer.specs.Moves.{as_told, buffer_below, medium_moves_nowhere}
 use Rattle.tape_buffer.specs.State.{BufferState, IsTornFrom, open_buffer, open_core}
 use Rattle.tape_buffer.proofs.TwoLemmas.{are_disks, none_failed, one_failed, stay_honest, were_honest}
 
@@ -262,6 +262,138 @@ module _ {D : Type 0} (c : OpenCartridge D) (pending : List Change) where
           honesty = (stay_honest state c.disks c'.disks keeps, were_honest state c.disks c'.disks keeps);
           hand = (λ h. h, λ h. h);
         }
+
+-- all that is pending is stored, or was in flight when the disk failed; whatever more was accepted behind it
+module _ {D : Type 0} (c : OpenCartridge D) (pending more : List Change) where
+  abbrev behind_core : Core Start Change
+  behind_core = as_told false (open_core c (pending ++ more))
+
+  stays_behind : (n : ℕ) → n ≤ length (changes_since c.contents ++ pending)
+      → take n (changes_since c.contents ++ (pending ++ more)) ≡ take n (changes_since c.contents ++ pending)
+  stays_behind n le =
+      ap (λ (l : List Change). take n l) (sym (append_assoc (changes_since c.contents) pending more))
+      ∙ take-append-le n (changes_since c.contents ++ pending) more le
+
+  module _ (c' : OpenCartridge D) where
+    stored_behind : c.torn ≡ [] → base_of c.contents.head ≤ length c.contents.frames → HasStored c pending c'
+        → as_told false (open_core c' more) ≡ settled (length pending) behind_core
+    stored_behind none copied stored =
+        let whole = stored_core c pending c' none copied stored in
+        let since : changes_since c'.contents ≡ changes_since c.contents ++ pending =
+        ap changes_since stored.contents ∙ since_more c.contents pending copied in
+        let fault : c'.failed ≡ c.failed = stored.is_fine ∙ sym stored.was_fine in
+        λ i. record {
+          base = (whole i).base;
+          accepted =
+              ((ap (λ (l : List Change). l ++ more) since) ∙ append_assoc (changes_since c.contents) pending more) i;
+          stored = (whole i).stored;
+          safe = (whole i).safe;
+          fault = false;
+          stuck = fault i;
+          recovering = false;
+        }
+
+    broken_behind : c.torn ≡ [] → HasBroken c pending c'
+        → as_told false (open_core c' (pending ++ more)) ≡ stuck_in (length pending) behind_core
+    broken_behind none broken =
+        let whole = broken_core c pending c' none broken in
+        λ i. record {
+          base = (whole i).base;
+          accepted = (ap (λ (k : Contents). changes_since k ++ (pending ++ more)) broken.contents) i;
+          stored = (whole i).stored;
+          safe = (whole i).safe;
+          fault = false;
+          stuck = broken.failed i;
+          recovering = false;
+        }
+
+  module _ (state : D → DiskState) (is_disk : (disk : D) → (state disk).honest → IsDisk (state disk))
+      (c' : OpenCartridge D) (none : c.torn ≡ []) (works : c.failed ≡ false) (is : IsContents c.contents)
+      (keeps : KeepsDisks state c.disks c'.disks)
+      (moments : AreHonest state c.disks →
+      TwoLeave state c.disks c'.disks (ShowsContents c.contents (pending ∷ []))) where
+    abbrev count : ℕ
+    count = length (changes_since c.contents) + length (changes_of c.torn) + length pending
+
+    few : count ≤ length (changes_since c.contents ++ pending)
+    few = omega (arith, at_rest c pending none, length-append (changes_since c.contents) pending)
+
+    many_behind : (image : Images) → GivesSoMany medium_rules (open_core c pending) (length pending) image
+        → GivesSoMany medium_rules behind_core (length pending) image
+    many_behind image gives =
+        ⊎_elim
+        (λ g. inl (gives_as (start_of c.contents)
+        (take behind_core.stored (changes_since c.contents ++ pending))
+        (take behind_core.stored (changes_since c.contents ++ (pending ++ more))) image
+        (sym (stays_behind behind_core.stored (omega (arith, few)))) g))
+        (λ g. inr (gives_as (start_of c.contents) (take count (changes_since c.contents ++ pending))
+        (take count (changes_since c.contents ++ (pending ++ more))) image (sym (stays_behind count few)) g))
+        gives
+
+    leaves_behind : AreHonest state c.disks →
+        TwoLeave state c.disks c'.disks (GivesSoMany medium_rules behind_core (length pending))
+    leaves_behind honest =
+        two_weakened state c.disks c'.disks (ShowsContents c.contents (pending ∷ []))
+        (GivesSoMany medium_rules behind_core (length pending)) (moments honest)
+        (λ image shows. many_behind image (so_many c pending none is.copied image shows))
+
+    same_behind : behind_core.safe ≡ behind_core.stored
+    same_behind = omega (arith, at_rest c pending none)
+
+    fits_behind : behind_core.stored + length pending ≤ length behind_core.accepted
+    fits_behind =
+        omega (
+          arith,
+          at_rest c pending none,
+          length-append (changes_since c.contents) (pending ++ more),
+          length-append pending more,
+        )
+
+    moves_stored_behind : HasStored c pending c'
+        → (AreHonest state c.disks → EachOfTwo state c'.disks (GivesContents c'.contents))
+        → CoreMoves medium_rules (two_disks state) c.disks c'.disks behind_core (as_told false (open_core c' more)) []
+    moves_stored_behind stored sure =
+        subst (λ (new : Core Start Change).
+        CoreMoves medium_rules (two_disks state) c.disks c'.disks behind_core new [])
+        (sym (stored_behind c' none is.copied stored))
+        (moves_storing medium_rules (two_disks state) (two_is_device state) c.disks c'.disks behind_core
+        (length pending) (two_keep state c.disks c'.disks keeps) (refl, works) same_behind fits_behind leaves_behind
+        (λ honest images left.
+        subst (λ (start : Start). GivesChanges start
+        (take count (changes_since c.contents ++ (pending ++ more))) images)
+        (ap start_of stored.contents ∙ start_with c.contents (pending ∷ []) is.copied)
+        (gives_as (start_of c'.contents) (changes_since c'.contents)
+        (take count (changes_since c.contents ++ (pending ++ more))) images
+        (ap changes_since stored.contents ∙ since_more c.contents pending is.copied ∙ sym (whole c pending)
+        ∙ ap (λ (n : ℕ). take n (changes_since c.contents ++ pending)) (omega (arith, at_rest c pending none))
+        ∙ sym (stays_behind count few))
+        (gives_changes c'.contents images (sure honest images left)))))
+
+    moves_broken_behind : HasBroken c pending c' → failures_of state c.disks < failures_of state c'.disks
+        → CoreMoves medium_rules (two_disks state) c.disks c'.disks behind_core
+        (as_told false (open_core c' (pending ++ more))) []
+    moves_broken_behind broken rose =
+        subst (λ (new : Core Start Change).
+        CoreMoves medium_rules (two_disks state) c.disks c'.disks behind_core new [])
+        (sym (broken_behind c' none broken))
+        (moves_sticking medium_rules (two_disks state) (two_is_device state) c.disks c'.disks behind_core
+        (length pending) (are_disks state is_disk c'.disks) (two_keep state c.disks c'.disks keeps) rose (refl, works)
+        same_behind fits_behind leaves_behind)
+
+    pub behind_stored : (changes : List Change) → changes ≡ pending
+        → HasStored c changes c' × NoneOfTwo state c.disks c'.disks
+        → (AreHonest state c.disks → EachOfTwo state c'.disks (GivesContents c'.contents))
+        → CoreMoves medium_rules (two_disks state) c.disks c'.disks behind_core (as_told false (open_core c' more)) []
+    behind_stored changes same_changes done sure =
+        moves_stored_behind (subst (λ (l : List Change). HasStored c l c') same_changes done.0) sure
+
+    pub behind_broken : (changes : List Change) → changes ≡ pending → HasBroken c changes c'
+        → (fault : DevFault) → IsFaultOfTwo state fault c.disks c'.disks
+        → CoreMoves medium_rules (two_disks state) c.disks c'.disks behind_core
+        (as_told false (open_core c' (pending ++ more))) []
+    behind_broken changes same_changes broken fault failed =
+        moves_broken_behind (subst (λ (l : List Change). HasBroken c l c') same_changes broken)
+        (one_failed state c.disks c'.disks fault failed)
 
 -- nothing is done
 pub rests : {D : Type 0} (state : D → DiskState) → ((disk : D) → (state disk).honest → IsDisk (state disk))

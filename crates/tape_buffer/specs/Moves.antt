@@ -1,5 +1,5 @@
 -- What a contract sees below a buffered medium: its two disks, and by which steps it went on.
-use Rattle.std.specs.Prelude.{◌≡◌, ◌++◌, ℕ, List, [], Option, None, Some, false, take, refl}
+use Rattle.std.specs.Prelude.{◌≡◌, ◌++◌, ℕ, List, [], Option, None, Some, Bool, true, false, take, refl}
 use Rattle.std.proofs.Common.{◌∙◌}
 use Rattle.vtl_base.specs.Below.{Below}
 use Rattle.tape_disk.specs.Disk.{DiskState, IsDisk}
@@ -20,6 +20,16 @@ abbrev pub IsSafeOrPending : Core Start Change → List Change → Type 0
 IsSafeOrPending core pending =
     core.fault ≡ false → core.recovering ≡ false
     → (core.safe ≡ core.stored) × (core.accepted ≡ take core.safe core.accepted ++ pending)
+
+-- The core of a medium whose fault, if there is one, was reported to its hosts, or was not: then it is stuck. It still
+-- accepts changes, and stores none (own).
+abbrev pub as_told : {S C : Type 0} → Bool → Core S C → Core S C
+as_told true core = core
+as_told false core = record core { fault = false; stuck = core.fault }
+
+-- a medium with these changes pending more (own)
+abbrev pub with_changes : {D : Type 0} → BufferState D → List Change → BufferState D
+with_changes medium changes = record medium { pending = medium.pending ++ changes }
 
 module _ {D : Type 0} (state : D → DiskState) where
   -- what a medium has accepted, and how much of it is stored and safe (own)
@@ -46,6 +56,17 @@ module _ {D : Type 0} (state : D → DiskState) where
   -- from one medium to the other just these were accepted (own)
   abbrev pub MediumMoves : BufferState D → List Change → BufferState D → Type 0
   MediumMoves old made new = MovesOn (disks_in old.held) (disks_in new.held) (medium_core old) (medium_core new) made
+
+  -- the same of a medium whose fault, if it has one, was not reported to its hosts (own)
+  abbrev pub MovesUnreported : BufferState D → List Change → BufferState D → Type 0
+  MovesUnreported old made new =
+      MovesOn (disks_in old.held) (disks_in new.held) (as_told false (medium_core old))
+      (as_told false (medium_core new)) made
+
+  -- Steps that accept nothing lead from one medium to the other, whatever more was accepted behind what is pending: of
+  -- that nothing is dropped, and nothing stored (own).
+  abbrev pub StoresBehind : BufferState D → BufferState D → Type 0
+  StoresBehind old new = (more : List Change) → MovesUnreported (with_changes old more) [] (with_changes new more)
 
   -- what is seen below a buffered medium: the failures and the honesty of its disks, and its steps (own)
   abbrev pub buffer_below : Below (BufferState D) Change
@@ -111,6 +132,20 @@ module _ {D : Type 0} (state : D → DiskState) where
       by None = refl
       by (Some disks) =
           core_moves_nowhere medium_rules (two_disks state) (two_is_device state) disks (medium_core buffer)
+          (λ honest. (is_disk disks.first honest.0, is_disk disks.second honest.1))
+
+  -- a run without a call stores nothing, whatever more is accepted
+  pub stores_behind_nowhere : ((disk : D) → (state disk).honest → IsDisk (state disk))
+      → (buffer : BufferState D) → StoresBehind buffer buffer
+  stores_behind_nowhere is_disk buffer more = by (disks_in buffer.held)
+    where
+      core : Core Start Change
+      core = as_told false (medium_core (with_changes buffer more))
+
+      by : (disks : Option (TwoDisks D)) → MovesOn disks disks core core []
+      by None = refl
+      by (Some disks) =
+          core_moves_nowhere medium_rules (two_disks state) (two_is_device state) disks core
           (λ honest. (is_disk disks.first honest.0, is_disk disks.second honest.1))
 
   -- two runs, one after the other, accept the changes of both

@@ -11,7 +11,7 @@ ghost use Rattle.tape_buffer.specs.declared.budgets.Budget.{Budget};
 ghost use Rattle.tape_buffer.specs.Frames.{IsOneFrameIn};
 ghost use Rattle.tape_buffer.specs.Inner.Lending.{LendsOver};
 ghost use Rattle.tape_buffer.specs.Inner.Storing.{IsRoomyFor};
-ghost use Rattle.tape_buffer.specs.Moves.{buffer_below};
+ghost use Rattle.tape_buffer.specs.Moves.{StoresBehind, buffer_below};
 ghost use Rattle.tape_buffer.specs.State.{IsPendingOver, open_buffer, open_state, state_of};
 ghost use Rattle.tape_buffer.specs.Taking.{KeepsBudget, LendsFrom, budget_after, longest_body};
 
@@ -183,6 +183,8 @@ pub(crate) fn turn_lent<D: Disk>(cartridge: &mut Cartridge<D>, loose: &mut Loose
     ensures stores { Stores (open_state cartridge.old loose.old) [] (open_state cartridge.new loose.new) }
     ensures advances { Advances (buffer_below D.state) (open_buffer cartridge.old loose.old) []
         (turn_met_fault result) (open_buffer cartridge.new loose.new) }
+    ensures behind { StoresBehind D.state (open_buffer cartridge.old loose.old)
+        (open_buffer cartridge.new loose.new) }
     ensures roomy { (left : Budget) → IsRoomyFor cartridge.old loose.old left →
         IsRoomyFor cartridge.new loose.new left }
 {

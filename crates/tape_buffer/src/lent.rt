@@ -7,7 +7,7 @@ ghost use Rattle.volume_core.specs.Stores.{Stores};
 ghost use Rattle.accepted_changes.specs.Core.{IsCore};
 ghost use Rattle.tape_buffer.specs.Frames.{IsOneFrameIn, frames_in};
 ghost use Rattle.waiting_changes.specs.Limits.{FitsBuffer};
-ghost use Rattle.tape_buffer.specs.Moves.{IsSafeOrPending, ShowsOn, buffer_below, medium_core};
+ghost use Rattle.tape_buffer.specs.Moves.{IsSafeOrPending, ShowsOn, StoresBehind, buffer_below, medium_core};
 ghost use Rattle.tape_buffer.specs.State.{IsSettledIn, disk_in, disks_in, state_of};
 ghost use Rattle.tape_buffer.specs.Taking.{KeepsBudget, budget_after};
 
@@ -103,6 +103,7 @@ impl<D: Disk> Lent<D> {
         ensures stores { Stores (state_of D.state self.old.buffer) [] (state_of D.state self.new.buffer) }
         ensures advances { Advances (buffer_below D.state) self.old.buffer [] (turn_met_fault result)
             self.new.buffer }
+        ensures behind { StoresBehind D.state self.old.buffer self.new.buffer }
     {
         match &mut self.lending {
             Lending::Taking(taking) => turn_lent(&mut taking.cartridge, &mut taking.loose),

@@ -6,7 +6,7 @@ ghost use Rattle.volume_core.specs.Medium.{Accepts, Parks, Settles, Turns, Wakes
 ghost use Rattle.volume_core.specs.Stores.{Stores};
 ghost use Rattle.tape_buffer.specs.State.{IsSettledIn, disks_in, state_of};
 ghost use Rattle.tape_buffer.specs.Frames.{AcceptsInFrames, IsOneFrame, IsOneFrameIn, ParksInFrames, frames_in};
-ghost use Rattle.tape_buffer.specs.Moves.{HonestOn, LeavesAlone, LeavesEachAlone, buffer_below};
+ghost use Rattle.tape_buffer.specs.Moves.{HonestOn, LeavesAlone, LeavesEachAlone, StoresBehind, buffer_below};
 
 use crate::adding::has_room_over;
 use crate::buffered::Buffered;
@@ -77,6 +77,7 @@ impl<D: Disk> Medium for Buffered<D> {
         ensures frame { IsOneFrameIn result (frames_in self.old) self.old.pending (frames_in self.new) }
         ensures stores { Stores (state_of D.state self.old) [] (state_of D.state self.new) }
         ensures advances { Advances (buffer_below D.state) self.old [] (turn_met_fault result) self.new }
+        ensures behind { StoresBehind D.state self.old self.new }
     {
         match &mut self.held {
             Holding::Open(cartridge) => turn_over(cartridge, &mut self.pending),

@@ -6,7 +6,7 @@ ghost use Rattle.volume_core.specs.Medium.{Settles, Turns, met_fault, turn_met_f
 ghost use Rattle.volume_core.specs.Stores.{Stores};
 ghost use Rattle.waiting_changes.specs.Limits.{FitsBuffer};
 ghost use Rattle.tape_buffer.specs.State.{IsPendingOver, IsReservedFor, open_buffer, open_state};
-ghost use Rattle.tape_buffer.specs.Moves.{buffer_below};
+ghost use Rattle.tape_buffer.specs.Moves.{StoresBehind, buffer_below};
 ghost use Rattle.tape_buffer.specs.Frames.{IsOneFrame, IsOneFrameIn};
 ghost use Rattle.tape_buffer.specs.Inner.Storing.{IsRoomyFor, left_of};
 ghost use Rattle.tape_buffer.specs.declared.budgets.Budget.{Budget};
@@ -32,6 +32,8 @@ pub(crate) fn store_all<D: Disk>(
     ensures stores { Stores (open_state cartridge.old changes.now) []
         (open_state cartridge.new (left_of result changes.now)) }
     ensures advances { Advances (buffer_below D.state) (open_buffer cartridge.old changes.now) [] (met_fault result)
+        (open_buffer cartridge.new (left_of result changes.now)) }
+    ensures behind { StoresBehind D.state (open_buffer cartridge.old changes.now)
         (open_buffer cartridge.new (left_of result changes.now)) }
     ensures roomy { (left : Budget) → IsRoomyFor cartridge.old changes.now left →
         IsRoomyFor cartridge.new (left_of result changes.now) left }
@@ -67,6 +69,8 @@ pub(crate) fn settle_over<D: Disk>(
     ensures stores { Stores (open_state cartridge.old pending.old) [] (open_state cartridge.new pending.new) }
     ensures advances { Advances (buffer_below D.state) (open_buffer cartridge.old pending.old) [] (met_fault result)
         (open_buffer cartridge.new pending.new) }
+    ensures behind { StoresBehind D.state (open_buffer cartridge.old pending.old)
+        (open_buffer cartridge.new pending.new) }
 {
     // Called for the proof: no more is pending than the limits allow.
     pending.within();
@@ -88,6 +92,8 @@ pub(crate) fn turn_over<D: Disk>(cartridge: &mut Cartridge<D>, pending: &mut Pen
     ensures stores { Stores (open_state cartridge.old pending.old) [] (open_state cartridge.new pending.new) }
     ensures advances { Advances (buffer_below D.state) (open_buffer cartridge.old pending.old) []
         (turn_met_fault result) (open_buffer cartridge.new pending.new) }
+    ensures behind { StoresBehind D.state (open_buffer cartridge.old pending.old)
+        (open_buffer cartridge.new pending.new) }
 {
     if cartridge.has_failed() {
         return Turn::Idle;

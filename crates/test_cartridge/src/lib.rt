@@ -4,6 +4,8 @@
 #[cfg(test)]
 mod asserted;
 #[cfg(test)]
+mod behind_tests;
+#[cfg(test)]
 mod block_tests;
 #[cfg(test)]
 mod journal_frames;
@@ -29,3 +31,5 @@ mod samples;
 mod side_tests;
 #[cfg(test)]
 mod stop_tests;
+#[cfg(test)]
+mod tail_tests;

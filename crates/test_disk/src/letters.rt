@@ -3,8 +3,8 @@ use accepted_changes::Accepting;
 use accepted_changes::laws::{
     a_crash_leaves_what_was_acknowledged, calls_drop_nothing,
     changes_of_base_keep_what_was_accepted, events_keep_their_base,
-    failed_changes_of_base_keep_what_was_accepted, moves_append, steps_keep_cores,
-    what_is_kept_begins, what_is_safe_is_kept, what_was_acknowledged_begins,
+    failed_changes_of_base_keep_what_was_accepted, faults_stay_until_stopped, moves_append,
+    steps_keep_cores, what_is_kept_begins, what_is_safe_is_kept, what_was_acknowledged_begins,
     what_was_acknowledged_is_kept,
 };
 use tape_disk::{Disk, MemDisk};
@@ -70,6 +70,7 @@ fn the_laws_hold_of<A: Accepting>() {
     failed_changes_of_base_keep_what_was_accepted::<A>();
     a_crash_leaves_what_was_acknowledged::<A>();
     calls_drop_nothing::<A>();
+    faults_stay_until_stopped::<A>();
 }
 
 #[test]

@@ -14,6 +14,8 @@ mod healings;
 #[cfg(test)]
 mod letters;
 #[cfg(test)]
+mod looks;
+#[cfg(test)]
 mod memory;
 #[cfg(test)]
 mod openings;

@@ -31,9 +31,9 @@ pub enum Act {
     Lends(Step, usize),
     /// Blocks are written at a drive while cartridges are moved about.
     Writes(u8),
-    /// Cartridges are moved about.
+    /// Its host moves cartridges about.
     MovesAbout,
-    /// Cartridges are moved, with these answers.
+    /// Its host moves cartridges, with these answers.
     Moves(&'static [(u32, u32, Answer)]),
     /// This many addresses are seen as full.
     Sees(usize),
@@ -124,8 +124,6 @@ fn does<D: Disk + Drop, B: Parties + Rings, H: Parties, R: Wait + Abort + Clock>
     act: Act,
 ) {
     match act {
-        Act::MovesAbout => moves_about(rt, library),
-        Act::Moves(rows) => moves(rt, library, rows),
         Act::Sees(full) => has_seen(rt, library, full),
         Act::Flushes(number, stands) => flushes(rt, library, stage, number, stands),
         Act::Closes => library.close(rt),
@@ -150,6 +148,8 @@ fn plays_one<D: Disk + Drop, B: Parties + Rings, H: Parties, R: Wait + Abort + C
         Act::Either(step, other) => asks_either(rt, alloc, library, seat, step, other),
         Act::Lends(step, left) => lends(rt, alloc, library, seat, step, left),
         Act::Writes(number) => writes_about(rt, alloc, library, seat, number),
+        Act::MovesAbout => moves_about(rt, library, seat),
+        Act::Moves(rows) => moves(rt, library, seat, rows),
         _ => does(rt, library, stage, act),
     }
 }

@@ -8,6 +8,7 @@ ghost use Rattle.library.specs.RingRows.{AreRings};
 
 use crate::acts::{Act, plays};
 use crate::ends::{are_back, are_counts};
+use crate::moving::counts_moves;
 use crate::opening::{count_fresh, hosts};
 use crate::samples::{Sample, loaded};
 use crate::stages::Stage;
@@ -122,9 +123,10 @@ fn spend_over<
     requires host_ledger { IsBlankOf host_ledger H.name H.parts H.all × (H.all ≡ length hosts.now) }
 {
     match Library::<D, B, H>::new(alloc, bays, rings, slots, hosts, bay_ledger, host_ledger) {
-        Ok((library, seats)) => {
+        Ok((library, seats, operator)) => {
             let mut seats = seats;
             all_play(rt, alloc, &library, stage, day.hosts, seats.as_mut_slice());
+            counts_moves(rt, &library, operator);
             have_amounts(rt, seats.as_slice(), day.amounts);
             Ok(library.finish(rt, handed_in(seats, day.left_out)))
         }

@@ -9,7 +9,7 @@ use crate::replies::{
 };
 use crate::samples::shelved;
 use crate::stages::Stage;
-use library::{Element, Inventory, Library, Parties, Rings, Seat};
+use library::{Element, Inventory, Library, Operator, Parties, Rings, Seat};
 use scsi_sense::Status;
 use std::alloc::Global;
 use std::process::Abort;
@@ -44,15 +44,31 @@ pub fn has_seen<D: Disk + Drop, B: Parties + Rings, H: Parties, R: Wait + Abort>
     assert_equal!(rt; seen(&library.inventory(rt)), (full, 14));
 }
 
-/// Cartridges are moved, with these answers.
+/// A host moves cartridges, with these answers. Its seat counts each move, also one that is refused, and no answer.
 pub fn moves<D: Disk + Drop, B: Parties + Rings, H: Parties, R: Wait + Abort>(
     rt: &R,
     library: &Library<D, B, H>,
+    seat: &mut Seat<H>,
     rows: &[(u32, u32, Answer)],
 ) {
+    let before = (seat.moved(), seat.answered());
     for (at, &(from, to, wanted)) in rows.iter().enumerate() {
-        is_answer(rt, &library.move_medium(rt, from, to), wanted, at);
+        is_answer(rt, &library.move_medium(rt, seat, from, to), wanted, at);
+        let moved = before.0.saturating_add(at as u64).saturating_add(1);
+        assert_equal!(rt; (seat.moved(), seat.answered()), (moved, before.1); at);
     }
+}
+
+/// The operator has made no move; then a move of it is refused, and it has made one.
+pub fn counts_moves<D: Disk + Drop, B: Parties + Rings, H: Parties, R: Wait + Abort>(
+    rt: &R,
+    library: &Library<D, B, H>,
+    operator: Operator<H>,
+) {
+    let mut operator = operator;
+    assert_equal!(rt; operator.moved(), 0);
+    is_answer(rt, &library.move_medium(rt, &mut operator, 1001, 1300), NO_ADDRESS, 0);
+    assert_equal!(rt; operator.moved(), 1);
 }
 
 // Moves to and fro: each succeeds or not, depending on the other threads.
@@ -80,9 +96,10 @@ static OF_A_MOVE: &'static [Codes] = &[
 fn moves_around<D: Disk + Drop, B: Parties + Rings, H: Parties, R: Wait + Abort>(
     rt: &R,
     library: &Library<D, B, H>,
+    seat: &mut Seat<H>,
 ) {
     for (from, to) in AROUND {
-        is_one_of(rt, &library.move_medium(rt, *from, *to), OF_A_MOVE);
+        is_one_of(rt, &library.move_medium(rt, seat, *from, *to), OF_A_MOVE);
     }
 }
 
@@ -90,9 +107,10 @@ fn moves_around<D: Disk + Drop, B: Parties + Rings, H: Parties, R: Wait + Abort>
 pub fn moves_about<D: Disk + Drop, B: Parties + Rings, H: Parties, R: Wait + Abort>(
     rt: &R,
     library: &Library<D, B, H>,
+    seat: &mut Seat<H>,
 ) {
     for _ in 0..ROUNDS {
-        moves_around(rt, library);
+        moves_around(rt, library, seat);
         has_seen(rt, library, 3);
     }
 }

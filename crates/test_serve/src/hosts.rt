@@ -11,8 +11,8 @@ use crate::opening::{count_fresh, hosts};
 use crate::samples::row;
 use bay_moves::{Bay, Parked};
 use element_slots::Slots;
-use ledgers::{Parties, Seat};
-use library::{Library, RingRow, Rings};
+use ledgers::Parties;
+use library::{Library, RingRow, Rings, Seat};
 use std::alloc::Global;
 use std::marker::Brand;
 use std::process::Abort;
@@ -71,7 +71,8 @@ struct Served<'a> {
     end: Result<(), WireFault>,
 }
 
-// Serves the host of the second seat. It is answered so; its seat counts six commands, and grows by one change.
+// Serves the host of the second seat. It is answered so; its seat counts six commands and no move, and grows by one
+// change.
 fn serve_second<D: Disk + Drop, B: Parties + Rings, H: Parties, R: Wait + Abort>(
     rt: &R,
     alloc: Global,
@@ -89,7 +90,7 @@ fn serve_second<D: Disk + Drop, B: Parties + Rings, H: Parties, R: Wait + Abort>
             assert_equal!(rt; end, served.end);
             assert_equal!(rt; written.as_slice(), served.output);
             let seat = host.into_seat();
-            assert_equal!(rt; (seat.answered(), seat.amount()), (6, 1));
+            assert_equal!(rt; (seat.answered(), seat.moved(), seat.amount()), (6, 0, 1));
             back.push(seat)?;
         } else {
             back.push(seat)?;
@@ -118,7 +119,7 @@ fn serve_over<D: Disk + Drop, B: Parties + Rings, H: Parties, R: Wait + Abort>(
     requires host_ledger { IsBlankOf host_ledger H.name H.parts H.all × (H.all ≡ length hosts.now) }
 {
     match Library::<D, B, H>::new(alloc, bays, rings, slots, hosts, bay_ledger, host_ledger) {
-        Ok((library, seats)) => {
+        Ok((library, seats, _)) => {
             let seats = serve_second(rt, alloc, &library, seats, served)?;
             let finished = library.finish(rt, seats);
             let mut counts = [None; 16];

@@ -1,9 +1,11 @@
 //! A fault at each call of the disk below a drive.
 use crate::asking::{
-    A_NEW, BY_A, CHECK, FAILED, GOOD, Host, NO_KEYS, NONE, POWERED_ON, READ_KEYS, REGISTER,
-    REGISTER_AND_IGNORE, RESERVE_5, Row, TEST_UNIT_READY, ask_all, host_over, new_host,
+    A_NEW, A_WITHOUT_APTPL, BY_A, CHECK, FAILED, GOOD, Host, NO_KEYS, NONE, POWERED_ON, READ_KEYS,
+    REGISTER, REGISTER_AND_IGNORE, RESERVE_5, Row, TEST_UNIT_READY, ask_all, host_over, new_host,
 };
-use crate::samples::{FAULT, Found, NEW, REGISTERED, found};
+use crate::samples::{
+    FAULT, Found, NEW, REGISTERED, RESERVED, SIDE_WITH_TAIL, WITHOUT_APTPL, found,
+};
 use pr_core::Keeper;
 use std::alloc::Global;
 use std::process::Abort;
@@ -93,6 +95,59 @@ fn is_met(rt: &impl Abort, alloc: Global, calls: u64) -> Result<(), Fail> {
 fn a_fault_at_each_call_of_a_save(rt: HostRuntime) -> Result<(), Fail> {
     for calls in 0..9 {
         is_met(&rt, rt.alloc(), calls)?;
+    }
+    Ok(())
+}
+
+// The save over a tail fails, and each later one too.
+static FAILING_OVER_A_TAIL: &'static [Row] = &[
+    (1, TEST_UNIT_READY, NONE, CHECK, POWERED_ON, 2),
+    (1, REGISTER, A_WITHOUT_APTPL, CHECK, FAILED, 2),
+    (1, REGISTER, A_WITHOUT_APTPL, CHECK, FAILED, 2),
+];
+
+// A drive over what such a fault and a crash left: the state of before, or the new one where its gate was being
+// written; and it works.
+fn works_on(rt: &impl Abort, alloc: Global, call: u64, disk: MemDisk) -> Result<(), Fail> {
+    let left = found(alloc, disk.copy()?);
+    assert_holds!(rt; left == RESERVED || call > 3 && left == WITHOUT_APTPL; (call, left));
+    let Ok(mut drive) = host_over(alloc, disk) else {
+        return Err(Fail::from("not opened"));
+    };
+    let frames = drive.keeper().frames();
+    let rows = [
+        (1, TEST_UNIT_READY, NONE, CHECK, POWERED_ON, frames),
+        (
+            1,
+            REGISTER_AND_IGNORE,
+            A_WITHOUT_APTPL,
+            GOOD,
+            NONE,
+            frames.saturating_add(1),
+        ),
+    ];
+    ask_all(rt, &mut drive, &rows);
+    Ok(())
+}
+
+// Eight calls open the store, five save over the tail.
+fn fails_over_a_tail(rt: &impl Abort, alloc: Global, call: u64) -> Result<(), Fail> {
+    let disk = MemDisk::from_bytes(alloc, SIDE_WITH_TAIL)?;
+    let Ok(mut drive) = host_over(alloc, OnceDisk::new(disk, call.saturating_add(8))) else {
+        return Err(Fail::from("not opened"));
+    };
+    ask_all(rt, &mut drive, FAILING_OVER_A_TAIL);
+    for (keep, fill) in CRASHES {
+        let left = drive.keeper().disk().inner().copy()?.crash(*keep, *fill)?;
+        works_on(rt, alloc, call, left)?;
+    }
+    Ok(())
+}
+
+#[test]
+fn a_fault_at_each_call_of_a_save_over_a_tail(rt: HostRuntime) -> Result<(), Fail> {
+    for call in 0..5 {
+        fails_over_a_tail(&rt, rt.alloc(), call)?;
     }
     Ok(())
 }

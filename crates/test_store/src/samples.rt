@@ -15,6 +15,12 @@ pub const SIDE: &'static [u8] = b"\xa5VTLRESV1\0\0DRIVE1          \
     \xa5\0\0\0\x0d\x01\x05\x01\x01\x01\0\0\0\0\0\0\0\xa1\
     \0";
 
+/// The same; behind its end gate the next frame of `SIDE_WITHOUT_APTPL` with a closed gate, and two bytes.
+pub const SIDE_WITH_TAIL: &'static [u8] = b"\xa5VTLRESV1\0\0DRIVE1          \
+    \xa5\0\0\0\x0d\x01\0\0\x01\x01\0\0\0\0\0\0\0\xa1\
+    \xa5\0\0\0\x0d\x01\x05\x01\x01\x01\0\0\0\0\0\0\0\xa1\
+    \0\0\0\0\x0d\0\x05\x01\x01\x01\0\0\0\0\0\0\0\xa1\0\xa5\xa5";
+
 /// The same after host 1 has registered a1 over a1 without APTPL.
 pub const SIDE_WITHOUT_APTPL: &'static [u8] = b"\xa5VTLRESV1\0\0DRIVE1          \
     \xa5\0\0\0\x0d\x01\0\0\x01\x01\0\0\0\0\0\0\0\xa1\

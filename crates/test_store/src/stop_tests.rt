@@ -4,8 +4,8 @@ use crate::asking::{
     host_over, new_host,
 };
 use crate::samples::{
-    FAULT, Found, NEW, NO_STORE, REGISTERED, RESERVED, SIDE, SIDE_WITHOUT_APTPL, WITHOUT_APTPL,
-    found,
+    FAULT, Found, NEW, NO_STORE, REGISTERED, RESERVED, SIDE, SIDE_WITH_TAIL, SIDE_WITHOUT_APTPL,
+    WITHOUT_APTPL, found,
 };
 use aptpl_store::{AptplStore, StoreError};
 use std::alloc::Global;
@@ -117,13 +117,18 @@ const OVER_A_STORE: &'static [Moment] = &[
 // Opening a store takes a sync, two reads of the header, two of each frame, and one of the last gate.
 const OVER_THE_SIDE: &'static [Moment] = &[(8, 3, 3), (11, 3, 4), (12, 4, 4)];
 
+// The first save over a tail takes one call more: it cuts the tail off before it writes.
+const OVER_A_TAIL: &'static [Moment] = &[(11, 3, 3), (12, 3, 4), (13, 4, 4)];
+
 // The first bytes of the disk, the work, how many calls of the disk it takes, and what may be found where it
 // stops.
 static RUNS: &'static [(&'static [u8], Work, u64, &'static [Moment])] = &[
     (NONE, MAKING, 13, OVER_NOTHING),
     (SIDE_WITHOUT_APTPL, MAKING, 13, OVER_A_STORE),
     (SIDE, LEAVING, 12, OVER_THE_SIDE),
+    (SIDE_WITH_TAIL, LEAVING, 13, OVER_A_TAIL),
     (SIDE, OPENING, 8, &[(8, 3, 3)]),
+    (SIDE_WITH_TAIL, OPENING, 8, &[(8, 3, 3)]),
     (SIDE_WITHOUT_APTPL, OPENING, 10, &[(10, 4, 4)]),
 ];
 

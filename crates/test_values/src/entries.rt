@@ -1,8 +1,8 @@
-//! Changes entered for bays and for hosts, and their gathering at the end.
+//! Changes entered for bays and for hosts, and their gathering at the end; moves entered for those who make them.
 ghost use Rattle.std.specs.Prelude.{◌≡◌};
 ghost use Rattle.ledgers.specs.Ledgers.{IsBlankOf};
 
-use ledgers::{Gathering, Parties, PartyShare, Seat, SeatsMissing, Tally};
+use ledgers::{Gathering, MoveBook, Moves, Parties, PartyShare, SeatsMissing, Tally};
 use std::marker::Brand;
 use std::process::Abort;
 use std::sync::ledger::Blank;
@@ -10,19 +10,13 @@ use std::sync::{Mutex, Wait};
 use std::thread;
 use std::thread::Threads;
 use test_assertions::assert_equal;
-use vtl_base::Nexus;
 
-fn host(rt: &impl Abort, number: u8) -> Nexus {
-    Nexus::new(number).expect(rt, "a host")
-}
-
-// Two bays and three hosts, for which five changes were entered. Three commands of the second host were answered, and
-// one of the third.
+// Two bays and three hosts, for which five changes were entered; the operator and the hosts, for whom five moves were.
 #[derive(Drop)]
 struct Day<B: Parties, H: Parties> {
     tally: Tally<B, H>,
     bays: (PartyShare<B>, PartyShare<B>),
-    seats: (Seat<H>, Seat<H>, Seat<H>),
+    hosts: (PartyShare<H>, PartyShare<H>, PartyShare<H>),
 }
 
 fn entered<B: Parties, H: Parties, R: Abort + Wait>(
@@ -35,51 +29,65 @@ fn entered<B: Parties, H: Parties, R: Abort + Wait>(
     requires hosts { IsBlankOf host_ledger H.name H.parts H.all }
     requires three { host_ledger.parts ≡ 3 }
 {
-    let mut tally = Tally::open(bay_ledger, host_ledger);
+    let (mut tally, book, operator) = Tally::open(bay_ledger, host_ledger);
     let mut left = tally.add_bay();
     let mut right = tally.add_bay();
-    let mut first = tally.add_host(host(rt, 1));
-    let mut second = tally.add_host(host(rt, 2));
-    let mut third = tally.add_host(host(rt, 64));
+    let (mut first, moves) = tally.add_host();
+    let (mut second, others) = tally.add_host();
+    let (third, _) = tally.add_host();
+    are_moves(rt, book, operator, moves, others);
     tally.enter(rt, &mut left, &mut first);
     tally.enter(rt, &mut left, &mut second);
     tally.enter(rt, &mut right, &mut second);
     tally.enter(rt, &mut left, &mut second);
     tally.enter(rt, &mut right, &mut first);
-    for _ in 0..3u8 {
-        second.count_answer(rt);
-    }
-    third.count_answer(rt);
     Day {
         tally,
         bays: (left, right),
-        seats: (first, second, third),
+        hosts: (first, second, third),
     }
 }
 
-// The number of a seat, how many commands were answered, and its amount.
-fn of_seat<H: Parties>(seat: &Seat<H>) -> (u8, u64, u64) {
-    (seat.nexus().number(), seat.answered(), seat.amount())
+// Moves are entered for each who makes them.
+fn are_moves<H: Parties, R: Abort + Wait>(
+    rt: &R,
+    book: MoveBook<H>,
+    operator: Moves<H>,
+    first: Moves<H>,
+    second: Moves<H>,
+) {
+    let (mut book, mut operator, mut first) = (book, operator, first);
+    for _ in 0..3u8 {
+        book.enter(rt, &mut operator);
+    }
+    book.enter(rt, &mut first);
+    book.enter(rt, &mut operator);
+    assert_equal!(rt; (operator.count(), first.count(), second.count()), (4, 1, 0));
 }
 
 fn are_entered<B: Parties, H: Parties>(rt: &impl Abort, day: &Day<B, H>) {
     let Day {
         tally: _,
         bays,
-        seats,
+        hosts,
     } = day;
     assert_equal!(rt; (bays.0.amount(), bays.1.amount()), (3, 2));
-    assert_equal!(rt; (of_seat(&seats.0), of_seat(&seats.1), of_seat(&seats.2)), ((1, 0, 2), (2, 3, 3), (64, 1, 0)));
+    assert_equal!(rt; (hosts.0.amount(), hosts.1.amount(), hosts.2.amount()), (2, 3, 0));
 }
 
-// Takes back a seat, unless it is that of this host.
-fn take_but<B: Parties, H: Parties>(gathering: &mut Gathering<B, H>, seat: Seat<H>, missing: u8) {
-    if seat.nexus().number() != missing {
-        gathering.take_seat(seat);
+// Takes back the share of the host with this number, unless it is the missing one.
+fn take_but<B: Parties, H: Parties>(
+    gathering: &mut Gathering<B, H>,
+    share: PartyShare<H>,
+    number: u8,
+    missing: u8,
+) {
+    if number != missing {
+        gathering.take_host(share);
     }
 }
 
-// The result at the end if the seat of this host is missing.
+// The result at the end if the share of the host with this number is missing.
 fn gathered<B: Parties, H: Parties, R: Abort + Wait>(
     rt: &R,
     bay_ledger: Blank,
@@ -93,22 +101,22 @@ fn gathered<B: Parties, H: Parties, R: Abort + Wait>(
 {
     let day = entered::<B, H, R>(rt, bay_ledger, host_ledger);
     are_entered(rt, &day);
-    let Day { tally, bays, seats } = day;
+    let Day { tally, bays, hosts } = day;
     let mut gathering = tally.gather();
     gathering.take_bay(bays.0);
-    take_but(&mut gathering, seats.0, missing);
-    take_but(&mut gathering, seats.1, missing);
+    take_but(&mut gathering, hosts.0, 1, missing);
+    take_but(&mut gathering, hosts.1, 2, missing);
     gathering.take_bay(bays.1);
-    take_but(&mut gathering, seats.2, missing);
+    take_but(&mut gathering, hosts.2, 3, missing);
     gathering.compare()
 }
 
-// A host whose seat is missing, or none, and the result then.
+// A host whose share is missing, or none, and the result then.
 static MISSING: &'static [(u8, Result<u64, SeatsMissing>)] = &[
     (0, Ok(5)),
     (1, Err(SeatsMissing { total: 5, seats: 3 })),
     (2, Err(SeatsMissing { total: 5, seats: 2 })),
-    (64, Ok(5)),
+    (3, Ok(5)),
 ];
 
 #[test]
@@ -129,14 +137,14 @@ fn entered_a_hundred<B: Parties, H: Parties, R: Wait>(
     rt: &R,
     bay: &Mutex<PartyShare<B>>,
     tally: &Mutex<Tally<B, H>>,
-    seat: Seat<H>,
-) -> Seat<H> {
-    let mut seat = seat;
+    host: PartyShare<H>,
+) -> PartyShare<H> {
+    let mut host = host;
     for _ in 0..100u8 {
         let mut share = bay.lock(rt);
-        tally.lock(rt).enter(rt, &mut share, &mut seat);
+        tally.lock(rt).enter(rt, &mut share, &mut host);
     }
-    seat
+    host
 }
 
 fn entered_by_two<
@@ -149,10 +157,10 @@ fn entered_by_two<
     requires hosts { IsBlankOf host_ledger H.name H.parts H.all }
     requires two { host_ledger.parts ≡ 2 }
 {
-    let mut tally = Tally::<B, H>::open(bay_ledger, host_ledger);
+    let (mut tally, _, _) = Tally::<B, H>::open(bay_ledger, host_ledger);
     let share = tally.add_bay();
-    let first = tally.add_host(host(rt, 1));
-    let second = tally.add_host(host(rt, 2));
+    let (first, _) = tally.add_host();
+    let (second, _) = tally.add_host();
     let (bay, tally) = (Mutex::new(share), Mutex::new(tally));
     let (at, by) = (&bay, &tally);
     let (first, second) = thread::join(
@@ -162,8 +170,8 @@ fn entered_by_two<
     );
     let mut gathering = tally.into_inner().gather();
     gathering.take_bay(bay.into_inner());
-    gathering.take_seat(first);
-    gathering.take_seat(second);
+    gathering.take_host(first);
+    gathering.take_host(second);
     gathering.compare()
 }
 

@@ -1,5 +1,6 @@
 -- Which configuration a file says, and why a text gives none (own).
-use Rattle.std.specs.Prelude.{◌≡◌, ◌≢◌, ◌⊎◌, ℕ, List, Result, Ok, Err, Vec}
+use Rattle.std.specs.Prelude.{◌≡◌, ◌≢◌, ◌⊎◌, ◌==◌, ◌||◌, ℕ, Bool, true, false, List, Result, Ok, Err, Vec}
+use Rattle.std.specs.List.{list_any}
 use Rattle.std.specs.declared.alloc.Global.{Global}
 use Rattle.std.specs.IoError.{error_kind}
 use Rattle.std.specs.declared.io.Error.{Error}
@@ -28,3 +29,22 @@ ReadsConfig reads name (Ok config) = (text : Vec ℕ Global) × reads name (Ok t
 ReadsConfig reads name (Err fault) =
     ((error : Error) × reads name (Err error) × (fault ≡ fault_of_error (error_kind error)))
     ⊎ ((text : Vec ℕ Global) × reads name (Ok text) × IsNoConfig text.items fault)
+
+-- a name has a NUL, so that it is no name of a file (POSIX, a pathname)
+abbrev pub has_nul : List ℕ → Bool
+has_nul name = list_any (λ byte. byte == 0) name
+
+-- one of the names of a configuration has one; a cartridge's second name has it where the first one has it
+abbrev pub names_nul : Config → Bool
+names_nul config =
+    list_any (λ entry. has_nul entry.file) config.cartridges.items
+    || list_any (λ entry. has_nul entry.reservations) config.drives.items
+
+-- the configuration that the file of a name says, whose files can all be named to the system; or there is none, or one
+-- of its names has a NUL (own)
+abbrev pub ReadsToOpen :
+    (List ℕ → Result (Vec ℕ Global) Error → Type 0) → List ℕ → Result Config VtlFault → Type 0
+ReadsToOpen reads name (Ok config) = ReadsConfig reads name (Ok config) × (names_nul config ≡ false)
+ReadsToOpen reads name (Err fault) =
+    ReadsConfig reads name (Err fault)
+    ⊎ ((fault ≡ Device) × ((config : Config) × ReadsConfig reads name (Ok config) × (names_nul config ≡ true)))

@@ -1,10 +1,11 @@
 -- What `vtl create` makes of the files of a configuration, and what it reports (own).
-use Rattle.std.specs.Prelude.{◌≡◌, ◌≢◌, ◌⊎◌, ◌<◌, ℕ, List, [], ◌∷◌, ◌++◌, map, codes, decimal, Option, None, Some, Result, Ok, Err}
+use Rattle.std.specs.Prelude.{◌≡◌, ◌≢◌, ◌⊎◌, ◌<◌, ℕ, Bool, true, false, List, [], ◌∷◌, ◌++◌, map, codes, decimal, Option, None, Some, Result, Ok, Err}
 use Rattle.std.specs.Io.{StartsWith}
 use Rattle.std.specs.Io.KnownBytes.{Appends, Keeps}
 use Rattle.tape_disk.specs.Disk.{DiskState, Each}
 use Rattle.file_disk.specs.declared.error.FileError.{FileError}
-use Rattle.file_disk.specs.declared.error.FileError.TheVariants.{Exists}
+use Rattle.file_disk.specs.declared.error.FileError.TheVariants.{Exists, Missing}
+use Rattle.file_disk.specs.declared.looking.FileLook.{FileLook}
 use Rattle.gate_journal.specs.Answers.{NoneFailed}
 use Rattle.tape_disk.specs.TwoDisks.{EachOfTwo, TwoDisks}
 use Rattle.gate_journal.specs.Side.{CLOSED, Heading, plain, spell}
@@ -33,11 +34,6 @@ files_of config = map CartridgeFile config.cartridges.items ++ map StoreFile con
 abbrev pub label_of : SideFile → List ℕ
 label_of (CartridgeFile entry) = entry.barcode
 label_of (StoreFile entry) = codes "DRIVE" ++ decimal entry.number
-
--- the name of a file, of a cartridge that of its first one, as the configuration says it (own)
-abbrev pub path_of : SideFile → List ℕ
-path_of (CartridgeFile entry) = entry.file
-path_of (StoreFile entry) = entry.reservations
 
 -- the bytes of a new side with this heading: the heading, a closed gate, and nothing behind (own)
 abbrev pub new_bytes : Heading → List ℕ
@@ -91,20 +87,53 @@ IsNewFile makes name (Ok None) = makes name (Err Exists)
 IsNewFile makes name (Err fault) =
     (fault ≡ Faults.Device) × ((error : FileError) × (error ≢ Exists) × makes name (Err error))
 
+module _ (looks : List ℕ → Result FileLook FileError → Type 0) where
+  -- nothing has the name of a second file, or a file without a byte (own)
+  abbrev pub IsSecondFree : List ℕ → Type 0
+  IsSecondFree name = looks name (Err Missing) ⊎ ((found : FileLook) × looks name (Ok found) × (found.bytes ≡ 0))
+
+  -- a second file has a byte, or what has its name could not be looked at (own)
+  abbrev pub IsSecondTaken : List ℕ → Type 0
+  IsSecondTaken name =
+      ((found : FileLook) × looks name (Ok found) × (0 < found.bytes))
+      ⊎ ((error : FileError) × (error ≢ Missing) × looks name (Err error))
+
+  -- the first file of a cartridge is missing, and its second one has no byte (own)
+  abbrev pub AreFree : (file second_file : List ℕ) → Type 0
+  AreFree file second_file = looks file (Err Missing) × IsSecondFree second_file
+
+  -- the names are free, or a regular file has the first one (own)
+  abbrev pub AreSeen : (file second_file : List ℕ) → Bool → Type 0
+  AreSeen file second_file true = AreFree file second_file
+  AreSeen file second_file false = (found : FileLook) × looks file (Ok found)
+
+  -- why a cartridge is not made under these names: what has the first one could not be looked at; or the first file is
+  -- missing, and its second one has a byte, or could not be looked at (own)
+  abbrev pub AreNotFree : (file second_file : List ℕ) → Type 0
+  AreNotFree file second_file =
+      ((error : FileError) × (error ≢ Missing) × looks file (Err error))
+      ⊎ (looks file (Err Missing) × IsSecondTaken second_file)
+
 -- The answers that the calls of a creation may have, by the names of files, and the disks that are returned (own).
 pub record MakeAnswers (D : Type 0) : Type 1 where
+  -- a name is looked at
+  pub looks : List ℕ → Result FileLook FileError → Type 0
   -- a missing file is made, and its disk is returned, with the file or to have it taken away
   pub makes : List ℕ → Result D FileError → Type 0
   pub leaves : List ℕ → D → Type 0
   pub takes_away : List ℕ → D → Type 0
-  -- a second file is opened, or made with no bytes where it is missing, and its disk is returned
-  pub opens_second : List ℕ → Result D FileError → Type 0
+  -- a second file is opened, or made with no bytes where it is missing and the first one's pair gate is not open, and
+  -- its disk is returned
+  pub opens_second : Bool → List ℕ → Result D FileError → Type 0
   pub closes_second : List ℕ → D → Type 0
 
 -- the answers of these calls (own)
-abbrev pub makes_of : {D : Type 0} → (List ℕ → Result D FileError → Type 0) → (leaves takes_away : List ℕ → D → Type 0)
-    → (opens_second : List ℕ → Result D FileError → Type 0) → (closes_second : List ℕ → D → Type 0) → MakeAnswers D
-makes_of makes leaves takes_away opens_second closes_second = record {
+abbrev pub makes_of : {D : Type 0} → (looks : List ℕ → Result FileLook FileError → Type 0)
+    → (makes : List ℕ → Result D FileError → Type 0) → (leaves takes_away : List ℕ → D → Type 0)
+    → (opens_second : Bool → List ℕ → Result D FileError → Type 0) → (closes_second : List ℕ → D → Type 0)
+    → MakeAnswers D
+makes_of looks makes leaves takes_away opens_second closes_second = record {
+  looks = looks;
   makes = makes;
   leaves = leaves;
   takes_away = takes_away;
@@ -113,21 +142,25 @@ makes_of makes leaves takes_away opens_second closes_second = record {
 }
 
 module _ {D : Type 0} (state : D → DiskState) (files : MakeAnswers D) where
-  -- a cartridge was made: its first file, and on it and the second one a new cartridge; both disks were returned
-  -- (own)
+  -- a cartridge was made under names that were found free: its first file, and on it and the second one a new
+  -- cartridge; both disks were returned (own)
   abbrev pub IsMadePair : CartridgeEntry → Type 0
   IsMadePair entry =
-      (first second : D) × files.makes entry.file (Ok first) × files.opens_second entry.second_file (Ok second)
+      AreFree files.looks entry.file entry.second_file
+      × (first second : D) × files.makes entry.file (Ok first) × files.opens_second false entry.second_file (Ok second)
       × ((last : TwoDisks D) × files.leaves entry.file last.first × files.closes_second entry.second_file last.second
       × HasNewPair state entry (record { first = first; second = second }) last)
 
-  -- what became of a file: it was made, and what was returned is a new side; or there is one of its name (own)
+  -- what became of a file: it was made, and what was returned is a new side; or there is one of its name. The first
+  -- file of a cartridge is then seen by a look, or by an attempt to make it (own)
   abbrev pub IsMadeOrKept : SideFile → Fate → Type 0
   IsMadeOrKept (CartridgeFile entry) Created = IsMadePair entry
   IsMadeOrKept (StoreFile entry) Created =
       (disk : D) × files.makes entry.reservations (Ok disk)
       × ((last : D) × files.leaves entry.reservations last × HasNewStore entry (state disk) (state last))
-  IsMadeOrKept file Kept = files.makes (path_of file) (Err Exists)
+  IsMadeOrKept (CartridgeFile entry) Kept =
+      ((found : FileLook) × files.looks entry.file (Ok found)) ⊎ files.makes entry.file (Err Exists)
+  IsMadeOrKept (StoreFile entry) Kept = files.makes entry.reservations (Err Exists)
 
   -- a missing file was not made, since the system refused it (own)
   abbrev pub IsRefusedFile : List ℕ → Type 0
@@ -140,26 +173,34 @@ module _ {D : Type 0} (state : D → DiskState) (files : MakeAnswers D) where
 
   -- the second file was neither opened nor made (own)
   abbrev pub IsSecondRefused : List ℕ → Type 0
-  IsSecondRefused name = (error : FileError) × files.opens_second name (Err error)
+  IsSecondRefused name = (error : FileError) × files.opens_second false name (Err error)
 
   -- the second file was opened or made, and its disk was closed as it was (own)
   abbrev pub IsSecondLeft : List ℕ → Type 0
-  IsSecondLeft name = (second : D) × files.opens_second name (Ok second) × files.closes_second name second
+  IsSecondLeft name = (second : D) × files.opens_second false name (Ok second) × files.closes_second name second
 
-  -- why a missing file was not made: the system refused it, or the second one; or a call of its disk failed, or memory
-  -- ran out and none did; and a file that was made is removed (own)
-  abbrev pub IsNotMade : SideFile → VtlFault → Type 0
-  IsNotMade (CartridgeFile entry) Faults.Device =
+  -- the first file of a cartridge was not made, though its names were found free: the system refused it, or the second
+  -- one; or a call of its disk failed (own)
+  abbrev pub IsUnfinishedPair : CartridgeEntry → Type 0
+  IsUnfinishedPair entry =
       IsRefusedFile entry.file
       ⊎ ((IsTakenAway entry.file (λ disk last. last ≡ disk) × IsSecondRefused entry.second_file)
-      ⊎ (IsTakenAway entry.file (λ disk last. (state disk).failures < (state last).failures) × IsSecondLeft
-      entry.second_file))
+      ⊎ (IsTakenAway entry.file (λ disk last. (state disk).failures < (state last).failures)
+      × IsSecondLeft entry.second_file))
+
+  -- why a missing file was not made: the names of a cartridge are not free; the system refused it, or the second one;
+  -- or a call of its disk failed, or memory ran out and none did; and a file that was made is removed (own)
+  abbrev pub IsNotMade : SideFile → VtlFault → Type 0
+  IsNotMade (CartridgeFile entry) Faults.Device =
+      AreNotFree files.looks entry.file entry.second_file
+      ⊎ (AreFree files.looks entry.file entry.second_file × IsUnfinishedPair entry)
   IsNotMade (StoreFile entry) Faults.Device =
       IsRefusedFile entry.reservations
       ⊎ IsTakenAway entry.reservations (λ disk last. (state disk).failures < (state last).failures)
   IsNotMade (CartridgeFile entry) Faults.NoMemory =
-      IsTakenAway entry.file (λ disk last. (state last).failures ≡ (state disk).failures) × IsSecondLeft
-      entry.second_file
+      AreFree files.looks entry.file entry.second_file
+      × IsTakenAway entry.file (λ disk last. (state last).failures ≡ (state disk).failures)
+      × IsSecondLeft entry.second_file
   IsNotMade (StoreFile entry) Faults.NoMemory =
       IsTakenAway entry.reservations (λ disk last. (state last).failures ≡ (state disk).failures)
   IsNotMade file Faults.Words = ⊥

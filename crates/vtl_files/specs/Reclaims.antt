@@ -1,5 +1,5 @@
 -- What `vtl reclaim` does, and what it writes (own).
-use Rattle.std.specs.Prelude.{◌≡◌, ◌⊎◌, ◌<◌, ◌≤◌, ◌-◌, ◌^◌, ◌==◌, ℕ, List, [], ◌∷◌, ◌++◌, bytes_eq, codes, decimal, Option, None, Some, Result, Ok, Err, IfOk, IfErr, OnOk, if◌then◌else◌}
+use Rattle.std.specs.Prelude.{◌≡◌, ◌≢◌, ◌⊎◌, ◌<◌, ◌≤◌, ◌-◌, ◌^◌, ◌==◌, ℕ, Bool, true, false, List, [], ◌∷◌, ◌++◌, bytes_eq, codes, decimal, Option, None, Some, Result, Ok, Err, IfOk, IfErr, OnOk, if◌then◌else◌}
 use Rattle.std.specs.List.{find, starts_with}
 use Rattle.std.specs.Io.KnownBytes.{Appends}
 use Rattle.std.specs.Io.KnownBytes as Known
@@ -7,6 +7,8 @@ use Rattle.vtl_base.specs.declared.limits.TheConstants.{MAX_SIDE}
 use Rattle.tape_disk.specs.Disk.{DiskState}
 use Rattle.tape_disk.specs.TwoDisks.{AreHonest, EachOfTwo, Images, KeepsDisks, MayLeave, TwoDisks, TwoLeave, failures_of, seen_of_two}
 use Rattle.file_disk.specs.declared.error.FileError.{FileError}
+use Rattle.file_disk.specs.declared.error.FileError.TheVariants.{Missing}
+use Rattle.file_disk.specs.declared.looking.FileLook.{FileLook}
 use Rattle.gate_journal.specs.Heads.{epoch_of}
 use Rattle.cartridge.specs.declared.error.CartridgeError.TheVariants as causes
 use Rattle.cartridge.specs.declared.reclaiming.ReclaimError.{ReclaimError}
@@ -18,7 +20,6 @@ use Rattle.tape_buffer.specs.Reclaiming.{FailsToCopy, GiveOnly, RebasesContents}
 use Rattle.vtl_config.specs.declared.entries.CartridgeEntry.{CartridgeEntry}
 use Rattle.vtl_config.specs.declared.entries.Config.{Config}
 use Rattle.vtl_script.specs.Text.{AppendsPart}
-use Rattle.vtl_files.specs.Opened.{AreNotOpened}
 use Rattle.check_lines.specs.SideText.{bad_record_line, damaged_line, not_a_side_line}
 use Rattle.vtl_faults.specs.declared.faults.Verdict.{Verdict}
 use Rattle.vtl_faults.specs.declared.faults.Verdict.TheVariants.{Done, Refused}
@@ -120,33 +121,95 @@ PrintsReclaim (Err why) before now result = (result ≡ Err why) × Known.Keeps 
 abbrev pub entry_with : List ℕ → List CartridgeEntry → Option CartridgeEntry
 entry_with barcode entries = find (λ entry. bytes_eq entry.barcode barcode) entries
 
-module _ {D : Type 0} (state : D → DiskState) (opens opens_second : List ℕ → Result D FileError → Type 0)
-    (returns_disk closes_second : List ℕ → D → Type 0) (barcode : List ℕ) where
-  -- both files of a cartridge were opened, and reclaimed under this name; their disks were returned, and the line is
-  -- written (own)
-  pub record ReclaimsBoth (entry : CartridgeEntry) (before now : Option (List ℕ)) (result : Result Verdict VtlFault) :
-      Type 0 where
-    pub disks : TwoDisks D
-    pub first : opens entry.file (Ok disks.first)
-    pub second : opens_second entry.second_file (Ok disks.second)
-    pub last : TwoDisks D
-    pub closed : returns_disk entry.file last.first × closes_second entry.second_file last.second
-    pub lines : Result (List ℕ) VtlFault
-    pub reclaims : Reclaims state barcode disks last lines
-    pub prints : PrintsReclaim lines before now result
+-- The bytes of a second file at most that a reclaim writes over behind a closed pair gate: those that it writes itself
+-- before it opens that gate (own).
+abbrev pub spare_bytes : ℕ
+spare_bytes = 10
 
-  -- a file was not opened, and nothing is written (own)
-  abbrev pub ReclaimsNone : CartridgeEntry → (before now : Option (List ℕ)) → Result Verdict VtlFault → Type 0
-  ReclaimsNone entry before now result =
-      (fault : VtlFault) × (result ≡ Err fault) × Known.Keeps before now
-      × AreNotOpened opens opens_second returns_disk entry.file entry.second_file fault
+module _ (looks : List ℕ → Result FileLook FileError → Type 0) (pairs : List ℕ → Result Bool FileError → Type 0)
+    (file second_file : List ℕ) where
+  -- A reclaim may open the second file: the first one's pair gate is open, or it is closed, and the second file is
+  -- missing, or is no link's and has ten bytes at most (own).
+  abbrev pub MayOpen : (paired : Bool) → Type 0
+  MayOpen true = pairs file (Ok true)
+  MayOpen false =
+      pairs file (Ok false)
+      × (looks second_file (Err Missing)
+      ⊎ ((found : FileLook) × looks second_file (Ok found) × (found.is_link ≡ false) × (found.bytes ≤ spare_bytes)))
 
-  -- what is done with the cartridge that was named; where there is none, the words are refused, and nothing is written
+  -- A second file is somebody else's: behind a closed pair gate its name is a link's, or it has more than ten bytes
+  -- (own).
+  abbrev pub IsKeptBack : Type 0
+  IsKeptBack =
+      pairs file (Ok false)
+      × ((found : FileLook) × looks second_file (Ok found)
+      × ((found.is_link ≡ true) ⊎ (spare_bytes < found.bytes)))
+
+  -- the pair gate could not be looked at, or is closed, and the second file could not be (own)
+  abbrev pub IsUnseen : Type 0
+  IsUnseen =
+      ((error : FileError) × pairs file (Err error))
+      ⊎ (pairs file (Ok false) × ((error : FileError) × (error ≢ Missing) × looks second_file (Err error)))
+
+  -- what a reclaim does with the second file: it opens it, for a pair gate that is open or closed, or keeps it back
   -- (own)
+  abbrev pub SeesPair : Option Bool → Type 0
+  SeesPair (Some paired) = MayOpen paired
+  SeesPair None = IsKeptBack
+
+module _ {D : Type 0} (state : D → DiskState) (opens_second : Bool → List ℕ → Result D FileError → Type 0)
+    (returns_disk closes_second : List ℕ → D → Type 0) (barcode : List ℕ) where
+  module _ (file : List ℕ) (first : D) (second_file : List ℕ) (paired : Bool) where
+    -- the second file of a cartridge was opened beside the first one, and both were reclaimed under this name; their
+    -- disks were returned, and the line is written (own)
+    pub record ReclaimsBoth (before now : Option (List ℕ)) (result : Result Verdict VtlFault) : Type 0 where
+      pub second : D
+      pub opened : opens_second paired second_file (Ok second)
+      pub last : TwoDisks D
+      pub closed : returns_disk file last.first × closes_second second_file last.second
+      pub lines : Result (List ℕ) VtlFault
+      pub reclaims : Reclaims state barcode (record { first = first; second = second }) last lines
+      pub prints : PrintsReclaim lines before now result
+
+    -- both files were reclaimed; or the second one was not opened, the first one's disk was returned as it was opened,
+    -- and nothing is written (own)
+    abbrev pub ReclaimsOpened : (before now : Option (List ℕ)) → Result Verdict VtlFault → Type 0
+    ReclaimsOpened before now result =
+        ReclaimsBoth before now result
+        ⊎ ((result ≡ Err Device) × Known.Keeps before now × returns_disk file first
+        × ((error : FileError) × opens_second paired second_file (Err error)))
+
+module _ {D : Type 0} (state : D → DiskState) (looks : List ℕ → Result FileLook FileError → Type 0)
+    (pairs : List ℕ → Result Bool FileError → Type 0) (opens : List ℕ → Result D FileError → Type 0)
+    (opens_second : Bool → List ℕ → Result D FileError → Type 0)
+    (returns_disk closes_second : List ℕ → D → Type 0) (barcode : List ℕ) where
+  -- a cartridge is not reclaimed, since its second file is somebody else's: that is not opened, the first one's disk
+  -- was returned as it was opened, and the line says so (own)
+  abbrev pub ReclaimsNone : CartridgeEntry → (first : D) → (before now : Option (List ℕ)) → Result Verdict VtlFault
+      → Type 0
+  ReclaimsNone entry first before now result =
+      IsKeptBack looks pairs entry.file entry.second_file × returns_disk entry.file first
+      × ((lines : Result (List ℕ) VtlFault) × IsLine not_reclaimed_line lines × PrintsReclaim lines before now result)
+
+  -- what is done with a cartridge whose first file was opened: it is reclaimed over both files, or the second one is
+  -- kept back; or they could not be looked at, and nothing is written (own)
+  abbrev pub ReclaimsOver : CartridgeEntry → (first : D) → (before now : Option (List ℕ)) → Result Verdict VtlFault
+      → Type 0
+  ReclaimsOver entry first before now result =
+      ((paired : Bool) × MayOpen looks pairs entry.file entry.second_file paired
+      × ReclaimsOpened state opens_second returns_disk closes_second barcode entry.file first entry.second_file paired
+      before now result)
+      ⊎ (ReclaimsNone entry first before now result
+      ⊎ ((result ≡ Err Device) × Known.Keeps before now × returns_disk entry.file first
+      × IsUnseen looks pairs entry.file entry.second_file))
+
+  -- what is done with the cartridge that was named; where its first file is not opened, or there is no such cartridge,
+  -- so that the words are refused, nothing is written (own)
   abbrev pub ReclaimsEntry :
       Option CartridgeEntry → (before now : Option (List ℕ)) → Result Verdict VtlFault → Type 0
   ReclaimsEntry (Some entry) before now result =
-      ReclaimsBoth entry before now result ⊎ ReclaimsNone entry before now result
+      ((first : D) × opens entry.file (Ok first) × ReclaimsOver entry first before now result)
+      ⊎ ((result ≡ Err Device) × Known.Keeps before now × ((error : FileError) × opens entry.file (Err error)))
   ReclaimsEntry None before now result = (result ≡ Err Words) × Known.Keeps before now
 
   -- the cartridge of a configuration that has the barcode is reclaimed; where there is no configuration, nothing is

@@ -4,15 +4,15 @@ ghost use Rattle.std.specs.Io.KnownBytes.{Appends};
 ghost use Rattle.volume_core.specs.Volume.{are_capacities};
 ghost use Rattle.vtl_files.specs.Creating.{CartridgeFile, IsMadeOrKept, IsNewFile, IsNotMade, IsNotOut, StoreFile, PrintsFiles, fate_line, fate_word, files_of, makes_of};
 
-use crate::files::{MakeFiles, SecondFiles};
+use crate::files::{LookFiles, MakeFiles, SecondFiles};
+use crate::new_cartridges::create_cartridge;
 use crate::writing::print_text;
 use aptpl_store::{AptplStore, StoreError, StoreRefused};
-use cartridge::{Cartridge, CartridgeError, NotCreated};
 use file_disk::FileError;
 use std::alloc::{AllocError, Global};
 use std::io::Write;
 use tape_disk::Disk;
-use vtl_base::{Barcode, DriveNo};
+use vtl_base::DriveNo;
 use vtl_config::{Capacities, CartridgeEntry, Config, DriveEntry, FileName, UsedName};
 use vtl_faults::faults::VtlFault;
 
@@ -26,7 +26,7 @@ pub enum Fate {
 }
 
 // Makes a file of this name, and returns its name and a disk over it; None where something has the name already.
-fn new_file<D, F: MakeFiles<D>>(
+pub(crate) fn new_file<D, F: MakeFiles<D>>(
     files: &F,
     name: FileName,
 ) -> Result<Option<(UsedName, D)>, VtlFault>
@@ -48,70 +48,17 @@ pub fn slice_of(capacities: &Capacities) -> &[u64]
     capacities.as_slice()
 }
 
-// Makes the first file of a cartridge, if it is missing, and returns what became of it, and the barcode. With the first
-// file the second one is made, with no bytes, if it is missing; else that stays as it is.
-fn create_cartridge<D: Disk + Drop, F: MakeFiles<D> + SecondFiles<D>>(
-    alloc: Global,
-    files: &F,
-    entry: CartridgeEntry,
-) -> Result<(Fate, Barcode), VtlFault>
-    ensures ok { IfOk result (λ made. IsMadeOrKept D.state
-        (makes_of F.makes F.leaves F.takes_away F.opens_second F.closes_second)
-        (CartridgeFile entry) made.0) }
-    ensures label { IfOk result (λ made. made.1 ≡ entry.barcode) }
-    ensures err { IfErr result (IsNotMade D.state
-        (makes_of F.makes F.leaves F.takes_away F.opens_second F.closes_second)
-        (CartridgeFile entry)) }
-{
-    let CartridgeEntry {
-        barcode,
-        file,
-        second_file,
-        capacities,
-        ..
-    } = entry;
-    let Some((name, first)) = new_file::<D, F>(files, file)? else {
-        return Ok((Fate::Kept, barcode));
-    };
-    let (second_name, opened) = files.open_second(second_file);
-    let Ok(second) = opened else {
-        files.take_away(name, first);
-        return Err(VtlFault::Device);
-    };
-    match Cartridge::create(alloc, first, second, &barcode, slice_of(&capacities)) {
-        Ok(shelved) => {
-            let (first, second) = shelved.into_disks();
-            files.leave(name, first);
-            files.close_second(second_name, second);
-            Ok((Fate::Created, barcode))
-        }
-        Err(refused) => {
-            let NotCreated {
-                error,
-                first,
-                second,
-            } = refused;
-            files.take_away(name, first);
-            files.close_second(second_name, second);
-            match error {
-                CartridgeError::NoMemory => Err(VtlFault::NoMemory),
-                _ => Err(VtlFault::Device),
-            }
-        }
-    }
-}
-
 // Makes the file of a drive's reservations, where it is missing.
-fn create_store<D: Disk + Drop, F: MakeFiles<D> + SecondFiles<D>>(
+fn create_store<D: Disk + Drop, F: MakeFiles<D> + LookFiles + SecondFiles<D>>(
     alloc: Global,
     files: &F,
     entry: DriveEntry,
 ) -> Result<Fate, VtlFault>
     ensures ok { IfOk result (IsMadeOrKept D.state
-        (makes_of F.makes F.leaves F.takes_away F.opens_second F.closes_second)
+        (makes_of F.looks F.makes F.leaves F.takes_away F.opens_second F.closes_second)
         (StoreFile entry)) }
     ensures err { IfErr result (IsNotMade D.state
-        (makes_of F.makes F.leaves F.takes_away F.opens_second F.closes_second)
+        (makes_of F.looks F.makes F.leaves F.takes_away F.opens_second F.closes_second)
         (StoreFile entry)) }
 {
     let DriveEntry {
@@ -185,13 +132,13 @@ pub fn label_of(alloc: Global, number: DriveNo) -> Result<String, AllocError>
 }
 
 // Makes the files of a cartridge, if the first one is missing, and reports what became of that.
-fn make_cartridge<D: Disk + Drop, F: MakeFiles<D> + SecondFiles<D>, W: Write>(
+fn make_cartridge<D: Disk + Drop, F: MakeFiles<D> + LookFiles + SecondFiles<D>, W: Write>(
     alloc: Global,
     files: &F,
     entry: CartridgeEntry,
     writer: &mut W,
 ) -> Result<(), VtlFault>
-    ensures { PrintsFiles D.state (makes_of F.makes F.leaves F.takes_away F.opens_second F.closes_second)
+    ensures { PrintsFiles D.state (makes_of F.looks F.makes F.leaves F.takes_away F.opens_second F.closes_second)
         (CartridgeFile entry ∷ [])
         (W.contents writer.old) (W.contents writer.new) result }
 {
@@ -202,13 +149,13 @@ fn make_cartridge<D: Disk + Drop, F: MakeFiles<D> + SecondFiles<D>, W: Write>(
 }
 
 // Makes the missing files of cartridges, and reports each.
-fn make_cartridges<D: Disk + Drop, F: MakeFiles<D> + SecondFiles<D>, W: Write>(
+fn make_cartridges<D: Disk + Drop, F: MakeFiles<D> + LookFiles + SecondFiles<D>, W: Write>(
     alloc: Global,
     files: &F,
     entries: Vec<CartridgeEntry>,
     writer: &mut W,
 ) -> Result<(), VtlFault>
-    ensures { PrintsFiles D.state (makes_of F.makes F.leaves F.takes_away F.opens_second F.closes_second)
+    ensures { PrintsFiles D.state (makes_of F.looks F.makes F.leaves F.takes_away F.opens_second F.closes_second)
         (map CartridgeFile entries.items)
         (W.contents writer.old) (W.contents writer.new) result }
 {
@@ -221,13 +168,13 @@ fn make_cartridges<D: Disk + Drop, F: MakeFiles<D> + SecondFiles<D>, W: Write>(
 }
 
 // Makes the file of a drive's reservations, if it is missing, and reports what became of it.
-fn make_store<D: Disk + Drop, F: MakeFiles<D> + SecondFiles<D>, W: Write>(
+fn make_store<D: Disk + Drop, F: MakeFiles<D> + LookFiles + SecondFiles<D>, W: Write>(
     alloc: Global,
     files: &F,
     entry: DriveEntry,
     writer: &mut W,
 ) -> Result<(), VtlFault>
-    ensures { PrintsFiles D.state (makes_of F.makes F.leaves F.takes_away F.opens_second F.closes_second)
+    ensures { PrintsFiles D.state (makes_of F.looks F.makes F.leaves F.takes_away F.opens_second F.closes_second)
         (StoreFile entry ∷ [])
         (W.contents writer.old) (W.contents writer.new) result }
 {
@@ -242,13 +189,13 @@ fn make_store<D: Disk + Drop, F: MakeFiles<D> + SecondFiles<D>, W: Write>(
 }
 
 // Makes the missing files of the reservations of drives, and reports each.
-fn make_stores<D: Disk + Drop, F: MakeFiles<D> + SecondFiles<D>, W: Write>(
+fn make_stores<D: Disk + Drop, F: MakeFiles<D> + LookFiles + SecondFiles<D>, W: Write>(
     alloc: Global,
     files: &F,
     entries: Vec<DriveEntry>,
     writer: &mut W,
 ) -> Result<(), VtlFault>
-    ensures { PrintsFiles D.state (makes_of F.makes F.leaves F.takes_away F.opens_second F.closes_second)
+    ensures { PrintsFiles D.state (makes_of F.looks F.makes F.leaves F.takes_away F.opens_second F.closes_second)
         (map StoreFile entries.items)
         (W.contents writer.old) (W.contents writer.new) result }
 {
@@ -264,16 +211,17 @@ fn make_stores<D: Disk + Drop, F: MakeFiles<D> + SecondFiles<D>, W: Write>(
 /// the order of the configuration. For each entry it writes a line to `writer`: `created NAME`, or `kept NAME` where
 /// something has the file's name already, which is not touched. NAME is the barcode of the cartridge, or `DRIVE` and
 /// the number of the drive. When the first file of a cartridge is made, its second file is made too, with no bytes, if
-/// it is missing. Where the first file is there already, the second is not looked for. The first fault ends the call.
-/// If the fault came while a file was being made, that file is removed, if the system can remove it; a second file is
-/// not removed. Errors: `Device` where a file or the writer fails, `NoMemory` where memory runs out.
-pub fn create_missing<D: Disk + Drop, F: MakeFiles<D> + SecondFiles<D>, W: Write>(
+/// it is missing. Where the first file is there already, the second is not looked for. Where it is missing, and its
+/// second file has a byte, that is a fault, and neither is made or changed. The first fault ends the call. If the fault
+/// came while a file was being made, that file is removed, if the system can remove it; a second file is not removed.
+/// Errors: `Device` where a file or the writer fails, `NoMemory` where memory runs out.
+pub fn create_missing<D: Disk + Drop, F: MakeFiles<D> + LookFiles + SecondFiles<D>, W: Write>(
     alloc: Global,
     files: &F,
     config: Config,
     writer: &mut W,
 ) -> Result<(), VtlFault>
-    ensures { PrintsFiles D.state (makes_of F.makes F.leaves F.takes_away F.opens_second F.closes_second)
+    ensures { PrintsFiles D.state (makes_of F.looks F.makes F.leaves F.takes_away F.opens_second F.closes_second)
         (files_of config)
         (W.contents writer.old) (W.contents writer.new) result }
 {

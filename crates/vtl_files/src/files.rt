@@ -1,12 +1,13 @@
 //! The calls that the program makes for files, each of which is given by its name. The traits say what a function may
 //! do with files: the function of each order has only the traits that it needs. A file is made or opened for writing at
 //! most once, since that uses up its name, a `FileName`.
-ghost use Rattle.std.specs.Prelude.{◌≡◌, ℕ, List, [], Result, Ok, Vec};
+ghost use Rattle.std.specs.Prelude.{◌≡◌, ℕ, Bool, List, [], Result, Ok, Vec};
 ghost use Rattle.std.specs.declared.alloc.Global.{Global};
 ghost use Rattle.std.specs.declared.io.Error.{Error};
 ghost use Rattle.file_disk.specs.declared.error.FileError.{FileError};
+ghost use Rattle.file_disk.specs.declared.looking.FileLook.{FileLook};
 
-use file_disk::FileError;
+use file_disk::{FileError, FileLook};
 use std::io;
 use tape_disk::Disk;
 use vtl_config::{FileName, UsedName};
@@ -42,19 +43,37 @@ pub trait ReadFiles<D: Disk> {
         ensures { (D.state result).honest → (D.state result).seen ≡ [] };
 }
 
+/// Files that are looked at by their names, before they are opened or made.
+pub trait LookFiles {
+    // The answers that a look may have, by the name.
+    ghost looks: { List ℕ → Result FileLook FileError → Type 0 };
+
+    // The answers that a look at the pair gate may have, by the name.
+    ghost pairs: { List ℕ → Result Bool FileError → Type 0 };
+
+    /// Looks at what has this name. Nothing is opened. The error is `Missing` where nothing has the name.
+    fn look(&self, name: &str) -> Result<FileLook, FileError>
+        ensures { looks name.now result };
+
+    /// Whether the pair gate of a cartridge, the byte at place 9, is open in the file of this name.
+    fn is_paired(&self, name: &str) -> Result<bool, FileError>
+        ensures { pairs name.now result };
+}
+
 /// The second files of cartridges.
 pub trait SecondFiles<D> {
-    // The answers that a call may have, by the name.
-    ghost opens_second: { List ℕ → Result D FileError → Type 0 };
+    // The answers that a call may have, by whether the first file's pair gate is open, and the name.
+    ghost opens_second: { Bool → List ℕ → Result D FileError → Type 0 };
 
     // The disk that was returned for a name: its file stays.
     ghost closes_second: { List ℕ → D → Type 0 };
 
-    /// Opens the file of this name, or makes it with no bytes if it is missing, and returns a disk over it. The name is
-    /// used up.
-    fn open_second(&self, name: FileName) -> (UsedName, Result<D, FileError>)
+    /// Opens the file of this name, and returns a disk over it. If it is missing, it is made with no bytes. It is not
+    /// made if `is_paired`, where the first file's pair gate is open: a disk of no bytes, which is not to be changed,
+    /// then stands for it. The name is used up.
+    fn open_second(&self, name: FileName, is_paired: bool) -> (UsedName, Result<D, FileError>)
         ensures used { result.0 ≡ name }
-        ensures answer { opens_second name result.1 };
+        ensures answer { opens_second is_paired name result.1 };
 
     /// Closes the file of this name, and takes `disk`, the disk over the file, as it is. The file stays.
     fn close_second(&self, name: UsedName, disk: D)

@@ -5,6 +5,7 @@ pub mod config_checks;
 pub mod configs;
 pub mod creating;
 pub mod files;
+mod new_cartridges;
 pub mod opened;
 pub mod reclaiming;
 pub mod side_checks;

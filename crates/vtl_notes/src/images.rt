@@ -3,7 +3,7 @@ use cartridge_sides::{Which, choose};
 use check_lines::checking::{Checked, check_side};
 use check_lines::reading::Unreported;
 use explanations::Explanation;
-use file_reasons::{DamageReason, Found};
+use file_reasons::{DamageReason, Found, PairFault, PairReason};
 use std::alloc::{AllocError, Global};
 use std::cell::Cell;
 use tape_disk::{Disk, MemDisk};
@@ -226,6 +226,28 @@ fn add_no_copy(alloc: Global, file: &str, lines: &mut Explanation) -> Result<(),
     lines.add(alloc, "to do: copy what it holds to another cartridge")
 }
 
+// Whether these bytes begin as those of a cartridge's first file whose pair gate is open.
+fn has_open_pair(first: &[u8]) -> bool {
+    first
+        .get(1..10)
+        .is_some_and(|start| start == b"VTLCART1\xa5".as_slice())
+}
+
+// Adds the lines of a second file that has no byte, or is missing, though the pair gate is open. For a reclaim they
+// were written as the file was opened.
+fn add_no_second(
+    alloc: Global,
+    file: String,
+    is_reclaim: bool,
+    lines: &mut Explanation,
+) -> Result<(), AllocError> {
+    if is_reclaim {
+        return Ok(());
+    }
+    let fault = PairFault::NoSecond;
+    PairReason { file, fault }.add_to(alloc, lines)
+}
+
 fn add_refusal(
     alloc: Global,
     is_reclaim: bool,
@@ -237,6 +259,9 @@ fn add_refusal(
         return Ok(());
     };
     let printed = printed.as_slice();
+    if second.bytes.is_empty() && has_open_pair(first.bytes.as_slice()) {
+        return add_no_second(alloc, second.file, is_reclaim, lines);
+    }
     if printed == b"not a side\n".as_slice() || printed.starts_with(b"reservations ") {
         return add_no_side(alloc, first.file.as_str(), is_reclaim, lines);
     }

@@ -7,5 +7,6 @@ pub mod noted_streams;
 pub mod notes;
 pub mod noting;
 pub mod open_files;
+pub mod pairs;
 pub mod progress;
 pub mod watched;

@@ -2,14 +2,16 @@
 use crate::images::Images;
 use crate::noted_streams::OutputNote;
 use crate::open_files::OpenFiles;
+use crate::pairs::PairNote;
 use explanations::Explanation;
-use file_disk::FileError;
+use file_disk::{FileError, FileLook};
 use file_reasons::{Answer, FileCall, FileReason, MemoryReason, Source, StoreReason};
 use frame_reasons::{FrameNotes, FrameReason};
 use script_reasons::LineReason;
 use std::alloc::{AllocError, Global};
 use std::cell::Cell;
 use std::io;
+use std::path::Path;
 use tape_disk::Disk;
 
 /// The text of a configuration, with the name of its file.
@@ -35,6 +37,9 @@ pub struct Notes {
     returned: Cell<Option<String>>,
     script: Cell<Option<u64>>,
     images: Images,
+    pair: PairNote,
+    // The folder of the file that was noted last as open without a lock.
+    unlocked: Cell<Option<String>>,
     output: OutputNote,
 }
 
@@ -53,6 +58,8 @@ impl Notes {
             returned: Cell::new(None),
             script: Cell::new(None),
             images: Images::new(),
+            pair: PairNote::new(),
+            unlocked: Cell::new(None),
             output: OutputNote::new(is_on),
         }
     }
@@ -126,6 +133,42 @@ impl Notes {
         };
         let _ = refused.push(reason);
         self.refused_files.set(Some(refused));
+    }
+
+    /// Notes what a look at the name `file` found: that a second file is in the way, or that the look failed. That
+    /// nothing has the name is no failure.
+    pub fn look_at(&self, alloc: Global, file: &str, answer: &Result<FileLook, FileError>) {
+        if !self.is_on {
+            return;
+        }
+        self.pair.look(alloc, file, answer);
+        match answer {
+            Err(FileError::Missing) => {}
+            answer => self.open(alloc, file, FileCall::Look, answer),
+        }
+    }
+
+    /// The note of a second file that is in the way.
+    pub fn pair(&self) -> &PairNote {
+        &self.pair
+    }
+
+    /// Notes that the file `file` is open without a lock. Returns true where it is to be said: the file that was noted
+    /// so before was in another folder, or there is none.
+    pub fn is_first_unlocked(&self, alloc: Global, file: &str) -> bool {
+        if !self.is_on {
+            return false;
+        }
+        let folder = match Path::new(file).parent() {
+            Some(parent) => parent.as_str(),
+            None => "",
+        };
+        let is_first = match self.unlocked.take() {
+            Some(last) => last.as_str() != folder,
+            None => true,
+        };
+        self.unlocked.set(String::from_str(alloc, folder).ok());
+        is_first
     }
 
     /// Drops the note of the last file that was not opened. This was not a failure, since the file may be missing.

@@ -17,13 +17,12 @@ use Rattle.vtl_serve.specs.declared.labels.Label.{Label}
 use Rattle.vtl_faults.specs.declared.faults.VtlFault.{VtlFault}
 use Rattle.vtl_faults.specs.declared.faults.VtlFault.TheVariants as Faults
 use Rattle.vtl_faults.specs.FromBelow.{IsFailure}
-use Rattle.vtl_files.specs.Configured.{ReadsConfig}
 use Rattle.vtl_power_on.specs.Running.{every_nexus}
 use Rattle.vtl_power_on.specs.Serving.{ServesOrder, ServesStarted, home_label, labels_of, served_outcome}
 use Rattle.vtl_power_on.specs.Sides.{SidesGiven}
 use Rattle.vtl_power_on.specs.Starting.{IsNotStarted, IsStart, IsStarted}
 use Rattle.vtl_power_on.specs.Unfinished.{NotStartedState}
-use Rattle.vtl_power_on.proofs.IdleLemmas.{keeps_same}
+use Rattle.vtl_power_on.proofs.IdleLemmas.{NoConfig, keeps_same}
 
 module _ {D : Type 0} where
   -- frames were served over the drives of a library, and it was put together again
@@ -77,7 +76,7 @@ starts_config state sides gives_up config (Err (Faults.Frame number)) text says 
 pub not_served : {D : Type 0} (state : D → DiskState) (reads : List ℕ → Result (Vec ℕ Global) Error → Type 0)
     (sides : SidesGiven D) (closes_all : HeldState D → Type 0) (gives_up : NotStartedState D → Type 0) (memory : Bool)
     (name : List ℕ) (fault : VtlFault) (left before : Option (List ℕ))
-    → ReadsConfig reads name (Err fault)
+    → NoConfig reads memory name fault
     → ServesOrder state reads sides closes_all gives_up memory (Some name) left left before before (Err fault)
 not_served state reads sides closes_all gives_up true name fault left before why =
     (Err fault, why, (refl, (keeps_same left, keeps_same before)))

@@ -15,7 +15,7 @@ use Rattle.library.specs.Ends.{EndsShared}
 use Rattle.library_scripts.specs.Ran.{RunsShared}
 use Rattle.library.specs.declared.finishing.FinishError.{FinishError}
 use Rattle.vtl_config.specs.declared.entries.Config.{Config}
-use Rattle.vtl_files.specs.Configured.{ReadsConfig}
+use Rattle.vtl_files.specs.Configured.{ReadsConfig, ReadsToOpen}
 use Rattle.vtl_faults.specs.FromBelow.{IsFailure, fault_of}
 use Rattle.vtl_faults.specs.declared.faults.VtlFault.{VtlFault}
 use Rattle.vtl_faults.specs.declared.faults.VtlFault.TheVariants.{Device, NoMemory}
@@ -115,5 +115,5 @@ module _ {D : Type 0} (state : D → DiskState) (reads : List ℕ → Result (Ve
       (config : Result Config VtlFault) × ReadsConfig reads name config
       × RunsNamed memory_state new_sides takes_any takes_any config left left' before now outcome
   RunsOrder sides closes_all gives_up false (Some name) left left' before now outcome =
-      (config : Result Config VtlFault) × ReadsConfig reads name config
+      (config : Result Config VtlFault) × ReadsToOpen reads name config
       × RunsNamed state sides closes_all gives_up config left left' before now outcome

@@ -15,7 +15,7 @@ use Rattle.vtl_serve.specs.declared.labels.Label.{Label}
 use Rattle.vtl_faults.specs.declared.faults.VtlFault.{VtlFault}
 use Rattle.vtl_faults.specs.declared.faults.VtlFault.TheVariants.{Device, NoMemory}
 use Rattle.vtl_faults.specs.FromBelow.{IsFailure, fault_of_wire}
-use Rattle.vtl_files.specs.Configured.{ReadsConfig}
+use Rattle.vtl_files.specs.Configured.{ReadsConfig, ReadsToOpen}
 use Rattle.vtl_power_on.specs.Running.{IsIdle, every_nexus}
 use Rattle.vtl_power_on.specs.Sides.{SidesGiven, memory_state, new_sides, takes_any}
 use Rattle.vtl_power_on.specs.Starting.{IsBuiltIn, IsNotStarted, IsStart, IsStarted, built_in_barcode, built_in_capacities}
@@ -114,5 +114,5 @@ module _ {D : Type 0} (state : D → DiskState) where
         (config : Result Config VtlFault) × ReadsConfig reads name config
         × ServesNamed memory_state new_sides takes_any takes_any config left left' before now outcome
     ServesOrder sides closes_all gives_up false (Some name) left left' before now outcome =
-        (config : Result Config VtlFault) × ReadsConfig reads name config
+        (config : Result Config VtlFault) × ReadsToOpen reads name config
         × ServesNamed state sides closes_all gives_up config left left' before now outcome

@@ -1,5 +1,5 @@
 -- Where the sides of a library come from: from files, or made in memory (own).
-use Rattle.std.specs.Prelude.{◌≡◌, ◌⊎◌, ℕ, [], true, false, List, None, Result, Ok, Err}
+use Rattle.std.specs.Prelude.{◌≡◌, ◌⊎◌, ℕ, Bool, [], true, false, List, None, Result, Ok, Err}
 use Rattle.tape_disk.specs.CallLog.{log_state}
 use Rattle.tape_disk.specs.Disk.{DiskState, Keeps, Only}
 use Rattle.tape_disk.specs.Moments.{LeavesOnly}
@@ -79,18 +79,20 @@ module _ {D : Type 0} where
           → (state last).seen ≡ (state disk).seen
       pub any_moment : (state disk).honest → LeavesOnly (state disk) (state last) (state disk).may_leave
 
-    module _ (opens opens_second : List ℕ → Result D FileError → Type 0) (returns_disk : List ℕ → D → Type 0) where
+    module _ (pairs : List ℕ → Result Bool FileError → Type 0) (opens : List ℕ → Result D FileError → Type 0)
+        (opens_second : Bool → List ℕ → Result D FileError → Type 0) (returns_disk : List ℕ → D → Type 0) where
       -- The sides that files hold, by what an opening of a file may answer and which disks may be returned. A
-      -- cartridge's are the disks that the openings of its entry's two files gave, as they were opened; a drive's is a
-      -- store that was found on such a disk. Or a file was not opened, or the disk gives no store, and it was returned
-      -- for this file (own).
+      -- cartridge's are the disks that the openings of its entry's two files gave, as they were opened, the second one
+      -- as the first one's pair gate says; a drive's is a store that was found on such a disk. Or a file was not
+      -- opened, or the disk gives no store, and it was returned for this file (own).
       abbrev pub file_sides : SidesGiven D
       file_sides = record {
         gives_cartridge = λ entry cartridge.
-            (first second : D) × opens entry.file (Ok first) × opens_second entry.second_file (Ok second)
+            (first second : D) × opens entry.file (Ok first)
+            × ((paired : Bool) × pairs entry.file (Ok paired) × opens_second paired entry.second_file (Ok second))
             × IsUnreadOver first second cartridge;
         refuses_cartridge = λ entry fault.
-            AreNotOpened opens opens_second returns_disk entry.file entry.second_file fault;
+            AreNotOpened opens pairs opens_second returns_disk entry.file entry.second_file fault;
         gives_store = λ entry store.
             (disk : D) × opens entry.reservations (Ok disk) × IsStoreOn disk store;
         refuses_store = λ entry fault.

@@ -26,8 +26,8 @@ use vtl_base::Nexus;
 use vtl_base::limits::NEXUSES;
 use vtl_config::Config;
 use vtl_faults::faults::VtlFault;
-use vtl_files::configs::config_in;
-use vtl_files::files::{ChangeFiles, SecondFiles, TakesBack, TextFiles};
+use vtl_files::configs::{config_in, config_to_open};
+use vtl_files::files::{ChangeFiles, LookFiles, SecondFiles, TakesBack, TextFiles};
 use vtl_script::ScriptFault;
 
 /// The result of running a script or of serving frames over a library.
@@ -206,7 +206,7 @@ fn run_config<
 /// be switched on, the result is the error that says why.
 pub fn run_order<
     D: Disk + Drop + Send,
-    F: TextFiles + ChangeFiles<D> + SecondFiles<D> + TakesBack<Held<D>, NotStarted<D>>,
+    F: TextFiles + LookFiles + ChangeFiles<D> + SecondFiles<D> + TakesBack<Held<D>, NotStarted<D>>,
     R: Threads + Wait + Clock + Sync,
     I: Read,
     W: Write,
@@ -219,7 +219,7 @@ pub fn run_order<
     reader: &mut I,
     writer: &mut W,
 ) -> Result<(), VtlFault>
-    ensures { RunsOrder D.state F.reads (file_sides D.state F.opens F.opens_second F.returns_disk) F.closes_all
+    ensures { RunsOrder D.state F.reads (file_sides D.state F.pairs F.opens F.opens_second F.returns_disk) F.closes_all
         F.gives_up
         memory (option_map string_bytes config)
         (I.remaining reader.old) (I.remaining reader.new)
@@ -228,10 +228,11 @@ pub fn run_order<
     let Some(name) = config else {
         return run_started(rt, alloc, &NewSides, built_in(alloc), reader, writer);
     };
-    let config = config_in(alloc, files, name.as_str())?;
     if memory {
+        let config = config_in(alloc, files, name.as_str())?;
         run_config(rt, alloc, &NewSides, config, reader, writer)
     } else {
+        let config = config_to_open(alloc, files, name.as_str())?;
         run_config::<D, FileSides<F>, R, I, W>(
             rt,
             alloc,

@@ -23,8 +23,8 @@ use tape_disk::Disk;
 use vtl_base::limits::NEXUSES;
 use vtl_config::Config;
 use vtl_faults::faults::VtlFault;
-use vtl_files::configs::config_in;
-use vtl_files::files::{ChangeFiles, SecondFiles, TakesBack, TextFiles};
+use vtl_files::configs::{config_in, config_to_open};
+use vtl_files::files::{ChangeFiles, LookFiles, SecondFiles, TakesBack, TextFiles};
 use vtl_serve::{Labels, ServedLibrary, serve_library};
 use vtl_wire::WireFault;
 
@@ -155,7 +155,7 @@ fn serve_config<
 /// or the library could not be switched on, the result is the error that says why.
 pub fn serve_order<
     D: Disk + Drop + Send,
-    F: TextFiles + ChangeFiles<D> + SecondFiles<D> + TakesBack<Held<D>, NotStarted<D>>,
+    F: TextFiles + LookFiles + ChangeFiles<D> + SecondFiles<D> + TakesBack<Held<D>, NotStarted<D>>,
     R: Threads + Wait + Clock + Sync,
     I: Read,
     W: Write + Send,
@@ -168,7 +168,7 @@ pub fn serve_order<
     reader: &mut I,
     writer: &mut W,
 ) -> Result<(), VtlFault>
-    ensures { ServesOrder D.state F.reads (file_sides D.state F.opens F.opens_second F.returns_disk) F.closes_all
+    ensures { ServesOrder D.state F.reads (file_sides D.state F.pairs F.opens F.opens_second F.returns_disk) F.closes_all
         F.gives_up memory (option_map string_bytes config)
         (I.remaining reader.old) (I.remaining reader.new)
         (W.contents writer.old) (W.contents writer.new) result }
@@ -185,10 +185,11 @@ pub fn serve_order<
             writer,
         );
     };
-    let config = config_in(alloc, files, name.as_str())?;
     if memory {
+        let config = config_in(alloc, files, name.as_str())?;
         serve_config(rt, alloc, &NewSides, config, reader, writer)
     } else {
+        let config = config_to_open(alloc, files, name.as_str())?;
         serve_config::<D, FileSides<F>, R, I, W>(
             rt,
             alloc,

@@ -16,7 +16,7 @@ use vtl_config::{CartridgeEntry, DriveEntry};
 use vtl_faults::faults::VtlFault;
 use vtl_files::config_checks::{CARTRIDGE_WORD, STORE_WORD};
 use vtl_files::creating::{label_of, slice_of};
-use vtl_files::files::{ChangeFiles, SecondFiles, TakesBack};
+use vtl_files::files::{ChangeFiles, LookFiles, SecondFiles, TakesBack};
 use vtl_files::opened::opened_both;
 
 /// A store of a drive's reservations, and what a loss of power left of them.
@@ -97,10 +97,10 @@ fn opened<D: Disk>(alloc: Global, disk: D) -> Result<DriveStore<D>, NoStore<D>>
 
 // No disk can be dropped here, and in the next block: each that was opened is in a side, or returned. A cartridge's
 // disk is not called.
-impl<'a, D: Disk, F: ChangeFiles<D> + SecondFiles<D>> Sides<D> for FileSides<'a, F> {
+impl<'a, D: Disk, F: ChangeFiles<D> + LookFiles + SecondFiles<D>> Sides<D> for FileSides<'a, F> {
     ghost use Rattle.vtl_power_on.specs.Sides.{file_sides};
 
-    ghost given = { file_sides D.state F.opens F.opens_second F.returns_disk };
+    ghost given = { file_sides D.state F.pairs F.opens F.opens_second F.returns_disk };
 
     fn cartridge(&self, alloc: Global, entry: CartridgeEntry) -> Result<Parked<D>, VtlFault> {
         let (label, name) = (entry.barcode.as_bytes(), entry.file.as_str());

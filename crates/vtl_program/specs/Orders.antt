@@ -1,10 +1,11 @@
 -- What the program does for the words of its command line (own).
-use Rattle.std.specs.Prelude.{◌≡◌, ◌⊎◌, ℕ, List, Option, Result, Ok, Err, String, Vec, string_bytes}
+use Rattle.std.specs.Prelude.{◌≡◌, ◌⊎◌, ℕ, Bool, List, Option, Result, Ok, Err, String, Vec, string_bytes}
 use Rattle.std.specs.Io.KnownBytes.{Appends, Keeps}
 use Rattle.std.specs.declared.alloc.Global.{Global}
 use Rattle.std.specs.declared.io.Error.{Error}
 use Rattle.tape_disk.specs.Disk.{DiskState}
 use Rattle.file_disk.specs.declared.error.FileError.{FileError}
+use Rattle.file_disk.specs.declared.looking.FileLook.{FileLook}
 use Rattle.vtl_script.specs.Text.{AppendsPart}
 use Rattle.vtl_config.specs.declared.entries.Config.{Config}
 use Rattle.vtl_words.specs.Orders.{Asked, Asks, RefusesWords, check, check_all, create, reclaim, run, serve, texts_of}
@@ -19,7 +20,7 @@ use Rattle.vtl_files.specs.Checks.{ChecksOrder}
 use Rattle.vtl_files.specs.ConfigChecks.{ChecksConfig}
 use Rattle.vtl_files.specs.Creating.{MakeAnswers, PrintsFiles, files_of, makes_of}
 use Rattle.vtl_program.specs.Files.{FileAnswers}
-use Rattle.vtl_files.specs.Configured.{ReadsConfig}
+use Rattle.vtl_files.specs.Configured.{ReadsToOpen}
 use Rattle.vtl_faults.specs.Endings.{EndsProgram}
 use Rattle.vtl_power_on.specs.Running.{IsIdle, RunsOrder}
 use Rattle.vtl_files.specs.Reclaims.{ReclaimsNamed}
@@ -39,7 +40,7 @@ module _ {D : Type 0} (state : D → DiskState) where
   abbrev pub CreatesOrder : (List ℕ → Result (Vec ℕ Global) Error → Type 0) → MakeAnswers D → List ℕ
       → (before now : Option (List ℕ)) → Result (Unit {0}) VtlFault → Type 0
   CreatesOrder reads made name before now outcome =
-      (config : Result Config VtlFault) × ReadsConfig reads name config
+      (config : Result Config VtlFault) × ReadsToOpen reads name config
       × CreatesNamed made config before now outcome
 
   -- the files of a configuration are checked; where there is no configuration, nothing is written (own)
@@ -59,11 +60,13 @@ module _ {D : Type 0} (state : D → DiskState) where
 
   -- what `vtl reclaim` does, by the configuration that a file says (own)
   abbrev pub ReclaimsOrder : (List ℕ → Result (Vec ℕ Global) Error → Type 0)
-      → (opens opens_second : List ℕ → Result D FileError → Type 0) → (returns_disk closes_second : List ℕ → D → Type 0)
+      → (looks : List ℕ → Result FileLook FileError → Type 0) → (pairs : List ℕ → Result Bool FileError → Type 0)
+      → (opens : List ℕ → Result D FileError → Type 0) → (opens_second : Bool → List ℕ → Result D FileError → Type 0)
+      → (returns_disk closes_second : List ℕ → D → Type 0)
       → (name barcode : List ℕ) → (before now : Option (List ℕ)) → Result Verdict VtlFault → Type 0
-  ReclaimsOrder reads opens opens_second returns_disk closes_second name barcode before now result =
-      (config : Result Config VtlFault) × ReadsConfig reads name config
-      × ReclaimsNamed state opens opens_second returns_disk closes_second barcode config before now result
+  ReclaimsOrder reads looks pairs opens opens_second returns_disk closes_second name barcode before now result =
+      (config : Result Config VtlFault) × ReadsToOpen reads name config
+      × ReclaimsNamed state looks pairs opens opens_second returns_disk closes_second barcode config before now result
 
 -- it is done, or a fault came (own)
 abbrev pub verdict_from : Result (Unit {0}) VtlFault → Result Verdict VtlFault
@@ -75,30 +78,29 @@ module _ {D : Type 0} (state : D → DiskState) (files : FileAnswers D) where
   abbrev pub DoesOrder : Asked → (left left' before now : Option (List ℕ)) → Result Verdict VtlFault → Type 0
   DoesOrder (run memory config) left left' before now result =
       (outcome : Result (Unit {0}) VtlFault)
-      × RunsOrder state files.reads (file_sides state files.opens files.opens_second files.returns_disk)
+      × RunsOrder state files.reads (file_sides state files.pairs files.opens files.opens_second files.returns_disk)
       files.closes_all files.gives_up
       memory config left left' before now outcome
       × (result ≡ verdict_from outcome)
   DoesOrder (serve memory config) left left' before now result =
       (outcome : Result (Unit {0}) VtlFault)
-      × ServesOrder state files.reads (file_sides state files.opens files.opens_second files.returns_disk)
+      × ServesOrder state files.reads (file_sides state files.pairs files.opens files.opens_second files.returns_disk)
       files.closes_all files.gives_up
       memory config left left' before now outcome
       × (result ≡ verdict_from outcome)
   DoesOrder (create config) left left' before now result =
       (outcome : Result (Unit {0}) VtlFault)
       × CreatesOrder state files.reads
-      (makes_of files.makes files.leaves files.takes_away files.opens_second files.closes_second) config before now
-      outcome
+      (makes_of files.looks files.makes files.leaves files.takes_away files.opens_second files.closes_second) config
+      before now outcome
       × (result ≡ verdict_from outcome) × Keeps left left'
   DoesOrder (check file blocks) left left' before now result =
       ChecksOrder state files.opens_to_read files.closes file before now result × Keeps left left'
   DoesOrder (check_all config) left left' before now result =
       ChecksConfigOrder state files.reads files.opens_to_read files.closes config before now result × Keeps left left'
   DoesOrder (reclaim config barcode) left left' before now result =
-      ReclaimsOrder state files.reads files.opens files.opens_second files.returns_disk files.closes_second config
-      barcode
-      before now result
+      ReclaimsOrder state files.reads files.looks files.pairs files.opens files.opens_second files.returns_disk
+      files.closes_second config barcode before now result
       × Keeps left left'
 
 -- what is done where words give no order: help is written; or a fault is answered, and nothing is written (own)

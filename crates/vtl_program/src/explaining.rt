@@ -5,6 +5,7 @@ ghost use Rattle.vtl_program.specs.Explained.{Explains, RunsExplained, asks};
 ghost use Rattle.vtl_program.specs.Files.{answers_of};
 ghost use Rattle.vtl_program.specs.Orders.{given_words};
 
+use crate::nul_names::add_nul;
 use crate::orders::run;
 use bay_moves::Held;
 use check_lines::reading::ReportsRead;
@@ -20,7 +21,7 @@ use vtl_base::Barcode;
 use vtl_config::{Config, ConfigError, read_config};
 use vtl_faults::endings::Ended;
 use vtl_faults::faults::VtlFault;
-use vtl_files::files::{ChangeFiles, MakeFiles, ReadFiles, SecondFiles, TakesBack, TextFiles};
+use vtl_files::files::{ChangeFiles, LookFiles, MakeFiles, ReadFiles, SecondFiles, TakesBack, TextFiles};
 use vtl_notes::notes::Notes;
 use vtl_power_on::starting::NotStarted;
 use vtl_script::write_text;
@@ -171,7 +172,10 @@ fn add_text(
     }
     match doubt {
         Doubt::Frames => add_frame(alloc, notes, lines),
-        Doubt::Barcode(_) => notes.add_images(alloc, true, lines),
+        Doubt::Barcode(_) => {
+            notes.pair().add_to(alloc, true, lines)?;
+            notes.add_images(alloc, true, lines)
+        }
         _ => notes.add_images(alloc, false, lines),
     }
 }
@@ -184,7 +188,8 @@ fn add_frame(alloc: Global, notes: &Notes, lines: &mut Explanation) -> Result<()
     }
 }
 
-// Adds the lines of what failed: of a store's file that was opened and is refused, or else of calls that failed. A call
+// Adds the lines of what failed: of a store's file that was opened and is refused, or else of calls that failed, or
+// else of a second file beside which no first one is made, or of a name with a NUL. A call
 // for another file may have failed before that, as a cartridge was loaded; this does not end a run.
 fn add_failed(
     alloc: Global,
@@ -197,10 +202,17 @@ fn add_failed(
         Doubt::Stores | Doubt::Frames => notes.add_store(alloc, lines)?,
         _ => false,
     };
-    if !is_store {
-        let _ = notes.add_failed(alloc, lines)?;
+    if is_store || notes.add_failed(alloc, lines)? {
+        return Ok(());
     }
-    Ok(())
+    notes.pair().add_to(alloc, false, lines)?;
+    match notes.config() {
+        Some(config) => match read_config(alloc, config.text.as_slice()) {
+            Ok(config) => add_nul(alloc, &config, lines),
+            Err(_) => Ok(()),
+        },
+        None => Ok(()),
+    }
 }
 
 // The lines that explain why the program ends with this status.
@@ -262,6 +274,7 @@ fn is_wanted(asked: bool, reported: bool) -> bool
 pub fn run_explained<
     D: Disk + Drop + Send,
     F: TextFiles
+        + LookFiles
         + ReadFiles<D>
         + ReportsRead
         + ChangeFiles<D>
@@ -283,7 +296,7 @@ pub fn run_explained<
     errors: &mut E,
 ) -> Ended
     ensures { RunsExplained D.state
-        (answers_of F.reads F.opens_to_read F.closes F.opens F.returns_disk F.closes_all F.gives_up
+        (answers_of F.reads F.looks F.pairs F.opens_to_read F.closes F.opens F.returns_disk F.closes_all F.gives_up
         F.opens_second F.closes_second F.makes F.leaves F.takes_away)
         (given_words words)
         (I.remaining reader.old) (I.remaining reader.new)

@@ -16,9 +16,9 @@ use vtl_base::Barcode;
 use vtl_faults::endings::{Ended, end};
 use vtl_faults::faults::{Verdict, VtlFault};
 use vtl_files::config_checks::check_config;
-use vtl_files::configs::config_in;
+use vtl_files::configs::{config_in, config_to_open};
 use vtl_files::creating::create_missing;
-use vtl_files::files::{ChangeFiles, MakeFiles, ReadFiles, SecondFiles, TakesBack, TextFiles};
+use vtl_files::files::{ChangeFiles, LookFiles, MakeFiles, ReadFiles, SecondFiles, TakesBack, TextFiles};
 use vtl_files::reclaiming::reclaim_named;
 use vtl_files::side_checks::check_named;
 use vtl_files::writing::print_text;
@@ -28,17 +28,17 @@ use vtl_power_on::starting::NotStarted;
 use vtl_words::{Order, WordsError, read_words};
 
 // Makes the missing files of the configuration in the file `name`.
-fn create_order<D: Disk + Drop, F: TextFiles + MakeFiles<D> + SecondFiles<D>, W: Write>(
+fn create_order<D: Disk + Drop, F: TextFiles + LookFiles + MakeFiles<D> + SecondFiles<D>, W: Write>(
     alloc: Global,
     files: &F,
     name: &str,
     writer: &mut W,
 ) -> Result<(), VtlFault>
     ensures { CreatesOrder D.state F.reads
-        (makes_of F.makes F.leaves F.takes_away F.opens_second F.closes_second) name.now
+        (makes_of F.looks F.makes F.leaves F.takes_away F.opens_second F.closes_second) name.now
         (W.contents writer.old) (W.contents writer.new) result }
 {
-    let config = config_in(alloc, files, name)?;
+    let config = config_to_open(alloc, files, name)?;
     create_missing::<D, F, W>(alloc, files, config, writer)
 }
 
@@ -57,17 +57,18 @@ fn check_order<D: Disk, F: TextFiles + ReadFiles<D> + ReportsRead, W: Write>(
 }
 
 // Reclaims the cartridge that has this barcode in the configuration in the file `name`.
-fn reclaim_order<D: Disk + Drop, F: TextFiles + ChangeFiles<D> + SecondFiles<D>, W: Write>(
+fn reclaim_order<D: Disk + Drop, F: TextFiles + LookFiles + ChangeFiles<D> + SecondFiles<D>, W: Write>(
     alloc: Global,
     files: &F,
     name: &str,
     barcode: &Barcode,
     writer: &mut W,
 ) -> Result<Verdict, VtlFault>
-    ensures { ReclaimsOrder D.state F.reads F.opens F.opens_second F.returns_disk F.closes_second name.now barcode.now
+    ensures { ReclaimsOrder D.state F.reads F.looks F.pairs F.opens F.opens_second F.returns_disk F.closes_second
+        name.now barcode.now
         (W.contents writer.old) (W.contents writer.new) result }
 {
-    let config = config_in(alloc, files, name)?;
+    let config = config_to_open(alloc, files, name)?;
     reclaim_named::<D, F, W>(alloc, files, config, barcode, writer)
 }
 
@@ -75,6 +76,7 @@ fn reclaim_order<D: Disk + Drop, F: TextFiles + ChangeFiles<D> + SecondFiles<D>,
 fn do_order<
     D: Disk + Drop + Send,
     F: TextFiles
+        + LookFiles
         + ReadFiles<D>
         + ReportsRead
         + ChangeFiles<D>
@@ -93,7 +95,7 @@ fn do_order<
     writer: &mut W,
 ) -> Result<Verdict, VtlFault>
     ensures { DoesOrder D.state
-        (answers_of F.reads F.opens_to_read F.closes F.opens F.returns_disk F.closes_all F.gives_up
+        (answers_of F.reads F.looks F.pairs F.opens_to_read F.closes F.opens F.returns_disk F.closes_all F.gives_up
         F.opens_second F.closes_second F.makes F.leaves F.takes_away)
         (asked_of order)
         (I.remaining reader.old) (I.remaining reader.new)
@@ -142,6 +144,7 @@ fn answer_words<W: Write>(error: WordsError, writer: &mut W) -> Result<Verdict, 
 pub fn obey<
     D: Disk + Drop + Send,
     F: TextFiles
+        + LookFiles
         + ReadFiles<D>
         + ReportsRead
         + ChangeFiles<D>
@@ -160,7 +163,7 @@ pub fn obey<
     writer: &mut W,
 ) -> Result<Verdict, VtlFault>
     ensures { Obeys D.state
-        (answers_of F.reads F.opens_to_read F.closes F.opens F.returns_disk F.closes_all F.gives_up
+        (answers_of F.reads F.looks F.pairs F.opens_to_read F.closes F.opens F.returns_disk F.closes_all F.gives_up
         F.opens_second F.closes_second F.makes F.leaves F.takes_away)
         (texts_of words.now)
         (I.remaining reader.old) (I.remaining reader.new)
@@ -178,6 +181,7 @@ pub fn obey<
 pub fn run<
     D: Disk + Drop + Send,
     F: TextFiles
+        + LookFiles
         + ReadFiles<D>
         + ReportsRead
         + ChangeFiles<D>
@@ -198,7 +202,7 @@ pub fn run<
     errors: &mut E,
 ) -> Ended
     ensures { RunsProgram D.state
-        (answers_of F.reads F.opens_to_read F.closes F.opens F.returns_disk F.closes_all F.gives_up
+        (answers_of F.reads F.looks F.pairs F.opens_to_read F.closes F.opens F.returns_disk F.closes_all F.gives_up
         F.opens_second F.closes_second F.makes F.leaves F.takes_away)
         (given_words words)
         (I.remaining reader.old) (I.remaining reader.new)

@@ -1,14 +1,16 @@
 //! The files of the operating system. The calls for them are noted.
 ghost use Rattle.std.specs.Prelude.{◌≡◌};
 
+use crate::at_once::{say_no_second, say_unlocked};
 use crate::looking::report_side;
 use bay_moves::Held;
 use check_lines::reading::ReportsRead;
-use file_disk::{FileDisk, FileError};
+use file_disk::{FileDisk, FileError, FileLook};
 use file_reasons::FileCall;
 use std::{fs, io};
+use tape_disk::Disk;
 use vtl_config::{FileName, UsedName};
-use vtl_files::files::{ChangeFiles, MakeFiles, ReadFiles, SecondFiles, TakesBack, TextFiles};
+use vtl_files::files::{ChangeFiles, LookFiles, MakeFiles, ReadFiles, SecondFiles, TakesBack, TextFiles};
 use vtl_notes::at_once::AtOnce;
 use vtl_notes::notes::Notes;
 use vtl_notes::open_files::NotedDisk;
@@ -65,9 +67,31 @@ impl<'a> SystemFiles<'a> {
     ) -> Result<SystemDisk<'a>, FileError> {
         self.notes.open(self.rt.alloc(), name, call, &found);
         match found {
-            Ok(disk) => Ok(self.watched(name, number, disk)),
+            Ok(disk) => {
+                if disk.file().lacks_locks() {
+                    say_unlocked(self.rt, self.notes, name);
+                }
+                Ok(self.watched(name, number, disk))
+            }
             Err(error) => Err(error),
         }
+    }
+}
+
+impl<'a> SystemFiles<'a> {
+    // Opens the second file of a cartridge whose pair gate is open. A disk of no bytes stands for a missing one, and
+    // nothing is made. A line says that it is missing or has no byte, where an explanation is wanted.
+    fn second_of_pair(&self, name: &str) -> Result<FileDisk, FileError> {
+        let opened = match file_disk::open(self.rt, name) {
+            Err(FileError::Missing) => Ok(file_disk::no_file()),
+            opened => opened,
+        };
+        if let Ok(disk) = &opened {
+            if disk.len() == 0 {
+                say_no_second(self.rt, self.notes, name);
+            }
+        }
+        opened
     }
 }
 
@@ -110,15 +134,41 @@ impl<'a> ReportsRead for SystemFiles<'a> {
     }
 }
 
+impl<'a> LookFiles for SystemFiles<'a> {
+    ghost looks = { λ name answer. Unit {0} };
+
+    ghost pairs = { λ name answer. Unit {0} };
+
+    fn look(&self, name: &str) -> Result<FileLook, FileError> {
+        let found = file_disk::look(self.rt, name);
+        self.notes.look_at(self.rt.alloc(), name, &found);
+        found
+    }
+
+    fn is_paired(&self, name: &str) -> Result<bool, FileError> {
+        let found = file_disk::has_open_pair(self.rt, name);
+        self.notes.open(self.rt.alloc(), name, FileCall::Look, &found);
+        found
+    }
+}
+
 impl<'a> SecondFiles<SystemDisk<'a>> for SystemFiles<'a> {
-    ghost opens_second = { λ name answer. Unit {0} };
+    ghost opens_second = { λ paired name answer. Unit {0} };
 
     ghost closes_second = { λ name disk. Unit {0} };
 
-    fn open_second(&self, name: FileName) -> (UsedName, Result<SystemDisk<'a>, FileError>) {
+    fn open_second(
+        &self,
+        name: FileName,
+        is_paired: bool,
+    ) -> (UsedName, Result<SystemDisk<'a>, FileError>) {
         let name = name.use_up();
         let number = self.enter(name.as_str());
-        let opened = file_disk::open_or_create(self.rt, name.as_str());
+        let opened = if is_paired {
+            self.second_of_pair(name.as_str())
+        } else {
+            file_disk::open_or_create(self.rt, name.as_str())
+        };
         let answer = self.answer(name.as_str(), number, FileCall::Open, opened);
         (name, answer)
     }

@@ -7,7 +7,7 @@ ghost use Rattle.vtl_serve.specs.Labels.{drive_entry, inventory_of, entry_at};
 
 use crate::labels::Labels;
 use ledgers::Parties;
-use library::{Library, Rings};
+use library::{Library, Operator, Rings};
 use scsi_sense::Status;
 use std::alloc::Global;
 use std::marker::Model;
@@ -19,11 +19,12 @@ use vtl_hosts::Desk;
 use vtl_wire::{Answer, Entries, Entry, Request};
 
 /// The desk of a library: it serves moves and inventories, the requests that belong to no host. A contract sees which
-/// drives there are, and where each cartridge is.
+/// drives there are, where each cartridge is, and how many moves the operator made.
 #[derive(Drop)]
 pub struct LibraryDesk<'a, D: Disk, B: Parties + Rings, H: Parties, R> {
     rt: &'a R,
     library: &'a Library<D, B, H>,
+    operator: Operator<H>,
     labels: Labels,
 }
 
@@ -32,7 +33,7 @@ impl<'a, D: Disk, B: Parties + Rings, H: Parties, R> Model for LibraryDesk<'a, D
 
     ghost Value = { DeskState };
 
-    ghost view = { λ d. record { drives = d.library.now; labels = d.labels } };
+    ghost view = { λ d. record { drives = d.library.now; labels = d.labels; moved = d.operator } };
 }
 
 // Adds the entry of an element address.
@@ -105,17 +106,19 @@ fn inventory_of<D: Disk + Drop, B: Parties + Rings, H: Parties>(
 }
 
 impl<'a, D: Disk + Drop, B: Parties + Rings, H: Parties, R> LibraryDesk<'a, D, B, H, R> {
-    /// The desk of this library, whose cartridges are where `labels` says.
+    /// The desk of this library, whose cartridges are where `labels` says. It moves as the operator.
     pub fn new(
         rt: &'a R,
         library: &'a Library<D, B, H>,
+        operator: Operator<H>,
         labels: Labels,
     ) -> LibraryDesk<'a, D, B, H, R>
-        ensures { result ≡ record { drives = library.now; labels = labels } }
+        ensures { result ≡ record { drives = library.now; labels = labels; moved = operator } }
     {
         LibraryDesk {
             rt,
             library,
+            operator,
             labels,
         }
     }
@@ -141,7 +144,7 @@ impl<'a, D: Disk + Drop, B: Parties + Rings, H: Parties, R: Wait> Desk
             Request::Move { from, to, tag } => {
                 let rt = self.rt;
                 let library = self.library;
-                let reply = library.move_medium(rt, from, to);
+                let reply = library.move_medium(rt, &mut self.operator, from, to);
                 note_move(&mut self.labels, reply.status, from, to);
                 Ok(Answer::Move { reply, tag })
             }

@@ -16,8 +16,10 @@ use crate::labels::Labels;
 use crate::one_host::OneHost;
 use bay_moves::{Bay, Parked};
 use element_slots::Slots;
-use ledgers::{Parties, Seat};
-use library::{Finished, Gate, Library, NotOpened, RingRow, Rings, beside_flushers};
+use ledgers::Parties;
+use library::{
+    Finished, Gate, Library, NotOpened, Operator, RingRow, Rings, Seat, beside_flushers,
+};
 use std::alloc::Global;
 use std::io::{Read, Write};
 use std::marker::{Send, Sync};
@@ -162,7 +164,7 @@ fn serve_beside<
     beside_flushers(rt, library, gate, 1, &mut work)
 }
 
-// Serves a library that was opened, for the hosts of these seats.
+// Serves a library that was opened, for the hosts of these seats, and for the operator, who makes the moves.
 fn serve_opened<
     'a,
     D: Disk + Drop + Send,
@@ -177,13 +179,14 @@ fn serve_opened<
     alloc: Global,
     library: &'a Library<D, B, H>,
     seats: Vec<Seat<H>>,
+    operator: Operator<H>,
     labels: Labels,
     gate: &G,
     reader: &mut I,
     writer: &mut W,
 ) -> ServedFor<H>
     requires { length seats.items ≡ NEXUSES }
-    ensures serves { ServesOpened D.state library.now labels seats.items (I.remaining reader.old)
+    ensures serves { ServesOpened D.state library.now labels operator seats.items (I.remaining reader.old)
         (W.contents writer.old) result.seats.items (I.remaining reader.new) (W.contents writer.new) result.outcome }
     ensures all { length result.seats.items ≡ NEXUSES }
 {
@@ -200,7 +203,7 @@ fn serve_opened<
         };
     };
     let mut hosts = hosts_of(rt, library, room, seats);
-    let mut desk = LibraryDesk::new(rt, library, labels);
+    let mut desk = LibraryDesk::new(rt, library, operator, labels);
     match serve_beside(
         rt, alloc, library, gate, &mut desk, reader, writer, &mut hosts,
     ) {
@@ -258,7 +261,7 @@ pub fn serve_library<
         × (back.bay_ledger ≡ bay_ledger) × (back.host_ledger ≡ host_ledger)
         × (reader.new ≡ reader.old) × (writer.new ≡ writer.old)) }
 {
-    let (library, seats) = Library::<D, B, H>::new(
+    let (library, seats, operator) = Library::<D, B, H>::new(
         alloc,
         bays,
         rings,
@@ -268,7 +271,7 @@ pub fn serve_library<
         host_ledger,
     )?;
     let ServedFor { seats, outcome } = serve_opened(
-        rt, alloc, &library, seats, labels, gate, reader, writer,
+        rt, alloc, &library, seats, operator, labels, gate, reader, writer,
     );
     Ok(ServedLibrary {
         finished: library.finish(rt, seats),

@@ -3,8 +3,8 @@ ghost use Rattle.std.specs.Prelude.{◌≡◌, true, OnOk};
 ghost use Rattle.vtl_wire.specs.Serving.{ServesInput};
 ghost use Rattle.vtl_serve.specs.OneHost.{AnswersHost, HostAnswers, is_from};
 
-use ledgers::{Parties, Seat};
-use library::{Library, Rings};
+use ledgers::Parties;
+use library::{Library, Rings, Seat};
 use std::alloc::Global;
 use std::io::{Read, Write};
 use std::marker::Model;

@@ -1,5 +1,5 @@
 -- What the system's answers mean for an opening.
-use Rattle.std.specs.Prelude.{◌≡◌, ◌≢◌, Result, Ok, Err}
+use Rattle.std.specs.Prelude.{◌≡◌, ◌≢◌, Bool, false, Result, Ok, Err}
 use Rattle.std.specs.IoError.{error_kind}
 use Rattle.std.specs.declared.fs.locks.TryLockError.{TryLockError}
 use Rattle.std.specs.declared.fs.locks.TryLockError.TheVariants as locks
@@ -20,9 +20,9 @@ pub record IsErrorOf (call : SystemCall) (cause : io.Error) (error : FileError) 
       → error_kind cause ≢ kinds.IsADirectory → error ≡ Device (failed_by call cause)
 
 -- What an answer of the system to the asking for a lock means: where there are no locks a file is taken
--- without one (own).
-pub record IsLockAnswer (error : TryLockError) (result : Result Unit FileError) : Type 0 where
+-- without one, and is not locked (own).
+pub record IsLockAnswer (error : TryLockError) (result : Result Bool FileError) : Type 0 where
   pub in_use : error ≡ locks.WouldBlock → result ≡ Err InUse
-  pub no_locks : (cause : io.Error) → error ≡ locks.Error cause → error_kind cause ≡ kinds.Unsupported → result ≡ Ok tt
+  pub no_locks : (cause : io.Error) → error ≡ locks.Error cause → error_kind cause ≡ kinds.Unsupported → result ≡ Ok false
   pub failed : (cause : io.Error) → error ≡ locks.Error cause → error_kind cause ≢ kinds.Unsupported →
       result ≡ Err (Device (failed_by calls.Lock cause))

@@ -1,5 +1,5 @@
 //! A host's command is answered by the hosts' half of a drive alone, or by both halves.
-ghost use Rattle.std.specs.Prelude.{◌≡◌, ◌≢◌, ◌+◌, ◌^◌, ◌<◌, None, is_some, true};
+ghost use Rattle.std.specs.Prelude.{◌≡◌, ◌≢◌, ◌+◌, None, is_some, true};
 ghost use Rattle.bay_moves.specs.Elements.{BayState};
 ghost use Rattle.drive_commands.specs.Execute.{asked};
 ghost use Rattle.split_bay.specs.Fronts.{end_of};
@@ -8,35 +8,19 @@ ghost use Rattle.split_bay.specs.Rings.{AreEnds};
 ghost use Rattle.library.specs.Halves.{HoldsBoth, ReportsHeld};
 ghost use Rattle.library.specs.Served.{ServesAlone, ServesBoth, ServesFront, ServesHalves};
 
+use super::entries::{enter_if_risen, wait_at_limit, wait_if_answered};
 use super::held::{fit, join_held, part_held};
+use super::seats::Seat;
 use super::{BackPlace, FrontPlace};
 use aptpl_store::AptplStore;
 use drive_theorems::replies_show_changes;
-use ledgers::{Parties, PartyShare, Seat, Tally};
+use ledgers::{Parties, PartyShare, Tally};
 use scsi_sense::Reply;
 use split_bay::{Back, Front, Rings, execute_both, replies_show_changes_alone, report_fault};
 use std::sync::{Mutex, Wait};
 use tape_buffer::Cataloged;
 use tape_disk::Disk;
 use vtl_base::Bytes;
-
-// Enters a change in both ledgers if a drive's count has risen from one number to another.
-fn enter_if_risen<B: Parties + Rings, H: Parties, R: Wait>(
-    rt: &R,
-    tally: &Mutex<Tally<B, H>>,
-    share: &mut PartyShare<B>,
-    seat: &mut Seat<H>,
-    before: u64,
-    after: u64,
-)
-    ensures same { before ≡ after → (share.new ≡ share.old) × (seat.new ≡ seat.old) }
-    ensures risen { before ≢ after → (share.new ≡ share.old + 1)
-        × (seat.new ≡ record seat.old { amount = seat.old.amount + 1 }) }
-{
-    if before != after {
-        tally.lock(rt).enter(rt, share, seat);
-    }
-}
 
 // Counts a command for the seat of its host, if it was answered.
 fn count_if_answered<H: Parties, R: Wait>(rt: &R, seat: &mut Seat<H>, reply: &Option<Reply>)
@@ -46,20 +30,6 @@ fn count_if_answered<H: Parties, R: Wait>(rt: &R, seat: &mut Seat<H>, reply: &Op
     if reply.is_some() {
         seat.count_answer(rt);
     }
-}
-
-// How many changes a drive accepted, below 2^64 - 1. At the limit the share could not follow the count, so the call
-// waits forever.
-fn count_below_limit<D: Disk, B: Rings, R: Wait>(rt: &R, half: &Front<D, B>) -> u64
-    ensures count { result ≡ half.now.drive.accepted }
-    ensures below { result + 1 < 2 ^ 64 }
-{
-    let count = half.accepted();
-    if count == u64::MAX {
-        for _ in rt.forever() {}
-        unreachable!()
-    }
-    count
 }
 
 // The hosts' half answers, where it needs no disk, and that is counted for the seat; the change that it accepted, if
@@ -80,11 +50,12 @@ fn answer_alone<D: Disk, B: Parties + Rings, H: Parties, R: Wait>(
 {
     // The law, and the half's invariant before and after, for the proof alone.
     replies_show_changes_alone::<D, B>();
-    let before = count_below_limit(rt, half);
+    let before = half.accepted();
     half.known();
     let reply = half.execute_lent(seat.nexus(), cdb, sent);
     half.known();
     let after = half.accepted();
+    wait_if_answered(rt, before, cdb, &reply);
     count_if_answered(rt, seat, &reply);
     enter_if_risen(rt, tally, share, seat, before, after);
     reply
@@ -109,9 +80,10 @@ fn answer_both<D: Disk + Drop, B: Parties + Rings, H: Parties, R: Wait>(
         result.0 result.1 result.2 sent.new seat.new }
 {
     replies_show_changes::<Cataloged<D>, AptplStore<D>>();
-    let before = count_below_limit(rt, &front);
+    let before = front.accepted();
     let (reply, front, back) = execute_both(front, back, seat.nexus(), cdb, sent);
     let after = front.accepted();
+    wait_at_limit(rt, before, cdb, &reply);
     seat.count_answer(rt);
     enter_if_risen(rt, tally, share, seat, before, after);
     (reply, front, back)
@@ -133,9 +105,10 @@ impl<D: Disk + Drop, B: Parties + Rings> FrontPlace<D, B> {
     /// Answers a command of the host that has `seat`, with the hosts' half of the drive alone. `cdb` is the command
     /// block, and `sent` are the data that came with it. Returns None if the command needs the disk's half too; then
     /// nothing has changed. Else the seat counts the command as answered. If the drive accepts a change, it is entered
-    /// in both ledgers (`tally`), and takes over the data of `sent` without a copy. The call waits forever if the drive
-    /// had already accepted 2^64 - 1 changes, if a change is to be entered in the ledgers and they already have that
-    /// many, or if that many commands of the host were answered.
+    /// in both ledgers (`tally`), and takes over the data of `sent` without a copy. The call waits forever if a change
+    /// is to be entered, and the drive or the ledgers had already 2^64 - 1. A write error of a drive that had that many
+    /// is such a case too, since the reply leaves open whether there was a change. The call also waits forever if that
+    /// many commands of the host were answered.
     pub fn execute_alone<H: Parties, R: Wait>(
         &mut self,
         rt: &R,

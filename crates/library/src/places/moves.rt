@@ -1,5 +1,5 @@
 //! Moves of cartridges between two element addresses, each of which may be that of a locked drive.
-ghost use Rattle.std.specs.Prelude.{◌≡◌, ◌≢◌, Option, None, Some, IfSome, is_some};
+ghost use Rattle.std.specs.Prelude.{◌≡◌, ◌≢◌, ◌+◌, Option, None, Some, IfSome, is_some};
 ghost use Rattle.bay_moves.specs.Elements.{BayState};
 ghost use Rattle.bay_moves.specs.Lent.{IsDriveAddress, KeepsCount};
 ghost use Rattle.library.specs.Halves.{HoldsBoth};
@@ -7,6 +7,8 @@ ghost use Rattle.library.specs.Keeps.{KeepsAt};
 ghost use Rattle.library.specs.MovesAt.{MovesEach};
 
 use super::held::{join_held, known_drive, part_held};
+use super::movers::Mover;
+use super::slots::SlotsPlace;
 use super::{BackPlace, FrontPlace};
 use crate::inventories::known_slots;
 use bay_moves::{Bay, Parked, move_lent};
@@ -107,24 +109,30 @@ fn move_to<D: Disk + Drop, B: Parties + Rings, R: Wait>(
     }
 }
 
-/// Moves a cartridge from the element address `from` to `to`, and returns the reply to that. `source` and `destination`
-/// are the drives there, with their locks held, or None where there is no drive. A drive at both addresses is passed as
-/// the source alone.
-pub(crate) fn move_locked<D: Disk + Drop, B: Parties + Rings, R: Wait>(
+/// Moves a cartridge from the element address `from` to `to`, for `mover`, and returns the reply to that. `source` and
+/// `destination` are the drives there, with their locks held, or None where there is no drive. A drive at both
+/// addresses is passed as the source alone. The move is entered first, whatever its reply is. No other call moves a
+/// cartridge.
+pub(crate) fn move_locked<D: Disk + Drop, B: Parties + Rings, H: Parties, R: Wait, M: Mover<H>>(
     source: Option<LockedBay<'_, D, B>>,
     destination: Option<LockedBay<'_, D, B>>,
     rt: &R,
     alloc: Global,
-    slots: &mut Slots<Parked<D>>,
+    slots: &mut SlotsPlace<D, H>,
+    mover: &mut M,
     from: u32,
     to: u32,
 ) -> Reply
     requires source { IfSome source (λ drive. IsDriveAddress from) }
     requires destination { IfSome destination (λ drive. IsDriveAddress to × (from ≢ to)) }
-    ensures { (bay end bay' end' : Option (BayState D)) × (is_some bay ≡ is_some source.entry)
+    ensures moves { (bay end bay' end' : Option (BayState D)) × (is_some bay ≡ is_some source.entry)
         × (is_some end ≡ is_some destination.entry)
-        × MovesEach D.state from to slots.old bay end result slots.new bay' end' }
+        × MovesEach D.state from to slots.old.slots bay end result slots.new.slots bay' end' }
+    ensures book { slots.new.moves ≡ slots.old.moves + 1 }
+    ensures mover { mover.new ≡ M.moved_once mover.old }
 {
+    mover.enter_move(rt, &mut slots.book);
+    let slots = &mut slots.slots;
     match source {
         Some(
             LockedBay {

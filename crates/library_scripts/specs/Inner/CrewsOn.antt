@@ -1,14 +1,15 @@
 -- Runs of a crew compose.
-use Rattle.std.proofs.Common.{◌≡◌, Bool, List, [], ◌∷◌, ◌++◌, flat_map, refl, sym, subst, ◌∙◌}
+use Rattle.std.proofs.Common.{◌≡◌, Bool, List, [], ◌∷◌, ◌++◌, flat_map, refl, sym, subst, ◌∙◌, arith}
 use Rattle.std.proofs.lemmas.Grind.{flat_map-append}
+use Rattle.std.proofs.lemmas.List.Sums.{sum_by-append}
 use Rattle.tape_disk.specs.Disk.{DiskState}
-use Rattle.ledgers.specs.Ledgers.{SeatState}
+use Rattle.library.specs.Seats.{SeatState}
 use Rattle.scsi_sense.specs.declared.replies.Reply.{Reply}
 use Rattle.vtl_script.specs.declared.items.Item.{Item}
 use Rattle.vtl_script.specs.declared.items.Item.TheVariants.{Phase}
 use Rattle.drive_commands.specs.Events.{Event, OfLibrary}
 use Rattle.bay_moves.specs.Runs.{events_of}
-use Rattle.library_scripts.specs.Crews.{AnswersAllAmong, AnswersCrew, CrewState}
+use Rattle.library_scripts.specs.Crews.{AnswersAllAmong, AnswersCrew, CrewState, moves_of}
 
 module _ {D : Type 0} (state : D → DiskState) where
   -- a run from the end of another extends it
@@ -30,11 +31,11 @@ module _ {D : Type 0} (state : D → DiskState) where
 
   -- no items, no replies, no change
   pub crew_none : (crew : CrewState) → AnswersCrew state crew [] [] crew
-  crew_none crew = record { drives = refl; answered = refl }
+  crew_none crew = record { drives = refl; answered = refl; moved = omega arith }
 
   -- the same for a phase without commands
   pub crew_empty : (crew : CrewState) → AnswersCrew state crew (Phase [] ∷ []) [] crew
-  crew_empty crew = record { drives = refl; answered = refl }
+  crew_empty crew = record { drives = refl; answered = refl; moved = omega arith }
 
   -- items are answered one after another
   pub crew_on : (old mid new : CrewState) (first rest : List Item) (replies others : List Reply)
@@ -52,4 +53,5 @@ module _ {D : Type 0} (state : D → DiskState) where
         (subst
         (λ (drives : List Bool). AnswersAllAmong state drives mid.seats (flat_map events_of rest) others new.seats)
         one.drives two.answered));
+    moved = omega (arith, one.moved, two.moved, sum_by-append moves_of first rest);
   }

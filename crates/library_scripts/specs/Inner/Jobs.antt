@@ -2,7 +2,7 @@
 use Rattle.std.specs.Prelude.{◌≡◌, ◌≤◌, ◌<◌, ℕ, nat_eq, Bool, true, List, [], flat_map, map, length, slice_index_or}
 use Rattle.std.specs.List.{list_all}
 use Rattle.tape_disk.specs.Disk.{DiskState}
-use Rattle.ledgers.specs.Ledgers.{SeatState}
+use Rattle.library.specs.Seats.{SeatState}
 use Rattle.scsi_sense.specs.declared.replies.Reply.{Reply}
 use Rattle.vtl_script.specs.declared.lines.Line.{Line}
 use Rattle.library.specs.Counts.{has_drive}
@@ -36,16 +36,18 @@ lines_of jobs = flat_map (λ job. job.lines) jobs
 abbrev pub replies_of : List JobState → List Reply
 replies_of jobs = flat_map (λ job. job.replies) jobs
 
--- which drives a library has, and the job of each host
+-- which drives a library has, the job of each host, and how many moves the operator made
 pub record StageState : Type 0 where
   pub drives : List Bool
   pub jobs : List JobState
+  pub moved : ℕ
 
--- these lines were dealt to the jobs of their hosts, whose seats stay
+-- these lines were dealt to the jobs of their hosts, whose seats stay, and nothing was moved
 pub record DealsLines (old : StageState) (lines : List Line) (new : StageState) : Type 0 where
   pub drives : new.drives ≡ old.drives
   pub seats : seats_of new.jobs ≡ seats_of old.jobs
   pub dealt : lines_of new.jobs ≡ lines
+  pub moved : new.moved ≡ old.moved
 
 module _ {D : Type 0} (state : D → DiskState) where
   -- a job is done: its lines were answered for its host
@@ -57,8 +59,9 @@ module _ {D : Type 0} (state : D → DiskState) where
   AreDone old new =
       (i : ℕ) (d : JobState) → i < length old → IsDone (slice_index_or old i d) (slice_index_or new i d)
 
-  -- and each is done, with the same drives
+  -- and each is done, with the same drives, and nothing was moved
   pub record IsServedStage (old new : StageState) : Type 0 where
     pub drives : new.drives ≡ old.drives
     pub long : length new.jobs ≡ length old.jobs
     pub done : AreDone old.jobs new.jobs
+    pub moved : new.moved ≡ old.moved

@@ -5,9 +5,9 @@ use Rattle.scsi_sense.specs.declared.replies.Reply.{Reply}
 use Rattle.library_scripts.specs.Crews.{CrewState}
 use Rattle.library_scripts.specs.Inner.Jobs.{IsReady, StageState, replies_of, seats_of}
 
--- which drives there are, and the seats
+-- which drives there are, the seats, and the operator's moves
 abbrev pub crew_of : StageState → CrewState
-crew_of stage = record { drives = stage.drives; seats = seats_of stage.jobs }
+crew_of stage = record { drives = stage.drives; seats = seats_of stage.jobs; moved = stage.moved }
 
 -- each job is ready for these drives
 abbrev pub AreReady : StageState → Type 0

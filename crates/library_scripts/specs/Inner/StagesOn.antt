@@ -1,8 +1,8 @@
 -- The hosts of a library after each has carried out the lines that were dealt to it.
-use Rattle.std.proofs.Common.{◌≡◌, List, [], ◌∷◌, length, map, ap, sym, subst, ◌∙◌}
+use Rattle.std.proofs.Common.{◌≡◌, List, [], ◌∷◌, length, map, ap, sym, subst, ◌∙◌, arith}
 use Rattle.std.proofs.lemmas.List.{append-nil}
 use Rattle.tape_disk.specs.Disk.{DiskState}
-use Rattle.ledgers.specs.Ledgers.{SeatState}
+use Rattle.library.specs.Seats.{SeatState}
 use Rattle.vtl_script.specs.declared.lines.Line.{Line}
 use Rattle.vtl_script.specs.declared.items.Item.TheVariants.{Phase}
 use Rattle.drive_commands.specs.Events.{Event, OfLibrary}
@@ -29,6 +29,7 @@ module _ {D : Type 0} (state : D → DiskState) where
         AnswersAllAmong state old.drives seats (map line_event (lines_of dealt.jobs)) (replies_at served)
         (seats_of served.jobs))
         deals.seats (done_answers state old.drives dealt.jobs served.jobs serves.long serves.done));
+    moved = omega (arith, serves.moved, deals.moved);
   }
 
   -- and each line has one reply

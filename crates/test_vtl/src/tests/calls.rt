@@ -1,5 +1,5 @@
 //! Rows of calls for files, and which a run, a check and refused words make: in which order, and where they stop.
-use super::noted_files::{DEVICE_ERROR, Failing, NotedFiles};
+use super::noted_files::{DEVICE_ERROR, Failing, NotedFiles, PAIRED};
 use super::streams::{BadReader, BadWriter};
 use file_disk::FileError;
 use std::alloc::Global;
@@ -113,14 +113,13 @@ pub fn assert_rows<R: Abort + Threads + Wait + Clock + Sync>(
 
 const RUN: &str = "vtl run --config c";
 
-const THREE: &str =
-    "read c;report t;open t;second t.2;report u;open u;second u.2;report 1;open 1;give up;";
+const THREE: &str = "read c;report t;open t;pair t;second t.2;report u;open u;pair u;second u.2;report 1;open 1;give up;";
 
-const FOUR: &str =
-    "read c;report t;open t;second t.2;report u;open u;second u.2;report 1;open 1;report 2;open 2;give up;";
+const FOUR: &str = "read c;report t;open t;pair t;second t.2;report u;open u;pair u;second u.2;\
+    report 1;open 1;report 2;open 2;give up;";
 
-const ALL: &str =
-    "read c;report t;open t;second t.2;report u;open u;second u.2;report 1;open 1;report 2;open 2;close all;";
+const ALL: &str = "read c;report t;open t;pair t;second t.2;report u;open u;pair u;second u.2;\
+    report 1;open 1;report 2;open 2;close all;";
 
 static RUNS: &'static [Row<'static>] = &[
     (Failing::Nothing, RUN, ALL, "", DONE),
@@ -148,34 +147,54 @@ static RUNS: &'static [Row<'static>] = &[
         FAILED,
     ),
     (
-        Failing::Call(3, FileError::InUse),
+        Failing::Call(3, DEVICE_ERROR),
         RUN,
-        "read c;report t;open t;second t.2;back t;give up;",
+        "read c;report t;open t;pair t;back t;give up;",
         "",
         FAILED,
     ),
     (
-        Failing::Call(4, FileError::Missing),
+        Failing::Call(4, FileError::InUse),
         RUN,
-        "read c;report t;open t;second t.2;report u;open u;give up;",
+        "read c;report t;open t;pair t;second t.2;back t;give up;",
         "",
         FAILED,
     ),
     (
-        Failing::Call(5, DEVICE_ERROR),
+        Failing::Call(5, FileError::Missing),
         RUN,
-        "read c;report t;open t;second t.2;report u;open u;second u.2;back u;give up;",
+        "read c;report t;open t;pair t;second t.2;report u;open u;give up;",
         "",
         FAILED,
     ),
-    (Failing::Call(6, FileError::Missing), RUN, THREE, "", FAILED),
-    (Failing::Call(7, FileError::Missing), RUN, FOUR, "", FAILED),
+    (
+        Failing::Call(7, DEVICE_ERROR),
+        RUN,
+        "read c;report t;open t;pair t;second t.2;report u;open u;pair u;second u.2;back u;give up;",
+        "",
+        FAILED,
+    ),
+    (Failing::Call(8, FileError::Missing), RUN, THREE, "", FAILED),
+    (Failing::Call(9, FileError::Missing), RUN, FOUR, "", FAILED),
     (Failing::Memory, RUN, "read c;", "", NO_MEMORY),
     // The first call of a cartridge's disk would fail, in a slot and in a drive, or the file is no cartridge's.
     (Failing::Disk("t", 0), RUN, ALL, "", DONE),
     (Failing::Disk("u", 0), RUN, ALL, "", DONE),
     (Failing::Side("t", b"mine"), RUN, ALL, "", DONE),
     (Failing::Side("u", b"mine"), RUN, ALL, "", DONE),
+    // An open pair gate: a missing second file would not be made.
+    (
+        Failing::Side("t", PAIRED),
+        RUN,
+        "read c;report t;open t;pair t;beside t.2;report u;open u;pair u;second u.2;\
+            report 1;open 1;report 2;open 2;close all;",
+        "",
+        DONE,
+    ),
+    // A name with a NUL.
+    (Failing::Nul, RUN, "read c;", "", FAILED),
+    (Failing::Nul, "vtl serve --config c", "read c;", "", FAILED),
+    (Failing::Nul, "vtl run --memory --config c", "read c;", "", DONE),
 ];
 
 #[test]

@@ -1,13 +1,13 @@
 //! Files in memory, of a test's own, that note their calls.
 use bay_moves::Held;
 use check_lines::reading::ReportsRead;
-use file_disk::{FailedCall, FileError, SystemCall};
+use file_disk::{FailedCall, FileError, FileLook, SystemCall};
 use std::alloc::{AllocError, Global};
 use std::cell::{Cell, RefCell};
 use std::io::{self, ErrorKind};
 use tape_disk::{MemDisk, OnceDisk};
 use vtl_config::{FileName, UsedName};
-use vtl_files::files::{ChangeFiles, MakeFiles, ReadFiles, SecondFiles, TakesBack, TextFiles};
+use vtl_files::files::{ChangeFiles, LookFiles, MakeFiles, ReadFiles, SecondFiles, TakesBack, TextFiles};
 use vtl_power_on::starting::NotStarted;
 
 /// An opening that failed.
@@ -23,6 +23,14 @@ const CONFIG: &[u8] = b"cartridge = [\
     { barcode = \"T00002L6\", file = \"u\", capacities = [4096, 4096], home = 2 }]\n\
     drive = [{ number = 1, reservations = \"1\" }, { number = 2, reservations = \"2\" }]\n";
 
+// A configuration of one cartridge, whose file's name has a NUL.
+const NUL_CONFIG: &[u8] = b"cartridge = [\
+    { barcode = \"T00001L6\", file = \"t\\u0000\", capacities = [4096], home = 1001 }]\n\
+    drive = [{ number = 1, reservations = \"1\" }]\n";
+
+/// The first bytes of a side whose pair gate is open.
+pub const PAIRED: &[u8] = b"\xa5VTLCART1\xa5";
+
 /// The side of its first cartridge, new.
 pub const CARTRIDGE: &[u8] = b"\xa5VTLCART1\0\x01T00001L6        \0\0\0\0\0\0\x10\0\0";
 
@@ -34,7 +42,7 @@ const STORE: &[u8] = b"\xa5VTLRESV1\0\0DRIVE1          \0";
 
 /// What fails, if anything: the call for a file with this number, with its error; the memory for a text;
 /// the disk with this name after this many calls. Or the side with this name has these bytes, or the call
-/// of the writer with this number fails. Numbers are from 1 on.
+/// of the writer with this number fails, or a look at this name finds this, or a name has a NUL. Numbers are from 1 on.
 #[derive(Clone, Copy)]
 pub enum Failing {
     Nothing,
@@ -43,6 +51,8 @@ pub enum Failing {
     Disk(&'static str, u64),
     Side(&'static str, &'static [u8]),
     Write(u32),
+    Seen(&'static str, FileLook),
+    Nul,
 }
 
 /// Files in memory. Each call notes its word and the name.
@@ -135,7 +145,10 @@ impl TextFiles for NotedFiles {
             return Err(io::Error::from(ErrorKind::OutOfMemory));
         }
         let mut text = Vec::new(self.alloc);
-        text.extend_from_slice(CONFIG)?;
+        text.extend_from_slice(match self.failing {
+            Failing::Nul => NUL_CONFIG,
+            _ => CONFIG,
+        })?;
         Ok(text)
     }
 }
@@ -166,14 +179,37 @@ impl ReportsRead for NotedFiles {
     }
 }
 
+impl LookFiles for NotedFiles {
+    ghost looks = { λ name answer. Unit {0} };
+
+    ghost pairs = { λ name answer. Unit {0} };
+
+    fn look(&self, name: &str) -> Result<FileLook, FileError> {
+        self.call("see", name)?;
+        match self.failing {
+            Failing::Seen(seen, found) if seen == name => Ok(found),
+            _ => Err(FileError::Missing),
+        }
+    }
+
+    fn is_paired(&self, name: &str) -> Result<bool, FileError> {
+        self.call("pair", name)?;
+        Ok(self.side(name).get(9) == Some(&0xa5))
+    }
+}
+
 impl SecondFiles<OnceDisk<MemDisk>> for NotedFiles {
-    ghost opens_second = { λ name answer. Unit {0} };
+    ghost opens_second = { λ paired name answer. Unit {0} };
 
     ghost closes_second = { λ name disk. Unit {0} };
 
-    fn open_second(&self, name: FileName) -> (UsedName, Result<OnceDisk<MemDisk>, FileError>) {
+    fn open_second(
+        &self,
+        name: FileName,
+        is_paired: bool,
+    ) -> (UsedName, Result<OnceDisk<MemDisk>, FileError>) {
         let name = name.use_up();
-        let opened = self.second(name.as_str());
+        let opened = self.second(name.as_str(), is_paired);
         (name, opened)
     }
 
@@ -190,8 +226,8 @@ impl NotedFiles {
         self.disk(name, self.side(name))
     }
 
-    fn second(&self, name: &str) -> Result<OnceDisk<MemDisk>, FileError> {
-        self.call("second", name)?;
+    fn second(&self, name: &str, is_paired: bool) -> Result<OnceDisk<MemDisk>, FileError> {
+        self.call(if is_paired { "beside" } else { "second" }, name)?;
         self.disk(name, self.side(name))
     }
 

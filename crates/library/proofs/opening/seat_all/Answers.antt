@@ -1,7 +1,8 @@
 use Rattle.std.proofs.Common.{◌≡◌, ◌+◌, ◌∷◌, ◌++◌, ◌∙◌, ℕ, List, [], length, take, get_or, map, ap, sym, arith}
 use Rattle.std.proofs.lemmas.List.{map-append, take_more}
 use Rattle.std.proofs.Math.Seq.{take-length}
-use Rattle.ledgers.specs.Ledgers.{SeatState, TallyState}
+use Rattle.ledgers.specs.Ledgers.{TallyState}
+use Rattle.library.specs.Seats.{SeatState}
 use Rattle.library.specs.Counts.{new_seat}
 use Rattle.library.proofs.opening.seat_all.Goals as goal
 

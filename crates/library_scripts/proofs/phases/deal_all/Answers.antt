@@ -1,7 +1,7 @@
 use Rattle.std.proofs.Common.{◌≡◌, ◌≢◌, ◌≤◌, ◌<◌, ⊎_elim, ℕ, List, [], ◌∷◌, ◌++◌, get_or, set, take, length, refl, sym, ap, ◌∙◌, subst, arith}
 use Rattle.std.proofs.Math.Seq.{map-set_same}
 use Rattle.std.proofs.lemmas.List.{get_or-map, get_or-set_other, get_or-set_same, get_or_default, length-set, take_more}
-use Rattle.ledgers.specs.Ledgers.{SeatState}
+use Rattle.library.specs.Seats.{SeatState}
 use Rattle.vtl_script.specs.declared.lines.Line.{Line}
 use Rattle.library_scripts.specs.Inner.InPlace.{AreInPlace}
 use Rattle.library_scripts.specs.Inner.Jobs.{IsDealt, JobState, seats_of}

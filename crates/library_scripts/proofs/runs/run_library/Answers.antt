@@ -1,5 +1,5 @@
-use Rattle.std.proofs.Common.{List, Bool, map, sym, subst, ◌∙◌, arith}
-use Rattle.ledgers.specs.Ledgers.{SeatState}
+use Rattle.std.proofs.Common.{ℕ, List, Bool, map, sym, subst, ◌∙◌, arith}
+use Rattle.library.specs.Seats.{SeatState}
 use Rattle.vtl_script.specs.Runs.{RunsScript}
 use Rattle.library.specs.Counts.{has_drive, new_seat}
 use Rattle.library.specs.Ends.{counts_of, sum_of_seats}
@@ -24,19 +24,27 @@ returns-clause-runs g c =
     let now = g.O.Write.contents c.run_opened-seats.new.writer in
     let outcome = c.run_opened-seats.result.outcome in
     let after = c.run_opened-seats.result.seats.items in
+    let moved = c.run_opened-seats.result.operator in
+    let library = c.in_ok-library.library in
     record {
       seats = after;
+      moved = moved;
       runs =
           subst
           (λ (drives : List Bool). RunsScript (has_drive drives) (AnswersCrew state)
-          (record { drives = drives; seats = map new_seat c.args.hosts.now }) left before
-          (record { drives = drives; seats = after }) now outcome)
+          (record { drives = drives; seats = map new_seat c.args.hosts.now; moved = 0 }) left before
+          (record { drives = drives; seats = after; moved = moved }) now outcome)
           c.in_ok-library.ensures.drives
           (subst
-          (λ (seats : List SeatState). RunsScript (has_drive c.in_ok-library.library) (AnswersCrew state)
-          (record { drives = c.in_ok-library.library; seats = seats }) left before
-          (record { drives = c.in_ok-library.library; seats = after }) now outcome)
-          c.in_ok-library.ensures.seats c.run_opened-seats.ensures.runs);
+          (λ (seats : List SeatState). RunsScript (has_drive library) (AnswersCrew state)
+          (record { drives = library; seats = seats; moved = 0 }) left before
+          (record { drives = library; seats = after; moved = moved }) now outcome)
+          c.in_ok-library.ensures.seats
+          (subst
+          (λ (begun : ℕ). RunsScript (has_drive library) (AnswersCrew state)
+          (record { drives = library; seats = c.in_ok-library.seats.items; moved = begun }) left before
+          (record { drives = library; seats = after; moved = moved }) now outcome)
+          c.in_ok-library.ensures.operator c.run_opened-seats.ensures.runs));
       reported =
           reported_of c.finish.result.counts (counts_of c.finish.result.bays.items) (sum_of_seats after)
           c.finish.ensures.counts;

@@ -1,6 +1,6 @@
 use Rattle.std.proofs.Common.{List, [], arith, false, refl, subst, sym}
 use Rattle.vtl_base.specs.Below.{Advances}
-use Rattle.tape_buffer.specs.Moves.{buffer_below}
+use Rattle.tape_buffer.specs.Moves.{StoresBehind, buffer_below, stores_behind_nowhere}
 use Rattle.volume_core.specs.declared.changes.Change.{Change}
 use Rattle.cartridge.specs.Contents.{Contents, volume_made}
 use Rattle.volume_core.specs.Volume.{AllApply}
@@ -8,7 +8,7 @@ use Rattle.tape_buffer.specs.Inner.Storing.{IsRoomyFor}
 use Rattle.tape_buffer.specs.State.{open_buffer}
 use Rattle.tape_buffer.proofs.AddingLemmas.{spelled_short}
 use Rattle.tape_buffer.proofs.CoreLemmas.{rests}
-use Rattle.tape_buffer.proofs.CoreLemmas.{advances_broken, advances_stored, torn_all}
+use Rattle.tape_buffer.proofs.CoreLemmas.{advances_broken, advances_stored, behind_broken, behind_stored, torn_all}
 use Rattle.tape_buffer.proofs.LentLemmas.{roomy_broken, roomy_stored}
 use Rattle.tape_buffer.proofs.MediumLemmas.{frames_stored, settles_stored, stores_stored}
 use Rattle.tape_buffer.proofs.RoomLemmas.{listed_none, listed_some, one_frame_fits, reserved_still}
@@ -107,3 +107,34 @@ pub returns-in-Err-Device-clause-roomy : goal.returns-in-Err-Device-clause-roomy
 returns-in-Err-Device-clause-roomy g c = λ left roomy.
     roomy_broken c.args.cartridge.now c.store.new.self c.args.changes.now left roomy
     (rw c.in-Err-Device.field-0-is at c.in-Err-Device.ensures.answer).0
+
+pub returns-then-has_failed-clause-behind : goal.returns-then-has_failed-clause-behind
+returns-then-has_failed-clause-behind g c =
+    stores_behind_nowhere g.D.Disk.state g.met.D.Disk.is_disk (open_buffer c.args.cartridge.now c.args.changes.now)
+
+pub returns-then-is_empty-clause-behind : goal.returns-then-is_empty-clause-behind
+returns-then-is_empty-clause-behind g c =
+    let state = g.D.Disk.state in
+    let old = open_buffer c.args.cartridge.now c.args.changes.now in
+    subst (λ (l : List Change). StoresBehind state old (open_buffer c.args.cartridge.now l))
+    (listed_none c.args.changes.now c.is_empty.result c.is_empty.ensures c.if-is_empty.true)
+    (stores_behind_nowhere state g.met.D.Disk.is_disk old)
+
+pub returns-in-Ok-clause-behind : goal.returns-in-Ok-clause-behind
+returns-in-Ok-clause-behind g c = λ more.
+    let told = c.in-Ok.ensures in
+    let works = told.answer.0.was_fine in
+    behind_stored c.args.cartridge.now c.args.changes.now more g.D.Disk.state g.met.D.Disk.is_disk c.store.new.self
+    (c.known.ensures.at_rest works) works c.known.ensures.contents told.disks.keeps
+    (λ honest. told.any_moment honest works)
+    c.args.changes.now refl told.answer told.sure
+
+pub returns-in-Err-Device-clause-behind : goal.returns-in-Err-Device-clause-behind
+returns-in-Err-Device-clause-behind g c = λ more.
+    let told = c.in-Err-Device.ensures in
+    let answer = (rw c.in-Err-Device.field-0-is at told.answer) in
+    let works = answer.0.was_fine in
+    behind_broken c.args.cartridge.now c.args.changes.now more g.D.Disk.state g.met.D.Disk.is_disk c.store.new.self
+    (c.known.ensures.at_rest works) works c.known.ensures.contents told.disks.keeps
+    (λ honest. told.any_moment honest works)
+    c.args.changes.now refl answer.0 c.in-Err-Device.field-0-0 answer.1

@@ -1,5 +1,5 @@
 use Rattle.std.proofs.Common.{◌≡◌, ◌∙◌, ℕ, List, Bool, Option, map, arith, subst}
-use Rattle.ledgers.specs.Ledgers.{SeatState}
+use Rattle.library.specs.Seats.{SeatState}
 use Rattle.library.specs.Counts.{new_seat}
 use Rattle.library.specs.Ends.{counts_of, sum_of_counts, sum_of_seats}
 use Rattle.vtl_serve.specs.Libraries.{ServesOpened}
@@ -22,13 +22,17 @@ returns-clause-serves g c =
       seats = after;
       serves =
           subst
-          (λ (drives : List Bool). ServesOpened state drives c.args.labels (map new_seat c.args.hosts.now) left before
+          (λ (drives : List Bool). ServesOpened state drives c.args.labels 0 (map new_seat c.args.hosts.now) left before
           after left' now outcome)
           c.in_ok-library.ensures.drives
           (subst
-          (λ (seats : List SeatState). ServesOpened state c.in_ok-library.library c.args.labels seats left before after
-          left' now outcome)
-          c.in_ok-library.ensures.seats c.serve_opened-seats.ensures.serves);
+          (λ (seats : List SeatState). ServesOpened state c.in_ok-library.library c.args.labels 0 seats left before
+          after left' now outcome)
+          c.in_ok-library.ensures.seats
+          (subst
+          (λ (begun : ℕ). ServesOpened state c.in_ok-library.library c.args.labels begun c.in_ok-library.seats.items
+          left before after left' now outcome)
+          c.in_ok-library.ensures.operator c.serve_opened-seats.ensures.serves));
       reported =
           reported_of c.finish.result.counts (counts_of c.finish.result.bays.items)
           (λ (counts : List (Option ℕ)). sum_of_counts counts ≡ sum_of_seats after) c.finish.ensures.counts;

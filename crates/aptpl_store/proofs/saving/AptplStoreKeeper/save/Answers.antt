@@ -28,11 +28,11 @@ invariant_of-self g c =
       saved_open g.D.Disk.state g.met.D.Disk.is_disk old new _ _ notes c.self.invariant.0 c.self.invariant.1
           room state spelled.1 body spelled.0 said.disk said.front said.answer.0.was_fine
           (λ h. said.any_moment h said.answer.0.was_fine)
-          said.answer.0 said.bodies said.sure c.with_state.result.notes c.with_state.ensures,
+          said.answer.0 said.bodies (λ h. (said.sure h).0) c.with_state.result.notes c.with_state.ensures,
       saved_stores g.D.Disk.state g.met.D.Disk.is_disk old new _ _ notes c.self.invariant.0 c.self.invariant.1
           room state spelled.1 body spelled.0 said.disk said.front said.answer.0.was_fine
           (λ h. said.any_moment h said.answer.0.was_fine)
-          said.answer.0 said.bodies said.sure c.with_state.result.notes c.with_state.ensures,
+          said.answer.0 said.bodies (λ h. (said.sure h).0) c.with_state.result.notes c.with_state.ensures,
     )
 
 pub invariant_of-self-in-Err-Device : goal.invariant_of-self-in-Err-Device
@@ -73,7 +73,7 @@ returns-in-Ok-clause-answer g c =
       saved_kept g.D.Disk.state g.met.D.Disk.is_disk old new _ _ notes c.self.invariant.0 c.self.invariant.1
           room state spelled.1 body spelled.0 said.disk said.front said.answer.0.was_fine
           (λ h. said.any_moment h said.answer.0.was_fine)
-          said.answer.0 said.bodies said.sure c.with_state.result.notes c.with_state.ensures,
+          said.answer.0 said.bodies (λ h. (said.sure h).0) c.with_state.result.notes c.with_state.ensures,
     ))
 
 pub returns-in-Ok-clause-advances : goal.returns-in-Ok-clause-advances
@@ -91,7 +91,7 @@ returns-in-Ok-clause-advances g c =
     saved_advances g.D.Disk.state g.met.D.Disk.is_disk old new _ _ notes c.self.invariant.0 c.self.invariant.1
     room state spelled.1 body spelled.0 said.disk said.front said.answer.0.was_fine
     (λ h. said.any_moment h said.answer.0.was_fine)
-    said.answer.0 said.bodies said.sure c.with_state.result.notes
+    said.answer.0 said.bodies (λ h. (said.sure h).0) c.with_state.result.notes
     c.with_state.ensures said.answer.1)
 
 pub returns-in-Ok-clause-saves : goal.returns-in-Ok-clause-saves
@@ -109,7 +109,7 @@ returns-in-Ok-clause-saves g c =
     saved_value g.D.Disk.state g.met.D.Disk.is_disk old new _ _ notes c.self.invariant.0 c.self.invariant.1
     room state spelled.1 body spelled.0 said.disk said.front said.answer.0.was_fine
     (λ h. said.any_moment h said.answer.0.was_fine)
-    said.answer.0 said.bodies said.sure c.with_state.result.notes c.with_state.ensures)
+    said.answer.0 said.bodies (λ h. (said.sure h).0) c.with_state.result.notes c.with_state.ensures)
 
 pub returns-in-Ok-clause-sure : goal.returns-in-Ok-clause-sure
 returns-in-Ok-clause-sure g c =
@@ -126,7 +126,7 @@ returns-in-Ok-clause-sure g c =
     opens_saved g.D.Disk.state g.met.D.Disk.is_disk old new _ _ notes c.self.invariant.0 c.self.invariant.1
     room state spelled.1 body spelled.0 said.disk said.front said.answer.0.was_fine
     (λ h. said.any_moment h said.answer.0.was_fine)
-    said.answer.0 said.bodies said.sure c.with_state.result.notes c.with_state.ensures)
+    said.answer.0 said.bodies (λ h. (said.sure h).0) c.with_state.result.notes c.with_state.ensures)
 
 pub returns-in-Ok-clause-any_moment : goal.returns-in-Ok-clause-any_moment
 returns-in-Ok-clause-any_moment g c =

@@ -192,7 +192,7 @@ invariant_of-self-in-Ok-append_frame g c =
       stored_stores old.journal mid.journal made.side old.index mid.index made.grown made.few old.noted.notes
           c.self.invariant.0 c.args.changes.now apply c.append_frame.new.self body body_is said.answer.0
           c.with_frame.result.notes c.with_frame.ensures c.append_frame.ensures.front
-          old.which old.spare c.self.invariant.1 g.D.Disk.state c.self.invariant.2 said.bodies said.sure
+          old.which old.spare c.self.invariant.1 g.D.Disk.state c.self.invariant.2 said.bodies (λ h. (said.sure h).0)
           c.append_frame.ensures.disk,
     )
 
@@ -258,7 +258,7 @@ returns-in-Ok-append_frame-clause-sure g c =
     c.self.invariant.0 c.args.changes.now apply c.append_frame.new.self body body_is
     said.answer.0 c.with_frame.result.notes c.with_frame.ensures
     c.append_frame.ensures.front old.which old.spare c.self.invariant.1 g.D.Disk.state c.self.invariant.2 said.bodies
-    said.sure)
+    (λ h. (said.sure h).0))
 
 pub returns-in-Ok-append_frame-clause-any_moment : goal.returns-in-Ok-append_frame-clause-any_moment
 returns-in-Ok-append_frame-clause-any_moment g c =

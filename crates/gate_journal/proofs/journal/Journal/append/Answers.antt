@@ -1,7 +1,7 @@
 use Rattle.std.proofs.Common.{◌≡◌, ℕ, length, ◌+◌, List, ◌++◌, ◌∷◌, [], ◌∙◌, ap, arith, length-append}
 use Rattle.gate_journal.specs.Side.{front_of}
 use Rattle.gate_journal.specs.Inner.Writing.{tail_of}
-use Rattle.gate_journal.proofs.Bodies.{moments, failed_on, failed_bodies, added_on, added_bodies, added_each, still}
+use Rattle.gate_journal.proofs.Bodies.{moments, failed_on, failed_bodies, added_on, added_bodies, added_sure, still}
 use Rattle.gate_journal.proofs.Extents.{one_more}
 use Rattle.gate_journal.proofs.journal.Journal.append.Goals as goal
 
@@ -85,9 +85,10 @@ returns-in-Ok-clause-sure g c = rw (← c.self.view_is) (λ h.
     let body = c.args.body.now in
     let extents_are = c.push_reserved.ensures.items
     ∙ ap (λ (l : List (ℕ × ℕ)). l ++ (i.end + 5, length body) ∷ []) c.make_room.ensures.same in
-    added_each d (front_of i.header i.copied i.pair) i.extents.items i.end i.failed (c.self.invariant.3 h)
+    added_sure d (front_of i.header i.copied i.pair) i.extents.items i.end i.failed (c.self.invariant.3 h)
     c.if-self.false body c.requires d' (tail_of c.extend_reserved.new.self.body) (ap tail_of spelled)
-    c.push_reserved.new.self.items extents_are (c.in-Ok.ensures.opened h))
+    c.push_reserved.new.self.items extents_are (c.in-Ok.ensures.opened h)
+    (i.end + (5 + c.from-in-Ok.result)) (omega arith))
 
 pub returns-in-Ok-clause-any_moment : goal.returns-in-Ok-clause-any_moment
 returns-in-Ok-clause-any_moment g c = rw (← c.self.view_is) (λ h fine.

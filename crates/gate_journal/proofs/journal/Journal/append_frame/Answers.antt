@@ -2,7 +2,7 @@ use Rattle.std.proofs.Common.{◌≡◌, length, ◌+◌, ◌++◌, ◌∷◌, [
 use Rattle.gate_journal.specs.Followed.{followed}
 use Rattle.gate_journal.specs.Side.{front_of}
 use Rattle.gate_journal.specs.Inner.Writing.{tail_of}
-use Rattle.gate_journal.proofs.Bodies.{moments, failed_on, failed_bodies, added_on, added_bodies, added_each, still}
+use Rattle.gate_journal.proofs.Bodies.{moments, failed_on, failed_bodies, added_on, added_bodies, added_sure, still}
 use Rattle.gate_journal.proofs.Extents.{one_more}
 use Rattle.gate_journal.proofs.journal.Journal.append_frame.Goals as goal
 
@@ -78,9 +78,10 @@ returns-in-Ok-clause-sure g c = rw (← c.self.view_is) (λ h.
     let sized : c.size_with-size.result ≡ length body = c.size_with-size.ensures in
     let extents_are = c.push_reserved.ensures.items
     ∙ (λ k. c.reserve.ensures.items k ++ (i.end + 5, sized k) ∷ []) in
-    added_each d (front_of i.header i.copied i.pair) i.extents.items i.end i.failed (c.self.invariant.3 h)
+    added_sure d (front_of i.header i.copied i.pair) i.extents.items i.end i.failed (c.self.invariant.3 h)
     c.if-self.false body c.requires.0 d' (tail_of body) refl
-    c.push_reserved.new.self.items extents_are (c.in-Ok.ensures.opened h))
+    c.push_reserved.new.self.items extents_are (c.in-Ok.ensures.opened h)
+    (i.end + (5 + c.from-in-Ok.result)) (omega (arith, sized)))
 
 pub returns-in-Ok-clause-any_moment : goal.returns-in-Ok-clause-any_moment
 returns-in-Ok-clause-any_moment g c = rw (← c.self.view_is) (λ h fine.

@@ -8,9 +8,9 @@ pub returns-clause-share : goal.returns-clause-share
 returns-clause-share g c =
     halves_share g.D.Disk.state c.args.front c.execute_both-reply.result.1 c.args.back c.execute_both-reply.result.2
     (asked c.nexus.result c.args.cdb.now c.args.sent.now) c.execute_both-reply.result.0 c.execute_both-reply.new.sent
-    c.count_below_limit-before.result c.accepted-after.result c.args.share.now c.enter_if_risen.new.share
+    c.accepted-before.result c.accepted-after.result c.args.share.now c.enter_if_risen.new.share
     c.execute_both-reply.ensures (λ old new step. c.replies_show_changes.ensures _ _ _ _ step)
-    c.count_below_limit-before.ensures.count c.accepted-after.ensures c.count_below_limit-before.ensures.below
+    c.accepted-before.ensures c.accepted-after.ensures c.wait_at_limit.ensures
     c.requires.share (λ same. (c.enter_if_risen.ensures.same same).0)
     (λ risen. (c.enter_if_risen.ensures.risen risen).0)
 
@@ -22,7 +22,7 @@ returns-clause-serves g c =
     (halves_serve g.D.Disk.state c.args.front c.execute_both-reply.result.1 c.args.back c.execute_both-reply.result.2
     (asked c.nexus.result c.args.cdb.now c.args.sent.now) c.args.seat.now c.count_answer.new.self
     c.enter_if_risen.new.seat c.execute_both-reply.result.0 c.execute_both-reply.new.sent
-    c.count_below_limit-before.result c.accepted-after.result c.execute_both-reply.ensures c.nexus.ensures
-    (λ old new step. c.replies_show_changes.ensures _ _ _ _ step) c.count_below_limit-before.ensures.count
-    c.accepted-after.ensures c.count_below_limit-before.ensures.below c.count_answer.ensures
+    c.accepted-before.result c.accepted-after.result c.execute_both-reply.ensures c.nexus.ensures
+    (λ old new step. c.replies_show_changes.ensures _ _ _ _ step) c.accepted-before.ensures
+    c.accepted-after.ensures c.wait_at_limit.ensures c.count_answer.ensures
     (λ same. (c.enter_if_risen.ensures.same same).1) (λ risen. (c.enter_if_risen.ensures.risen risen).1))

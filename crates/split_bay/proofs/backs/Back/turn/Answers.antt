@@ -51,4 +51,4 @@ returns g c =
     (same ∙ c.self.view_is)
     (turns_back g.D.Disk.state i.receiving c.look.new.self new medium c.take_known.new.medium c.flush_turn.new.self
     c.flush_turn.result c.look.ensures.same c.look.ensures.more c.take_known.ensures.takes parts.1 told.answer
-    told.frame told.stores told.advances))
+    told.frame told.stores told.advances told.behind))

@@ -1,0 +1,73 @@
+//! Notes what looks at the names of a cartridge's files found, for an explanation of a refused second file.
+use explanations::Explanation;
+use file_disk::{FileError, FileLook};
+use file_reasons::{PairFault, PairReason};
+use std::alloc::{AllocError, Global};
+use std::cell::Cell;
+
+// The bytes of a second file at most over which a reclaim writes behind a closed pair gate.
+const SPARE_BYTES: u64 = 10;
+
+/// A note of the second file for which an order is refused.
+#[derive(Drop)]
+pub struct PairNote {
+    // Whether the last look at a name found nothing.
+    is_lost: Cell<bool>,
+    reason: Cell<Option<PairReason>>,
+}
+
+impl PairNote {
+    /// Creates an empty note.
+    pub fn new() -> Self {
+        PairNote {
+            is_lost: Cell::new(false),
+            reason: Cell::new(None),
+        }
+    }
+
+    /// Notes what a look at the name `file` found. The file is noted where it may be a second file for which an order
+    /// is refused: it has a byte and the look before this one, at its first file's name, found nothing; or a reclaim
+    /// may not write over it. If memory runs out, nothing is noted.
+    pub fn look(&self, alloc: Global, file: &str, answer: &Result<FileLook, FileError>) {
+        let was_lost = self.is_lost.take();
+        self.is_lost
+            .set(matches!(answer, Err(FileError::Missing)));
+        let fault = match answer {
+            Ok(found) => fault_of(was_lost, *found),
+            Err(_) => None,
+        };
+        let reason = match (fault, String::from_str(alloc, file)) {
+            (Some(fault), Ok(file)) => Some(PairReason { file, fault }),
+            _ => None,
+        };
+        self.reason.set(reason);
+    }
+
+    /// Adds the lines of the second file for which a reclaim, if `is_reclaim`, or else a creation was refused. Adds
+    /// nothing where no such file is noted.
+    pub fn add_to(
+        &self,
+        alloc: Global,
+        is_reclaim: bool,
+        lines: &mut Explanation,
+    ) -> Result<(), AllocError> {
+        match self.reason.take() {
+            Some(reason) if is_reclaim != matches!(reason.fault, PairFault::NoFirst(_)) => {
+                reason.add_to(alloc, lines)
+            }
+            _ => Ok(()),
+        }
+    }
+}
+
+// What is wrong with a second file of which this was found, if anything. `was_lost` is true where its first file is
+// missing; else it is to be reclaimed behind a closed pair gate.
+fn fault_of(was_lost: bool, found: FileLook) -> Option<PairFault> {
+    if was_lost {
+        (found.bytes > 0).then_some(PairFault::NoFirst(found.bytes))
+    } else if found.is_link {
+        Some(PairFault::Link)
+    } else {
+        (found.bytes > SPARE_BYTES).then_some(PairFault::Foreign(found.bytes))
+    }
+}
