@@ -15,6 +15,7 @@ import contextlib
 import os
 import random
 import shutil
+import signal
 import subprocess
 import sys
 import tempfile
@@ -100,13 +101,25 @@ class Mounted:
         else:
             os.remove(name)
 
+    @staticmethod
+    def until(words, is_done):
+        for _ in range(100):
+            if is_done():
+                break
+            subprocess.run(words, capture_output=True)
+            time.sleep(0.05)
+
     def gone(self):
         with contextlib.suppress(FileNotFoundError):
             self.refuses(False)
-        for words in (["umount", self.place], ["losetup", "-d", self.loop or "none"],
-                      ["fusermount3", "-u", os.path.join(self.room, "device")]):
-            subprocess.run(words, capture_output=True)
-        if self.device:
+        # each step may have to wait for what the one before it leaves to the system
+        self.until(["umount", self.place], lambda: not os.path.ismount(self.place))
+        if self.loop:
+            subprocess.run(["losetup", "-d", self.loop], capture_output=True)
+        self.until(["fusermount3", "-u", os.path.join(self.room, "device")],
+                   lambda: not self.device or self.device.poll() is not None)
+        if self.device and self.device.poll() is None:
+            self.device.kill()
             self.device.wait()
         shutil.rmtree(self.room, ignore_errors=True)
 
@@ -308,6 +321,8 @@ def main():
     words.add_argument("--seed", default="mended")
     words.add_argument("systems", nargs="*", metavar="FILESYSTEM", help=" ".join(SYSTEMS))
     words = words.parse_args()
+    # what is mounted is unmounted then
+    signal.signal(signal.SIGTERM, lambda *_: sys.exit(1))
     python, any_lost = python_with_fuse(), False
     for name in words.systems or SYSTEMS:
         lacks = missing(name)
