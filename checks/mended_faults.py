@@ -122,6 +122,7 @@ class Mounted:
         if self.device and self.device.poll() is None:
             self.device.kill()
             self.device.wait()
+            subprocess.run(["umount", "-l", os.path.join(self.room, "device")], capture_output=True)
         shutil.rmtree(self.room, ignore_errors=True)
 
 
