@@ -1,8 +1,8 @@
 # docs/GATE.md says what each target does.
 RT := $(shell command -v rt)
 
-.PHONY: demo vtl check wrong rows rows-wrong nomemory mutants faults explained hostile memory endings examples stops kills bench \
-	gate fmt definitions install manual need-rt
+.PHONY: demo vtl check wrong rows rows-wrong nomemory mutants faults explained hostile memory endings examples stops kills \
+	mended bench gate fmt definitions install manual need-rt
 .DEFAULT_GOAL := demo
 
 need-rt:
@@ -95,6 +95,10 @@ stops: vtl
 kills: vtl
 	python3 checks/kills.py --selftest
 	python3 checks/kills.py $(if $(COUNT),--count $(COUNT)) $(if $(SEED),--seed $(SEED))
+
+mended: $(if $(PROGRAM),,vtl)
+	python3 checks/mended_faults.py --selftest
+	python3 checks/mended_faults.py $(if $(PROGRAM),--program $(PROGRAM)) $(if $(COUNT),--runs $(COUNT)) $(if $(SEED),--seed $(SEED))
 
 bench: need-rt
 	python3 bench/script.py

@@ -73,6 +73,7 @@ WORDS = {
     "frame of a front end": ["Frame", "spell_frame", "frame_of_request", "frame_of_answer"],
     "frame that is refused": ["IsFrameRefused", "IsRefusedAt", "RefusesFrame", "RefusesRequest", "MissesRequest",
                               "IsAnswerRefusedAt", "RefusesAnswer", "MissesAnswer"],
+    "frames behind the end": ["HasFramesBehind", "FindsBehind", "MayBeInDoubt"],
     "front of a side": ["Front", "IsFront", "plain"],
     "full side": ["IsFull", "room_behind"],
     "fuse, a disk that stops": ["FuseEffect"],

@@ -3,6 +3,7 @@
 there once the file system is mounted anew.
 
 mended_faults.py [--program PATH] [--runs N] [--seed N] [FILESYSTEM ..]
+mended_faults.py --selftest     runs nothing, and looks at what is taken for lost
 
 It needs root, loop devices, /dev/fuse and fusepy (Debian's python3-fusepy), and the tools of each file system; what
 cannot run is named. Each run makes a new file system on a loop device over refusing_device.py, and a library in it. Of
@@ -15,6 +16,7 @@ import contextlib
 import os
 import random
 import shutil
+import signal
 import subprocess
 import sys
 import tempfile
@@ -100,14 +102,27 @@ class Mounted:
         else:
             os.remove(name)
 
+    @staticmethod
+    def until(words, is_done):
+        for _ in range(100):
+            if is_done():
+                break
+            subprocess.run(words, capture_output=True)
+            time.sleep(0.05)
+
     def gone(self):
         with contextlib.suppress(FileNotFoundError):
             self.refuses(False)
-        for words in (["umount", self.place], ["losetup", "-d", self.loop or "none"],
-                      ["fusermount3", "-u", os.path.join(self.room, "device")]):
-            subprocess.run(words, capture_output=True)
-        if self.device:
+        # each step may have to wait for what the one before it leaves to the system
+        self.until(["umount", self.place], lambda: not os.path.ismount(self.place))
+        if self.loop:
+            subprocess.run(["losetup", "-d", self.loop], capture_output=True)
+        self.until(["fusermount3", "-u", os.path.join(self.room, "device")],
+                   lambda: not self.device or self.device.poll() is not None)
+        if self.device and self.device.poll() is None:
+            self.device.kill()
             self.device.wait()
+            subprocess.run(["umount", "-l", os.path.join(self.room, "device")], capture_output=True)
         shutil.rmtree(self.room, ignore_errors=True)
 
 
@@ -189,16 +204,16 @@ class Cartridge:
         run.end()
         return found
 
-    def is_there(self):
+    def is_there(self, found):
         """Whether each acknowledged save is found, and behind it nothing but what may be: of one that was not
         acknowledged nothing, its block, or both."""
-        found, at = self.read() or [], 0
+        at = 0
         for block, acknowledged in self.saves:
-            whole = found[at:at + 2] == [block, None]
+            whole = (found or [])[at:at + 2] == [block, None]
             if not whole and acknowledged:
                 return False
-            at += 2 if whole else found[at:at + 1] == [block]
-        return at == len(found)
+            at += 2 if whole else (found or [])[at:at + 1] == [block]
+        return at == len(found or [])
 
 
 class Store:
@@ -252,9 +267,9 @@ class Store:
         data = bytes.fromhex(answer[1])
         return [data[at:at + 8] for at in range(8, len(data), 8)]
 
-    def is_there(self):
-        found = self.read()
-        return found is not None and len(found) == 64 and all(
+    def is_there(self, found):
+        """Whether each host has a key that it may have."""
+        return found is not None and len(found) == len(self.keys) and all(
             key in self.keys[host] for host, key in enumerate(found, 1))
 
 
@@ -274,9 +289,24 @@ def one_run(python, program, name, kind, chance):
         acknowledged = work.work(mounted.refuses)
         mounted.unmount()
         mounted.mount()
-        return work.is_there(), acknowledged
+        return work.is_there(work.read()), acknowledged
     finally:
         mounted.gone()
+
+
+def selftest():
+    tape, store = Cartridge(None, None, 0, None), Store(None, None, 0, None)
+    tape.saves = [(b"a", True), (b"b", False), (b"c", True)]
+    store.keys = {1: {b"1"}, 2: {b"2", b"3"}}
+    for found, is_there in (([b"a", None, b"c", None], True), ([b"a", None, b"b", b"c", None], True),
+                            ([b"a", None, b"b", None, b"c", None], True), ([b"a", None, b"b", None], False),
+                            ([b"a", None, bytes(1), None], False), ([b"a", None], False), (None, False),
+                            ([b"a", None, b"c", None, b"d"], False), ([b"a", None, b"c"], False)):
+        assert tape.is_there(found) == is_there, found
+    for found, is_there in (([b"1", b"2"], True), ([b"1", b"3"], True), ([b"1", b"4"], False), ([b"1"], False),
+                            ([b"3", b"2"], False), (None, False)):
+        assert store.is_there(found) == is_there, found
+    print("mended_faults: what is lost is found")
 
 
 def python_with_fuse():
@@ -306,8 +336,13 @@ def main():
     words.add_argument("--program", default=PROVED)
     words.add_argument("--runs", type=int, default=40)
     words.add_argument("--seed", default="mended")
+    words.add_argument("--selftest", action="store_true")
     words.add_argument("systems", nargs="*", metavar="FILESYSTEM", help=" ".join(SYSTEMS))
     words = words.parse_args()
+    if words.selftest:
+        return selftest()
+    # what is mounted is unmounted then
+    signal.signal(signal.SIGTERM, lambda *_: sys.exit(1))
     python, any_lost = python_with_fuse(), False
     for name in words.systems or SYSTEMS:
         lacks = missing(name)

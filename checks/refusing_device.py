@@ -60,8 +60,10 @@ class Device(Operations):
 
 
 def main(words):
+    # direct_io: each request comes whole. A loop device takes it for written where only its first part was.
     room, size, let = words[0], int(words[1]), bytes.fromhex(words[2]) if len(words) > 2 else b""
-    FUSE(Device(room, size, let), os.path.join(room, "device"), foreground=True, nothreads=True, big_writes=True)
+    FUSE(Device(room, size, let), os.path.join(room, "device"), foreground=True, nothreads=True, big_writes=True,
+         direct_io=True)
 
 
 if __name__ == "__main__":

@@ -2,7 +2,7 @@
 use Rattle.std.proofs.Common.{◌≡◌, ◌≢◌, ◌⊎◌, inl, inr, ⊎_elim, ℕ, ◌<◌, ◌≤◌, min, List, length, sym, subst, ◌∙◌, arith, true, false}
 use Rattle.gate_journal.specs.Gates.{last_gate}
 use Rattle.gate_journal.specs.Side.{Front, StandsFor, spell}
-use Rattle.file_disk.specs.Opening.{IsBehind, IsLeftWell, IsUnfinished, START_BYTES}
+use Rattle.file_disk.specs.Opening.{IsBehindEnd, IsLeftWell, IsUnfinished, START_BYTES}
 use Rattle.file_disk.specs.RawFile.{AddsNone, AddsRange, ReachesAll, ReachesRange, ReachesStill}
 use Rattle.gate_journal.specs.declared.header.SideKind.TheVariants as kinds
 use Rattle.file_disk.specs.Inner.Doubts.{BeginsSo, Covers, InSpan, IsInDoubt, IsLookedAt, LieIn}
@@ -69,7 +69,7 @@ module _ (seen : List ℕ) (passed unsynced : ℕ → Type 0) (is : IsLeftWell s
     (bodies : List (List ℕ)) (stands : StandsFor front bodies seen) (last end count : ℕ)
     (last_is : last ≡ last_gate front bodies) (end_is : end ≡ length (spell front bodies))
     (count_is : count ≡ length seen) (written : Written)
-    (covers : (place : ℕ) → (place ≡ last) ⊎ (IsBehind end place × (place < count)) → Covers written place)
+    (covers : (place : ℕ) → (place ≡ last) ⊎ (IsBehindEnd end place × (place < count)) → Covers written place)
     (begins : Begins) (so : BeginsSo begins seen)
     (start : (place : ℕ) → begins ≡ Cartridge → place < START_BYTES → Covers written place)
     (known : begins ≢ Unfinished) where
@@ -80,7 +80,7 @@ module _ (seen : List ℕ) (passed unsynced : ℕ → Type 0) (is : IsLeftWell s
       (⊎_elim
       (λ (here : place ≡ last_gate front bodies).
       let same : place ≡ last = omega (arith, here, last_is) in covers place (inl same))
-      (λ (behind : IsBehind (length (spell front bodies)) place).
+      (λ (behind : IsBehindEnd (length (spell front bodies)) place).
       covers place (inr (
         (omega (arith, behind.0, end_is), omega (arith, behind.1, end_is)),
         omega (arith, within place doubted, count_is),

@@ -15,12 +15,12 @@ abbrev pub MOST_BEHIND : ℕ
 MOST_BEHIND = MAX_BODY + 5
 
 -- the place is one of those behind the end gate that an append may write, since it cuts the disk there first (own)
-abbrev pub IsBehind : (end place : ℕ) → Type 0
-IsBehind end place = (end < place) × (place ≤ end + MOST_BEHIND)
+abbrev pub IsBehindEnd : (end place : ℕ) → Type 0
+IsBehindEnd end place = (end < place) × (place ≤ end + MOST_BEHIND)
 
 -- the place is that of the last open gate, or one that an append may write behind the end gate (own)
 abbrev pub IsLastOrBehind : Front → List (List ℕ) → ℕ → Type 0
-IsLastOrBehind front bodies place = (place ≡ last_gate front bodies) ⊎ IsBehind (length (spell front bodies)) place
+IsLastOrBehind front bodies place = (place ≡ last_gate front bodies) ⊎ IsBehindEnd (length (spell front bodies)) place
 
 -- the place is one of the first ten of a cartridge's side, where it has two gates, or its last open gate, or one that
 -- an append may write behind its end gate (own)

@@ -1,7 +1,7 @@
 //! What a sync of an open file may pass over, that is report as done though it never reached the device, and how this
 //! is written again.
 ghost use Rattle.std.specs.Prelude.{◌≡◌, ◌≢◌, ◌⊎◌, ◌<◌, ◌≤◌, ◌^◌, ℕ, false, length, IfSome, OnOk};
-ghost use Rattle.file_disk.specs.Opening.{IsBehind, IsLeftWell};
+ghost use Rattle.file_disk.specs.Opening.{IsBehindEnd, IsLeftWell};
 ghost use Rattle.file_disk.specs.RawFile.{ReachesAll};
 ghost use Rattle.file_disk.specs.Inner.Doubts.{BeginsSo, Covers, InSpan, IsInDoubt, IsLookedAt, LieIn};
 ghost use Rattle.file_disk.specs.Inner.Rested.{OnlyReadFile, Rested};
@@ -35,7 +35,7 @@ const MOST_BEHIND: u64 = MAX_BODY as u64 + 5;
 // not lie inside these bytes.
 fn doubt_of(begins: Begins, gates: Gates, bytes: u64) -> Option<Written>
     ensures gates { IfSome result (λ written. (place : ℕ) →
-        (place ≡ gates.last) ⊎ (IsBehind gates.end place × (place < bytes)) → Covers written place) }
+        (place ≡ gates.last) ⊎ (IsBehindEnd gates.end place × (place < bytes)) → Covers written place) }
     ensures start { IfSome result (λ written. (place : ℕ) →
         begins ≡ Begins.Cartridge → place < 10 → Covers written place) }
 {
