@@ -1,9 +1,9 @@
 -- What holds after each result of a call.
-use Rattle.std.specs.Prelude.{◌≡◌, ◌≤◌, ◌+◌, ℕ, List, [], ◌∷◌, ◌++◌, length, Some, true, Result, Ok, Err}
+use Rattle.std.specs.Prelude.{◌≡◌, ◌≤◌, ◌+◌, ℕ, List, [], ◌∷◌, ◌++◌, Some, true, Result, Ok, Err}
 use Rattle.vtl_base.specs.declared.faults.DevFault.{DevFault}
 use Rattle.tape_disk.specs.Disk.{DiskState, Only}
 use Rattle.gate_journal.specs.declared.header.SideKind.TheVariants.{Store}
-use Rattle.gate_journal.specs.Side.{Heading, IsDamagedOf}
+use Rattle.gate_journal.specs.Side.{BeginsAs, Heading, IsDamagedOf}
 use Rattle.gate_journal.specs.Answers.{IsFault, NoneFailed}
 use Rattle.pr_core.specs.declared.states.PrState.{PrState}
 use Rattle.pr_core.specs.declared.keepers.KeeperError.{KeeperError}
@@ -59,7 +59,7 @@ Recovers (Ok opened) image = OpensAs opened.0.heading opened.1 image
 Recovers (Err refused) image =
     (heading : Heading) (state : PrState) → OpensAs heading state image → IsNotOfBytes refused.error
 
--- why a store is not made: memory ran out, or a fault (own)
+-- why a store is not made: memory ran out and the disk was not touched, or a fault (own)
 abbrev pub IsStoreNotMade : StoreError → Type 0 → (DevFault → Type 0) → Type 0
 IsStoreNotMade NoMemory memory device = memory
 IsStoreNotMade (Device fault) memory device = device fault
@@ -67,8 +67,8 @@ IsStoreNotMade NotOurs memory device = ⊥
 IsStoreNotMade (Damaged at) memory device = ⊥
 IsStoreNotMade (BadRecord at) memory device = ⊥
 
--- Why a store is not opened: what the old bytes are; a fault; or memory ran out, over at least the 27 bytes of a
--- heading. Except for a fault, no call failed and the disk's bytes are sure (own).
+-- Why a store is not opened: what the old bytes are; a fault; or memory ran out, over bytes that begin as a store.
+-- Except for a fault, no call failed and the disk's bytes are sure (own).
 abbrev pub IsStoreNotOpened : StoreError → DiskState → DiskState → Type 0
 IsStoreNotOpened NotOurs old new = NoneFailed old new × (old.honest → IsNoStore old.seen × Only old.seen new.may_leave)
 IsStoreNotOpened (Damaged at) old new =
@@ -77,4 +77,4 @@ IsStoreNotOpened (BadRecord at) old new =
     NoneFailed old new × (old.honest → IsBadStateAt old.seen at × Only old.seen new.may_leave)
 IsStoreNotOpened (Device fault) old new = IsFault fault old new
 IsStoreNotOpened NoMemory old new =
-    NoneFailed old new × (old.honest → (27 ≤ length old.seen) × Only old.seen new.may_leave)
+    NoneFailed old new × (old.honest → BeginsAs Store old.seen × Only old.seen new.may_leave)

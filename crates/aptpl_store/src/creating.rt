@@ -1,5 +1,5 @@
 //! Making a store.
-ghost use Rattle.std.specs.Prelude.{◌≡◌, ◌⊎◌, ◌≤◌, ◌<◌, ◌++◌, [], ◌∷◌, None, false, IfOk, IfErr, OnOk, OnErr};
+ghost use Rattle.std.specs.Prelude.{◌≡◌, ◌≤◌, ◌++◌, [], ◌∷◌, None, false, IfOk, IfErr};
 ghost use Rattle.tape_disk.specs.Disk.{Each, Keeps};
 ghost use Rattle.gate_journal.specs.Answers.{IsFault, NoneFailed};
 ghost use Rattle.gate_journal.specs.Side.{CLOSED, drive_name, plain, spell};
@@ -22,8 +22,8 @@ pub const RESERVED_SAVES: usize = 256;
 
 impl<D: Disk> AptplStore<D> {
     /// Makes the store of the drive with the number `drive` on `disk`, whatever the disk held before. The store holds
-    /// no saved state: no registration and no reservation. After a device fault the disk may hold anything. After
-    /// `NoMemory` the disk is untouched, or it holds the new store.
+    /// no saved state: no registration and no reservation. All memory is taken before the first call of the disk. After
+    /// a device fault the disk may hold anything; after `NoMemory` it was not touched.
     pub fn create(alloc: Global, disk: D, drive: DriveNo) -> Result<AptplStore<D>, StoreRefused<D>>
         ensures disk { Keeps (D.state disk) (D.state (disk_of_new result)) }
         ensures ok { IfOk result (λ store. (store.heading ≡ heading_for drive) × (store.states ≡ [])
@@ -34,32 +34,25 @@ impl<D: Disk> AptplStore<D> {
         ensures sure { IfOk result (λ store. (D.state disk).honest →
             Each (D.state store.disk) (GivesStates store.heading [])) }
         ensures refused { IfErr result (λ refused. IsStoreNotMade refused.error
-            ((refused.disk ≡ disk) ⊎ (NoneFailed (D.state disk) (D.state refused.disk)
-            × ((D.state disk).honest →
-            Each (D.state refused.disk) (GivesStates (heading_for drive) []))))
-            (λ fault. IsFault fault (D.state disk) (D.state refused.disk))) }
+            (refused.disk ≡ disk) (λ fault. IsFault fault (D.state disk) (D.state refused.disk))) }
     {
         let header = Header {
             kind: SideKind::Store,
             name: name_of(drive),
             capacities: Vec::new(alloc),
         };
-        match Journal::create(alloc, disk, header) {
+        let Ok(frame) = make_frame(alloc) else {
+            let error = StoreError::NoMemory;
+            return Err(StoreRefused { error, disk });
+        };
+        match Journal::create_reserved(alloc, disk, header, RESERVED_SAVES) {
             Ok(journal) => {
-                let mut journal = journal;
                 journal.known();
-                match make_room(alloc, &mut journal) {
-                    Ok(frame) => Ok(AptplStore {
-                        journal,
-                        frame,
-                        noted: Noted::none(),
-                    }),
-                    Err(_) => {
-                        let error = StoreError::NoMemory;
-                        let disk = journal.close();
-                        Err(StoreRefused { error, disk })
-                    }
-                }
+                Ok(AptplStore {
+                    journal,
+                    frame,
+                    noted: Noted::none(),
+                })
             }
             Err(refused) => {
                 let Refused { error, disk } = refused;
@@ -98,21 +91,5 @@ pub(crate) fn make_frame(alloc: Global) -> Result<Frame, NoMemory>
 {
     let mut frame = Frame::new(alloc);
     frame.reserve(STATE_BYTES)?;
-    Ok(frame)
-}
-
-// Makes room in memory for later saves: a frame for the longest body, and the extents of the frames.
-fn make_room<D: Disk>(alloc: Global, journal: &mut Journal<D>) -> Result<Frame, NoMemory>
-    ensures same { journal.new ≡ record journal.old {
-      reserved = journal.new.reserved;
-      reserved_extents = journal.new.reserved_extents;
-    } }
-    ensures ok { IfOk result (λ frame. (STATE_BYTES ≤ frame.room)
-        × (RESERVED_SAVES ≤ journal.new.reserved_extents)) }
-{
-    let frame = make_frame(alloc)?;
-    let Ok(()) = journal.reserve_extents(RESERVED_SAVES) else {
-        return Err(NoMemory);
-    };
     Ok(frame)
 }

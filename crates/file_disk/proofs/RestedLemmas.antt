@@ -113,7 +113,7 @@ module _ {F : Type 0} (state : F → DiskState) (passed_over unsynced : F → �
       by zero last same =
           subst (λ (l : Looked F). OnlyReadFile state passed_over unsynced old.file l.file) (sym same)
           (read_none old.file)
-      by (suc calls) last more = read_then old.file more.0.file last.file (by calls more.0 more.4) more.5
+      by (suc calls) last more = read_then old.file more.0.file last.file (by calls more.0 more.3) more.5.1
 
 -- a write behind such calls
 pub writes_behind : (old mid new : DiskState) → FileRests old mid → (at : ℕ) (bytes : List ℕ)

@@ -44,18 +44,18 @@ module _ (d0 d1 d2 : DiskState) where
     not_read_since SideFull P Q M N means memory is = is
     not_read_since Failed P Q M N means memory is = is
 
-    pub not_opened_since : (N : List ℕ → Type 0) (B : List ℕ → ℕ → Type 0) (e : JournalError) (O : Type 0)
+    pub not_opened_since : (N U : List ℕ → Type 0) (B : List ℕ → ℕ → Type 0) (e : JournalError) (O : Type 0)
         (P : ℕ → Type 0) (M : Type 0) →
         (O → d0.honest → N d0.seen × Only d0.seen d2.may_leave) →
         ((at : ℕ) → P at → d0.honest → B d0.seen at × Only d0.seen d2.may_leave) →
-        (M → d0.honest → (27 ≤ length d0.seen) × Only d0.seen d2.may_leave) →
-        NotRead e O P M d1 d2 → NotOpenedBy N B e d0 d2
-    not_opened_since N B NotOurs O P M ours means memory is = (is.0 ∙ none, ours is.1)
-    not_opened_since N B (Damaged at) O P M ours means memory is = (is.0 ∙ none, means at is.1)
-    not_opened_since N B (Device fault) O P M ours means memory is = fault_since fault none is
-    not_opened_since N B NoMemory O P M ours means memory is = (is.0 ∙ none, memory is.1)
-    not_opened_since N B SideFull O P M ours means memory is = is
-    not_opened_since N B Failed O P M ours means memory is = is
+        (M → d0.honest → U d0.seen × Only d0.seen d2.may_leave) →
+        NotRead e O P M d1 d2 → NotOpenedBy N U B e d0 d2
+    not_opened_since N U B NotOurs O P M ours means memory is = (is.0 ∙ none, ours is.1)
+    not_opened_since N U B (Damaged at) O P M ours means memory is = (is.0 ∙ none, means at is.1)
+    not_opened_since N U B (Device fault) O P M ours means memory is = fault_since fault none is
+    not_opened_since N U B NoMemory O P M ours means memory is = (is.0 ∙ none, memory is.1)
+    not_opened_since N U B SideFull O P M ours means memory is = is
+    not_opened_since N U B Failed O P M ours means memory is = is
 
 -- a call that writes nothing
 pub one_call : (d0 d1 : DiskState) → IsDisk d0 → Same d0 d1 → Elapses d0 d1 → Unwritten d0 d1

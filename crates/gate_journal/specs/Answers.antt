@@ -1,5 +1,5 @@
 -- What holds after each result of a call.
-use Rattle.std.specs.Prelude.{◌≡◌, ◌<◌, ◌≤◌, ◌^◌, ◌+◌, ◌-◌, List, [], ◌∷◌, ◌++◌, ℕ, length, true, false, min, Result, Ok, Err}
+use Rattle.std.specs.Prelude.{◌≡◌, ◌<◌, ◌≤◌, ◌^◌, ◌+◌, ◌-◌, List, [], ◌∷◌, ◌++◌, ℕ, true, false, min, Result, Ok, Err}
 use Rattle.vtl_base.specs.declared.faults.DevFault.{DevFault}
 use Rattle.tape_disk.specs.Disk.{DiskState, Only}
 use Rattle.gate_journal.specs.declared.header.SideKind.{SideKind}
@@ -7,7 +7,7 @@ use Rattle.gate_journal.specs.declared.error.JournalError.{JournalError}
 use Rattle.gate_journal.specs.declared.error.JournalError.TheVariants.{NotOurs, Damaged, SideFull, Device, Failed, NoMemory}
 use Rattle.gate_journal.specs.declared.error.Refused.{Refused}
 use Rattle.gate_journal.specs.State.{OpenSide, room_behind}
-use Rattle.gate_journal.specs.Side.{IsNotOurs, IsNotOf, IsDamagedAt, IsDamagedOf}
+use Rattle.gate_journal.specs.Side.{BeginsAs, BeginsAsSide, IsNotOurs, IsNotOf, IsDamagedAt, IsDamagedOf}
 
 -- no call of the disk failed since the old moment (own)
 abbrev pub NoneFailed : DiskState → DiskState → Type 0
@@ -54,26 +54,27 @@ abbrev pub disk_after : {D : Type 0} → Result (OpenSide D) (Refused D) → D
 disk_after (Ok side) = side.disk
 disk_after (Err refused) = refused.disk
 
--- Why a side is not opened, given which bytes are not ours and which are damaged: one of these; a fault; or memory ran
--- out, over at least the 27 bytes of a heading. Except for a fault, no call failed and the disk's bytes are sure (own).
-abbrev pub NotOpenedBy : (List ℕ → Type 0) → (List ℕ → ℕ → Type 0) → JournalError → DiskState → DiskState → Type 0
-NotOpenedBy not_ours damaged NotOurs old new =
+-- Why a side is not opened, given which bytes are not ours, which are, and which are damaged: the first or the last of
+-- these; a fault; or memory ran out, over bytes that are ours. Except for a fault, no call failed and the disk's bytes
+-- are sure (own).
+abbrev pub NotOpenedBy : (List ℕ → Type 0) → (List ℕ → Type 0) → (List ℕ → ℕ → Type 0) → JournalError → DiskState → DiskState → Type 0
+NotOpenedBy not_ours ours damaged NotOurs old new =
     NoneFailed old new × (old.honest → not_ours old.seen × Only old.seen new.may_leave)
-NotOpenedBy not_ours damaged (Damaged at) old new =
+NotOpenedBy not_ours ours damaged (Damaged at) old new =
     NoneFailed old new × (old.honest → damaged old.seen at × Only old.seen new.may_leave)
-NotOpenedBy not_ours damaged (Device fault) old new = IsFault fault old new
-NotOpenedBy not_ours damaged NoMemory old new =
-    NoneFailed old new × (old.honest → (27 ≤ length old.seen) × Only old.seen new.may_leave)
-NotOpenedBy not_ours damaged SideFull old new = ⊥
-NotOpenedBy not_ours damaged Failed old new = ⊥
+NotOpenedBy not_ours ours damaged (Device fault) old new = IsFault fault old new
+NotOpenedBy not_ours ours damaged NoMemory old new =
+    NoneFailed old new × (old.honest → ours old.seen × Only old.seen new.may_leave)
+NotOpenedBy not_ours ours damaged SideFull old new = ⊥
+NotOpenedBy not_ours ours damaged Failed old new = ⊥
 
 -- why a side of any kind is not opened (own)
 abbrev pub NotOpened : JournalError → DiskState → DiskState → Type 0
-NotOpened = NotOpenedBy IsNotOurs IsDamagedAt
+NotOpened = NotOpenedBy IsNotOurs BeginsAsSide IsDamagedAt
 
 -- why a side is not opened as one of this kind (own)
 abbrev pub NotOpenedAs : SideKind → JournalError → DiskState → DiskState → Type 0
-NotOpenedAs kind = NotOpenedBy (IsNotOf kind) (IsDamagedOf kind)
+NotOpenedAs kind = NotOpenedBy (IsNotOf kind) (BeginsAs kind) (IsDamagedOf kind)
 
 -- why a side is not made: memory ran out and the disk was not touched, or a fault (own)
 abbrev pub NotMade : JournalError → Type 0 → (DevFault → Type 0) → Type 0

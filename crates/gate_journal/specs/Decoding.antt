@@ -1,11 +1,11 @@
 -- The bodies of a side are decoded while it is opened.
-use Rattle.std.specs.Prelude.{◌≡◌, ◌<◌, ◌≤◌, ◌+◌, ◌^◌, ℕ, List, [], ◌∷◌, ◌++◌, length, take, slice_index_or, Bool, true, false, Result, Ok, Err}
+use Rattle.std.specs.Prelude.{◌≡◌, ◌<◌, ◌+◌, ◌^◌, ℕ, List, [], ◌∷◌, ◌++◌, length, take, slice_index_or, Bool, true, false, Result, Ok, Err}
 use Rattle.tape_disk.specs.Disk.{DiskState, Only}
 use Rattle.gate_journal.specs.declared.header.SideKind.{SideKind}
 use Rattle.gate_journal.specs.declared.error.OpenError.{OpenError}
 use Rattle.gate_journal.specs.declared.error.OpenError.TheVariants.{NotOurs, Damaged, BadRecord, Device, NoMemory}
 use Rattle.gate_journal.specs.declared.error.NotDecoded.{NotDecoded}
-use Rattle.gate_journal.specs.Side.{Front, Heading, IsDamagedOf, IsNotOf, StandsFor, spell}
+use Rattle.gate_journal.specs.Side.{BeginsAs, Front, Heading, IsDamagedOf, IsNotOf, StandsFor, spell}
 use Rattle.gate_journal.specs.State.{OpenSide}
 use Rattle.gate_journal.specs.Answers.{IsFault, NoneFailed}
 
@@ -50,8 +50,8 @@ module _ {T : Type 0} (has_read : T → Heading → List (ℕ × ℕ) → List (
       (front : Front) × (bodies : List (List ℕ)) × (front.head.heading.kind ≡ kind) × StandsFor front bodies image
       × HasBadBody front bodies at
 
-  -- Why a side of this kind is not opened and decoded: what the old bytes are; a fault; or memory ran out, over at
-  -- least the 27 bytes of a heading. Except for a fault, no call failed and the disk's bytes are sure (own).
+  -- Why a side of this kind is not opened and decoded: what the old bytes are; a fault; or memory ran out, over
+  -- bytes that begin as a side of the kind. Except for a fault, no call failed and the disk's bytes are sure (own).
   abbrev pub IsNotDecoded : SideKind → OpenError → DiskState → DiskState → Type 0
   IsNotDecoded kind NotOurs old new =
       NoneFailed old new × (old.honest → IsNotOf kind old.seen × Only old.seen new.may_leave)
@@ -61,7 +61,7 @@ module _ {T : Type 0} (has_read : T → Heading → List (ℕ × ℕ) → List (
       NoneFailed old new × (old.honest → HasBadBodyAt kind old.seen at × Only old.seen new.may_leave)
   IsNotDecoded kind (Device fault) old new = IsFault fault old new
   IsNotDecoded kind NoMemory old new =
-      NoneFailed old new × (old.honest → (27 ≤ length old.seen) × Only old.seen new.may_leave)
+      NoneFailed old new × (old.honest → BeginsAs kind old.seen × Only old.seen new.may_leave)
 
 -- for a decoder: what it has read
 module _ {T : Type 0} (has_read : T → Heading → List (ℕ × ℕ) → List (List ℕ) → Type 0) where

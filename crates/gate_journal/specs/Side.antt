@@ -72,6 +72,10 @@ BeginsAs kind image =
     (front : Front) × (rest : List ℕ) × IsFront front × (front.head.heading.kind ≡ kind)
     × (image ≡ spell front [] ++ rest)
 
+-- the image begins with the spelling of a front of some kind (own)
+abbrev pub BeginsAsSide : List ℕ → Type 0
+BeginsAsSide image = (kind : SideKind) × BeginsAs kind image
+
 -- the image is no side of this kind: it begins with no front, or with the front of another kind (own)
 abbrev pub IsNotOf : SideKind → List ℕ → Type 0
 IsNotOf kind image = IsNotOurs image ⊎ ((other : SideKind) × (other ≢ kind) × BeginsAs other image)

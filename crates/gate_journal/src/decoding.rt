@@ -6,6 +6,7 @@ ghost use Rattle.gate_journal.specs.Answers.{NoneFailed};
 ghost use Rattle.gate_journal.specs.Crash.{Unwritten};
 ghost use Rattle.gate_journal.specs.Decoding.{HasDecoded, IsNotDecoded, disk_decoded};
 ghost use Rattle.gate_journal.specs.Inner.Decoding.{NotFinished, opening_cause};
+ghost use Rattle.gate_journal.specs.Reads.{OnlyOpenings, OnlyReads};
 ghost use Rattle.gate_journal.specs.Side.{StandsFor};
 ghost use Rattle.gate_journal.specs.declared.pieces.TheConstants.{PIECE_BYTES};
 
@@ -40,6 +41,7 @@ impl<D: Disk> Journal<D> {
             refused.error (D.state disk) (D.state refused.disk)) }
         ensures any_moment { (D.state disk).honest →
             LeavesOnly (D.state disk) (D.state (disk_decoded result)) (D.state disk).may_leave }
+        ensures reads { OnlyOpenings D.effect disk (disk_decoded result) }
     {
         match Self::open_as(alloc, disk, T::KIND) {
             Ok(journal) => {
@@ -98,6 +100,7 @@ fn decode_frames<D: Disk, T: Decodes>(
     ensures refused { IfErr result (λ error. NotFinished T.has_read T.refuses error
         journal.old.front journal.old.bodies
         (D.state journal.old.disk) (D.state journal.new.disk)) }
+    ensures reads { OnlyReads D.effect journal.old.disk journal.new.disk }
 {
     let Ok(()) = journal.reserve_extents(frames) else {
         return Err(OpenError::NoMemory);
@@ -143,6 +146,7 @@ fn decode_each<D: Disk, T: Decodes>(
     ensures refused { IfErr result (λ error. NotFinished T.has_read T.refuses error
         journal.old.front journal.old.bodies
         (D.state journal.old.disk) (D.state journal.new.disk)) }
+    ensures reads { OnlyReads D.effect journal.old.disk journal.new.disk }
 {
     for frame in 0..journal.frames() {
         let (at, size) = journal.body_at(frame);

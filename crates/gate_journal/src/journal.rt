@@ -5,6 +5,7 @@ ghost use Rattle.tape_disk.specs.Moments.{LeavesOnly};
 ghost use Rattle.gate_journal.specs.Side.{CLOSED, IsBody, IsFront, IsHeading, StandsFor, base_of, heading_of, plain, spell};
 ghost use Rattle.gate_journal.specs.Answers.{Appended, Broke, IsFault, MatchWrite, NoneFailed, NotMade, disk_after};
 ghost use Rattle.gate_journal.specs.Crash.{Unwritten, WithOrWithout};
+ghost use Rattle.gate_journal.specs.Reads.{ReadsOnce};
 ghost use Rattle.gate_journal.specs.State.{room_behind, IsBodyAt, IsBodyPart, IsExtent, LiesInBody};
 
 use crate::device::write_new;
@@ -83,7 +84,37 @@ impl<D: Disk> Journal<D> {
         ensures refused { IfErr result (λ refused. NotMade refused.error
             (refused.disk ≡ disk) (λ fault. IsFault fault (D.state disk) (D.state refused.disk))) }
     {
+        Self::create_reserved(alloc, disk, header, 0)
+    }
+
+    /// Makes a side as `create` does, with memory reserved for the extents of `frames` frames (`reserve_extents`). All
+    /// memory is taken before the first call of the disk: so after `NoMemory` the disk was not touched.
+    pub fn create_reserved(
+        alloc: Global,
+        disk: D,
+        header: Header,
+        frames: usize,
+    ) -> Result<Journal<D>, Refused<D>>
+        requires { IsHeading (heading_of header) }
+        ensures disk { Keeps (D.state disk) (D.state (disk_after result)) }
+        ensures ok { IfOk result (λ journal. (journal.front ≡ plain (heading_of header))
+            × (journal.bodies ≡ []) × (journal.extents ≡ []) × (journal.failed ≡ false)
+            × (journal.end ≡ 27 + 8 * length journal.front.head.heading.capacities)
+            × NoneFailed (D.state disk) (D.state journal.disk)) }
+        ensures reserved { IfOk result (λ journal. frames ≤ journal.reserved_extents) }
+        ensures bytes { IfOk result (λ journal. (D.state disk).honest →
+            (D.state journal.disk).seen ≡ spell journal.front [] ++ CLOSED ∷ []) }
+        ensures sure { IfOk result (λ journal. (D.state disk).honest →
+            Each (D.state journal.disk) (StandsFor journal.front [])) }
+        ensures refused { IfErr result (λ refused. NotMade refused.error
+            (refused.disk ≡ disk) (λ fault. IsFault fault (D.state disk) (D.state refused.disk))) }
+    {
         let mut disk = disk;
+        let mut extents = Vec::new(alloc);
+        let Ok(()) = extents.reserve(frames) else {
+            let error = JournalError::NoMemory;
+            return Err(Refused { error, disk });
+        };
         let Ok(bytes) = spell_closed(alloc, &header) else {
             let error = JournalError::NoMemory;
             return Err(Refused { error, disk });
@@ -96,9 +127,9 @@ impl<D: Disk> Journal<D> {
                     header,
                     copied: None,
                     pair: CLOSED,
-                    extents: Vec::new(alloc),
+                    extents,
                     buffer: Frame::new(alloc),
-                    reserved_extents: 0,
+                    reserved_extents: frames,
                     end,
                     failed: false,
                 })
@@ -184,6 +215,8 @@ impl<D: Disk> Journal<D> {
         ensures bodies { (D.state self.old.disk).honest → self.new.bodies ≡ self.old.bodies }
         ensures unwritten { (D.state self.old.disk).honest →
             Unwritten (D.state self.old.disk) (D.state self.new.disk) }
+        ensures reads { self.old.failed ≡ false →
+            ReadsOnce D.effect at (length buffer.old) self.old.disk self.new.disk }
     {
         if self.has_failed() {
             return Err(JournalError::Failed);

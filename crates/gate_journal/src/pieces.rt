@@ -6,6 +6,7 @@ ghost use Rattle.gate_journal.specs.Answers.{NoneFailed};
 ghost use Rattle.gate_journal.specs.Crash.{Unwritten};
 ghost use Rattle.gate_journal.specs.Decoding.{TakesPiece};
 ghost use Rattle.gate_journal.specs.Inner.Decoding.{IsNotRead};
+ghost use Rattle.gate_journal.specs.Reads.{OnlyReads};
 ghost use Rattle.gate_journal.specs.Inner.Pieces.{DecodesBody, IsSoFar, TakesNext};
 ghost use Rattle.gate_journal.specs.declared.pieces.TheConstants.{PIECE_BYTES};
 
@@ -55,6 +56,7 @@ pub(crate) fn decode_body<D: Disk, T: Decodes>(
         (slice_index_or journal.old.bodies frame [])) }
     ensures refused { IfErr result (λ error.
         IsNotRead error (D.state journal.old.disk) (D.state journal.new.disk)) }
+    ensures reads { OnlyReads D.effect journal.old.disk journal.new.disk }
 {
     let (at, size) = journal.body_at(frame);
     decoder.begin_body();
@@ -102,6 +104,7 @@ fn take_next<D: Disk, T: Decodes>(
         (slice_index_or journal.old.bodies frame [])) }
     ensures refused { IfErr result (λ error.
         IsNotRead error (D.state journal.old.disk) (D.state journal.new.disk)) }
+    ensures reads { OnlyReads D.effect journal.old.disk journal.new.disk }
 {
     if decoder.unseen() > PIECE_BYTES {
         pass_over(journal, frame, decoder, so_far)
@@ -174,6 +177,7 @@ fn read_on<D: Disk, T: Decodes>(
         (slice_index_or journal.old.bodies frame [])) }
     ensures refused { IfErr result (λ error.
         IsNotRead error (D.state journal.old.disk) (D.state journal.new.disk)) }
+    ensures reads { OnlyReads D.effect journal.old.disk journal.new.disk }
 {
     let (at, size) = journal.body_at(frame);
     let from = so_far.from;

@@ -5,8 +5,8 @@ ghost use Rattle.gate_journal.specs.Side.{OPEN, heading_of};
 ghost use Rattle.gate_journal.specs.Inner.Reading.{copied_size, heading_parsed, numbers_of, size_behind};
 ghost use Rattle.std.specs.Int.{to_be_bytes, w32};
 ghost use Rattle.gate_journal.specs.Crash.{Unwritten};
-ghost use Rattle.gate_journal.specs.Reads.{OnlyReads};
-ghost use Rattle.gate_journal.specs.Inner.Found.{FindsBytes, FindsParsed, FindsStart, FindsFront, FindsAsked, FindsMark, FindsFrames, FindsSide};
+ghost use Rattle.gate_journal.specs.Reads.{OnlyOpenings, OnlyReads};
+ghost use Rattle.gate_journal.specs.Inner.Found.{FindsBytes, FindsParsed, FindsStart, FindsKind, FindsAsked, FindsMark, FindsFrames, FindsSide};
 ghost use Rattle.tape_disk.specs.Moments.{LeavesOnly};
 
 use crate::error::JournalError;
@@ -53,6 +53,7 @@ pub(crate) fn read_side<D: Disk>(
     ensures disk { Keeps (D.state disk.old) (D.state disk.new) }
     ensures any_moment { (D.state disk.old).honest →
         LeavesOnly (D.state disk.old) (D.state disk.new) (D.state disk.old).may_leave }
+    ensures reads { OnlyOpenings D.effect disk.old disk.new }
     ensures answer { FindsSide asked result (D.state disk.old) (D.state disk.new) }
 {
     make_sure(disk)?;
@@ -67,12 +68,13 @@ fn make_sure<D: Disk>(disk: &mut D) -> Result<(), DevFault>
     ensures passes { Passes (D.state disk.old) (D.state disk.new) result }
     ensures time { (D.state disk.old).honest → Elapses (D.state disk.old) (D.state disk.new) }
     ensures syncs { (D.state disk.old).honest → Syncs result (D.state disk.old) (D.state disk.new) }
+    ensures reads { OnlyOpenings D.effect disk.old disk.new }
 {
     disk.sync()
 }
 
 // Reads the front at the start of the disk. The side must be of kind `asked`, or of either kind where that is None;
-// else the error is `NotOurs`.
+// else the error is `NotOurs`. Memory is taken only for the header of such a side.
 pub(crate) fn read_asked<D: Disk>(
     alloc: Global,
     disk: &mut D,
@@ -84,22 +86,7 @@ pub(crate) fn read_asked<D: Disk>(
     ensures reads { OnlyReads D.effect disk.old disk.new }
     ensures answer { FindsAsked asked result (D.state disk.old) (D.state disk.new) }
 {
-    let front = read_front(alloc, disk)?;
-    match asked {
-        Some(kind) if kind != front.header.kind => Err(JournalError::NotOurs),
-        _ => Ok(front),
-    }
-}
-
-// The front at the start of the disk.
-fn read_front<D: Disk>(alloc: Global, disk: &mut D) -> Result<ReadFront, JournalError>
-    ensures disk { Keeps (D.state disk.old) (D.state disk.new) }
-    ensures unwritten { (D.state disk.old).honest →
-        Unwritten (D.state disk.old) (D.state disk.new) }
-    ensures reads { OnlyReads D.effect disk.old disk.new }
-    ensures answer { FindsFront result (D.state disk.old) (D.state disk.new) }
-{
-    let (found, parsed) = find_front(disk)?;
+    let (found, parsed) = find_kind(disk, asked)?;
     let header = header_parsed(alloc, &found.bytes[..found.len], parsed)?;
     Ok(ReadFront {
         header,
@@ -107,6 +94,25 @@ fn read_front<D: Disk>(alloc: Global, disk: &mut D) -> Result<ReadFront, Journal
         pair: parsed.pair,
         start: parsed.size as u64,
     })
+}
+
+// The bytes of the front at the start of the disk, and what is read from them. The side must be of kind `asked`, or of
+// either kind where that is None; else the error is `NotOurs`.
+fn find_kind<D: Disk>(
+    disk: &mut D,
+    asked: Option<SideKind>,
+) -> Result<(FrontBytes, ParsedFront), JournalError>
+    ensures disk { Keeps (D.state disk.old) (D.state disk.new) }
+    ensures unwritten { (D.state disk.old).honest →
+        Unwritten (D.state disk.old) (D.state disk.new) }
+    ensures reads { OnlyReads D.effect disk.old disk.new }
+    ensures answer { FindsKind asked result (D.state disk.old) (D.state disk.new) }
+{
+    let (found, parsed) = find_front(disk)?;
+    match asked {
+        Some(kind) if kind != parsed.kind => Err(JournalError::NotOurs),
+        _ => Ok((found, parsed)),
+    }
 }
 
 // What is read from the front at the start of the disk, of either kind. It takes no memory.

@@ -14,6 +14,8 @@ mod records;
 #[cfg(test)]
 mod runs;
 #[cfg(test)]
+mod searches;
+#[cfg(test)]
 mod spaces;
 #[cfg(test)]
 mod staged;

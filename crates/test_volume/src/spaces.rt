@@ -2,7 +2,7 @@
 //! searches counted.
 ghost use Rattle.std.specs.Prelude.{◌≡◌, true};
 
-mod stepping;
+pub(crate) mod stepping;
 
 use change_records::Record;
 use object_index::{Index, MarkRun};
@@ -15,10 +15,10 @@ use test_assertions::{assert_equal, assert_holds};
 use volume_core::Catalog;
 use vtl_base::Steps;
 
-// A block of one byte and a filemark, 1,000,000 times, and then 1,000,000 blocks.
-fn striped(alloc: Global) -> Result<Index, Fail> {
+// A block of one byte and a filemark, this many times, and then as many blocks.
+pub(crate) fn striped(alloc: Global, count: u32) -> Result<Index, Fail> {
     let mut index = Index::new(alloc, &[1_099_511_627_776])?;
-    for _ in 0..1_000_000 {
+    for _ in 0..count {
         put(&mut index)?;
         let marks = Record::Marks {
             part: 0,
@@ -27,7 +27,7 @@ fn striped(alloc: Global) -> Result<Index, Fail> {
         };
         index.apply(marks, 0)?;
     }
-    for _ in 0..1_000_000 {
+    for _ in 0..count {
         put(&mut index)?;
     }
     Ok(index)
@@ -44,7 +44,12 @@ fn put(index: &mut Index) -> Result<(), Fail> {
     Ok(())
 }
 
-fn spaced<C: Catalog>(catalog: &C, obj: u32, code: SpaceCode, count: i32) -> Option<Moved>
+pub(crate) fn spaced<C: Catalog>(
+    catalog: &C,
+    obj: u32,
+    code: SpaceCode,
+    count: i32,
+) -> Option<Moved>
     requires { (C.state catalog.now).awake ≡ true }
 {
     if catalog.parts() > 0 && obj <= catalog.count(0) {
@@ -215,7 +220,7 @@ fn spaces(rt: &impl Abort, index: &Index) {
 
 #[test]
 fn a_million_runs_are_searched_in_20_steps(rt: HostRuntime) -> Result<(), Fail> {
-    let index = striped(rt.alloc())?;
+    let index = striped(rt.alloc(), 1_000_000)?;
     assert_equal!(rt; index.count(0), 3_000_000);
     finds(&rt, &index);
     spaces(&rt, &index);

@@ -86,20 +86,12 @@ fn with_spaces(symbols: &[u8]) -> [u8; MAX_BARCODE]
     bytes
 }
 
-// These bytes, at most 16, padded with spaces to 16.
-fn padded(symbols: &[u8]) -> [u8; MAX_BARCODE]
-    requires { length symbols.now ≤ MAX_BARCODE }
-    ensures { result ≡ take MAX_BARCODE (symbols.now ++ replicate MAX_BARCODE 32) }
-{
-    with_spaces(symbols)
-}
-
 // The 16 bytes of a barcode; 16 bytes of 00h where there is none.
 fn barcode_bytes(barcode: &Option<Barcode>) -> [u8; MAX_BARCODE]
     ensures { result ≡ spell_barcode barcode.now }
 {
     match barcode {
-        Some(barcode) => padded(barcode.as_bytes()),
+        Some(barcode) => with_spaces(barcode.as_bytes()),
         None => [0; MAX_BARCODE],
     }
 }

@@ -3,7 +3,7 @@ use Rattle.std.specs.Prelude.{◌≡◌, ℕ, List, Option, Some, None}
 use Rattle.tape_disk.specs.Disk.{DiskState}
 use Rattle.gate_journal.specs.declared.header.SideKind.{SideKind}
 use Rattle.gate_journal.specs.declared.error.JournalError.{JournalError}
-use Rattle.gate_journal.specs.Side.{IsNotOurs, IsNotOf, IsDamagedAt, IsDamagedOf}
+use Rattle.gate_journal.specs.Side.{BeginsAs, BeginsAsSide, IsNotOurs, IsNotOf, IsDamagedAt, IsDamagedOf}
 use Rattle.gate_journal.specs.Answers.{NotOpenedBy}
 
 -- the kind is the required one, if one is required (own)
@@ -16,6 +16,11 @@ abbrev pub IsNotAsked : Option SideKind → List ℕ → Type 0
 IsNotAsked None = IsNotOurs
 IsNotAsked (Some kind) = IsNotOf kind
 
+-- the image begins with a front, of the required kind (own)
+abbrev pub BeginsAsked : Option SideKind → List ℕ → Type 0
+BeginsAsked None = BeginsAsSide
+BeginsAsked (Some kind) = BeginsAs kind
+
 -- the image is damaged at that place, and of the required kind (own)
 abbrev pub IsDamagedAsked : Option SideKind → List ℕ → ℕ → Type 0
 IsDamagedAsked None = IsDamagedAt
@@ -23,4 +28,4 @@ IsDamagedAsked (Some kind) = IsDamagedOf kind
 
 -- why a side of the required kind is not opened (own)
 abbrev pub NotOpenedAsked : Option SideKind → JournalError → DiskState → DiskState → Type 0
-NotOpenedAsked asked = NotOpenedBy (IsNotAsked asked) (IsDamagedAsked asked)
+NotOpenedAsked asked = NotOpenedBy (IsNotAsked asked) (BeginsAsked asked) (IsDamagedAsked asked)

@@ -13,7 +13,7 @@ use Rattle.gate_journal.specs.declared.error.JournalError.{JournalError}
 use Rattle.gate_journal.specs.declared.error.JournalError.TheVariants.{NotOurs, Damaged, SideFull, Device, Failed, NoMemory}
 use Rattle.gate_journal.specs.Side.{OPEN, AreTooFew, Front, IsBody, IsFront, StandsFor, IsNotOurs, IsBroken, BeginsWithFrame, base_of, frame, front_of, spell_front}
 use Rattle.gate_journal.specs.Answers.{IsFault, NoneFailed}
-use Rattle.gate_journal.specs.Inner.Asked.{IsAsked, IsNotAsked, NotOpenedAsked}
+use Rattle.gate_journal.specs.Inner.Asked.{BeginsAsked, IsAsked, IsNotAsked, NotOpenedAsked}
 use Rattle.gate_journal.specs.Inner.Reading.{ParsesFront, size_behind}
 use Rattle.gate_journal.specs.State.{StoresSide, IsExtent, bodies_at, extents_from}
 
@@ -50,19 +50,20 @@ abbrev pub FindsStart : Result ParsedFront JournalError → DiskState → DiskSt
 FindsStart (Ok parsed) old new = NoneFailed old new × (old.honest → ParsesFront old.seen (Some parsed))
 FindsStart (Err error) old new = NotRead error (old.honest → IsNotOurs old.seen) (λ at. ⊥) ⊥ old new
 
--- the front at the start of the disk, and the place after it; or there is no front (own)
-abbrev pub FindsFront : Result ReadFront JournalError → DiskState → DiskState → Type 0
-FindsFront (Ok read) old new =
-    NoneFailed old new × IsFront (front_read read) × (read.start ≡ length (spell_front (front_read read)))
-    × (old.honest → (rest : List ℕ) × (old.seen ≡ spell_front (front_read read) ++ rest))
-FindsFront (Err error) old new =
-    NotRead error (old.honest → IsNotOurs old.seen) (λ at. ⊥) (old.honest → 27 ≤ length old.seen) old new
+-- the same of a front of the required kind; or there is none (own)
+abbrev pub FindsKind : Option SideKind → Result (FrontBytes × ParsedFront) JournalError → DiskState → DiskState → Type 0
+FindsKind asked (Ok found) old new = FindsParsed (Ok found) old new × IsAsked asked found.1.kind
+FindsKind asked (Err error) old new = NotRead error (old.honest → IsNotAsked asked old.seen) (λ at. ⊥) ⊥ old new
 
--- the front at the start of the disk, of the required kind; or there is none (own)
+-- The front at the start of the disk, of the required kind, and the place after it; or there is none. Memory runs out
+-- only where there is one (own).
 abbrev pub FindsAsked : Option SideKind → Result ReadFront JournalError → DiskState → DiskState → Type 0
-FindsAsked asked (Ok read) old new = FindsFront (Ok read) old new × IsAsked asked read.header.kind
+FindsAsked asked (Ok read) old new =
+    (NoneFailed old new × IsFront (front_read read) × (read.start ≡ length (spell_front (front_read read)))
+    × (old.honest → (rest : List ℕ) × (old.seen ≡ spell_front (front_read read) ++ rest)))
+    × IsAsked asked read.header.kind
 FindsAsked asked (Err error) old new =
-    NotRead error (old.honest → IsNotAsked asked old.seen) (λ at. ⊥) (old.honest → 27 ≤ length old.seen) old new
+    NotRead error (old.honest → IsNotAsked asked old.seen) (λ at. ⊥) (old.honest → BeginsAsked asked old.seen) old new
 
 -- None at a closed gate; the length of the body at a whole frame with a further byte; an error at an open gate without
 -- such a frame (own)

@@ -1,5 +1,6 @@
 use Rattle.std.proofs.Common.{◌≡◌, ◌<◌, ℕ, List, [], length, sym, ◌∙◌, ap, arith}
 use Rattle.std.specs.Prelude.{slice_index_or}
+use Rattle.gate_journal.specs.Reads.{reads_then}
 use Rattle.gate_journal.proofs.DecodingLemmas.{decoded_next}
 use Rattle.gate_journal.proofs.Walks.{unwritten_then}
 use Rattle.gate_journal.proofs.decoding.decode_each.Goals as goal
@@ -43,5 +44,14 @@ loop-frame-preserved g c =
           ));
       unwritten = λ h.
           unwritten_then old mid new (inv.unwritten h) (c.decode_body.ensures.unwritten (inv.keeps.stays_honest h)).0;
+      reads = reads_then g.D.Disk.effect _ _ _ inv.reads c.decode_body.ensures.reads;
       bodies = λ h. (c.decode_body.ensures.unwritten (inv.keeps.stays_honest h)).1 ∙ inv.bodies h;
     }
+
+pub returns-in_err-decode_body-clause-reads : goal.returns-in_err-decode_body-clause-reads
+returns-in_err-decode_body-clause-reads g c =
+    reads_then g.D.Disk.effect _ _ _ c.loop-frame.invariant.reads c.decode_body.ensures.reads
+
+pub returns-then-not-branch-clause-reads : goal.returns-then-not-branch-clause-reads
+returns-then-not-branch-clause-reads g c =
+    reads_then g.D.Disk.effect _ _ _ c.loop-frame.invariant.reads c.decode_body.ensures.reads

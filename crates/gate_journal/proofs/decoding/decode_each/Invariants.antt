@@ -3,6 +3,7 @@ use Rattle.tape_disk.specs.Disk.{Keeps}
 use Rattle.gate_journal.specs.Answers.{NoneFailed}
 use Rattle.gate_journal.specs.Crash.{Unwritten}
 use Rattle.gate_journal.specs.Decoding.{HasDecoded}
+use Rattle.gate_journal.specs.Reads.{OnlyReads}
 use Rattle.gate_journal.proofs.decoding.decode_each.Given as goal
 
 abbrev pub invariant-loop-frame : goal.invariant-loop-frame
@@ -22,5 +23,6 @@ invariant-loop-frame g l =
           HasDecoded g.T.Decodes.has_read l.decoder start.front.head.heading (take l.frame start.extents)
           (take l.frame start.bodies) old.honest;
       unwritten : old.honest → Unwritten old new;
+      reads : OnlyReads g.D.Disk.effect start.disk l.journal.disk;
       bodies : old.honest → l.journal.bodies ≡ start.bodies;
     }

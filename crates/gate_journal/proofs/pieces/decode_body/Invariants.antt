@@ -3,6 +3,7 @@ use Rattle.std.specs.Prelude.{slice_index_or}
 use Rattle.tape_disk.specs.Disk.{Keeps}
 use Rattle.gate_journal.specs.Answers.{NoneFailed}
 use Rattle.gate_journal.specs.Crash.{Unwritten}
+use Rattle.gate_journal.specs.Reads.{OnlyReads}
 use Rattle.gate_journal.specs.Inner.Pieces.{IsSoFar}
 use Rattle.gate_journal.proofs.pieces.decode_body.Given as goal
 
@@ -21,6 +22,7 @@ invariant-loop-so_far g l =
       keeps : Keeps old new;
       none_failed : NoneFailed old new;
       unwritten : old.honest → Unwritten old new;
+      reads : OnlyReads g.D.Disk.effect start.disk l.journal.disk;
       bodies : old.honest → l.journal.bodies ≡ start.bodies;
       so_far : IsSoFar l.so_far extent.1 old.honest (slice_index_or start.bodies l.frame []);
       within : g.T.Decodes.is_within l.fn.decoder l.decoder extent.0 l.so_far.bytes.bytes;

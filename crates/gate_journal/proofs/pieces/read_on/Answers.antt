@@ -1,6 +1,7 @@
 use Rattle.std.proofs.Common.{◌≡◌, ◌+◌, ◌≤◌, ◌++◌, ℕ, List, [], length, drop, take, ap, refl, ◌∙◌, arith}
 use Rattle.std.specs.Prelude.{slice_index_or, slice_range}
 use Rattle.std.proofs.lemmas.List.{get_or_default, length-take-le, take_at}
+use Rattle.gate_journal.specs.Reads.{reads_one}
 use Rattle.gate_journal.proofs.PieceLemmas.{next_taken, read_next}
 use Rattle.gate_journal.proofs.pieces.read_on.Goals as goal
 
@@ -54,3 +55,33 @@ returns-clause-takes g c =
     ∙ ap (λ (n : ℕ). slice_range body from (from + n)) long))
     refl (omega arith) (omega arith) c.with.ensures
     (λ start within. c.in_ok-good.ensures start before.bytes.bytes within)
+
+pub returns-in-Err-clause-reads : goal.returns-in-Err-clause-reads
+returns-in-Err-clause-reads g c =
+    let buffer = c.args.buffer.now in
+    let count = c.min-count.result in
+    let long : length (take count buffer) ≡ count =
+    length-take-le count buffer (omega (arith, c.min-count.ensures)) in
+    let few : length (take count buffer) ≤ 65536 =
+    omega (arith, long, c.min-count.ensures, c.min-most.ensures, c.requires.so_far.short) in
+    reads_one g.D.Disk.effect _ (length (take count buffer)) _ _ few (c.read_body.ensures.reads c.requires.fine)
+
+pub returns-in_err-good-clause-reads : goal.returns-in_err-good-clause-reads
+returns-in_err-good-clause-reads g c =
+    let buffer = c.args.buffer.now in
+    let count = c.min-count.result in
+    let long : length (take count buffer) ≡ count =
+    length-take-le count buffer (omega (arith, c.min-count.ensures)) in
+    let few : length (take count buffer) ≤ 65536 =
+    omega (arith, long, c.min-count.ensures, c.min-most.ensures, c.requires.so_far.short) in
+    reads_one g.D.Disk.effect _ (length (take count buffer)) _ _ few (c.read_body.ensures.reads c.requires.fine)
+
+pub returns-clause-reads : goal.returns-clause-reads
+returns-clause-reads g c =
+    let buffer = c.args.buffer.now in
+    let count = c.min-count.result in
+    let long : length (take count buffer) ≡ count =
+    length-take-le count buffer (omega (arith, c.min-count.ensures)) in
+    let few : length (take count buffer) ≤ 65536 =
+    omega (arith, long, c.min-count.ensures, c.min-most.ensures, c.requires.so_far.short) in
+    reads_one g.D.Disk.effect _ (length (take count buffer)) _ _ few (c.read_body.ensures.reads c.requires.fine)

@@ -61,13 +61,27 @@ returns-then-size-more-clause-answer g c = (
 
 pub returns-in_err-read_at-2-clause-reads : goal.returns-in_err-read_at-2-clause-reads
 returns-in_err-read_at-2-clause-reads g c =
-    reads_then g.D.Disk.effect _ _ _ (reads_one g.D.Disk.effect _ _ _ _ _ c.read_at.ensures.effect)
-    (reads_one g.D.Disk.effect _ _ _ _ _ c.read_at-2.ensures.effect)
+    let more : List ℕ = replicate 44 0 in
+    let read = c.read_at.new.buffer in
+    let count : ℕ = c.size_behind-more.result in
+    let few : count ≤ 44 = c.if-more.false in
+    let roomy : 27 + count ≤ length (read ++ more) =
+    omega (arith, few, c.read_at.auto.buffer, length-append read more) in
+    let part = mid_len 27 (27 + count) (read ++ more) roomy in
+    reads_then g.D.Disk.effect _ _ _ (reads_one g.D.Disk.effect _ _ _ _ (omega arith) (_, c.read_at.ensures.effect))
+    (reads_one g.D.Disk.effect _ _ _ _ (omega (arith, part, few)) (_, c.read_at-2.ensures.effect))
 
 pub returns-clause-reads : goal.returns-clause-reads
 returns-clause-reads g c =
-    reads_then g.D.Disk.effect _ _ _ (reads_one g.D.Disk.effect _ _ _ _ _ c.read_at.ensures.effect)
-    (reads_one g.D.Disk.effect _ _ _ _ _ c.read_at-2.ensures.effect)
+    let more : List ℕ = replicate 44 0 in
+    let read = c.read_at.new.buffer in
+    let count : ℕ = c.size_behind-more.result in
+    let few : count ≤ 44 = c.if-more.false in
+    let roomy : 27 + count ≤ length (read ++ more) =
+    omega (arith, few, c.read_at.auto.buffer, length-append read more) in
+    let part = mid_len 27 (27 + count) (read ++ more) roomy in
+    reads_then g.D.Disk.effect _ _ _ (reads_one g.D.Disk.effect _ _ _ _ (omega arith) (_, c.read_at.ensures.effect))
+    (reads_one g.D.Disk.effect _ _ _ _ (omega (arith, part, few)) (_, c.read_at-2.ensures.effect))
 
 pub returns-clause-answer : goal.returns-clause-answer
 returns-clause-answer g c =

@@ -3,10 +3,10 @@ use Rattle.std.proofs.lemmas.Result.{err_from_is_err_and}
 use Rattle.tape_disk.specs.Sequences.{keeps_of_passes}
 use Rattle.gate_journal.specs.Side.{base_of, spell_front, StandsFor}
 use Rattle.gate_journal.specs.State.{bodies_at}
-use Rattle.gate_journal.specs.Inner.Asked.{IsNotAsked, IsDamagedAsked}
+use Rattle.gate_journal.specs.Inner.Asked.{BeginsAsked, IsNotAsked, IsDamagedAsked}
 use Rattle.gate_journal.specs.Inner.Found.{front_read}
-use Rattle.gate_journal.specs.Inner.Fronts.{length_front}
-use Rattle.gate_journal.proofs.AskedLemmas.{damaged_asked}
+use Rattle.gate_journal.specs.Reads.{opens_reads, opens_then, reads_then}
+use Rattle.gate_journal.proofs.AskedLemmas.{begins_asked_by, damaged_asked}
 use Rattle.gate_journal.proofs.Walks.{as_many, not_opened_since, damaged_there, stands_for, on_disk, seen_2, only_3}
 use Rattle.gate_journal.proofs.reading.read_side.Goals as goal
 
@@ -33,7 +33,8 @@ returns-in_err-frames-clause-answer g c =
     let found = c.in_ok-front.ensures.answer.0 in
     let p = err_from_is_err_and c.from_residual-in_err-frames.result c.from_residual-in_err-frames.ensures.1 in
     rw (p.1, p.2)
-    (not_opened_since d0 d2 d3 (found.0 ∙ none1) (IsNotAsked c.args.asked) (IsDamagedAsked c.args.asked)
+    (not_opened_since d0 d2 d3 (found.0 ∙ none1) (IsNotAsked c.args.asked) (BeginsAsked c.args.asked)
+    (IsDamagedAsked c.args.asked)
     c.in_err-frames.field-0.0 _ _ _ (λ bad. absurd bad)
     (λ at broken honest.
     let honest1 = kept1.stays_honest honest in
@@ -57,7 +58,7 @@ returns-in_err-frames-clause-answer g c =
     let disk1 = g.met.D.Disk.is_disk c.make_sure.new.disk honest1 in
     let rest = found.3 honest1 in
     let same = sure d1.seen disk1.reads in (
-      omega (arith, ap length same, ap length rest.1, length-append (spell_front f) rest.0, length_front f found.1),
+      subst (BeginsAsked c.args.asked) same (begins_asked_by c.args.asked f rest.0 d1.seen found.1 asked rest.1),
       only_3 d0 d1 d2 d3 sure disk1 (c.read_asked.ensures.unwritten honest1) (c.read_frames.ensures.unwritten honest2),
     ))
     c.in_err-frames.ensures.answer)
@@ -105,3 +106,20 @@ returns-clause-answer g c =
             only,
           ),
     )
+
+pub returns-in_err-front-clause-reads : goal.returns-in_err-front-clause-reads
+returns-in_err-front-clause-reads g c =
+    opens_then g.D.Disk.effect _ _ _ c.make_sure.ensures.reads
+    (opens_reads g.D.Disk.effect _ _ c.read_asked.ensures.reads)
+
+pub returns-in_err-frames-clause-reads : goal.returns-in_err-frames-clause-reads
+returns-in_err-frames-clause-reads g c =
+    opens_then g.D.Disk.effect _ _ _ c.make_sure.ensures.reads
+    (opens_reads g.D.Disk.effect _ _
+    (reads_then g.D.Disk.effect _ _ _ c.read_asked.ensures.reads c.read_frames.ensures.reads))
+
+pub returns-clause-reads : goal.returns-clause-reads
+returns-clause-reads g c =
+    opens_then g.D.Disk.effect _ _ _ c.make_sure.ensures.reads
+    (opens_reads g.D.Disk.effect _ _
+    (reads_then g.D.Disk.effect _ _ _ c.read_asked.ensures.reads c.read_frames.ensures.reads))
