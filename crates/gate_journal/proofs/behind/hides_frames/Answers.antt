@@ -22,13 +22,13 @@ returns-then-len-lt5-clause-answer g c = (
 
 pub returns-in_err-read_at-2-clause-reads : goal.returns-in_err-read_at-2-clause-reads
 returns-in_err-read_at-2-clause-reads g c =
-    reads_then g.D.Disk.effect _ _ _ (reads_one g.D.Disk.effect _ _ _ _ _ c.read_at.ensures.effect)
-    (reads_one g.D.Disk.effect _ _ _ _ _ c.read_at-2.ensures.effect)
+    reads_then g.D.Disk.effect _ _ _ (reads_one g.D.Disk.effect _ _ _ _ (omega arith) (_, c.read_at.ensures.effect))
+    (reads_one g.D.Disk.effect _ _ _ _ (omega arith) (_, c.read_at-2.ensures.effect))
 
 pub returns-clause-reads : goal.returns-clause-reads
 returns-clause-reads g c =
-    reads_then g.D.Disk.effect _ _ _ (reads_one g.D.Disk.effect _ _ _ _ _ c.read_at.ensures.effect)
-    (reads_one g.D.Disk.effect _ _ _ _ _ c.read_at-2.ensures.effect)
+    reads_then g.D.Disk.effect _ _ _ (reads_one g.D.Disk.effect _ _ _ _ (omega arith) (_, c.read_at.ensures.effect))
+    (reads_one g.D.Disk.effect _ _ _ _ (omega arith) (_, c.read_at-2.ensures.effect))
 
 pub returns-clause-answer : goal.returns-clause-answer
 returns-clause-answer g c =
