@@ -12,7 +12,7 @@ use cartridge::{Cartridge, CartridgeError, NotCreated, Shelved};
 use pr_core::Reservations;
 use std::alloc::Global;
 use tape_disk::{Disk, MemDisk};
-use vtl_config::{CartridgeEntry, DriveEntry};
+use vtl_config::{Address, CartridgeEntry, DriveEntry};
 use vtl_faults::faults::VtlFault;
 use vtl_files::config_checks::{CARTRIDGE_WORD, STORE_WORD};
 use vtl_files::creating::{label_of, slice_of};
@@ -95,6 +95,13 @@ fn opened<D: Disk>(alloc: Global, disk: D) -> Result<DriveStore<D>, NoStore<D>>
     }
 }
 
+// Reports what is wrong with the file of a cartridge that the start loads. One in a slot is not read at a start.
+fn report_loaded<D, F: ChangeFiles<D>>(files: &F, entry: &CartridgeEntry) {
+    if let Address::Drive(_) = entry.home {
+        files.report_side(CARTRIDGE_WORD, entry.barcode.as_bytes(), entry.file.as_str());
+    }
+}
+
 // No disk can be dropped here, and in the next block: each that was opened is in a side, or returned. A cartridge's
 // disk is not called.
 impl<'a, D: Disk, F: ChangeFiles<D> + LookFiles + SecondFiles<D>> Sides<D> for FileSides<'a, F> {
@@ -103,8 +110,7 @@ impl<'a, D: Disk, F: ChangeFiles<D> + LookFiles + SecondFiles<D>> Sides<D> for F
     ghost given = { file_sides D.state F.pairs F.opens F.opens_second F.returns_disk };
 
     fn cartridge(&self, alloc: Global, entry: CartridgeEntry) -> Result<Parked<D>, VtlFault> {
-        let (label, name) = (entry.barcode.as_bytes(), entry.file.as_str());
-        self.files.report_side(CARTRIDGE_WORD, label, name);
+        report_loaded::<D, F>(self.files, &entry);
         match opened_both::<D, F>(self.files, entry.file, entry.second_file) {
             Ok((first, second)) => Ok(Parked::of(alloc, Shelved::of(first.1, second.1))),
             Err(fault) => Err(fault),

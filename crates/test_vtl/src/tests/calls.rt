@@ -113,12 +113,12 @@ pub fn assert_rows<R: Abort + Threads + Wait + Clock + Sync>(
 
 const RUN: &str = "vtl run --config c";
 
-const THREE: &str = "read c;report t;open t;pair t;second t.2;report u;open u;pair u;second u.2;report 1;open 1;give up;";
+const THREE: &str = "read c;open t;pair t;second t.2;report u;open u;pair u;second u.2;report 1;open 1;give up;";
 
-const FOUR: &str = "read c;report t;open t;pair t;second t.2;report u;open u;pair u;second u.2;\
+const FOUR: &str = "read c;open t;pair t;second t.2;report u;open u;pair u;second u.2;\
     report 1;open 1;report 2;open 2;give up;";
 
-const ALL: &str = "read c;report t;open t;pair t;second t.2;report u;open u;pair u;second u.2;\
+const ALL: &str = "read c;open t;pair t;second t.2;report u;open u;pair u;second u.2;\
     report 1;open 1;report 2;open 2;close all;";
 
 static RUNS: &'static [Row<'static>] = &[
@@ -142,35 +142,35 @@ static RUNS: &'static [Row<'static>] = &[
     (
         Failing::Call(2, FileError::Missing),
         RUN,
-        "read c;report t;open t;give up;",
+        "read c;open t;give up;",
         "",
         FAILED,
     ),
     (
         Failing::Call(3, DEVICE_ERROR),
         RUN,
-        "read c;report t;open t;pair t;back t;give up;",
+        "read c;open t;pair t;back t;give up;",
         "",
         FAILED,
     ),
     (
         Failing::Call(4, FileError::InUse),
         RUN,
-        "read c;report t;open t;pair t;second t.2;back t;give up;",
+        "read c;open t;pair t;second t.2;back t;give up;",
         "",
         FAILED,
     ),
     (
         Failing::Call(5, FileError::Missing),
         RUN,
-        "read c;report t;open t;pair t;second t.2;report u;open u;give up;",
+        "read c;open t;pair t;second t.2;report u;open u;give up;",
         "",
         FAILED,
     ),
     (
         Failing::Call(7, DEVICE_ERROR),
         RUN,
-        "read c;report t;open t;pair t;second t.2;report u;open u;pair u;second u.2;back u;give up;",
+        "read c;open t;pair t;second t.2;report u;open u;pair u;second u.2;back u;give up;",
         "",
         FAILED,
     ),
@@ -186,7 +186,7 @@ static RUNS: &'static [Row<'static>] = &[
     (
         Failing::Side("t", PAIRED),
         RUN,
-        "read c;report t;open t;pair t;beside t.2;report u;open u;pair u;second u.2;\
+        "read c;open t;pair t;beside t.2;report u;open u;pair u;second u.2;\
             report 1;open 1;report 2;open 2;close all;",
         "",
         DONE,
