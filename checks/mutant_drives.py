@@ -93,6 +93,45 @@ EDITS = [
      "        self.entries.reserve(count)\n",
      "        if self.entries.len() >= 500_000 {\n            return Err(AllocError);\n        }\n"
      "        self.entries.reserve(count)\n", ["a_million_runs_are_searched_in_20_steps"]),
+    ("a run of filemarks is looked for from the first block on", "object_index", "src/tables.rt",
+     "        runs_below(&self.runs, Key::First, n as u64, steps).last\n",
+     "        let _ = steps;\n        let mut run = None;\n        let mut end = 0;\n        let mut before = 0;\n"
+     "        for block in &self.blocks {\n            if block.number > end && end < n {\n"
+     "                let count = block.number - end;\n"
+     "                run = Some(MarkRun { first: end, count, before });\n                before += count;\n"
+     "            }\n            end = block.number + 1;\n        }\n        if self.count > end && end < n {\n"
+     "            let count = self.count - end;\n            run = Some(MarkRun { first: end, count, before });\n"
+     "        }\n        run\n", ["questions_walk_through_no_table"]),
+    ("filemarks are counted run by run, by a count of steps of its own", "object_index", "src/index.rt",
+     "        match self.run_upto(part, n, &mut steps) {\n",
+     "        let mut last = None;\n        let mut next = 0;\n"
+     "        while let Some(run) = self.run_of(part, next, &mut steps) {\n            if run.first >= n {\n"
+     "                break;\n            }\n            last = Some(run);\n"
+     "            next = run.before + run.count;\n        }\n        match last {\n",
+     ["questions_walk_through_no_table"]),
+    ("a filemark is looked for run by run, by a count of steps of its own", "object_index", "src/index.rt",
+     "        match self.run_of(part, k, &mut steps) {\n            Some(run) => run.first + (k - run.before),\n",
+     "        let mut found = self.run_of(part, 0, &mut steps);\n        while let Some(run) = found {\n"
+     "            if k < run.before + run.count {\n                break;\n            }\n"
+     "            found = self.run_of(part, run.before + run.count, &mut steps);\n        }\n"
+     "        match found {\n            Some(run) => run.first + (k - run.before),\n",
+     ["questions_walk_through_no_table"]),
+    ("a block is looked for from the first on", "object_index", "src/tables.rt",
+     "    let before = blocks_before(blocks, at);\n",
+     "    let mut before = 0;\n    while before < blocks.len() && blocks[before].number < at {\n"
+     "        before += 1;\n    }\n", ["questions_walk_through_no_table"]),
+    ("an erase is out of memory", "tape_buffer", "src/adding.rt", "    if !roomy {\n",
+     "    if !roomy || matches!(change, Change::Erase { .. }) {\n", ["rows/03-writing/erase.row"]),
+    ("a damaged side is out of memory", "gate_journal", "src/opening.rt",
+     "            Err(error) => Err(Refused { error, disk }),\n",
+     "            Err(crate::JournalError::Damaged { .. }) => {\n"
+     "                let error = crate::JournalError::NoMemory;\n                Err(Refused { error, disk })\n"
+     "            }\n            Err(error) => Err(Refused { error, disk }),\n", ["every_cut", "every_gate"]),
+    ("a bad state of a store is out of memory", "aptpl_store", "src/opening.rt",
+     "                let error = StoreError::from(error);\n",
+     "                let error = match StoreError::from(error) {\n"
+     "                    StoreError::BadRecord { .. } => StoreError::NoMemory,\n"
+     "                    other => other,\n                };\n", ["each_byte_set_to_each_value"]),
     ("the memory for the fourth change of a body is refused", "change_records", "src/spelling.rt",
      "        changes.reserve(1)?;\n",
      "        if changes.len() >= 3 {\n            return Err(RecordError::NoMemory);\n        }\n"

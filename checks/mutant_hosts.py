@@ -46,10 +46,9 @@ EDITS = [
      "    thread::for_each_mut(rt, hosts, NEXUSES as usize, &answer);\n",
      "    thread::for_each_mut(rt, hosts, 1, &answer);\n",
      ["hosts_wait_for_each_other", "a_drive_answers_while_another_stands_in_its_turn"]),
-    ("behind a move hosts are answered one after another", "vtl_hosts", "src/reading.rt",
-     "    let are_all = bells.have_begun(rt);\n",
-     "    let are_all = bells.have_begun(rt) && frames.frames() == 0;\n",
-     ["hosts_wait_for_each_other_behind_a_move"]),
+    ("each round has one command", "vtl_hosts", "src/seen.rt",
+     "            late: !bells.have_begun(rt),\n", "            late: !bells.have_begun(rt) || true,\n",
+     ["hosts_wait_for_each_other", "hosts_wait_for_each_other_behind_a_move"]),
     ("a host has the bells of another", "vtl_hosts", "src/rounds.rt",
      "    { answer_all(rt, bells, place, host) };\n", "    { answer_all(rt, bells, place ^ 1, host) };\n",
      ["each_is_answered_before_the_next_is_sent"]),
@@ -59,8 +58,17 @@ EDITS = [
      "    bells.begin(rt);\n    for _ in rt.forever() {\n        let seen = bells.writer.count(rt);\n"
      "        if bells.writer.wait_for_more(rt, seen) {\n            break;\n        }\n    }\n",
      ["each_is_answered_before_the_next_is_sent"]),
-    ("reading goes on once a write failed", "vtl_hosts", "src/reading.rt", "    if bells.is_stopped() {\n",
-     "    if false && bells.is_stopped() {\n", ["nothing_more_is_read_once_a_write_failed"]),
+    ("reading goes on once a write failed", "vtl_hosts", "src/seen.rt",
+     "        self.stopped = bells.is_stopped();\n", "        self.stopped = false && bells.is_stopped();\n",
+     ["nothing_more_is_read_once_a_write_failed"]),
+    ("a test of readiness is answered as at the opening", "library", "src/libraries.rt",
+     "            Some(bay) => bay.serve(rt, &self.tally, seat, cdb, sent),\n",
+     "            Some(bay) => {\n                let reply = bay.serve(rt, &self.tally, seat, cdb, sent);\n"
+     "                if cdb.first() == Some(&0) {\n"
+     "                    let empty = scsi_sense::Sense::medium_not_present();\n"
+     "                    Reply::check(empty, Bytes::new(self.alloc))\n                } else {\n"
+     "                    reply\n                }\n            }\n",
+     ["rows/08-loading/asked-over-a-loaded-cartridge.row"]),
     ("a command wakes no host", "vtl_hosts", "src/bells.rt", "            bells.commands.ring(rt);\n",
      "            let _ = (bells, rt);\n", ["each_is_answered_before_the_next_is_sent"]),
     ("a bell wakes no thread that sleeps", "vtl_hosts", "src/bells.rt",

@@ -3,8 +3,8 @@
 
 wrong.py [--alone] [--into FILE] [CRATE [EDIT..]]
                             every edit, those of a crate, or those named: for each, what refuses it, or PROVED (a hole)
-wrong.py --lint             tries none, and looks at the form of each edit of must-fail/ and wrong/, at
-                            docs/CLAIMS.md and rows/wrong.txt, and at where the sources make counts of steps
+wrong.py --lint             tries none, and looks at the form of each edit of must-fail/ and wrong/, and at
+                            docs/CLAIMS.md and rows/wrong.txt
 wrong.py --selftest         tries none, and looks at how edits are put together and how a check is read
 
 Edits of different functions are tried in one check, as wrong_batches.py says; what isn't clearly refused so is tried by
@@ -25,11 +25,6 @@ from wrong_edits import TOP, crates, edits_in, fault_in, read
 # the edits of a crate that the gate tries, at most: each costs it half a processor minute and more
 MOST = 8
 AT_ONCE = 2
-# The functions that make a count of steps of their own. The clauses on steps count by the caller's, so that a search by
-# one of its own would be proved, however long it is.
-COUNTS = [("object_index/src/index.rt", "marks_upto"), ("object_index/src/index.rt", "mark_at"),
-          ("object_index/src/tables.rt", "cut"), ("object_index/src/tables.rt", "add_marks"),
-          ("volume_copy/src/cursor.rt", "marks")]
 
 
 def strange_files(crate, folder):
@@ -87,33 +82,8 @@ def false_claims(rows, edits):
                 yield f"docs/CLAIMS.md names {name}, which is no test"
 
 
-def counts_made():
-    """Each place where the sources make a count of steps, but for the tests': the file, and the function."""
-    for crate in crates():
-        top = os.path.join(TOP, "crates", crate)
-        files = [] if crate.startswith("test_") else [
-            os.path.join(folder, file) for folder, _, names in os.walk(os.path.join(top, "src")) for file in names]
-        for file in sorted(files):
-            function = "no function"
-            for line in read(file).splitlines():
-                code = line.partition("//")[0]
-                named = re.match(r"\s*(?:pub(?:\([\w ]+\))? )?(?:const )?fn (\w+)", code)
-                function = named[1] if named else function
-                for _ in re.finditer(r"\bSteps\b[\s>]*::\s*new\b|\bSteps as\b", code):
-                    yield os.path.relpath(file, os.path.dirname(top)), function
-
-
-def false_counts():
-    """Where a count of steps is made that should not be, or is not made where it should be."""
-    made = list(counts_made())
-    for file, function in sorted({*made, *COUNTS}):
-        there, wanted = made.count((file, function)), COUNTS.count((file, function))
-        if there != wanted:
-            yield f"crates/{file}: a count of steps is made in {function} {there} times, and not {wanted}"
-
-
 def lint():
-    said, every, guarded = [*false_counts()], set(), set()
+    said, every, guarded = [], set(), set()
     for crate in crates():
         first, second = edits_in(crate, "must-fail"), edits_in(crate, "wrong")
         every |= {(crate, name) for name in [*first, *second]}

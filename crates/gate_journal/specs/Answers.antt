@@ -57,7 +57,8 @@ disk_after (Err refused) = refused.disk
 -- Why a side is not opened, given which bytes are not ours, which are, and which are damaged: the first or the last of
 -- these; a fault; or memory ran out, over bytes that are ours. Except for a fault, no call failed and the disk's bytes
 -- are sure (own).
-abbrev pub NotOpenedBy : (List ℕ → Type 0) → (List ℕ → Type 0) → (List ℕ → ℕ → Type 0) → JournalError → DiskState → DiskState → Type 0
+abbrev pub NotOpenedBy : (List ℕ → Type 0) → (List ℕ → Type 0) → (List ℕ → ℕ → Type 0) → JournalError → DiskState
+    → DiskState → Type 0
 NotOpenedBy not_ours ours damaged NotOurs old new =
     NoneFailed old new × (old.honest → not_ours old.seen × Only old.seen new.may_leave)
 NotOpenedBy not_ours ours damaged (Damaged at) old new =

@@ -1,6 +1,6 @@
-//! Questions to an index take as long over 1,000,000 runs of filemarks as over 1,000, but for what a binary search takes.
-//! The clauses on steps count what is read with the count of the caller. A search that reads by a count of its own, or
-//! that walks through the blocks, is seen by its time alone.
+//! Questions to an index take hardly longer over 1,000,000 runs of filemarks than over 1,000. The clauses on steps
+//! count what is read with the count of the caller. A search that reads by a count of its own, or that walks through
+//! the blocks, is seen by its time alone.
 ghost use Rattle.std.specs.Prelude.{◌≡◌, ◌<◌, ◌≤◌};
 
 use crate::spaces::stepping::Stepping;

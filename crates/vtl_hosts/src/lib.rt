@@ -10,6 +10,7 @@ mod pushing;
 mod reading;
 mod rings;
 mod rounds;
+mod seen;
 pub mod servers;
 pub mod turns;
 mod writing;

@@ -1,17 +1,18 @@
 //! The thread that reads: each command goes to its host's ring.
-ghost use Rattle.std.specs.Prelude.{◌≡◌, ◌<◌, ◌+◌, IfOk, IfErr, IfSome, IfNone, length};
+ghost use Rattle.std.specs.Prelude.{◌≡◌, ◌<◌, ◌+◌, IfOk, IfErr, IfSome, IfNone, Some, None, true, length};
 ghost use Rattle.vtl_base.specs.declared.limits.TheConstants.{NEXUSES};
 ghost use Rattle.vtl_wire.specs.Reads.{NotesFault};
 ghost use Rattle.vtl_hosts.specs.Rounds.{host_in};
-ghost use Rattle.vtl_hosts.specs.Inner.Reading.{ReadsNext, ReadsRound};
+ghost use Rattle.vtl_base.specs.Steps.{ticked};
+ghost use Rattle.vtl_hosts.specs.Inner.Reading.{EndsRound, ReadsNext, ReadsRound};
 
 use crate::bells::Bells;
 use crate::pushing::push_waiting;
+use crate::seen::Seen;
 use crate::servers::Desk;
 use rtrb::Producer;
 use std::io::Read;
 use std::sync::Wait;
-use std::time::Clock;
 use vtl_wire::{Request, RequestReader, WireFault};
 
 /// Why no more commands are read in a round.
@@ -42,6 +43,7 @@ fn read_next<G: Desk, I: Read, R: Wait>(
     rt: &R,
     desk: &G,
     bells: &Bells,
+    seen: &mut Seen,
     frames: &mut RequestReader,
     reader: &mut I,
     rings: &mut [Producer<Request>],
@@ -49,10 +51,13 @@ fn read_next<G: Desk, I: Read, R: Wait>(
     requires { length rings.old ≡ NEXUSES }
     ensures reads { ReadsNext (G.is_taken desk.now) frames.old.frames rings.old (I.remaining reader.old)
         frames.new.frames rings.new (I.remaining reader.new) result }
+    ensures late { seen.new.late ≡ seen.old.late }
+    ensures stops { IfOk result (λ found. found ≡ Some Break.Again → seen.new.stopped ≡ true) }
+    ensures one { IfOk result (λ found. found ≡ None → frames.new.frames ≡ ticked frames.old.frames) }
     ensures same { IfOk result (λ _. frames.new.failed ≡ frames.old.failed) }
     ensures noted { IfErr result (NotesFault frames.old.failed frames.new.failed) }
 {
-    if bells.is_stopped() {
+    if seen.look(bells) {
         return Ok(Some(Break::Again));
     }
     let Some(request) = frames.next(reader)? else {
@@ -73,11 +78,13 @@ fn read_next<G: Desk, I: Read, R: Wait>(
 
 /// Reads commands, and sends each to its host. It ends at a move, an inventory or the end of the input, after a failed
 /// write, or with an error. Where not all threads have begun, it reads one command, for which the rings have room. So
-/// no thread waits for work that begins only after that thread has ended.
-pub(crate) fn read_round<G: Desk, I: Read, R: Wait + Clock>(
+/// no thread waits for work that begins only after that thread has ended. It ends for no other reason: at an end of a
+/// round all hosts wait for the slowest one.
+pub(crate) fn read_round<G: Desk, I: Read, R: Wait>(
     rt: &R,
     desk: &G,
     bells: &Bells,
+    seen: &mut Seen,
     frames: &mut RequestReader,
     reader: &mut I,
     rings: &mut [Producer<Request>],
@@ -85,16 +92,17 @@ pub(crate) fn read_round<G: Desk, I: Read, R: Wait + Clock>(
     requires { length rings.old ≡ NEXUSES }
     ensures reads { ReadsRound (G.is_taken desk.now) frames.old.frames rings.old (I.remaining reader.old)
         frames.new.frames rings.new (I.remaining reader.new) result }
+    ensures ends { EndsRound seen.old.late seen.new.stopped frames.old.frames frames.new.frames result }
     ensures same { IfOk result (λ _. frames.new.failed ≡ frames.old.failed) }
     ensures noted { IfErr result (NotesFault frames.old.failed frames.new.failed) }
 {
-    let are_all = bells.have_begun(rt);
+    let late = seen.are_late();
     for _ in rt.forever() {
-        match read_next(rt, desk, bells, frames, reader, rings)? {
+        match read_next(rt, desk, bells, seen, frames, reader, rings)? {
             Some(found) => return Ok(found),
             None => {}
         }
-        if !are_all {
+        if late {
             return Ok(Break::Again);
         }
     }

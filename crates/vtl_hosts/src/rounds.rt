@@ -13,6 +13,7 @@ use crate::ends::Ends;
 use crate::hosts::{HostEnd, answer_all};
 use crate::looking::are_empty;
 use crate::reading::{Break, read_round};
+use crate::seen::Seen;
 use crate::servers::{Desk, Host};
 use crate::writing::write_round;
 use rtrb::{Consumer, Producer};
@@ -63,7 +64,8 @@ fn read_and_close<G: Desk, I: Read, R: Wait + Clock>(
     ensures same { IfOk result (λ _. frames.new.failed ≡ frames.old.failed) }
     ensures noted { IfErr result (NotesFault frames.old.failed frames.new.failed) }
 {
-    let read = read_round(rt, desk, bells, frames, reader, rings);
+    let mut seen = Seen::begin(rt, bells);
+    let read = read_round(rt, desk, bells, &mut seen, frames, reader, rings);
     bells.close_hosts(rt);
     read
 }

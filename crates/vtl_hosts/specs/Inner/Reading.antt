@@ -1,5 +1,5 @@
 -- The thread that reads.
-use Rattle.std.specs.Prelude.{◌≡◌, ℕ, Bool, true, List, Option, None, Some, Result, Ok, Err}
+use Rattle.std.specs.Prelude.{◌≡◌, ◌⊎◌, ℕ, Bool, true, List, Option, None, Some, Result, Ok, Err}
 use Rattle.std.specs.List.{All}
 use Rattle.std.specs.Io.KnownBytes.{Consumes}
 use Rattle.vtl_base.specs.Steps.{ticked}
@@ -59,3 +59,11 @@ pub record ReadsRound (takes : Request → Bool)
   pub behind : Option (List ℕ)
   pub read : ReadsCommands takes count rings left counted rings' behind
   pub ended : ReadingEnds takes counted behind count' left' result
+
+-- A round ends at a move, an inventory, the end of the input or an error. It ends before that only where a write has
+-- failed, or behind one command where not all threads had begun (own).
+abbrev pub EndsRound : Bool → Bool → ℕ → ℕ → Result Break WireFault → Type 0
+EndsRound late stopped count count' (Ok Again) = (stopped ≡ true) ⊎ ((late ≡ true) × (count' ≡ ticked count))
+EndsRound late stopped count count' (Ok Ended) = Unit {0}
+EndsRound late stopped count count' (Ok (Next request)) = Unit {0}
+EndsRound late stopped count count' (Err fault) = Unit {0}

@@ -6,6 +6,7 @@ pub loop-init : goal.loop-init
 loop-init g c = record {
   reads = reads_none (g.G.Desk.is_taken c.args.desk.now) c.args.frames.now.frames c.args.rings.now _;
   same = refl;
+  first = λ _. refl;
 }
 
 pub loop-preserved : goal.loop-preserved
@@ -15,10 +16,11 @@ loop-preserved g c = record {
       c.read_next.new.frames.frames c.args.rings.now c.loop.rings c.read_next.new.rings _ _ _
       c.loop.invariant.reads (rw c.in-None-2.is at c.in_ok-found.ensures.reads);
   same = c.in_ok-found.ensures.same ∙ c.loop.invariant.same;
+  first = λ late. let h = c.if-late.false in cc;
 }
 
-pub returns-then-not-are_all-clause-reads : goal.returns-then-not-are_all-clause-reads
-returns-then-not-are_all-clause-reads g c = record {
+pub returns-then-late-clause-reads : goal.returns-then-late-clause-reads
+returns-then-late-clause-reads g c = record {
   counted = c.read_next.new.frames.frames;
   behind = g.I.Read.remaining c.read_next.new.reader;
   read =
