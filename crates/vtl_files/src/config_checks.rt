@@ -243,13 +243,13 @@ fn check_files<D: Disk, F: ReadFiles<D> + ReportsRead, W: Write>(
 }
 
 /// Checks the files of each entry of a configuration, as `check_named` does: those of cartridges, then those of the
-/// reservations of drives, both in the order of the configuration. Each block of a cartridge is read to its end. Of each
-/// entry it writes a line with the barcode, or `DRIVE` and the number of the drive, and the name of the file; and behind
-/// it what the files hold, or `device fault` or `out of memory` where they were not read. Where they hold another side
-/// than that of the entry, one more line says what the entry is. No fault of an entry ends the call. Returns `Refused`,
-/// `Device` or `NoMemory` by the first entry whose files are not whole, or do not hold what the entry is by its kind;
-/// else `Done`. The call ends with `Device` where the writer fails, and with `NoMemory` where memory runs out for a
-/// line.
+/// reservations of drives, both in the order of the configuration. Each block of a cartridge is read to its end. Of
+/// each entry it writes a line with the barcode, or `DRIVE` and the number of the drive, and the name of the file; and
+/// behind it what the files hold, or `device fault` or `out of memory` where they were not read. Where they hold
+/// another side than that of the entry, one more line says what the entry is. No fault of an entry ends the call.
+/// Returns `Refused`, `Device` or `NoMemory` by the first entry whose files are not whole, or do not hold what the
+/// entry is by its kind; else `Done`. The call ends with `Device` where the writer fails, and with `NoMemory` where
+/// memory runs out for a line.
 pub fn check_config<D: Disk, F: ReadFiles<D> + ReportsRead, W: Write>(
     alloc: Global,
     files: &F,

@@ -9,7 +9,8 @@ pub returns-in_default : goal.returns-in_default
 returns-in_default g c =
     let file = StoreFile c.args.entry.now in
     checks_one g.D.Disk.state g.F.ReadFiles.opens_to_read g.F.ReadFiles.closes file _ _ (Err NoMemory)
-    (no_name g.D.Disk.state g.F.ReadFiles.opens_to_read g.F.ReadFiles.closes store_word (label_of file) (path_of file) _)
+    (no_name g.D.Disk.state g.F.ReadFiles.opens_to_read g.F.ReadFiles.closes store_word (label_of file) (path_of file)
+    _)
 
 pub returns : goal.returns
 returns g c =
