@@ -89,8 +89,8 @@ def misremembered(run):
 
 
 def untold(run):
-    """What is wrong where a call for an open file failed and a run or a serving ends with a device fault: a line said it
-    at once, before the one line."""
+    """What is wrong where a call for an open file failed and a run ends with a device fault: a line has to say it at
+    once, before the one line."""
     said = lines_behind(run, "fault")
     if said is None or run.name not in OPEN:
         return []

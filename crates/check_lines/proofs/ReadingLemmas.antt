@@ -95,6 +95,7 @@ module _ {D : Type 0} (state : D → DiskState) where
       → (AreHonest state b → UnwrittenTwo state b c) → TwoLeave state a c (MayLeave state a)
   moments_on a b c is_disk keeps honest first quiet =
       let held : AreHonest state b = (keeps.0.stays_honest honest.0, keeps.1.stays_honest honest.1) in
-      let here : EachOfTwo state b (MayLeave state a) = two_hold_now state a b (MayLeave state a) (is_disk b.first held.0, is_disk b.second held.1) first in
+      let here : EachOfTwo state b (MayLeave state a) =
+      two_hold_now state a b (MayLeave state a) (is_disk b.first held.0, is_disk b.second held.1) first in
       two_in_sequence state a b c (MayLeave state a) first
       (two_weakened state b c (MayLeave state b) (MayLeave state a) (quiet held).moments here)

@@ -238,8 +238,8 @@ fn check_store<D: Disk>(alloc: Global, first: D, second: D) -> Checked<D>
     }
 }
 
-// The lines of a cartridge that was opened, and its disks. If there are `reports`, each of its blocks is read to its end
-// first.
+// The lines of a cartridge that was opened, and its disks. If there are `reports`, each of its blocks is read to its
+// end first.
 fn check_cartridge<D: Disk, P: ReportsRead>(
     alloc: Global,
     cartridge: Cartridge<D>,

@@ -151,8 +151,8 @@ pub fn open_or_create(rt: &HostRuntime, path: &str) -> Result<FileDisk, FileErro
 
 /// Opens a file for reading, beside others that only read it, and syncs it. Each call of the disk that would change the
 /// file fails. Nothing is written again, so where a sync failed before, what is read may not be on the device. Errors:
-/// `Missing`, `NotAFile` or `Device`, as from `open`, except that a link that leads nowhere is `NotAFile`; `InUse` where
-/// this process or another has the file open to change it.
+/// `Missing`, `NotAFile` or `Device`, as from `open`, except that a link that leads nowhere is `NotAFile`; `InUse`
+/// where this process or another has the file open to change it.
 pub fn open_to_read(rt: &HostRuntime, path: &str) -> Result<FileDisk, FileError>
     ensures ok { IfOk result (λ disk. disk.failures ≡ 0) }
 {

@@ -158,12 +158,13 @@ module _ {D : Type 0} (state : D → DiskState) (opens : List ℕ → Result D F
     checks_first entries behind before now fault are checked =
         rw (are, map-append file taken behind) (checks_of (map file taken) (map file behind) before now fault checked)
 
+  -- memory ran out before the name of a file
+  pub no_name : (word label path : List ℕ) (known : Option (List ℕ))
+      → ChecksNamed state opens closes word label path known known (Err NoMemory)
+  no_name word label path known = ([], (inr refl, inl refl), Appends-nil known)
+
   -- what is written of one file
   module _ (word label path : List ℕ) (name : List ℕ) (named : name ≡ name_line label path) where
-    -- memory ran out before its name
-    pub no_name : (known : Option (List ℕ))
-        → ChecksNamed state opens closes word label path known known (Err NoMemory)
-    no_name known = ([], (inr refl, inl refl), Appends-nil known)
 
     -- its name is not out
     pub part_of_name : (fault : VtlFault) (before now : Option (List ℕ)) → fault ≡ Device

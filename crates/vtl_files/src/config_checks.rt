@@ -1,5 +1,5 @@
 //! Reports what the files of a configuration hold.
-ghost use Rattle.std.specs.Prelude.{◌≡◌, ◌∷◌, ◌++◌, [], IfOk, OnOk, map};
+ghost use Rattle.std.specs.Prelude.{◌≡◌, ◌∷◌, [], IfOk, map};
 ghost use Rattle.vtl_files.specs.Creating.{CartridgeFile, StoreFile, files_of};
 ghost use Rattle.vtl_files.specs.ConfigChecks.{ChecksAll, ChecksConfig, ChecksNamed, configured_line, end_for, expected_start, first_end, is_other, name_line, check_report};
 
@@ -59,15 +59,16 @@ pub fn is_other(alloc: Global, word: &[u8], label: &[u8], lines: &[u8]) -> Resul
     }
 }
 
-// Adds the line that says which side the configuration names.
-fn add_configured(text: &mut Vec<u8>, word: &[u8], label: &[u8]) -> Result<(), AllocError>
-    ensures { OnOk result (text.new.items ≡ text.old.items ++ configured_line word.now label.now) }
+// The line that says which side the configuration names.
+fn configured_text(alloc: Global, word: &[u8], label: &[u8]) -> Result<Vec<u8>, AllocError>
+    ensures { IfOk result (λ line. line.items ≡ configured_line word.now label.now) }
 {
-    text.extend_from_slice(b"configured as ")?;
-    text.extend_from_slice(word)?;
-    text.extend_from_slice(label)?;
-    text.push(b'\n')?;
-    Ok(())
+    let mut line = Vec::new(alloc);
+    line.extend_from_slice(b"configured as ")?;
+    line.extend_from_slice(word)?;
+    line.extend_from_slice(label)?;
+    line.push(b'\n')?;
+    Ok(line)
 }
 
 // What is written of a file behind its name: its lines, with one more where they are those of another side than the
@@ -87,7 +88,8 @@ fn check_report(
     };
     let mut text = Vec::from_slice(alloc, lines)?;
     if is_other(alloc, word, label, lines)? {
-        add_configured(&mut text, word, label)?;
+        let line = configured_text(alloc, word, label)?;
+        text.extend_from_slice(line.as_slice())?;
     }
     Ok(text)
 }
@@ -157,7 +159,8 @@ fn check_cartridge<D: Disk, F: ReadFiles<D> + ReportsRead, W: Write>(
     ensures { ChecksAll D.state F.opens_to_read F.closes (CartridgeFile entry.now ∷ [])
         (W.contents writer.old) (W.contents writer.new) result }
 {
-    let (label, path) = (entry.barcode.as_bytes(), entry.file.as_str());
+    let label = entry.barcode.as_bytes();
+    let path = entry.file.as_str();
     check_file::<D, F, W>(alloc, files, CARTRIDGE_WORD, label, path, writer)
 }
 
@@ -240,13 +243,13 @@ fn check_files<D: Disk, F: ReadFiles<D> + ReportsRead, W: Write>(
 }
 
 /// Checks the files of each entry of a configuration, as `check_named` does: those of cartridges, then those of the
-/// reservations of drives, both in the order of the configuration. Each block of a cartridge is read to its end. Of each
-/// entry it writes a line with the barcode, or `DRIVE` and the number of the drive, and the name of the file; and behind
-/// it what the files hold, or `device fault` or `out of memory` where they were not read. Where they hold another side
-/// than that of the entry, one more line says what the entry is. No fault of an entry ends the call. Returns `Refused`,
-/// `Device` or `NoMemory` by the first entry whose files are not whole, or do not hold what the entry is by its kind;
-/// else `Done`. The call ends with `Device` where the writer fails, and with `NoMemory` where memory runs out for a
-/// line.
+/// reservations of drives, both in the order of the configuration. Each block of a cartridge is read to its end. Of
+/// each entry it writes a line with the barcode, or `DRIVE` and the number of the drive, and the name of the file; and
+/// behind it what the files hold, or `device fault` or `out of memory` where they were not read. Where they hold
+/// another side than that of the entry, one more line says what the entry is. No fault of an entry ends the call.
+/// Returns `Refused`, `Device` or `NoMemory` by the first entry whose files are not whole, or do not hold what the
+/// entry is by its kind; else `Done`. The call ends with `Device` where the writer fails, and with `NoMemory` where
+/// memory runs out for a line.
 pub fn check_config<D: Disk, F: ReadFiles<D> + ReportsRead, W: Write>(
     alloc: Global,
     files: &F,

@@ -93,9 +93,9 @@ pub trait ChangeFiles<D> {
         ensures used { result.0 ≡ name }
         ensures answer { opens name result.1 };
 
-    /// Reports, where that is wanted, what is wrong with the file of this name, which is about to be opened for a library.
-    /// It has to be that of the side which the configuration names by this label, and whose lines in a check begin with
-    /// this word. No file is changed.
+    /// Reports, where that is wanted, what is wrong with the file of this name, which is about to be opened for a
+    /// library. It has to be that of the side which the configuration names by this label, and whose lines in a check
+    /// begin with this word. No file is changed.
     fn report_side(&self, word: &[u8], label: &[u8], name: &str);
 
     /// Closes the file of this name, and takes `disk`, the disk over the file, as it is.

@@ -58,10 +58,10 @@ fn second_to_read<D: Disk, F: ReadFiles<D>>(files: &F, name: &str) -> Option<D>
     }
 }
 
-/// Returns the lines of `vtl check` for the file of this name and its second file. The second file has the same name with
-/// `.2` added, and may be missing. If `blocks` is true, each block of a cartridge is read to its end, which is reported
-/// to `files`. No file is made or changed. Errors: `Device` where a file is not opened, or a disk fails; `NoMemory` where
-/// memory runs out.
+/// Returns the lines of `vtl check` for the file of this name and its second file. The second file has the same name
+/// with `.2` added, and may be missing. If `blocks` is true, each block of a cartridge is read to its end, which is
+/// reported to `files`. No file is made or changed. Errors: `Device` where a file is not opened, or a disk fails;
+/// `NoMemory` where memory runs out.
 pub fn lines_of<D: Disk, F: ReadFiles<D> + ReportsRead>(
     alloc: Global,
     files: &F,

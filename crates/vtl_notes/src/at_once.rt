@@ -5,8 +5,8 @@ use file_reasons::{Answer, FileCall};
 use std::alloc::{AllocError, Global};
 use std::io::Write;
 
-/// Writes lines to standard error at once, each whole by one write, from any thread. A line is left out where memory runs
-/// out for it; an error while it is written is ignored.
+/// Writes lines to standard error at once, each whole by one write, from any thread. A line is left out where memory
+/// runs out for it; an error while it is written is ignored.
 #[derive(Clone, Copy)]
 pub struct AtOnce<'a> {
     rt: &'a HostRuntime,
@@ -56,8 +56,8 @@ pub struct FileLines<'a> {
 }
 
 impl<'a> FileLines<'a> {
-    /// Writes a line that says which call for the file failed, at which byte of it, and what the system answered. `at` is
-    /// None where the call is for no byte.
+    /// Writes a line that says which call for the file failed, at which byte of it, and what the system answered. `at`
+    /// is None where the call is for no byte.
     pub fn say_failed(&self, failed: FailedCall, at: Option<u64>) {
         let alloc = self.at_once.rt.alloc();
         if let Ok(text) = failed_text(alloc, self.name.as_str(), failed, at) {

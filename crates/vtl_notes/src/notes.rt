@@ -265,8 +265,8 @@ impl Notes {
         }
     }
 
-    // Adds the lines of each file that was not opened or made, and of the first call that failed for a stream or for the
-    // configuration. Returns true where lines were added.
+    // Adds the lines of each file that was not opened or made, and of the first call that failed for a stream or for
+    // the configuration. Returns true where lines were added.
     fn add_refused(&self, alloc: Global, lines: &mut Explanation) -> Result<bool, AllocError> {
         let refused = self.refused_files.take().unwrap_or(Vec::new(alloc));
         for reason in refused.as_slice() {
@@ -281,9 +281,9 @@ impl Notes {
         }
     }
 
-    /// Adds the lines that explain each call that failed for a file that was to be opened or made, and the first one for
-    /// a stream or the configuration. If no such call is noted, adds lines for each file for which a call failed while
-    /// the file was open; they explain the first such call. Returns true where lines were added.
+    /// Adds the lines that explain each call that failed for a file that was to be opened or made, and the first one
+    /// for a stream or the configuration. If no such call is noted, adds lines for each file for which a call failed
+    /// while the file was open; they explain the first such call. Returns true where lines were added.
     pub fn add_failed(&self, alloc: Global, lines: &mut Explanation) -> Result<bool, AllocError> {
         if self.add_refused(alloc, lines)? {
             return Ok(true);

@@ -1,4 +1,5 @@
-//! Reports how much a reclaim has written, or how much a check has read: a line on standard error for each GiB, if standard error is a terminal.
+//! Reports how much a reclaim has written, or how much a check has read: a line on standard error for each GiB, if
+//! standard error is a terminal.
 ghost use Rattle.std.specs.Prelude.{◌≡◌, IfOk};
 ghost use Rattle.vtl_notes.specs.Progress.{full_gib, gib_line, gib_read_line};
 

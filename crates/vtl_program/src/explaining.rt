@@ -37,8 +37,8 @@ pub fn asks(words: &Result<Vec<String>, VtlFault>) -> bool
     }
 }
 
-/// Whether what is found is to be reported at once. True where the words ask for an explanation, and are an order to run a
-/// script or to serve frames.
+/// Whether what is found is to be reported at once. True where the words ask for an explanation, and are an order to
+/// run a script or to serve frames.
 pub fn asks_at_once(alloc: Global, words: &Result<Vec<String>, VtlFault>) -> bool {
     match words {
         Ok(words) if asks_to_explain(words.as_slice()) => matches!(

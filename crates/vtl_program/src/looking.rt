@@ -48,8 +48,9 @@ fn first_line(lines: &[u8]) -> &str {
     }
 }
 
-/// Returns the text of the line that says what is wrong with the file `path`, of which a check gives these lines. It has
-/// to be that of the side which the configuration names by this word and this label. None where nothing is wrong with it.
+/// Returns the text of the line that says what is wrong with the file `path`, of which a check gives these lines. It
+/// has to be that of the side which the configuration names by this word and this label. None where nothing is wrong
+/// with it.
 pub fn wrong_text(
     alloc: Global,
     word: &[u8],
@@ -96,8 +97,9 @@ fn report_behind(
     Ok(())
 }
 
-/// Looks at the file of this name, and its second file, and reports at once what is wrong with them, as `wrong_text` says
-/// it, and that frames stand behind the end of one of them. Nothing is reported of files that cannot be read: whoever opens them then finds that. No file is changed.
+/// Looks at the file of this name, and its second file, and reports at once what is wrong with them, as `wrong_text`
+/// says it, and that frames stand behind the end of one of them. Nothing is reported of files that cannot be read:
+/// whoever opens them then finds that. No file is changed.
 pub fn report_side(rt: &HostRuntime, at_once: AtOnce<'_>, word: &[u8], label: &[u8], path: &str) {
     if !at_once.is_on() {
         return;

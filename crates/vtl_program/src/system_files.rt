@@ -35,8 +35,8 @@ pub struct SystemFiles<'a> {
 pub type SystemDisk<'a> = Watched<'a, NotedDisk<'a, FileDisk>, GibLines<'a>>;
 
 impl<'a> SystemFiles<'a> {
-    // A disk over `disk`, for the file with this name and number. Its writes are reported, and its first call that fails
-    // is noted.
+    // A disk over `disk`, for the file with this name and number. Its writes are reported, and its first call that
+    // fails is noted.
     fn watched(&self, name: &str, number: u64, disk: FileDisk) -> SystemDisk<'a>
         ensures { result.disk.disk ≡ disk }
     {

@@ -41,11 +41,12 @@ library_command name = with_rule (with_rule (with_rule (new_app name) memory_fla
 abbrev pub create_command : App
 create_command = with_rule (with_rule (new_app (codes "create")) config_required) explain_flag
 
--- `check [FILE] [--config FILE] [--data] [--explain]`; which of the two files stand there is looked at behind the parser
--- (own)
+-- `check [FILE] [--config FILE] [--data] [--explain]`; which of the two files stand there is looked at behind the
+-- parser (own)
 abbrev pub check_command : App
 check_command =
-    with_rule (with_rule (with_rule (with_rule (new_app (codes "check")) file_word) config_option) data_flag) explain_flag
+    with_rule (with_rule (with_rule (with_rule (new_app (codes "check")) file_word) config_option) data_flag)
+    explain_flag
 
 -- `reclaim --config FILE BARCODE [--explain]` (own)
 abbrev pub reclaim_command : App

@@ -29,9 +29,9 @@ loop-entry-preserved g c =
     let entry = c.in-Some.entry in (
       one_more into_iter_items _ at.yielded entry at.entry-iterator c.next.new.self at.invariant.0
           c.in-Some.ensures.steps.0,
-      rw c.first_of.ensures
-          (checks_more g.D.Disk.state g.F.ReadFiles.opens_to_read g.F.ReadFiles.closes CartridgeFile at.yielded entry _ _ _
-          at.first (Ok c.in-Ok.next) at.invariant.1 c.in-Ok.ensures),
+      rw c.first_of-first.ensures
+          (checks_more g.D.Disk.state g.F.ReadFiles.opens_to_read g.F.ReadFiles.closes CartridgeFile at.yielded entry _
+          _ _ at.first (Ok c.in-Ok.next) at.invariant.1 c.in-Ok.ensures),
       let was = at.invariant.2 in
           let gone = c.in-Some.ensures.steps.1 in
           let short = ap length c.in-Some.ensures.steps.0 in
