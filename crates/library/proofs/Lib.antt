@@ -1,10 +1,12 @@
 mod CountLemmas
 mod EndLemmas
+mod EntryLemmas
 mod HalfLemmas
 mod LoopLemmas
 mod OutcomeLemmas
 mod RowLemmas
 mod SaveLemmas
+mod SeatLemmas
 mod SeenLemmas
 mod ServedLemmas
 pub mod SessionLemmas

@@ -109,6 +109,38 @@ fn move_to<D: Disk + Drop, B: Parties + Rings, R: Wait>(
     }
 }
 
+// As `move_known`, where each of the two drives may be a locked one.
+fn move_between<D: Disk + Drop, B: Parties + Rings, R: Wait>(
+    source: Option<LockedBay<'_, D, B>>,
+    destination: Option<LockedBay<'_, D, B>>,
+    rt: &R,
+    alloc: Global,
+    slots: &mut Slots<Parked<D>>,
+    from: u32,
+    to: u32,
+) -> Reply
+    requires source { IfSome source (λ drive. IsDriveAddress from) }
+    requires destination { IfSome destination (λ drive. IsDriveAddress to × (from ≢ to)) }
+    ensures { (bay end bay' end' : Option (BayState D)) × (is_some bay ≡ is_some source.entry)
+        × (is_some end ≡ is_some destination.entry)
+        × MovesEach D.state from to slots.old bay end result slots.new bay' end' }
+{
+    match source {
+        Some(
+            LockedBay {
+                mut front,
+                mut back,
+            },
+        ) => front.move_out(&mut back, destination, rt, alloc, slots, from, to),
+        None => {
+            let mut none = None;
+            let reply = move_to(&mut none, destination, rt, alloc, slots, from, to);
+            drop(none);
+            reply
+        }
+    }
+}
+
 /// Moves a cartridge from the element address `from` to `to`, for `mover`, and returns the reply to that. `source` and
 /// `destination` are the drives there, with their locks held, or None where there is no drive. A drive at both addresses
 /// is passed as the source alone. The move is entered first, whatever its reply is. No other call moves a cartridge.
@@ -131,21 +163,7 @@ pub(crate) fn move_locked<D: Disk + Drop, B: Parties + Rings, H: Parties, R: Wai
     ensures mover { mover.new ≡ M.moved_once mover.old }
 {
     mover.enter_move(rt, &mut slots.book);
-    let slots = &mut slots.slots;
-    match source {
-        Some(
-            LockedBay {
-                mut front,
-                mut back,
-            },
-        ) => front.move_out(&mut back, destination, rt, alloc, slots, from, to),
-        None => {
-            let mut none = None;
-            let reply = move_to(&mut none, destination, rt, alloc, slots, from, to);
-            drop(none);
-            reply
-        }
-    }
+    move_between(source, destination, rt, alloc, &mut slots.slots, from, to)
 }
 
 impl<D: Disk + Drop, B: Parties + Rings> FrontPlace<D, B> {

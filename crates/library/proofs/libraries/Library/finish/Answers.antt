@@ -107,7 +107,7 @@ returns-clause-sums g c =
 
 pub returns-clause-left : goal.returns-clause-left
 returns-clause-left g c =
-    subst (λ (l : List (Option (BayState g.row.D.Denot))). AreLeft g.D.Disk.state c.into_inner-slots.result l)
+    subst (λ (l : List (Option (BayState g.row.D.Denot))). AreLeft g.D.Disk.state c.into_slots-slots.result l)
     (sym c.into_places.ensures.row)
     (record {
       shelved = c.known_slots.ensures;

@@ -20,4 +20,4 @@ returns-clause-drives g c = λ number less.
     c.loop-place.invariant.so number (omega (arith, less, c.loop-place-test.false))
 
 pub returns-clause-slots : goal.returns-clause-slots
-returns-clause-slots g c = λ place less. slot_there _ _ (c.seen_in_slots.ensures place less)
+returns-clause-slots g c = λ place less. slot_there _ _ (c.seen.ensures place less)
