@@ -28,3 +28,6 @@ invariant_of-library g c =
 
 pub returns-clause-drives : goal.returns-clause-drives
 returns-clause-drives g c = c.share_all-shared.ensures.drives ∙ ap which_are_there c.of-row.ensures
+
+pub returns-clause-operator : goal.returns-clause-operator
+returns-clause-operator g c = c.of.ensures ∙ c.open-tally.ensures.moves.1
