@@ -102,27 +102,21 @@ class Mounted:
         else:
             os.remove(name)
 
-    @staticmethod
-    def until(words, is_done):
-        for _ in range(100):
-            if is_done():
-                break
-            subprocess.run(words, capture_output=True)
-            time.sleep(0.05)
-
     def gone(self):
         with contextlib.suppress(FileNotFoundError):
             self.refuses(False)
-        # each step may have to wait for what the one before it leaves to the system
-        self.until(["umount", self.place], lambda: not os.path.ismount(self.place))
+        for _ in range(100):
+            if not os.path.ismount(self.place):
+                break
+            subprocess.run(["umount", self.place], capture_output=True)
         if self.loop:
             subprocess.run(["losetup", "-d", self.loop], capture_output=True)
-        self.until(["fusermount3", "-u", os.path.join(self.room, "device")],
-                   lambda: not self.device or self.device.poll() is not None)
-        if self.device and self.device.poll() is None:
+        if self.device:
             self.device.kill()
             self.device.wait()
-            subprocess.run(["umount", "-l", os.path.join(self.room, "device")], capture_output=True)
+        # lazily: the loop device may be let go of later
+        for place in (self.place, os.path.join(self.room, "device")):
+            subprocess.run(["umount", "-l", place], capture_output=True)
         shutil.rmtree(self.room, ignore_errors=True)
 
 
