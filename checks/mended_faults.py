@@ -21,6 +21,7 @@ import subprocess
 import sys
 import tempfile
 import time
+import uuid
 
 TOP = os.path.dirname(os.path.dirname(os.path.abspath(__file__)))
 PROVED = os.path.join(TOP, "crates", "vtl", "out", "vtl")
@@ -71,7 +72,7 @@ class Mounted:
         os.mkdir(os.path.join(self.room, "device"))
 
     def made(self):
-        identity = "11111111-2222-4333-8444-555555555555"
+        identity = str(uuid.uuid4())
         let = [identity.replace("-", "")] if self.system == "btrfs" else []
         self.device = subprocess.Popen([self.python, DEVICE, self.room, str(self.size * MEBI), *let])
         disk = os.path.join(self.room, "device", "disk")
@@ -102,27 +103,21 @@ class Mounted:
         else:
             os.remove(name)
 
-    @staticmethod
-    def until(words, is_done):
-        for _ in range(100):
-            if is_done():
-                break
-            subprocess.run(words, capture_output=True)
-            time.sleep(0.05)
-
     def gone(self):
         with contextlib.suppress(FileNotFoundError):
             self.refuses(False)
-        # each step may have to wait for what the one before it leaves to the system
-        self.until(["umount", self.place], lambda: not os.path.ismount(self.place))
+        for _ in range(100):
+            if not os.path.ismount(self.place):
+                break
+            subprocess.run(["umount", self.place], capture_output=True)
         if self.loop:
             subprocess.run(["losetup", "-d", self.loop], capture_output=True)
-        self.until(["fusermount3", "-u", os.path.join(self.room, "device")],
-                   lambda: not self.device or self.device.poll() is not None)
-        if self.device and self.device.poll() is None:
+        if self.device:
             self.device.kill()
             self.device.wait()
-            subprocess.run(["umount", "-l", os.path.join(self.room, "device")], capture_output=True)
+        # lazily: the loop device may be let go of later
+        for place in (self.place, os.path.join(self.room, "device")):
+            subprocess.run(["umount", "-l", place], capture_output=True)
         shutil.rmtree(self.room, ignore_errors=True)
 
 
@@ -204,6 +199,9 @@ class Cartridge:
         run.end()
         return found
 
+    def told(self):
+        return [f"{block.hex()[:16]}{'' if acknowledged else '?'}" for block, acknowledged in self.saves]
+
     def is_there(self, found):
         """Whether each acknowledged save is found, and behind it nothing but what may be: of one that was not
         acknowledged nothing, its block, or both."""
@@ -267,6 +265,9 @@ class Store:
         data = bytes.fromhex(answer[1])
         return [data[at:at + 8] for at in range(8, len(data), 8)]
 
+    def told(self):
+        return [" or ".join(sorted(key.hex() for key in self.keys[host])) for host in sorted(self.keys)]
+
     def is_there(self, found):
         """Whether each host has a key that it may have."""
         return found is not None and len(found) == len(self.keys) and all(
@@ -289,7 +290,14 @@ def one_run(python, program, name, kind, chance):
         acknowledged = work.work(mounted.refuses)
         mounted.unmount()
         mounted.mount()
-        return work.is_there(work.read()), acknowledged
+        found = work.read()
+        is_there = work.is_there(found)
+        if not is_there:
+            checks = [subprocess.run([program, "check", file], cwd=folder, capture_output=True).stdout
+                      for file in ("t1.tape", "drive1.pr")]
+            print(f"{name}: saved {work.told()}, found {found and [it and it.hex()[:16] for it in found]}, check says "
+                  f"{checks}", flush=True)
+        return is_there, acknowledged
     finally:
         mounted.gone()
 
