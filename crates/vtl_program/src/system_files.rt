@@ -1,14 +1,16 @@
 //! The files of the operating system. The calls for them are noted.
 ghost use Rattle.std.specs.Prelude.{◌≡◌};
 
-use bay_moves::Held;
 use crate::at_once::{say_no_second, say_unlocked};
+use bay_moves::Held;
 use file_disk::{FileDisk, FileError, FileLook};
 use file_reasons::FileCall;
 use std::{fs, io};
 use tape_disk::Disk;
 use vtl_config::{FileName, UsedName};
-use vtl_files::files::{ChangeFiles, LookFiles, MakeFiles, ReadFiles, SecondFiles, TakesBack, TextFiles};
+use vtl_files::files::{
+    ChangeFiles, LookFiles, MakeFiles, ReadFiles, SecondFiles, TakesBack, TextFiles,
+};
 use vtl_notes::notes::Notes;
 use vtl_notes::open_files::NotedDisk;
 use vtl_notes::progress::GibLines;
@@ -135,7 +137,8 @@ impl<'a> LookFiles for SystemFiles<'a> {
 
     fn is_paired(&self, name: &str) -> Result<bool, FileError> {
         let found = file_disk::has_open_pair(self.rt, name);
-        self.notes.open(self.rt.alloc(), name, FileCall::Look, &found);
+        self.notes
+            .open(self.rt.alloc(), name, FileCall::Look, &found);
         found
     }
 }

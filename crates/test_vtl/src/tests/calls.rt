@@ -115,9 +115,11 @@ const RUN: &str = "vtl run --config c";
 
 const THREE: &str = "read c;open t;pair t;second t.2;open u;pair u;second u.2;open 1;give up;";
 
-const FOUR: &str = "read c;open t;pair t;second t.2;open u;pair u;second u.2;open 1;open 2;give up;";
+const FOUR: &str =
+    "read c;open t;pair t;second t.2;open u;pair u;second u.2;open 1;open 2;give up;";
 
-const ALL: &str = "read c;open t;pair t;second t.2;open u;pair u;second u.2;open 1;open 2;close all;";
+const ALL: &str =
+    "read c;open t;pair t;second t.2;open u;pair u;second u.2;open 1;open 2;close all;";
 
 static RUNS: &'static [Row<'static>] = &[
     (Failing::Nothing, RUN, ALL, "", DONE),
@@ -191,7 +193,13 @@ static RUNS: &'static [Row<'static>] = &[
     // A name with a NUL.
     (Failing::Nul, RUN, "read c;", "", FAILED),
     (Failing::Nul, "vtl serve --config c", "read c;", "", FAILED),
-    (Failing::Nul, "vtl run --memory --config c", "read c;", "", DONE),
+    (
+        Failing::Nul,
+        "vtl run --memory --config c",
+        "read c;",
+        "",
+        DONE,
+    ),
 ];
 
 #[test]

@@ -1,4 +1,4 @@
-use Rattle.std.proofs.Common.{◌≡◌, Ok, Err, refl}
+use Rattle.std.proofs.Common.{◌≡◌, true, false, Ok, Err, refl}
 use Rattle.std.proofs.lemmas.Result.{err_from_is_err_and}
 use Rattle.vtl_power_on.specs.Sides.{file_sides, memory_state}
 use Rattle.vtl_faults.specs.declared.faults.VtlFault.{VtlFault}
