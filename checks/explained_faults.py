@@ -46,6 +46,8 @@ def in_order():
     said = [("read", "the file lib.toml")] * 3
     for name in (FIRST, SECOND, STORE):
         file = f"the file {FILES[name]}"
+        # both names of a cartridge are looked at before
+        said += [("look at", it) for it in (file, file + BESIDE) if name != STORE]
         said += [(call, file) for call in MADE]
         if name != STORE:
             said += [(call, file + BESIDE) for call in ("look at", *MADE)]

@@ -40,14 +40,20 @@ impl fmt::Display for PairReason {
         match self.fault {
             PairFault::NoFirst(bytes) => {
                 let bytes = Size(bytes);
-                write!(f, "a new first file beside the second file {file}, which has {bytes}")
+                write!(
+                    f,
+                    "a new first file beside the second file {file}, which has {bytes}"
+                )
             }
             PairFault::Link => write!(f, "a copy over the second file {file}, which is a link"),
             PairFault::Foreign(bytes) => {
                 let bytes = Size(bytes);
                 write!(f, "a copy over the second file {file}, which has {bytes}")
             }
-            PairFault::NoSecond => write!(f, "the second file {file}, which is missing or has no byte"),
+            PairFault::NoSecond => write!(
+                f,
+                "the second file {file}, which is missing or has no byte"
+            ),
         }
     }
 }
@@ -57,10 +63,12 @@ fn allowed(fault: PairFault) -> &'static str
     ensures { result.now ≡ pair_allowed fault }
 {
     match fault {
-        PairFault::NoFirst(_) => "allowed: beside a new first file a second one that is missing or has no byte",
+        PairFault::NoFirst(_) =>
+            "allowed: beside a new first file a second one that is missing or has no byte",
         PairFault::Link | PairFault::Foreign(_) =>
             "allowed: behind a closed pair gate a second file of 10 bytes at most, which is no link",
-        PairFault::NoSecond => "allowed: behind an open pair gate the second file that a reclaim left",
+        PairFault::NoSecond =>
+            "allowed: behind an open pair gate the second file that a reclaim left",
     }
 }
 
@@ -73,7 +81,8 @@ fn fix(fault: PairFault) -> &'static str
             "to do: put the first file back from where it was saved; or remove the second one, with what it holds",
         PairFault::Link | PairFault::Foreign(_) =>
             "to do: put both files back from where they were saved; or move this one away, if it is not the cartridge's",
-        PairFault::NoSecond => "to do: put it back from where it was saved, together with the first one",
+        PairFault::NoSecond =>
+            "to do: put it back from where it was saved, together with the first one",
     }
 }
 

@@ -1,5 +1,5 @@
 //! What a look at a name finds, and who may read and write a file that was made.
-use crate::steps::{Folder, new_folder, named, taken_away};
+use crate::steps::{Folder, named, new_folder, taken_away};
 use file_disk::{FileError, FileLook, create, has_open_pair, look};
 use std::fs;
 use std::os::unix::fs::{MetadataExt, symlink};
@@ -46,7 +46,13 @@ fn of_gates(abort: &impl Abort, rt: &HostRuntime, folder: &Folder) -> Result<(),
     assert_equal!(abort; has_open_pair(rt, path), Err(FileError::Missing));
     assert_equal!(abort; has_open_pair(rt, &folder.name), Err(FileError::NotAFile));
     pair(abort, rt, path, b"", false)?;
-    pair(abort, rt, path, b"\xa5\xa5\xa5\xa5\xa5\xa5\xa5\xa5\xa5", false)?;
+    pair(
+        abort,
+        rt,
+        path,
+        b"\xa5\xa5\xa5\xa5\xa5\xa5\xa5\xa5\xa5",
+        false,
+    )?;
     pair(abort, rt, path, b"\0VTLCART1\xa5", true)?;
     pair(abort, rt, path, b"\0VTLCART1\xa4\xa5", false)?;
     pair(abort, rt, path, b"\xa5VTLCART1\xa5\x01", true)?;

@@ -30,8 +30,7 @@ impl PairNote {
     /// may not write over it. If memory runs out, nothing is noted.
     pub fn look(&self, alloc: Global, file: &str, answer: &Result<FileLook, FileError>) {
         let was_lost = self.is_lost.take();
-        self.is_lost
-            .set(matches!(answer, Err(FileError::Missing)));
+        self.is_lost.set(matches!(answer, Err(FileError::Missing)));
         let fault = match answer {
             Ok(found) => fault_of(was_lost, *found),
             Err(_) => None,
