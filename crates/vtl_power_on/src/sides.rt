@@ -98,7 +98,11 @@ fn opened<D: Disk>(alloc: Global, disk: D) -> Result<DriveStore<D>, NoStore<D>>
 // Reports what is wrong with the file of a cartridge that the start loads. One in a slot is not read at a start.
 fn report_loaded<D, F: ChangeFiles<D>>(files: &F, entry: &CartridgeEntry) {
     if let Address::Drive(_) = entry.home {
-        files.report_side(CARTRIDGE_WORD, entry.barcode.as_bytes(), entry.file.as_str());
+        files.report_side(
+            CARTRIDGE_WORD,
+            entry.barcode.as_bytes(),
+            entry.file.as_str(),
+        );
     }
 }
 
