@@ -165,7 +165,6 @@ module _ {D : Type 0} (state : D → DiskState) (opens : List ℕ → Result D F
 
   -- what is written of one file
   module _ (word label path : List ℕ) (name : List ℕ) (named : name ≡ name_line label path) where
-
     -- its name is not out
     pub part_of_name : (fault : VtlFault) (before now : Option (List ℕ)) → fault ≡ Device
         → AppendsPart before now name → ChecksNamed state opens closes word label path before now (Err fault)

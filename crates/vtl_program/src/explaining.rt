@@ -21,7 +21,9 @@ use vtl_base::Barcode;
 use vtl_config::{Config, ConfigError, read_config};
 use vtl_faults::endings::Ended;
 use vtl_faults::faults::VtlFault;
-use vtl_files::files::{ChangeFiles, LookFiles, MakeFiles, ReadFiles, SecondFiles, TakesBack, TextFiles};
+use vtl_files::files::{
+    ChangeFiles, LookFiles, MakeFiles, ReadFiles, SecondFiles, TakesBack, TextFiles,
+};
 use vtl_notes::notes::Notes;
 use vtl_power_on::starting::NotStarted;
 use vtl_script::write_text;

@@ -18,7 +18,9 @@ use vtl_faults::faults::{Verdict, VtlFault};
 use vtl_files::config_checks::check_config;
 use vtl_files::configs::{config_in, config_to_open};
 use vtl_files::creating::create_missing;
-use vtl_files::files::{ChangeFiles, LookFiles, MakeFiles, ReadFiles, SecondFiles, TakesBack, TextFiles};
+use vtl_files::files::{
+    ChangeFiles, LookFiles, MakeFiles, ReadFiles, SecondFiles, TakesBack, TextFiles,
+};
 use vtl_files::reclaiming::reclaim_named;
 use vtl_files::side_checks::check_named;
 use vtl_files::writing::print_text;
@@ -57,7 +59,11 @@ fn check_order<D: Disk, F: TextFiles + ReadFiles<D> + ReportsRead, W: Write>(
 }
 
 // Reclaims the cartridge that has this barcode in the configuration in the file `name`.
-fn reclaim_order<D: Disk + Drop, F: TextFiles + LookFiles + ChangeFiles<D> + SecondFiles<D>, W: Write>(
+fn reclaim_order<
+    D: Disk + Drop,
+    F: TextFiles + LookFiles + ChangeFiles<D> + SecondFiles<D>,
+    W: Write,
+>(
     alloc: Global,
     files: &F,
     name: &str,

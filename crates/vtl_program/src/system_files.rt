@@ -10,7 +10,9 @@ use file_reasons::FileCall;
 use std::{fs, io};
 use tape_disk::Disk;
 use vtl_config::{FileName, UsedName};
-use vtl_files::files::{ChangeFiles, LookFiles, MakeFiles, ReadFiles, SecondFiles, TakesBack, TextFiles};
+use vtl_files::files::{
+    ChangeFiles, LookFiles, MakeFiles, ReadFiles, SecondFiles, TakesBack, TextFiles,
+};
 use vtl_notes::at_once::AtOnce;
 use vtl_notes::notes::Notes;
 use vtl_notes::open_files::NotedDisk;
@@ -147,7 +149,8 @@ impl<'a> LookFiles for SystemFiles<'a> {
 
     fn is_paired(&self, name: &str) -> Result<bool, FileError> {
         let found = file_disk::has_open_pair(self.rt, name);
-        self.notes.open(self.rt.alloc(), name, FileCall::Look, &found);
+        self.notes
+            .open(self.rt.alloc(), name, FileCall::Look, &found);
         found
     }
 }

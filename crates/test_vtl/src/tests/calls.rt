@@ -113,7 +113,8 @@ pub fn assert_rows<R: Abort + Threads + Wait + Clock + Sync>(
 
 const RUN: &str = "vtl run --config c";
 
-const THREE: &str = "read c;report t;open t;pair t;second t.2;report u;open u;pair u;second u.2;report 1;open 1;give up;";
+const THREE: &str =
+    "read c;report t;open t;pair t;second t.2;report u;open u;pair u;second u.2;report 1;open 1;give up;";
 
 const FOUR: &str = "read c;report t;open t;pair t;second t.2;report u;open u;pair u;second u.2;\
     report 1;open 1;report 2;open 2;give up;";
@@ -194,7 +195,13 @@ static RUNS: &'static [Row<'static>] = &[
     // A name with a NUL.
     (Failing::Nul, RUN, "read c;", "", FAILED),
     (Failing::Nul, "vtl serve --config c", "read c;", "", FAILED),
-    (Failing::Nul, "vtl run --memory --config c", "read c;", "", DONE),
+    (
+        Failing::Nul,
+        "vtl run --memory --config c",
+        "read c;",
+        "",
+        DONE,
+    ),
 ];
 
 #[test]

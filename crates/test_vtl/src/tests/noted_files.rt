@@ -7,7 +7,9 @@ use std::cell::{Cell, RefCell};
 use std::io::{self, ErrorKind};
 use tape_disk::{MemDisk, OnceDisk};
 use vtl_config::{FileName, UsedName};
-use vtl_files::files::{ChangeFiles, LookFiles, MakeFiles, ReadFiles, SecondFiles, TakesBack, TextFiles};
+use vtl_files::files::{
+    ChangeFiles, LookFiles, MakeFiles, ReadFiles, SecondFiles, TakesBack, TextFiles,
+};
 use vtl_power_on::starting::NotStarted;
 
 /// An opening that failed.

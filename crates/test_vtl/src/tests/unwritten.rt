@@ -7,7 +7,8 @@ const CREATE: &str = "vtl create --config c";
 
 const ONE: &str = "read c;see t;see t.2;make t;second t.2;leave t;back t.2;";
 
-const TWO: &str = "read c;see t;see t.2;make t;second t.2;leave t;back t.2;see u;see u.2;make u;second u.2;leave u;back u.2;";
+const TWO: &str =
+    "read c;see t;see t.2;make t;second t.2;leave t;back t.2;see u;see u.2;make u;second u.2;leave u;back u.2;";
 
 const FIRST: &str = "created T00001L6\n";
 

@@ -8,7 +8,7 @@ pub returns-in-Ok-Some : goal.returns-in-Ok-Some
 returns-in-Ok-Some g c =
     let named = c.as_str.ensures ∙ c.open-name.ensures.used in
     let seen : MayOpen g.F.LookFiles.looks g.F.LookFiles.pairs c.args.entry.file c.args.entry.second_file
-        c.in-Ok-Some.is_paired =
+    c.in-Ok-Some.is_paired =
     rw (named, c.in-Ok-Some.field-0-is) at c.in-Ok-Some.ensures.ok in
     inl (
       c.in-Ok.first,
