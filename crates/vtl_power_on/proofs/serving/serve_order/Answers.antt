@@ -49,6 +49,8 @@ returns-in_err-config-2 g c =
 
 pub returns : goal.returns
 returns g c =
-    rw (c.if-memory.false, c.in-Some.is)
-    (Ok c.in_ok-config-2.config, rw c.as_str-else-memory.ensures.value at c.in_ok-config-2.ensures,
-    c.serve_config-else-memory.ensures)
+    rw (c.if-memory.false, c.in-Some.is) (
+      Ok c.in_ok-config-2.config,
+      rw c.as_str-else-memory.ensures.value at c.in_ok-config-2.ensures,
+      c.serve_config-else-memory.ensures,
+    )
