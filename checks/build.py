@@ -33,7 +33,8 @@ def below(name, named, seen=()):
 def size(name):
     """The bytes of a crate's sources, definitions and proofs: about what its proof takes."""
     parts = [os.path.join(TOP, "crates", name, part) for part in ("src", "specs", "proofs")]
-    return sum(os.path.getsize(os.path.join(at, it)) for part in parts for at, _, files in os.walk(part) for it in files)
+    found = [os.path.join(at, it) for part in parts for at, _, files in os.walk(part) for it in files]
+    return sum(os.path.getsize(it) for it in found)
 
 
 def chains(names, named):
@@ -53,7 +54,8 @@ def built(name):
     """None once the library is built, or what `rt lib` printed where it was refused."""
     with tempfile.TemporaryFile("w+", errors="replace") as said:
         folder = os.path.join(TOP, "crates", name)
-        if subprocess.run(["rt", "lib"], cwd=folder, stdin=subprocess.DEVNULL, stdout=said, stderr=said).returncode == 0:
+        done = subprocess.run(["rt", "lib"], cwd=folder, stdin=subprocess.DEVNULL, stdout=said, stderr=said)
+        if done.returncode == 0:
             return None
         said.seek(0)
         return said.read()

@@ -55,8 +55,8 @@ class Run:
 
 
 class Step:
-    """What is done, or looked at, between runs: a file with its bytes, a folder, a link with what it leads to, something
-    that is removed or gone."""
+    """What is done, or looked at, between runs: a file with its bytes, a folder, a link with what it leads to,
+    something that is removed or gone."""
 
     def __init__(self, number, kind, name):
         self.number, self.kind, self.name, self.content = number, kind, name, b""

@@ -238,7 +238,8 @@ class Walk(Folder):
                 self.folder[at] = sides.Side("cartridge" if what == "cartridge" else "store", shown, content)
                 self.see(f"create | created: a {self.folder[at].kind}")
                 if what == "cartridge":
-                    self.see("create | a second file is " + ("there, of no byte" if at + b".2" in self.folder else "made"))
+                    found = "there, of no byte" if at + b".2" in self.folder else "made"
+                    self.see("create | a second file is " + found)
                     self.folder.setdefault(at + b".2", b"")
                 lines.append(f"created {shown}")
             if failed:

@@ -80,7 +80,7 @@ fn fix(fault: PairFault) -> &'static str
         PairFault::NoFirst(_) =>
             "to do: put the first file back from where it was saved; or remove the second one, with what it holds",
         PairFault::Link | PairFault::Foreign(_) =>
-            "to do: put both files back from where they were saved; or move this one away, if it is not the cartridge's",
+            "to do: put both files back from where they were saved; or move this one away, if it is another's",
         PairFault::NoSecond =>
             "to do: put it back from where it was saved, together with the first one",
     }

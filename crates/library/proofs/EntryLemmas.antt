@@ -28,7 +28,7 @@ not_decoded cdb sense is changing = decoded_change cdb (Err sense) is changing
 -- neither an acknowledgement nor a write error comes with a change
 pub refused_none : (cdb : List ℕ) (reply : Reply) → (Acknowledges reply → ⊥) → (ShowsWriteError reply → ⊥)
     → ShowsNone cdb reply
-refused_none cdb reply no fine = λ changes shown. shown.none (λ changing acknowledged. no acknowledged) fine
+refused_none cdb reply refused fine = λ changes shown. shown.none (λ changing acknowledged. refused acknowledged) fine
 
 -- nor does a command that does not change the medium
 pub unchanging_none : (cdb : List ℕ) (reply : Reply) → (IsChanging cdb → ⊥) → ShowsNone cdb reply

@@ -117,7 +117,8 @@ module _ {D : Type 0} (state : D → DiskState) where
       → ((old new : BayState D)
       → (step : Answers (state_of state) (buffer_below state) store_kept (store_below state) old request reply new)
       → ShowsChanges request.cdb reply step.taken.made.changes)
-      → low ≡ front.drive.accepted → high ≡ front'.drive.accepted → CanEnter low request.cdb reply → held ≡ front.drive.accepted
+      → low ≡ front.drive.accepted → high ≡ front'.drive.accepted → CanEnter low request.cdb reply → held ≡
+      front.drive.accepted
       → (low ≡ high → held' ≡ held) → (low ≢ high → held' ≡ held + 1) → held' ≡ front'.drive.accepted
   halves_share front front' back back' request reply left low high held held' both law was is below stood same risen =
       let step = both.answers.step.step in

@@ -22,5 +22,6 @@ module _ {D : Type 0} (opens : List ℕ → Result D FileError → Type 0) (pair
       × (((error : FileError) × opens file (Err error))
       ⊎ ((first : D) × opens file (Ok first)
       × ((((error : FileError) × pairs file (Err error))
-      ⊎ ((paired : Bool) × pairs file (Ok paired) × ((error : FileError) × opens_second paired second_file (Err error))))
+      ⊎ ((paired : Bool) × pairs file (Ok paired) × ((error : FileError) × opens_second paired second_file (Err
+      error))))
       × returns_disk file first)))

@@ -168,8 +168,8 @@ pub fn serve_order<
     reader: &mut I,
     writer: &mut W,
 ) -> Result<(), VtlFault>
-    ensures { ServesOrder D.state F.reads (file_sides D.state F.pairs F.opens F.opens_second F.returns_disk) F.closes_all
-        F.gives_up memory (option_map string_bytes config)
+    ensures { ServesOrder D.state F.reads (file_sides D.state F.pairs F.opens F.opens_second F.returns_disk)
+        F.closes_all F.gives_up memory (option_map string_bytes config)
         (I.remaining reader.old) (I.remaining reader.new)
         (W.contents writer.old) (W.contents writer.new) result }
 {

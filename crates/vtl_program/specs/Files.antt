@@ -43,8 +43,8 @@ abbrev pub answers_of : {D : Type 0} → (List ℕ → Result (Vec ℕ Global) E
     → (opens_second : Bool → List ℕ → Result D FileError → Type 0) → (closes_second : List ℕ → D → Type 0)
     → (makes : List ℕ → Result D FileError → Type 0) → (leaves takes_away : List ℕ → D → Type 0)
     → FileAnswers D
-answers_of reads looks pairs opens_to_read closes opens returns_disk closes_all gives_up opens_second closes_second makes
-    leaves takes_away = record {
+answers_of reads looks pairs opens_to_read closes opens returns_disk closes_all gives_up opens_second closes_second
+    makes leaves takes_away = record {
       reads = reads;
       looks = looks;
       pairs = pairs;

@@ -23,6 +23,7 @@ pub record IsErrorOf (call : SystemCall) (cause : io.Error) (error : FileError) 
 -- without one, and is not locked (own).
 pub record IsLockAnswer (error : TryLockError) (result : Result Bool FileError) : Type 0 where
   pub in_use : error ≡ locks.WouldBlock → result ≡ Err InUse
-  pub no_locks : (cause : io.Error) → error ≡ locks.Error cause → error_kind cause ≡ kinds.Unsupported → result ≡ Ok false
+  pub no_locks : (cause : io.Error) → error ≡ locks.Error cause → error_kind cause ≡ kinds.Unsupported → result ≡ Ok
+      false
   pub failed : (cause : io.Error) → error ≡ locks.Error cause → error_kind cause ≢ kinds.Unsupported →
       result ≡ Err (Device (failed_by calls.Lock cause))

@@ -142,8 +142,9 @@ fn move_between<D: Disk + Drop, B: Parties + Rings, R: Wait>(
 }
 
 /// Moves a cartridge from the element address `from` to `to`, for `mover`, and returns the reply to that. `source` and
-/// `destination` are the drives there, with their locks held, or None where there is no drive. A drive at both addresses
-/// is passed as the source alone. The move is entered first, whatever its reply is. No other call moves a cartridge.
+/// `destination` are the drives there, with their locks held, or None where there is no drive. A drive at both
+/// addresses is passed as the source alone. The move is entered first, whatever its reply is. No other call moves a
+/// cartridge.
 pub(crate) fn move_locked<D: Disk + Drop, B: Parties + Rings, H: Parties, R: Wait, M: Mover<H>>(
     source: Option<LockedBay<'_, D, B>>,
     destination: Option<LockedBay<'_, D, B>>,

@@ -10,7 +10,8 @@ static MADE: &'static [Row<'static>] = &[
     (
         Failing::Nothing,
         CREATE,
-        "read c;see t;see t.2;make t;second t.2;leave t;back t.2;see u;see u.2;make u;second u.2;leave u;back u.2;make 1;leave 1;make 2;leave 2;",
+        "read c;see t;see t.2;make t;second t.2;leave t;back t.2;see u;see u.2;\
+         make u;second u.2;leave u;back u.2;make 1;leave 1;make 2;leave 2;",
         "created T00001L6\ncreated T00002L6\ncreated DRIVE1\ncreated DRIVE2\n",
         DONE,
     ),
@@ -24,7 +25,8 @@ static MADE: &'static [Row<'static>] = &[
     (
         Failing::Call(11, FileError::Exists),
         CREATE,
-        "read c;see t;see t.2;make t;second t.2;leave t;back t.2;see u;see u.2;make u;second u.2;leave u;back u.2;make 1;leave 1;make 2;",
+        "read c;see t;see t.2;make t;second t.2;leave t;back t.2;see u;see u.2;\
+         make u;second u.2;leave u;back u.2;make 1;leave 1;make 2;",
         "created T00001L6\ncreated T00002L6\ncreated DRIVE1\nkept DRIVE2\n",
         DONE,
     ),
@@ -99,7 +101,8 @@ static TAKEN_AWAY: &'static [Row<'static>] = &[
     (
         Failing::Disk("1", 1),
         CREATE,
-        "read c;see t;see t.2;make t;second t.2;leave t;back t.2;see u;see u.2;make u;second u.2;leave u;back u.2;make 1;take 1;",
+        "read c;see t;see t.2;make t;second t.2;leave t;back t.2;see u;see u.2;\
+         make u;second u.2;leave u;back u.2;make 1;take 1;",
         BOTH,
         FAILED,
     ),
@@ -127,7 +130,8 @@ static LOOKED_AT: &'static [Row<'static>] = &[
     (
         Failing::Seen("t.2", EMPTY),
         CREATE,
-        "read c;see t;see t.2;make t;second t.2;leave t;back t.2;see u;see u.2;make u;second u.2;leave u;back u.2;make 1;leave 1;make 2;leave 2;",
+        "read c;see t;see t.2;make t;second t.2;leave t;back t.2;see u;see u.2;\
+         make u;second u.2;leave u;back u.2;make 1;leave 1;make 2;leave 2;",
         "created T00001L6\ncreated T00002L6\ncreated DRIVE1\ncreated DRIVE2\n",
         DONE,
     ),

@@ -8,8 +8,8 @@ use Rattle.vtl_files.proofs.creating.make_cartridges.Goals as goal
 pub loop-entry-init : goal.loop-entry-init
 loop-entry-init g c = let files = g.F.MakeFiles in (
   refl,
-  files_none g.D.Disk.state (makes_of g.F.LookFiles.looks g.F.MakeFiles.makes g.F.MakeFiles.leaves g.F.MakeFiles.takes_away
-      g.F.SecondFiles.opens_second
+  files_none g.D.Disk.state (makes_of g.F.LookFiles.looks g.F.MakeFiles.makes g.F.MakeFiles.leaves
+      g.F.MakeFiles.takes_away g.F.SecondFiles.opens_second
       g.F.SecondFiles.closes_second) _,
   search (rules, c.into_iter-entry-iterator.ensures.into_iter_gives),
 )
@@ -18,14 +18,14 @@ pub returns-in-Err : goal.returns-in-Err
 returns-in-Err g c =
     let at = c.loop-entry in
     let entry = c.in-Some.entry in
-    files_first g.D.Disk.state (makes_of g.F.LookFiles.looks g.F.MakeFiles.makes g.F.MakeFiles.leaves g.F.MakeFiles.takes_away
-    g.F.SecondFiles.opens_second
+    files_first g.D.Disk.state (makes_of g.F.LookFiles.looks g.F.MakeFiles.makes g.F.MakeFiles.leaves
+    g.F.MakeFiles.takes_away g.F.SecondFiles.opens_second
     g.F.SecondFiles.closes_second) CartridgeFile
     (at.yielded ++ entry ∷ []) c.args.entries.items (into_iter_items c.next.new.self) _ _ c.in-Err.fault
     (sym (one_more into_iter_items c.args.entries.items at.yielded entry at.entry-iterator c.next.new.self
     (at.invariant.0 ∙ c.into_iter-entry-iterator.ensures.into_iter_gives.0) c.in-Some.ensures.steps.0))
-    (files_more g.D.Disk.state (makes_of g.F.LookFiles.looks g.F.MakeFiles.makes g.F.MakeFiles.leaves g.F.MakeFiles.takes_away
-    g.F.SecondFiles.opens_second
+    (files_more g.D.Disk.state (makes_of g.F.LookFiles.looks g.F.MakeFiles.makes g.F.MakeFiles.leaves
+    g.F.MakeFiles.takes_away g.F.SecondFiles.opens_second
     g.F.SecondFiles.closes_second) CartridgeFile
     at.yielded entry _ _ _ (Err c.in-Err.fault) at.invariant.1 c.in-Err.ensures)
 
@@ -35,8 +35,8 @@ loop-entry-preserved g c =
     let entry = c.in-Some.entry in (
       one_more into_iter_items _ at.yielded entry at.entry-iterator c.next.new.self at.invariant.0
           c.in-Some.ensures.steps.0,
-      files_more g.D.Disk.state (makes_of g.F.LookFiles.looks g.F.MakeFiles.makes g.F.MakeFiles.leaves g.F.MakeFiles.takes_away
-          g.F.SecondFiles.opens_second
+      files_more g.D.Disk.state (makes_of g.F.LookFiles.looks g.F.MakeFiles.makes g.F.MakeFiles.leaves
+          g.F.MakeFiles.takes_away g.F.SecondFiles.opens_second
           g.F.SecondFiles.closes_second) CartridgeFile at.yielded
           entry _ _ _ (Ok tt) at.invariant.1 c.in_default.ensures,
       let was = at.invariant.2 in

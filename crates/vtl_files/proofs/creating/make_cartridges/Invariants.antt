@@ -7,7 +7,8 @@ use Rattle.vtl_files.proofs.creating.make_cartridges.Given as goal
 abbrev pub invariant-loop-entry : goal.invariant-loop-entry
 invariant-loop-entry g l =
     (l.yielded ++ into_iter_items l.entry-iterator ≡ into_iter_items l.initial.entry-iterator)
-    × PrintsFiles g.D.Disk.state (makes_of g.F.LookFiles.looks g.F.MakeFiles.makes g.F.MakeFiles.leaves g.F.MakeFiles.takes_away
+    × PrintsFiles g.D.Disk.state (makes_of g.F.LookFiles.looks g.F.MakeFiles.makes g.F.MakeFiles.leaves
+    g.F.MakeFiles.takes_away
     g.F.SecondFiles.opens_second
     g.F.SecondFiles.closes_second)
     (map CartridgeFile l.yielded) (g.W.Write.contents l.fn.writer) (g.W.Write.contents l.writer) (Ok tt)

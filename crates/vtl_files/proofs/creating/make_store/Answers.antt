@@ -6,8 +6,8 @@ use Rattle.vtl_files.proofs.creating.make_store.Goals as goal
 pub returns-in-Ok-label_of : goal.returns-in-Ok-label_of
 returns-in-Ok-label_of g c =
     let is = c.as_bytes.ensures.value ∙ c.in-Ok-label_of.ensures in
-    file_result g.D.Disk.state (makes_of g.F.LookFiles.looks g.F.MakeFiles.makes g.F.MakeFiles.leaves g.F.MakeFiles.takes_away
-    g.F.SecondFiles.opens_second
+    file_result g.D.Disk.state (makes_of g.F.LookFiles.looks g.F.MakeFiles.makes g.F.MakeFiles.leaves
+    g.F.MakeFiles.takes_away g.F.SecondFiles.opens_second
     g.F.SecondFiles.closes_second)
     (StoreFile c.args.entry) c.in-Ok.fate
     (g.W.Write.contents c.args.writer.now) (g.W.Write.contents c.print_fate.new.writer) c.print_fate.result
@@ -15,14 +15,14 @@ returns-in-Ok-label_of g c =
 
 pub returns-in-Err-label_of : goal.returns-in-Err-label_of
 returns-in-Err-label_of g c =
-    none_shown g.D.Disk.state (makes_of g.F.LookFiles.looks g.F.MakeFiles.makes g.F.MakeFiles.leaves g.F.MakeFiles.takes_away
-    g.F.SecondFiles.opens_second
+    none_shown g.D.Disk.state (makes_of g.F.LookFiles.looks g.F.MakeFiles.makes g.F.MakeFiles.leaves
+    g.F.MakeFiles.takes_away g.F.SecondFiles.opens_second
     g.F.SecondFiles.closes_second)
     (StoreFile c.args.entry) c.in-Ok.fate _ c.in-Ok.ensures.ok
 
 pub returns-in-Err : goal.returns-in-Err
 returns-in-Err g c =
-    none_made g.D.Disk.state (makes_of g.F.LookFiles.looks g.F.MakeFiles.makes g.F.MakeFiles.leaves g.F.MakeFiles.takes_away
-    g.F.SecondFiles.opens_second
+    none_made g.D.Disk.state (makes_of g.F.LookFiles.looks g.F.MakeFiles.makes g.F.MakeFiles.leaves
+    g.F.MakeFiles.takes_away g.F.SecondFiles.opens_second
     g.F.SecondFiles.closes_second)
     (StoreFile c.args.entry) _ c.in-Err.fault c.in-Err.ensures.err
