@@ -32,9 +32,9 @@ abbrev pub pair_fix : PairFault → List ℕ
 pair_fix (NoFirst bytes) =
     codes "to do: put the first file back from where it was saved; or remove the second one, with what it holds"
 pair_fix Link =
-    codes "to do: put both files back from where they were saved; or move this one away, if it is not the cartridge's"
+    codes "to do: put both files back from where they were saved; or move this one away, if it is another's"
 pair_fix (Foreign bytes) =
-    codes "to do: put both files back from where they were saved; or move this one away, if it is not the cartridge's"
+    codes "to do: put both files back from where they were saved; or move this one away, if it is another's"
 pair_fix NoSecond = codes "to do: put it back from where it was saved, together with the first one"
 
 -- the lines of such a file: what is refused, what is allowed, what to do (own)
