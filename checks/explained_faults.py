@@ -36,7 +36,7 @@ WRITTEN = ("cut", "write at", "sync", "write at", "sync")
 MEANT = re.compile(r"((line [0-9]+: |found: |failed: [a-z ]+( [0-9]+)? \().*\n)*")
 AT_ONCE = re.compile(r"failed: (read at|write at|cut)( [0-9]+)? \(Input/output error \(os error 5\)\), "
                      r"of the file [a-z0-9.]+\n")
-# calls that are made for open files alone
+# calls that are made for open files alone, once the library is on
 OPEN = ("pread64", "pwrite64", "ftruncate")
 
 
@@ -94,7 +94,7 @@ def untold(run):
     """What is wrong where a call for an open file failed and a run ends with a device fault: a line has to say it at
     once, before the one line."""
     said = lines_behind(run, "fault")
-    if said is None or run.name not in OPEN:
+    if said is None or run.name not in OPEN or not run.out:
         return []
     return [] if AT_ONCE.match(run.err) or AT_ONCE.search(run.err[:-len(said) or None]) else [f"not said: {run.err!r}"]
 
