@@ -9,8 +9,8 @@ use Rattle.tape_disk.specs.Disk.{DiskState}
 use Rattle.file_disk.specs.declared.error.FileError.{FileError}
 use Rattle.vtl_script.specs.Text.{AppendsPart}
 use Rattle.vtl_files.specs.Checks.{GivesLines}
-use Rattle.vtl_files.specs.ConfigChecks.{AreChecked, AreCutShort, ChecksAll, ChecksConfig, ChecksNamed, IsChecked, end_for, first_end, name_line, check_report, word_of}
-use Rattle.vtl_files.specs.Creating.{SideFile, label_of, path_of}
+use Rattle.vtl_files.specs.ConfigChecks.{AreChecked, AreCutShort, ChecksAll, ChecksConfig, ChecksNamed, IsChecked, end_for, first_end, name_line, path_of, check_report, word_of}
+use Rattle.vtl_files.specs.Creating.{SideFile, label_of}
 use Rattle.vtl_faults.specs.declared.faults.Verdict.{Verdict}
 use Rattle.vtl_faults.specs.declared.faults.Verdict.TheVariants.{Done, Refused}
 use Rattle.vtl_faults.specs.declared.faults.VtlFault.{VtlFault}

@@ -6,7 +6,7 @@ use Rattle.std.specs.Io.KnownBytes.{Appends}
 use Rattle.tape_disk.specs.Disk.{DiskState}
 use Rattle.file_disk.specs.declared.error.FileError.{FileError}
 use Rattle.vtl_files.specs.Checks.{GivesLines, is_done, verdict_of}
-use Rattle.vtl_files.specs.Creating.{SideFile, CartridgeFile, StoreFile, label_of, path_of}
+use Rattle.vtl_files.specs.Creating.{SideFile, CartridgeFile, StoreFile, label_of}
 use Rattle.vtl_faults.specs.declared.faults.Verdict.{Verdict}
 use Rattle.vtl_faults.specs.declared.faults.Verdict.TheVariants.{Done, Refused}
 use Rattle.vtl_faults.specs.declared.faults.VtlFault.{VtlFault}
@@ -19,6 +19,11 @@ cartridge_word = codes "cartridge "
 -- the word with which the line of a store begins (own)
 abbrev pub store_word : List ℕ
 store_word = codes "reservations "
+
+-- the name of a file of a configuration; a cartridge's is that of its first file (own)
+abbrev pub path_of : SideFile → List ℕ
+path_of (CartridgeFile entry) = entry.file
+path_of (StoreFile entry) = entry.reservations
 
 -- the word of the file of an entry (own)
 abbrev pub word_of : SideFile → List ℕ

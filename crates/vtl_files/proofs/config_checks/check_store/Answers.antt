@@ -1,7 +1,7 @@
 use Rattle.std.proofs.Common.{◌≡◌, ◌∙◌, Err}
 use Rattle.vtl_files.proofs.ConfigCheckLemmas.{checks_one, no_name}
-use Rattle.vtl_files.specs.ConfigChecks.{name_line, store_word}
-use Rattle.vtl_files.specs.Creating.{StoreFile, label_of, path_of}
+use Rattle.vtl_files.specs.ConfigChecks.{name_line, path_of, store_word}
+use Rattle.vtl_files.specs.Creating.{StoreFile, label_of}
 use Rattle.vtl_faults.specs.declared.faults.VtlFault.TheVariants.{NoMemory}
 use Rattle.vtl_files.proofs.config_checks.check_store.Goals as goal
 
