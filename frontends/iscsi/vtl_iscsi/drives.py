@@ -1,0 +1,102 @@
+"""A tape drive, LUN d: command blocks go to drive d of the library, and its answers come back as they are."""
+from __future__ import annotations
+
+from collections.abc import Callable
+from typing import TYPE_CHECKING
+
+from . import vital
+from .fixed import Fixed
+from .sense import (GOOD, INVALID_FIELD, REMOVAL_PREVENTED, RESERVATION_CONFLICT, Reply, code_of, good, is_owed)
+from .tasks import Task
+
+if TYPE_CHECKING:
+    from .units import Units
+
+Done = Callable[[Reply], None]
+WRITE_6, INQUIRY, MODE_SELECT_6, LOAD_UNLOAD, PREVENT_ALLOW, RESERVE_OUT = 0x0A, 0x12, 0x15, 0x1B, 0x1E, 0x5F
+_REGISTERS = (0x00, 0x06)
+# a command block's length by its group code (SPC-4, 4.3.2); 16 where it says none
+_LENGTHS = (6, 10, 10, 16, 16, 12, 16, 16)
+# SPACE over no block: it meets an attention and a reservation in their order, and does nothing
+_PROBE, _READY = bytes.fromhex("110000000000"), bytes(6)
+
+
+class Drive:
+    def __init__(self, units: Units, number: int, fixed: int) -> None:
+        self._units, self.number = units, number
+        self._fixed = Fixed(units, number, fixed) if fixed else None
+
+    def reset(self) -> None:
+        if self._fixed:
+            self._fixed.reset()
+
+    def data_out_length(self, task: Task) -> int:
+        block, code = task.block, task.block[0]
+        if code == WRITE_6:
+            return self._fixed.length_of(task) if self._fixed else int.from_bytes(block[2:5], "big")
+        return {MODE_SELECT_6: block[4], RESERVE_OUT: int.from_bytes(block[5:9], "big")}.get(code, 0)
+
+    def start(self, task: Task, done: Done) -> None:
+        owed = self._units.owed_first(task)
+        code = task.block[0]
+        if owed:
+            done(owed)
+        elif code == INQUIRY and task.block[1] & 0x03:
+            done(vital.inquiry(task.block, vital.TAPE, self._units.hosts.library, self.number))
+        elif code == PREVENT_ALLOW:
+            self._prevent(task, done)
+        elif code == LOAD_UNLOAD and not task.block[4] & 0x01 and self._units.is_prevented(self.number):
+            self._behind_checks(task, _PROBE, lambda: done(REMOVAL_PREVENTED), done)
+        elif self._fixed and self._fixed.concerns(task):
+            self._fixed.start(task, done)
+        else:
+            self._send(task, done)
+
+    def _send(self, task: Task, done: Done) -> None:
+        block = task.block[:_LENGTHS[task.block[0] >> 5]]
+        if block[0] == RESERVE_OUT and block[1] & 0x1F in _REGISTERS:
+            self._units.hosts.registers(task.session.number)
+        if block[0] == LOAD_UNLOAD:
+            is_load = bool(block[4] & 0x01)
+            self._units.command(task, block, b"", lambda reply: self._loaded(task, is_load, reply, done))
+        else:
+            self._units.command(task, block, task.data, done)
+
+    def _loaded(self, task: Task, is_load: bool, reply: Reply, done: Done) -> None:
+        """Whether a cartridge is loaded is known by the answers."""
+        library, cartridge = self._units.library, self._units.library.at(self.number)
+        if reply.status == GOOD and is_load:
+            library.loaded.add(self.number)
+            if cartridge:
+                cartridge.refusal = None
+        elif reply.status == GOOD:
+            library.loaded.discard(self.number)
+        elif cartridge and is_load and code_of(reply) == (0x3, 0x11, 0x00):
+            cartridge.refusal = (0x11, 0x00)
+        self._units.log.say(f"{task.session.label()}: {'load' if is_load else 'unload'} at drive {self.number} "
+                            f"answered {reply.status:02x}h")
+        done(reply)
+
+    def _prevent(self, task: Task, done: Done) -> None:
+        """PREVENT ALLOW MEDIUM REMOVAL (SPC-4, 6.17): to prevent needs what a reservation allows."""
+        flags = task.block[4] & 0x03
+        if flags > 1:
+            self._behind_checks(task, _READY, lambda: done(INVALID_FIELD), done)
+            return
+
+        def keep() -> None:
+            self._units.prevent(task.session.number, self.number, bool(flags))
+            done(good())
+
+        self._behind_checks(task, _PROBE if flags else _READY, keep, done)
+
+    def _behind_checks(self, task: Task, probe: bytes, then: Callable[[], None], done: Done) -> None:
+        """What is answered here comes behind the drive's own attentions, deferred errors and reservations."""
+        task.session.alone = task
+
+        def looked(reply: Reply) -> None:
+            stops = reply.is_lost or is_owed(reply) or reply.status not in (GOOD, 0x02) or (
+                reply.status == RESERVATION_CONFLICT)
+            done(reply) if stops else then()
+
+        self._units.command(task, probe, b"", looked)

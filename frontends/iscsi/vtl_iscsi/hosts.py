@@ -1,0 +1,76 @@
+"""Which initiator has which host number of the library, 1 to 64, kept in a file.
+
+An initiator port is a name with an ISID (RFC 7143, 4.2.7). Its number stays, so that a reservation that fences a host
+off hits the same one after every restart. An ISID of the random format (RFC 7143, 11.12.5) comes once: where no number
+is left, the oldest such one is given anew, if no session has it and it never registered a key at a drive."""
+import os
+from dataclasses import dataclass
+
+from .folder import Folder
+
+KEPT = "hosts.json"
+MOST = 64
+_FORMAT, _RANDOM = 0xC0, 0x80
+
+
+@dataclass
+class Host:
+    number: int
+    name: str
+    isid: bytes
+    # how many other hosts had come before its last login
+    turn: int
+    # it has asked to register a key, at any time
+    has_registered: bool
+
+    def label(self) -> str:
+        return f"host {self.number} {self.name} {self.isid.hex()}"
+
+
+class Hosts:
+    def __init__(self, folder: Folder) -> None:
+        self._folder = folder
+        kept = folder.read(KEPT) or {"library": os.urandom(4).hex().upper(), "hosts": []}
+        # part of every unit's serial number
+        self.library: str = kept["library"]
+        self._hosts = {it[0]: Host(it[0], it[1], bytes.fromhex(it[2]), it[3], it[4]) for it in kept["hosts"]}
+        self._keep()
+
+    def all(self) -> list[Host]:
+        return sorted(self._hosts.values(), key=lambda it: it.number)
+
+    def get(self, number: int) -> Host | None:
+        return self._hosts.get(number)
+
+    def of(self, name: str, isid: bytes, busy: set[int]) -> Host | None:
+        """The port's host, a new one where it is not known; None where no number is left. `busy` have a session."""
+        host = next((it for it in self._hosts.values() if (it.name, it.isid) == (name, isid)), None)
+        number = host.number if host else self._free(busy)
+        if not number:
+            return None
+        turn = max((it.turn for it in self._hosts.values()), default=0) + 1
+        if not host or host.turn + 1 < turn:
+            self._hosts[number] = Host(number, name, isid, turn, host.has_registered if host else False)
+            self._keep()
+        return self._hosts[number]
+
+    def registers(self, number: int) -> None:
+        """Before a command that may register a key goes to a drive."""
+        if not self._hosts[number].has_registered:
+            self._hosts[number].has_registered = True
+            self._keep()
+
+    def free(self, number: int) -> None:
+        del self._hosts[number]
+        self._keep()
+
+    def _free(self, busy: set[int]) -> int:
+        """A number to give; 0 where there is none."""
+        unused = [number for number in range(1, MOST + 1) if number not in self._hosts]
+        passing = [it for it in self._hosts.values() if it.isid[0] & _FORMAT == _RANDOM
+                   and it.number not in busy and not it.has_registered]
+        return unused[0] if unused else min(passing, key=lambda it: it.turn).number if passing else 0
+
+    def _keep(self) -> None:
+        self._folder.keep(KEPT, {"library": self.library, "hosts": [
+            [it.number, it.name, it.isid.hex(), it.turn, it.has_registered] for it in self.all()]})
