@@ -15,7 +15,8 @@ from .served import Piece, Served, Then
 
 UNLOAD = bytes.fromhex("1b0000000000")
 _NO_CARTRIDGE, _TRIES = 0x2, 4
-_FIRST_PAUSE, _LONGEST_PAUSE, _LONG_RUN = 0.1, 30.0, 60.0
+# before it is started again, twice as long after each start that admitted nobody
+_FIRST_PAUSE, _LONGEST_PAUSE = 0.1, 30.0
 
 
 class Supervisor:
@@ -132,13 +133,8 @@ class Supervisor:
     def _admit(self) -> None:
         self.is_up = True
         self._log.say(f"ready: {len(self._library.drives)} drives, {len(self._library.cartridges)} cartridges")
-        served = self._served
-        self._loop.after(_LONG_RUN, lambda: self._lasted(served))
+        self._pause = _FIRST_PAUSE
         self.on_up()
-
-    def _lasted(self, served: Served | None) -> None:
-        if self._served is served:
-            self._pause = _FIRST_PAUSE
 
     # An end.
 
