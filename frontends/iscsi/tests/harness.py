@@ -5,6 +5,7 @@ import os
 import re
 import shutil
 import signal
+import socket
 import subprocess
 import sys
 import tempfile
@@ -115,11 +116,16 @@ class Bench:
                               stdout=subprocess.PIPE, check=True)
         return json.loads(done.stdout)
 
-    def kill_vtl(self) -> None:
-        os.kill(self.ask("status")["vtl"]["pid"], signal.SIGKILL)
+    def status(self) -> Any:
+        """As `vtl-iscsi status --json`, without a new process."""
+        with socket.socket(socket.AF_UNIX, socket.SOCK_STREAM) as sock:
+            sock.settimeout(SECONDS)
+            sock.connect(os.path.join(self.folder, "library.iscsi", "status"))
+            sock.sendall(b"status\n")
+            return json.loads(b"".join(iter(lambda: sock.recv(65_536), b"")))
 
-    def vtl_pid(self) -> int:
-        return int(self.ask("status")["vtl"]["pid"])
+    def kill_vtl(self) -> None:
+        os.kill(self.status()["vtl"]["pid"], signal.SIGKILL)
 
     def until_up(self, starts: int) -> None:
         until(lambda: self.read("said").count(" ready: ") >= starts, "vtl is up again")

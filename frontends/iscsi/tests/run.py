@@ -10,7 +10,10 @@ HERE = os.path.dirname(os.path.abspath(__file__))
 sys.path[:0] = [HERE, os.path.dirname(HERE)]
 
 import harness  # noqa: E402
+import crashes  # noqa: E402
+import strangers  # noqa: E402
 import transport  # noqa: E402
+import units_tests  # noqa: E402
 
 TOP = os.path.dirname(os.path.dirname(os.path.dirname(HERE)))
 PROVED = os.path.join(TOP, "crates", "vtl", "out", "vtl")
@@ -22,7 +25,9 @@ def main() -> int:
     parser.add_argument("--only", default="")
     given = parser.parse_args()
     failed = 0
-    for group in (transport,):
+    for group in (transport, units_tests, crashes, strangers):
+        if not any(given.only in it.__name__ for it in group.TESTS):
+            continue
         with harness.bench(given.program, None) as bench:
             for test in group.TESTS:
                 if given.only not in test.__name__:

@@ -2,7 +2,8 @@
 
 An initiator port is a name with an ISID (RFC 7143, 4.2.7). Its number stays, so that a reservation that fences a host
 off hits the same one after every restart. An ISID of the random format (RFC 7143, 11.12.5) comes once: where no number
-is left, the oldest such one is given anew, if no session has it and it never registered a key at a drive."""
+is left, the oldest such one is given anew, if no session has it and it never registered a key at a drive. A name has
+eight numbers at most."""
 import os
 from dataclasses import dataclass
 
@@ -10,6 +11,8 @@ from .folder import Folder
 
 KEPT = "hosts.json"
 MOST = 64
+# of one name, so that one host cannot take them all
+_MOST_OF_NAME = 8
 _FORMAT, _RANDOM = 0xC0, 0x80
 
 
@@ -45,7 +48,7 @@ class Hosts:
     def of(self, name: str, isid: bytes, busy: set[int]) -> Host | None:
         """The port's host, a new one where it is not known; None where no number is left. `busy` have a session."""
         host = next((it for it in self._hosts.values() if (it.name, it.isid) == (name, isid)), None)
-        number = host.number if host else self._free(busy)
+        number = host.number if host else self._free(name, busy)
         if not number:
             return None
         turn = max((it.turn for it in self._hosts.values()), default=0) + 1
@@ -64,12 +67,15 @@ class Hosts:
         del self._hosts[number]
         self._keep()
 
-    def _free(self, busy: set[int]) -> int:
+    def _free(self, name: str, busy: set[int]) -> int:
         """A number to give; 0 where there is none."""
         unused = [number for number in range(1, MOST + 1) if number not in self._hosts]
-        passing = [it for it in self._hosts.values() if it.isid[0] & _FORMAT == _RANDOM
-                   and it.number not in busy and not it.has_registered]
-        return unused[0] if unused else min(passing, key=lambda it: it.turn).number if passing else 0
+        has_many = sum(it.name == name for it in self._hosts.values()) >= _MOST_OF_NAME
+        if unused and not has_many:
+            return unused[0]
+        passing = [it for it in self._hosts.values() if it.isid[0] & _FORMAT == _RANDOM and it.number not in busy
+                   and not it.has_registered and (it.name == name or not has_many)]
+        return min(passing, key=lambda it: it.turn).number if passing else 0
 
     def _keep(self) -> None:
         self._folder.keep(KEPT, {"library": self.library, "hosts": [
