@@ -184,6 +184,18 @@ def free(bench: Bench, number: int) -> int:
                           cwd=bench.folder, capture_output=True, check=False).returncode
 
 
+def hosts_keep_their_numbers(bench: Bench) -> None:
+    """Over a restart, and whoever comes first behind it."""
+    for name in ("first", "second"):
+        bench.host(name).close()
+    before = {it["name"]: it["number"] for it in bench.ask("hosts")}
+    bench.end()
+    bench.start("--open")
+    for name in ("second", "first"):
+        bench.host(name).close()
+    equal({it["name"]: it["number"] for it in bench.ask("hosts")}, before, "who has which number")
+
+
 def sixty_five_hosts(bench: Bench) -> None:
     """Each has a number of its own; there are 64. One of a random ISID gives way, once it is gone."""
     taken = len(bench.ask("hosts"))
@@ -237,4 +249,4 @@ def fixed_blocks(bench: Bench) -> None:
 
 TESTS = [each_host_meets_power_on, what_each_unit_is, pages_and_elements_of_the_changer, moves, removal_is_prevented,
          a_fence_holds_over_every_restart, hosts_are_listed_and_freed, one_who_logs_in_anew_ends_its_old_session,
-         fixed_blocks, sixty_five_hosts]
+         hosts_keep_their_numbers, fixed_blocks, sixty_five_hosts]

@@ -5,9 +5,8 @@ import sys
 import time
 from typing import Any
 
-from .folder import Folder
+from .folder import STATUS, Folder
 from .options import Options
-from .status import SOCKET
 
 _SECONDS = 30.0
 
@@ -16,7 +15,7 @@ def _asked(given: Options, question: str) -> Any:
     with socket.socket(socket.AF_UNIX, socket.SOCK_STREAM) as sock:
         sock.settimeout(_SECONDS)
         try:
-            sock.connect(Folder(given.config).of(SOCKET))
+            sock.connect(Folder(given.config).of(STATUS))
         except OSError:
             sys.exit("vtl-iscsi: no front end runs over this configuration")
         sock.sendall(question.encode() + b"\n")

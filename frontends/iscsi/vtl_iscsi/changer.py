@@ -117,6 +117,7 @@ class Changer:
         label = task.session.label()
         if reply.status == GOOD and cartridge:
             self._library.moved(source, destination)
+            self._units.moved(source, destination)
             self._units.log.say(f"{label}: {cartridge.barcode} moved from {source} to {destination}")
         else:
             if key == (0x3, 0x11, 0x00) and cartridge:

@@ -9,13 +9,13 @@ from typing import Protocol
 
 from .crc32c import crc32c
 from .log import Log
-from .loop import END, READ, WRITE, Loop
+from .loop import END, READ, WRITE, Loop, Timer
 from .pdu import BHS, ProtocolError, Request
 
 Piece = bytes | bytearray | memoryview
 _PIECES, _TURNS, _MOST_WAITING, _LAST_SECONDS = 64, 32, 2_500_000, 5.0
 _PADS = (b"", b"\0\0\0", b"\0\0", b"\0")
-_BUFFER = 1 << 20
+_BUFFER, _AHEAD = 1 << 20, 4_096
 
 
 class Phase(Protocol):
@@ -29,16 +29,44 @@ class Phase(Protocol):
     def drained(self) -> None: ...
 
 
+class _Nobody:
+    """The phase of a connection that is closed."""
+    most_ahs = 0
+
+    def most_data(self) -> int:
+        return 0
+
+    def sinks(self, request: Request) -> list[memoryview]:
+        raise ProtocolError("closed")
+
+    def take(self, request: Request, sinks: list[memoryview], is_whole: bool) -> None:
+        pass
+
+    def closed(self, why: str) -> None:
+        pass
+
+    def drained(self) -> None:
+        pass
+
+
+_NOBODY = _Nobody()
+
+
+def _nothing() -> None:
+    pass
+
+
 class Connection:
     def __init__(self, loop: Loop, log: Log, sock: socket.socket, peer: str,
                  phase: Callable[["Connection"], Phase]) -> None:
         self._loop, self._log, self._socket, self.peer = loop, log, sock, peer
         self.header_digest = self.data_digest = False
         self.is_closed = self._closes_when_sent = False
+        self._deadline: Timer | None = None
         self._events = READ
         self._out: deque[Piece] = deque()
         self.waiting = 0
-        self._header = memoryview(bytearray(BHS))
+        self._header, self._ahead = memoryview(bytearray(BHS)), memoryview(bytearray(_AHEAD))
         self._then: Callable[[], None] = self._has_header
         self._parts: list[memoryview] = [self._header]
         self._request: Request | None = None
@@ -66,12 +94,22 @@ class Connection:
         self.is_closed = True
         self._loop.forget(self._socket.fileno())
         self._socket.close()
+        self.closes_in(None, "")
         self._out.clear()
-        self.phase.closed(why)
+        # what was read and written last is freed at once
+        self._parts, self._sinks, self._then = [], [], _nothing
+        phase, self.phase = self.phase, _NOBODY
+        phase.closed(why)
+
+    def closes_in(self, seconds: float | None, why: str) -> None:
+        """Unless it is called again, or closed before; None is never."""
+        if self._deadline:
+            self._deadline.cancel()
+        self._deadline = None if seconds is None else self._loop.after(seconds, lambda: self.close(why))
 
     def close_when_sent(self) -> None:
         self._closes_when_sent = True
-        self._loop.after(_LAST_SECONDS, lambda: self.close("not read to its end"))
+        self.closes_in(_LAST_SECONDS, "not read to its end")
         self.flush()
 
     # What is sent.
@@ -164,19 +202,37 @@ class Connection:
             for _ in range(_TURNS):
                 if self.is_closed or self._closes_when_sent or self.is_full():
                     return
-                parts = self._parts
-                count = self._socket.recv_into(parts[0]) if len(parts) == 1 else self._socket.recvmsg_into(parts)[0]
+                is_short = sum(map(len, self._parts)) <= _AHEAD
+                count = self._socket.recvmsg_into([self._ahead] if is_short else self._parts)[0]
                 if not count:
                     self.close("ended by the host")
-                    return
-                while parts and count >= len(parts[0]):
-                    count -= len(parts.pop(0))
-                if parts:
-                    parts[0] = parts[0][count:]
+                elif not is_short:
+                    self._filled(count)
                 else:
-                    self._then()
+                    self._fed(self._ahead[:count])
+                    if count < _AHEAD:
+                        return  # nothing more is there
         except BlockingIOError:
             return
+
+    def _fed(self, piece: memoryview) -> None:
+        """Headers and short data come by a buffer, several at once."""
+        while piece and not self.is_closed and not self._closes_when_sent:
+            part = self._parts[0]
+            count = min(len(part), len(piece))
+            part[:count] = piece[:count]
+            piece = piece[count:]
+            self._filled(count)
+
+    def _filled(self, count: int) -> None:
+        """So many bytes of what is awaited are there."""
+        parts = self._parts
+        while parts and count >= len(parts[0]):
+            count -= len(parts.pop(0))
+        if parts:
+            parts[0] = parts[0][count:]
+        else:
+            self._then()
 
     def _has_header(self) -> None:
         request = self._request = Request(bytes(self._header))

@@ -5,7 +5,12 @@ leaves the old one or the new one."""
 import fcntl
 import json
 import os
+import socket
+import time
 from typing import Any
+
+STATUS = "status"
+_SECONDS, _PAUSE = 120.0, 0.05
 
 
 class InUse(Exception):
@@ -20,14 +25,30 @@ class Folder:
     def of(self, name: str) -> str:
         return os.path.join(self.path, name)
 
+    @property
+    def lock(self) -> int:
+        """The file that holds the lock; `vtl` inherits it, and so keeps it until it has ended."""
+        return self._lock
+
     def take(self) -> None:
-        """Makes the folder where it is missing, and locks it until this process ends."""
+        """Makes the folder where it is missing, and locks it. A `vtl` whose front end was killed ends by itself, and
+        stores what waits: it is waited for."""
         os.makedirs(self.path, mode=0o700, exist_ok=True)
         self._lock = os.open(self.of("lock"), os.O_CREAT | os.O_RDWR | os.O_CLOEXEC, 0o600)
-        try:
-            fcntl.flock(self._lock, fcntl.LOCK_EX | fcntl.LOCK_NB)
-        except BlockingIOError as error:
-            raise InUse(self.path) from error
+        end = time.monotonic() + _SECONDS
+        while True:
+            try:
+                fcntl.flock(self._lock, fcntl.LOCK_EX | fcntl.LOCK_NB)
+                return
+            except BlockingIOError as error:
+                if self.is_answered() or time.monotonic() > end:
+                    raise InUse(self.path) from error
+            time.sleep(_PAUSE)
+
+    def is_answered(self) -> bool:
+        """Whether a front end runs over it."""
+        with socket.socket(socket.AF_UNIX, socket.SOCK_STREAM) as sock:
+            return sock.connect_ex(self.of(STATUS)) == 0
 
     def read(self, name: str) -> Any:
         """What was kept under this name; None where nothing was."""

@@ -31,6 +31,11 @@ class Freeing:
         found: Keys = {number: [] for number in numbers}
         self._look(asked, found, then)
 
+    def look_anew(self) -> None:
+        """Whether hosts that may hold a key hold one: what a start, or PREEMPT, took from them they have no more."""
+        asked = [(it.number, drive) for it in self._target.hosts.all() for drive in sorted(it.drives)]
+        self._look(asked, {number: [] for number, _ in asked}, lambda _: None)
+
     def _look(self, asked: list[tuple[int, int]], found: Keys, then: Callable[[Keys], None]) -> None:
         if not asked:
             then(found)
@@ -42,7 +47,9 @@ class Freeing:
                 self._units.attentions.owe(number, drive, reply.sense)
                 self._look(asked, found, then)
                 return
-            if reply.status != GOOD:
+            if reply.status == GOOD:
+                self._target.hosts.is_unregistered(drive, number)
+            else:
                 found[number].append(drive if reply.status == RESERVATION_CONFLICT else -1)
             self._look(asked[1:], found, then)
 

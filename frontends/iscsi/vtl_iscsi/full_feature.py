@@ -44,6 +44,7 @@ class FullFeature:
         return self.session.units.data_out_length(task)
 
     def closed(self, why: str) -> None:
+        self._task = None
         self.target.path_closed(self, why)
 
     def drained(self) -> None:

@@ -2,8 +2,8 @@
 
 An initiator port is a name with an ISID (RFC 7143, 4.2.7). Its number stays, so that a reservation that fences a host
 off hits the same one after every restart. An ISID of the random format (RFC 7143, 11.12.5) comes once: where no number
-is left, the oldest such one is given anew, if no session has it and it never registered a key at a drive. A name has
-eight numbers at most."""
+is left, the oldest such one is given anew, if no session has it and it may hold no key at a drive. A name has eight
+numbers at most."""
 import os
 from dataclasses import dataclass
 
@@ -23,8 +23,8 @@ class Host:
     isid: bytes
     # how many other hosts had come before its last login
     turn: int
-    # it has asked to register a key, at any time
-    has_registered: bool
+    # the drives at which it may hold a key
+    drives: set[int]
 
     def label(self) -> str:
         return f"host {self.number} {self.name} {self.isid.hex()}"
@@ -36,7 +36,7 @@ class Hosts:
         kept = folder.read(KEPT) or {"library": os.urandom(4).hex().upper(), "hosts": []}
         # part of every unit's serial number
         self.library: str = kept["library"]
-        self._hosts = {it[0]: Host(it[0], it[1], bytes.fromhex(it[2]), it[3], it[4]) for it in kept["hosts"]}
+        self._hosts = {it[0]: Host(it[0], it[1], bytes.fromhex(it[2]), it[3], set(it[4])) for it in kept["hosts"]}
         self._keep()
 
     def all(self) -> list[Host]:
@@ -53,14 +53,22 @@ class Hosts:
             return None
         turn = max((it.turn for it in self._hosts.values()), default=0) + 1
         if not host or host.turn + 1 < turn:
-            self._hosts[number] = Host(number, name, isid, turn, host.has_registered if host else False)
+            self._hosts[number] = Host(number, name, isid, turn, host.drives if host else set())
             self._keep()
         return self._hosts[number]
 
-    def registers(self, number: int) -> None:
+    def registers(self, number: int, drive: int) -> None:
         """Before a command that may register a key goes to a drive."""
-        if not self._hosts[number].has_registered:
-            self._hosts[number].has_registered = True
+        if drive not in self._hosts[number].drives:
+            self._hosts[number].drives.add(drive)
+            self._keep()
+
+    def is_unregistered(self, drive: int, number: int | None = None) -> None:
+        """That host holds no key at the drive, or none does."""
+        found = [it for it in self._hosts.values() if drive in it.drives and number in (None, it.number)]
+        for it in found:
+            it.drives.discard(drive)
+        if found:
             self._keep()
 
     def free(self, number: int) -> None:
@@ -74,9 +82,9 @@ class Hosts:
         if unused and not has_many:
             return unused[0]
         passing = [it for it in self._hosts.values() if it.isid[0] & _FORMAT == _RANDOM and it.number not in busy
-                   and not it.has_registered and (it.name == name or not has_many)]
+                   and not it.drives and (it.name == name or not has_many)]
         return min(passing, key=lambda it: it.turn).number if passing else 0
 
     def _keep(self) -> None:
         self._folder.keep(KEPT, {"library": self.library, "hosts": [
-            [it.number, it.name, it.isid.hex(), it.turn, it.has_registered] for it in self.all()]})
+            [it.number, it.name, it.isid.hex(), it.turn, sorted(it.drives)] for it in self.all()]})

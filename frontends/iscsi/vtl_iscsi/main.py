@@ -51,9 +51,10 @@ class FrontEnd:
         self._target = Target(self._loop, self._log, given.target, self._units, hosts, access)
         for address, port in given.listen:
             self._target.listen(address, port)
-        state = Status(self._loop, self._log, folder, self._target, self._units, self._supervisor)
+        self._state = Status(self._loop, self._log, folder, self._target, self._units, self._supervisor)
         if given.page:
-            Page(self._loop, given.page, state)
+            Page(self._loop, given.page, self._state)
+        self._target.on_full = self._state.freeing.look_anew
         self._supervisor.on_up, self._supervisor.on_end = self._up, self._ended
         self._supervisor.on_lost = self._target.lost
         self._signals()
@@ -66,8 +67,9 @@ class FrontEnd:
 
     def run(self) -> int:
         self._supervisor.start()
-        # what lives from here on is the library; sessions come and go
+        # what is there by now stays; what a command makes is freed as it ends
         gc.freeze()
+        gc.set_threshold(10_000)
         self._loop.run()
         return self._status
 
@@ -76,6 +78,7 @@ class FrontEnd:
             self._log.say(f"{self._target.name} listens on {', '.join(self._target.addresses())}")
             self._target.admit()
             _notify(b"READY=1")
+        self._state.freeing.look_anew()
         self._target.go_on()
 
     def _ended(self, status: int) -> None:

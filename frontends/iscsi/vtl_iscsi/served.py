@@ -27,11 +27,11 @@ def _widened(fd: int) -> None:
 class Served:
     """`on_end` is called once with the status, behind the last answer; what had none is answered LOST after that."""
 
-    def __init__(self, loop: Loop, words: list[str], on_end: Callable[[int], None],
+    def __init__(self, loop: Loop, words: list[str], lock: int, on_end: Callable[[int], None],
                  on_line: Callable[[str], None]) -> None:
         self._loop, self._on_end, self._on_line = loop, on_end, on_line
         self._process = subprocess.Popen(words, stdin=subprocess.PIPE, stdout=subprocess.PIPE, stderr=subprocess.PIPE,
-                                         bufsize=0, start_new_session=True)
+                                         bufsize=0, start_new_session=True, pass_fds=(lock,))
         assert self._process.stdin and self._process.stdout and self._process.stderr
         self._in, self._out, self._err = (it.fileno() for it in (
             self._process.stdin, self._process.stdout, self._process.stderr))
@@ -121,12 +121,14 @@ class Served:
             self._loop.forget(self._out)
 
     def _read(self) -> bool:
-        """Takes what is there; False at the end."""
+        """Takes what is there; False where nothing is, or at the end."""
         try:
             while True:
                 if self._head is None:
                     piece = os.read(self._out, _AHEAD)
                     self._take(self._ahead + piece if self._ahead else piece)
+                    if 0 < len(piece) < _AHEAD and self._head is None:
+                        return True  # most likely nothing more is there
                 else:
                     count = os.readv(self._out, [memoryview(self._body)[self._got:]])
                     piece, self._got = b"x" * bool(count), self._got + count
@@ -136,7 +138,7 @@ class Served:
                 if not piece:
                     return False
         except BlockingIOError:
-            return True
+            return False
 
     def _take(self, piece: bytes) -> None:
         """Each answer that is whole in these bytes; of the last one the part that is there."""
@@ -173,7 +175,8 @@ class Served:
     def _ended(self, _: int) -> None:
         """The process is gone: its last answers, then its end."""
         status = self._process.wait()
-        self._read()
+        while self._read():
+            pass
         self._speaks(READ)
         self._has_ended = True
         for fd in (self._in, self._out, self._err, self._pidfd):

@@ -7,7 +7,7 @@ import socket
 import time
 from typing import Any
 
-from .folder import Folder
+from .folder import STATUS, Folder
 from .freeing import Freeing
 from .log import Log
 from .loop import END, READ, Loop
@@ -15,7 +15,6 @@ from .supervisor import Supervisor
 from .target import Target
 from .units import Units
 
-SOCKET = "status"
 _MOST_QUESTION, _MOST_WAITING, _SECONDS = 256, 16, 5.0
 
 
@@ -24,9 +23,9 @@ class Status:
                  supervisor: Supervisor) -> None:
         self._loop, self._log = loop, log
         self._target, self._units, self._supervisor = target, units, supervisor
-        self._freeing = Freeing(target, units, supervisor)
+        self.freeing = Freeing(target, units, supervisor)
         self._since = time.time()
-        path = folder.of(SOCKET)
+        path = folder.of(STATUS)
         if os.path.exists(path):
             os.unlink(path)  # the folder's lock is held here
         self._listener = socket.socket(socket.AF_UNIX, socket.SOCK_STREAM)
@@ -58,9 +57,9 @@ class Status:
         if words[:1] == ["status"]:
             self._answer(sock, self.document())
         elif words[:1] == ["hosts"]:
-            self._freeing.keys(lambda keys: self._answer(sock, self.hosts(keys)))
+            self.freeing.keys(lambda keys: self._answer(sock, self.hosts(keys)))
         elif words[:1] == ["free"] and len(words) == 2 and words[1].isdecimal():
-            self._freeing.free(int(words[1]), lambda said: self._answer(sock, said))
+            self.freeing.free(int(words[1]), lambda said: self._answer(sock, said))
         elif events & END or not question:
             self._close(sock)
 

@@ -49,7 +49,8 @@ class Supervisor:
         self._library.loaded.clear()
         self.starts += 1
         words = operating.words(self._program, self._library.write())
-        served = self._served = Served(self._loop, words, self._ended, lambda line: self._log.say(f"vtl: {line}"))
+        served = self._served = Served(self._loop, words, self._library.folder.lock, self._ended,
+                                       lambda line: self._log.say(f"vtl: {line}"))
         operating.places(served, lambda reply: self._placed(reply))
 
     def command(self, number: int, drive: int, block: bytes, data: Piece, then: Then) -> None:

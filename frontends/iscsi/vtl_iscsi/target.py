@@ -3,6 +3,7 @@ from __future__ import annotations
 
 import ipaddress
 import socket
+from collections.abc import Callable
 
 from .access import Access
 from .connection import Connection
@@ -34,6 +35,8 @@ class Target:
         self._sessions: dict[int, Session] = {}
         self._last_tsih = 0
         self._is_admitting = False
+        # set by who uses it
+        self.on_full: Callable[[], None] = lambda: None
 
     def sessions(self) -> list[Session]:
         return list(self._sessions.values())
@@ -88,15 +91,11 @@ class Target:
         connection = Connection(self._loop, self.log, sock, where, lambda it: LoginPhase(self, it, Login(
             self.access, self.name, is_local)))
         self._strangers.append(connection)
-        self._loop.after(_LOGIN_SECONDS, lambda: self._is_late(connection))
+        connection.closes_in(_LOGIN_SECONDS, "not logged in in time")
 
     def _accepts_again(self, listener: socket.socket) -> None:
         if listener in self._listeners:
             self._loop.watch(listener.fileno(), READ, lambda _: self._accept(listener))
-
-    def _is_late(self, connection: Connection) -> None:
-        if connection in self._strangers:
-            connection.close("not logged in in time")
 
     def stranger_closed(self, connection: Connection, why: str) -> None:
         if connection in self._strangers:
@@ -112,6 +111,7 @@ class Target:
             session.expected = command
         self._sessions[session.tsih] = session
         self._strangers.remove(connection)
+        connection.closes_in(None, "")
         if old := session.paths.get(login.cid):
             old.connection.close("logged in anew")  # 6.3.4: the connection is reinstated
         path = FullFeature(self, connection, session, login.cid, login.agreed, stat)
@@ -134,6 +134,8 @@ class Target:
                 self._close(old, "logged in anew")  # 6.3.5: the session is reinstated
             host = self.hosts.of(login.name, login.isid, {it.number for it in self.sessions()})
             if not host:
+                # whoever holds no key any more gives way to the next one
+                self.on_full()
                 raise Refused(Refusal.OUT_OF_RESOURCES)
         elif sum(not it.host for it in self.sessions()) >= MOST:
             raise Refused(Refusal.OUT_OF_RESOURCES)

@@ -19,6 +19,9 @@ _MOST_TURNED = 0xFFFFFFFF
 
 class Task:
     """Its life: it comes, its data come, it is started in its session's order, it is answered."""
+    __slots__ = ("session", "path", "request", "unit", "block", "length", "writes", "reads", "wanted", "is_dropped",
+                 "_data", "received", "is_open", "_asked_to", "_r2ts", "transfer_tag", "is_aborted", "is_delivered",
+                 "is_running", "is_answered", "failure")
 
     def __init__(self, session: Session, path: FullFeature, request: Request) -> None:
         self.session, self.path, self.request = session, path, request

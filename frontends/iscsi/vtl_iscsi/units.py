@@ -2,7 +2,7 @@
 from __future__ import annotations
 
 from collections.abc import Callable
-from typing import TYPE_CHECKING
+from typing import TYPE_CHECKING, Any
 
 from . import vital
 from .attentions import CHANGER, Attentions
@@ -78,6 +78,11 @@ class Units:
     def move(self, task: Task, source: int, destination: int, then: Done) -> None:
         self._supervisor.move(task.session.number, source, destination, then)
 
+    def moved(self, source: int, destination: int) -> None:
+        for number in (source, destination):
+            if number in self._drives:
+                self._drives[number].changed()
+
     def is_prevented(self, unit: int) -> bool:
         return any(other == unit for _, other in self.prevents)
 
@@ -116,9 +121,10 @@ class Units:
         self.prevents.clear()
         for drive in self._drives.values():
             drive.reset()
+            drive.changed()
 
-    def safety(self, number: int) -> dict[str, int]:
-        return {}
+    def safety(self, number: int) -> dict[str, Any]:
+        return self._drives[number].safety()
 
     def no_sense(self, task: Task) -> Reply:
         return good(NO_SENSE[:task.block[4]])
