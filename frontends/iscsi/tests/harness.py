@@ -63,11 +63,11 @@ def until(test: Callable[[], Any], what: str, seconds: float = SECONDS) -> Any:
 class Bench:
     """A folder with a new library; `words` go to each front end, `starter` starts one in the place of vtl-iscsi."""
 
-    def __init__(self, program: str, starter: list[str] | None = None) -> None:
+    def __init__(self, program: str, starter: list[str] | None = None, config: str = CONFIG) -> None:
         self.program = os.path.abspath(program)
         self.starter = starter or [sys.executable, FRONT_END]
         self.folder = tempfile.mkdtemp(prefix="vtl-iscsi-")
-        self.write("library.toml", CONFIG)
+        self.write("library.toml", config)
         self.vtl("create", "--config", "library.toml")
         self.process: subprocess.Popen[bytes] | None = None
         self.port = 0
@@ -155,9 +155,9 @@ class Bench:
 
 
 @contextlib.contextmanager
-def bench(program: str, starter: list[str] | None, *words: str) -> Iterator[Bench]:
+def bench(program: str, starter: list[str] | None, *words: str, config: str = CONFIG) -> Iterator[Bench]:
     """A front end from its start to its end, which has to be a good one."""
-    made = Bench(program, starter)
+    made = Bench(program, starter, config)
     try:
         made.start(*(words or ("--open",)))
         yield made

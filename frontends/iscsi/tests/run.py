@@ -5,6 +5,7 @@ import argparse
 import contextlib
 import io
 import os
+import socket
 import sys
 import time
 import traceback
@@ -59,7 +60,12 @@ def is_found(program: str, name: str, test: Test) -> bool:
 def selftest(program: str, only: str) -> int:
     tests = {test.__name__: test for group in GROUPS for test in group}
     chosen = {name: tests[test] for name, (_, test) in SABOTAGES.items() if only in name}
-    missed = [name for name, test in chosen.items() if not is_found(program, name, test)]
+    missed = []
+    for name, test in chosen.items():
+        start = time.monotonic()
+        if not is_found(program, name, test):
+            missed.append(name)
+        print(f"{'MISSED' if name in missed else 'found'} {name} {time.monotonic() - start:.2f} s", flush=True)
     print(f"iscsi --selftest: {len(chosen)} wrong front ends, {len(missed)} not found {' '.join(missed)}".rstrip())
     return 1 if missed else 0
 
@@ -70,6 +76,7 @@ def main() -> int:
     parser.add_argument("--only", default="", help="the tests, or the wrong front ends, whose names have this")
     parser.add_argument("--selftest", action="store_true")
     given = parser.parse_args()
+    socket.setdefaulttimeout(20)
     if given.selftest:
         return selftest(given.program, given.only)
     start, failed, count = time.monotonic(), 0, 0
