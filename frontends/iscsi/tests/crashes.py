@@ -47,7 +47,8 @@ def _written(host: Initiator, bench: Bench, number: int, chance: random.Random) 
         if answer.status:
             for at, item, itt in [(at, item, 0), *waits]:
                 answer = host.wait(itt) if itt else answer
-                equal(answer.sense in (LOST, POWER_ON, NO_TAPE) or answer.status == BUSY, True, "an answer behind a crash")
+                if answer.sense not in (LOST, POWER_ON, NO_TAPE) and answer.status != BUSY:
+                    raise AssertionError(f"behind a crash {answer}")
             return sent, safe
         if item is _MARK:
             safe = at + 1

@@ -18,6 +18,8 @@ PACKAGES = {"iscsi-test-cu": "libiscsi-bin", "cc": "gcc libc6-dev libiscsi-dev"}
 GUEST_PACKAGES = {"qemu-system-x86_64": "qemu-system-x86", "mmdebstrap": "mmdebstrap", "mke2fs": "e2fsprogs"}
 INSIDE = ("linux-image-amd64,open-iscsi,mt-st,mtx,sg3-utils,lsscsi,kmod,iproute2,tar,procps,udev,"
           "bacula-director-sqlite3,bacula-sd,bacula-fd,bacula-console,sqlite3")
+# QEMU's own processor, since not every machine lends its own to a guest
+ACCELERATION = ["-accel", "tcg", "-cpu", "max"]
 DRIVE = ["SCSI.Inquiry", "SCSI.ModeSense6.AllPages", "SCSI.ModeSense6.Residuals", "SCSI.PrinReadKeys",
          "SCSI.ProutRegister", "SCSI.ProutReserve.Simple", *(f"SCSI.ProutReserve.Ownership{kind}" for kind in (
              "EA", "WE", "EARO", "WERO", "EAAR", "WEAR")), "SCSI.ProutClear", "SCSI.ProutPreempt",
@@ -27,8 +29,8 @@ CHANGER = ["SCSI.Inquiry", "SCSI.ModeSense6.AllPages", "SCSI.ModeSense6.Residual
            "iSCSI.iSCSIcmdsn"]
 # four short cartridges, so that a backup takes two, and one for tar
 CONFIG = "".join(f'[[drive]]\nnumber = {at}\nreservations = "{at}.pr"\n' for at in (1, 2)) + "".join(
-    f'[[cartridge]]\nbarcode = "VTL00{at}L6"\nfile = "{at}.tape"\ncapacities = [{20_000_000 if at < 5 else 268_435_456}]\n'
-    f"home = {1000 + at}\n" for at in range(1, 9))
+    f'[[cartridge]]\nbarcode = "VTL00{at}L6"\nfile = "{at}.tape"\nhome = {1000 + at}\n'
+    f"capacities = [{20_000_000 if at < 5 else 268_435_456}]\n" for at in range(1, 9))
 
 
 def missing(packages: dict[str, str]) -> list[str]:
@@ -42,7 +44,8 @@ def suites(bench: harness.Bench) -> int:
     bench.ready().close()
     for unit, names in ((1, DRIVE), (0, CHANGER)):
         for name in names:
-            done = subprocess.run(["iscsi-test-cu", "-d", "-t", name, f"iscsi://127.0.0.1:{bench.port}/{TARGET}/{unit}"],
+            where = f"iscsi://127.0.0.1:{bench.port}/{TARGET}/{unit}"
+            done = subprocess.run(["iscsi-test-cu", "-d", "-t", name, where],
                                   env=os.environ | {"LD_PRELOAD": shim}, capture_output=True, text=True, check=False)
             counts = [line.split() for line in done.stdout.splitlines() if line.split()[:1] == ["tests"]]
             good = counts and counts[0][4] == "0" and counts[0][3] == counts[0][2]
@@ -63,7 +66,8 @@ def made(folder: str) -> None:
     for name, place in (("init", "sbin/guest"), ("tapes", "root/tapes"), ("bacula", "root/bacula")):
         shutil.copy(os.path.join(HERE, "guest", name), os.path.join(root, place))
     os.chmod(os.path.join(root, "sbin/guest"), 0o755)
-    subprocess.run(["mke2fs", "-q", "-F", "-t", "ext4", "-d", root, os.path.join(folder, "guest.img"), "3G"], check=True)
+    image = os.path.join(folder, "guest.img")
+    subprocess.run(["mke2fs", "-q", "-F", "-t", "ext4", "-d", root, image, "3G"], check=True)
 
 
 def booted(folder: str, port: int, seconds: int) -> int:
@@ -73,9 +77,9 @@ def booted(folder: str, port: int, seconds: int) -> int:
                     for name in ("vmlinuz", "initrd"))
     words = f"root=/dev/vda rw console=ttyS0 quiet no_timer_check net.ifnames=0 init=/sbin/guest port={port}"
     with open(os.path.join(folder, "guest.log"), "w+", encoding="utf-8", errors="replace") as log:
-        subprocess.run(["qemu-system-x86_64", "-accel", "kvm", "-accel", "tcg", "-m", "1024", "-nographic", "-no-reboot",
-                        "-kernel", kernel, "-initrd", disk, "-append", words, "-drive",
-                        f"file={folder}/guest.img,if=virtio,format=raw", "-nic", "user,model=virtio-net-pci"],
+        subprocess.run(["qemu-system-x86_64", *ACCELERATION, "-m", "1024", "-nographic", "-no-reboot", "-kernel", kernel,
+                        "-initrd", disk, "-append", words, "-drive", f"file={folder}/guest.img,if=virtio,format=raw",
+                        "-nic", "user,model=virtio-net-pci"],
                        stdin=subprocess.DEVNULL, stdout=log, check=False, timeout=seconds)
         log.seek(0)
         lines = [line.strip() for line in log if line.startswith("== ")]

@@ -9,7 +9,7 @@ from typing import Any
 sys.path[:0] = [os.path.dirname(os.path.dirname(os.path.abspath(__file__)))]
 
 from vtl_iscsi import (chap, connection, drives, folder, fixed, full_feature, hosts, library, login_phase, main,  # noqa
-                       operating, sense, session, supervisor, tasks, units)  # noqa: E402
+                       operating, sense, served, session, supervisor, tasks, units)  # noqa: E402
 from vtl_iscsi.attentions import Attentions  # noqa: E402
 
 
@@ -36,7 +36,7 @@ SABOTAGES: dict[str, tuple[Callable[[], None], str]] = {
     "no_data_digest": (put(connection.Connection, "_has_data", lambda self: self._complete(True)),
                        "a_wrong_digest_is_answered"),
     "commands_as_they_come": (put(session.Session, "arrives", at_once), "commands_are_taken_in_their_order"),
-    "no_window": (put(session.Session, "in_window", lambda *_: True), "commands_are_taken_in_their_order"),
+    "no_window": (put(session.Session, "in_window", lambda *_: True), "commands_outside_the_window_are_ignored"),
     "no_residual": (put(tasks, "_residual", lambda *_: (0, 0)), "residuals_are_counted"),
     "all_data_are_kept": (put(tasks, "MOST_DATA", 1 << 24), "the_longest_transfers"),
     "an_abort_of_nothing": (put(session.Session, "abort", lambda *_: None),
@@ -45,14 +45,14 @@ SABOTAGES: dict[str, tuple[Callable[[], None], str]] = {
                  "task_management_answers_as_a_drive_that_cannot_be_stopped"),
     "no_nexus_loss": (put(units.Units, "nexus_lost", lambda *_: None), "removal_is_prevented"),
     "unread_answers": (put(connection.Connection, "is_full", lambda _: False), "many_pings_that_nobody_reads"),
-    "an_exception": (put(full_feature.FullFeature, "_nop", fails), "commands_are_taken_in_their_order"),
+    "an_exception": (lambda: full_feature._ACTIONS.__setitem__(0, fails), "commands_are_taken_in_their_order"),
     "nothing_is_prevented": (put(units.Units, "is_prevented", lambda *_: False), "removal_is_prevented"),
     "numbers_of_the_moment": (put(hosts.Hosts, "__init__", lambda self, _: self.__dict__.update(
         library="00000000", _hosts={}, _folder=folder.Folder("x"), _keep=lambda: None)),
                               "hosts_keep_their_numbers"),
     "blocks_are_whole": (put(fixed.Fixed, "concerns", lambda *_: False), "fixed_blocks"),
     "drives_start_loaded": (put(operating, "STARTS_LOADED", False), "what_a_filemark_acknowledged_is_there"),
-    "a_lost_command_is_good": (put(supervisor, "LOST", sense.good()), "what_a_filemark_acknowledged_is_there"),
+    "a_lost_command_is_good": (put(served, "LOST", sense.good()), "what_a_filemark_acknowledged_is_there"),
     "a_stop_is_a_kill": (put(supervisor.Supervisor, "end", lambda self: (
         setattr(self, "is_ending", True), self.kill())), "what_was_answered_is_there_behind_sigterm"),
     "places_are_forgotten": (put(library.Library, "keep", lambda _: None), "places_stay_over_every_restart"),

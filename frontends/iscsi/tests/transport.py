@@ -156,13 +156,23 @@ def commands_are_taken_in_their_order(bench: Bench) -> None:
     host.cmdsn = first + 2
     host.command(1, REWIND)
     equal([host.command(1, "080000000100", read=1).data for _ in range(2)], [b"1", b"2"], "what was written")
-    number, host.cmdsn = host.cmdsn, host.last + 1
-    host.submit(1, READY)
-    host.cmdsn = number - 1
-    host.submit(1, READY)
+    host.close()
+
+
+def commands_outside_the_window_are_ignored(bench: Bench) -> None:
+    """RFC 7143, 4.2.2.1: of a number that is past, and of one that may not come yet."""
+    host = bench.ready()
+    host.command(1, REWIND)
+    number, ahead = host.cmdsn, host.last + 1
+    for host.cmdsn in (ahead, number - 1):
+        host.submit(1, "0a0000000600", b"nobody")
     host.cmdsn = number
-    equal(host.ping(b"still here"), b"still here", "commands outside the window are ignored:")
-    equal(host.command(1, READY), Answer(0))
+    equal(host.ping(b"still here"), b"still here")
+    for _ in range(ahead - number + 2):
+        equal(host.command(1, "0a0000000100", b"1"), Answer(0))
+    host.command(1, REWIND)
+    for _ in range(ahead - number + 2):
+        equal(host.command(1, "080000000100", read=1), Answer(0, data=b"1"), "what was written")
     host.close()
 
 
@@ -241,6 +251,6 @@ def many_pings_that_nobody_reads(bench: Bench) -> None:
 
 TESTS = [digests_are_those_of_the_standard, discovery_names_the_target, logins_are_refused,
          data_come_and_go_in_every_way, the_longest_transfers, residuals_are_counted, a_wrong_digest_is_answered,
-         commands_are_taken_in_their_order, a_session_of_two_connections,
+         commands_are_taken_in_their_order, commands_outside_the_window_are_ignored, a_session_of_two_connections,
          task_management_answers_as_a_drive_that_cannot_be_stopped, what_is_none_of_the_standard_is_rejected,
          many_pings_that_nobody_reads, chap_lets_in_who_knows_the_secret]

@@ -40,7 +40,8 @@ def each_host_meets_power_on(bench: Bench) -> None:
 
 def what_each_unit_is(bench: Bench) -> None:
     host = bench.host()
-    equal(host.command(0, "a0000000000000001000", read=16).data.hex(), "0000001800000000" + "00" * 8, "REPORT LUNS, cut")
+    cut = host.command(0, "a0000000000000001000", read=16).data
+    equal(cut.hex(), "0000001800000000" + "00" * 8, "REPORT LUNS, cut")
     listed = host.command(7, "a0000000000000010000", read=256).data
     equal(listed.hex(), "0000001800000000" + "".join(f"00{unit:02x}000000000000" for unit in (0, 1, 2)))
     equal(host.command(0, "120000002400", read=36).data, b"\x08\x80\x06\x02\x1f\0\0\0VTLIB   CHANGER         0001")
@@ -152,8 +153,8 @@ def a_fence_holds_over_every_restart(bench: Bench) -> None:
         equal(one.command(1, READY), Answer(2, POWER_ON), "the other one")
         equal(one.command(1, READY), Answer(2, NO_TAPE), "no tape is loaded after a start:")
         equal(one.passes(1, LOAD), Answer(0))
-        equal(one.command(1, RESERVATION, read=4096).data[4:].hex(), "00000010" + "00000000000000a1" + "00000000" + "0005"
-              + "0000")
+        equal(one.command(1, RESERVATION, read=4096).data[4:].hex(), "00000010" + "00000000000000a1" + "00000000"
+              + "00050000", "READ RESERVATION")
         one.close()
         two.close()
     one = bench.host("fence")

@@ -203,7 +203,8 @@ class Connection:
                 if self.is_closed or self._closes_when_sent or self.is_full():
                     return
                 is_short = sum(map(len, self._parts)) <= _AHEAD
-                count = self._socket.recvmsg_into([self._ahead] if is_short else self._parts)[0]
+                parts = [self._ahead] if is_short else self._parts
+                count = self._socket.recvmsg_into(parts)[0]
                 if not count:
                     self.close("ended by the host")
                 elif not is_short:

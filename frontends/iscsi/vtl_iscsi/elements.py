@@ -11,8 +11,10 @@ _TAG = 36
 
 
 def _elements(kind: int, library: Library) -> list[int]:
-    return {_TRANSPORT: [TRANSPORT], _STORAGE: list(range(FIRST_SLOT, FIRST_SLOT + SLOTS)), _IMPORT_EXPORT: [],
-            _DRIVE: list(library.drives)}[kind]
+    found: dict[int, list[int]] = {
+        _TRANSPORT: [TRANSPORT], _STORAGE: list(range(FIRST_SLOT, FIRST_SLOT + SLOTS)), _IMPORT_EXPORT: [],
+        _DRIVE: list(library.drives)}
+    return found[kind]
 
 
 def status(block: bytes, library: Library, name: str) -> Reply:

@@ -2,6 +2,7 @@
 from __future__ import annotations
 
 from collections.abc import Callable
+from functools import partial
 from typing import TYPE_CHECKING
 
 from . import keys, management, texts
@@ -138,13 +139,12 @@ class FullFeature:
         self._task = None
         if not task or not is_whole:
             return
-        session = self.session
         task.received = request.length
-        session.tasks[request.itt] = task
+        self.session.tasks[request.itt] = task
         if request.is_immediate:
-            session.deliver_first(task)
+            self.session.deliver_first(task)
         else:
-            session.arrives(request.cmdsn, lambda: session.deliver(task))
+            self.session.arrives(request.cmdsn, partial(self.session.deliver, task))
 
     def _data(self, request: Request, is_whole: bool) -> None:
         task = self._known(request)
@@ -179,8 +179,8 @@ class FullFeature:
         if answer:
             self.connection.flush()
             return
-        for other in list(self.session.paths.values()) if reason == _CLOSE_SESSION else [path]:
-            if other and other is not self:
+        for other in list(self.session.paths.values()):
+            if other is not self and (reason == _CLOSE_SESSION or other is path):
                 other.connection.close("logged out")
         if path is self:
             self.connection.close_when_sent()

@@ -78,7 +78,8 @@ class Page:
 
 
 def _box(kind: str, title: str, *lines: str) -> str:
-    return f'<div class="box {kind}"><b>{html.escape(title)}</b>' + "".join(f"<br>{it}" for it in lines if it) + "</div>"
+    shown = "".join(f"<br>{it}" for it in lines if it)
+    return f'<div class="box {kind}"><b>{html.escape(title)}</b>{shown}</div>'
 
 
 def _drive(drive: dict[str, Any]) -> str:
@@ -97,8 +98,9 @@ def drawn(it: dict[str, Any]) -> str:
     slots = [_box("bad" if one["refused"] else "", one["barcode"], f"slot {one['at']}",
                   "refused at its last load" if one["refused"] else "", f"{sum(one['capacities']):,} bytes")
              for one in it["cartridges"] if one["at"] > 1000]
-    hosts = "".join(f"<tr><td>{one['host'] or ''}<td>{html.escape(one['name'])}<td>{html.escape(', '.join(one['from']))}"
-                    f"<td>{one['commands']:,}<td>{one['bytes_in']:,}<td>{one['bytes_out']:,}" for one in it["sessions"])
+    hosts = "".join(
+        f"<tr><td>{one['host'] or ''}<td>{html.escape(one['name'])}<td>{html.escape(', '.join(one['from']))}"
+        f"<td>{one['commands']:,}<td>{one['bytes_in']:,}<td>{one['bytes_out']:,}" for one in it["sessions"])
     faults = "".join(f"<tr><td>{time.strftime('%F %T', time.gmtime(one['time']))}<td>{html.escape(one['text'])}"
                      for one in it["faults"][:20])
     up = "vtl is up" if it["vtl"]["up"] else "vtl is down, and is started again"

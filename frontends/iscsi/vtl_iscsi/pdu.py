@@ -28,7 +28,6 @@ class ProtocolError(Exception):
 
 
 _SEQUENCE = struct.Struct(">IIIIIIII")
-_WORD = struct.Struct(">I")
 
 
 class Request:
@@ -43,9 +42,9 @@ class Request:
         self.ahs = header[4] * 4
         self.length = int.from_bytes(header[5:8], "big")
         self.lun = header[8:16]
-        self.itt = _WORD.unpack_from(header, 16)[0]
         # bytes 16 to 47, four each
-        self.words = _SEQUENCE.unpack_from(header, 16)
+        self.words: tuple[int, ...] = _SEQUENCE.unpack_from(header, 16)
+        self.itt = self.words[0]
 
     @property
     def is_final(self) -> bool:

@@ -41,7 +41,8 @@ class Served:
         self._tag = 0
         self._queue: deque[memoryview] = deque()
         self._is_writing = self._is_closing = self._has_ended = False
-        self._ahead, self._head, self._got = b"", None, 0
+        self._head: Head | None = None
+        self._ahead, self._got = b"", 0
         self._body, self._said = bytearray(), b""
         self._pidfd = os.pidfd_open(self._process.pid)
         loop.watch(self._in, 0, self._writable)

@@ -60,7 +60,7 @@ class Target:
         if not self._is_admitting:
             self._is_admitting = True
             for it in self._listeners:
-                self._loop.watch(it.fileno(), READ, lambda _, listener=it: self._accept(listener))
+                self._watch(it)
 
     def end(self) -> None:
         """Nobody is accepted any more."""
@@ -77,7 +77,7 @@ class Target:
         except OSError as error:
             self.log.fault(f"no connection can be accepted: {error.strerror}")
             self._loop.forget(listener.fileno())
-            self._loop.after(_PAUSE, lambda: self._accepts_again(listener))
+            self._loop.after(_PAUSE, lambda: self._watch(listener))
             return
         paths = sum(len(it.paths) for it in self._sessions.values())
         if paths + len(self._strangers) >= _CONNECTIONS:
@@ -93,7 +93,7 @@ class Target:
         self._strangers.append(connection)
         connection.closes_in(_LOGIN_SECONDS, "not logged in in time")
 
-    def _accepts_again(self, listener: socket.socket) -> None:
+    def _watch(self, listener: socket.socket) -> None:
         if listener in self._listeners:
             self._loop.watch(listener.fileno(), READ, lambda _: self._accept(listener))
 
