@@ -45,7 +45,7 @@ SABOTAGES: dict[str, tuple[Callable[[], None], str]] = {
                  "task_management_answers_as_a_drive_that_cannot_be_stopped"),
     "no_nexus_loss": (put(units.Units, "nexus_lost", lambda *_: None), "removal_is_prevented"),
     "unread_answers": (put(connection.Connection, "is_full", lambda _: False), "many_pings_that_nobody_reads"),
-    "an_exception": (lambda: full_feature._ACTIONS.__setitem__(0, fails), "commands_are_taken_in_their_order"),
+    "an_exception": (lambda: full_feature._ACTIONS.__setitem__(0, fails), "commands_outside_the_window_are_ignored"),
     "nothing_is_prevented": (put(units.Units, "is_prevented", lambda *_: False), "removal_is_prevented"),
     "numbers_of_the_moment": (put(hosts.Hosts, "__init__", lambda self, _: self.__dict__.update(
         library="00000000", _hosts={}, _folder=folder.Folder("x"), _keep=lambda: None)),

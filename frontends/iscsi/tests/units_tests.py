@@ -1,4 +1,6 @@
 """Tests of the units: what is answered at each, the changer, PREVENT, fences, hosts' numbers, fixed blocks."""
+import os
+import signal
 import struct
 
 from harness import (INVALID_FIELD, LOAD, MARK, NO_TAPE, POWER_ON, PREVENTED, READY, REWIND, UNLOAD, Bench, equal,
@@ -220,6 +222,23 @@ def one_who_logs_in_anew_ends_its_old_session(bench: Bench) -> None:
     new.close()
 
 
+def the_next_session_goes_on_behind_the_last(bench: Bench) -> None:
+    """A host is gone while its commands are with a vtl that stands still, and logs in again."""
+    old, pid = bench.ready(name="gone"), bench.status()["vtl"]["pid"]
+    os.kill(pid, signal.SIGSTOP)
+    try:
+        for _ in range(2):
+            old.submit(1, MARK)
+        until(lambda: bench.status()["vtl"]["waiting"] == 2, "two commands are with vtl")
+        old.close()
+        new = bench.host("gone")
+        itt = new.submit(1, READY)
+    finally:
+        os.kill(pid, signal.SIGCONT)
+    equal(new.wait(itt), Answer(2, sense(6, 0x29, 0x07)))
+    new.close()
+
+
 def fixed_blocks(bench: Bench) -> None:
     bench.end()
     bench.start("--open", "--fixed", "512")
@@ -250,4 +269,4 @@ def fixed_blocks(bench: Bench) -> None:
 
 TESTS = [each_host_meets_power_on, what_each_unit_is, pages_and_elements_of_the_changer, moves, removal_is_prevented,
          a_fence_holds_over_every_restart, hosts_are_listed_and_freed, one_who_logs_in_anew_ends_its_old_session,
-         hosts_keep_their_numbers, fixed_blocks, sixty_five_hosts]
+         hosts_keep_their_numbers, the_next_session_goes_on_behind_the_last, fixed_blocks, sixty_five_hosts]

@@ -19,7 +19,8 @@ from typing import Any
 from .library import Refused
 
 # RFC 7143, 4.2.7.1: a name has at most 223 bytes. RFC 7143, 9.2.1: a secret of less than 96 bits is weak.
-NAME = re.compile(r"(iqn\.\d{4}-\d\d\.[a-z0-9.\-]+(:[a-z0-9.:\-]+)?|eui\.[0-9A-Fa-f]{16}|naa\.[0-9A-Fa-f]{16,32})")
+NAME = re.compile(r"iqn\.[0-9]{4}-[0-9]{2}\.[a-z0-9.\-]+(:[a-z0-9.:\-]+)?"
+                  r"|eui\.[0-9A-Fa-f]{16}|naa\.[0-9A-Fa-f]{16,32}")
 _MOST_NAME, _LEAST_SECRET, _MOST_SECRET = 223, 12, 255
 
 

@@ -7,7 +7,7 @@ from typing import TYPE_CHECKING
 from . import elements, vital
 from .attentions import CHANGER
 from .sense import (GOOD, INVALID_FIELD, INVALID_OPERATION_CODE, NO_SUCH_ELEMENT, REMOVAL_PREVENTED,
-                    SAVING_NOT_SUPPORTED, Reply, code_of, good)
+                    NOT_KEPT, SAVING_NOT_SUPPORTED, Reply, code_of, good)
 from .tasks import Task
 
 if TYPE_CHECKING:
@@ -116,9 +116,14 @@ class Changer:
         cartridge, key = self._library.at(source), code_of(reply)
         label = task.session.label()
         if reply.status == GOOD and cartridge:
-            self._library.moved(source, destination)
-            self._units.moved(source, destination)
             self._units.log.say(f"{label}: {cartridge.barcode} moved from {source} to {destination}")
+            self._units.moved(source, destination)
+            try:
+                self._library.moved(source, destination)
+            except OSError as error:
+                # it is there, but a restart would look for it where it was
+                self._units.log.fault(f"the place of {cartridge.barcode} cannot be kept: {error.strerror}")
+                reply = NOT_KEPT
         else:
             if key == (0x3, 0x11, 0x00) and cartridge:
                 cartridge.refusal = key[1:]

@@ -104,7 +104,7 @@ class Connection:
     def closes_in(self, seconds: float | None, why: str) -> None:
         """Unless it is called again, or closed before; None is never."""
         if self._deadline:
-            self._deadline.cancel()
+            self._loop.cancel(self._deadline)
         self._deadline = None if seconds is None else self._loop.after(seconds, lambda: self.close(why))
 
     def close_when_sent(self) -> None:

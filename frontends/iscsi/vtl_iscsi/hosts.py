@@ -53,8 +53,13 @@ class Hosts:
             return None
         turn = max((it.turn for it in self._hosts.values()), default=0) + 1
         if not host or host.turn + 1 < turn:
+            before = dict(self._hosts)
             self._hosts[number] = Host(number, name, isid, turn, host.drives if host else set())
-            self._keep()
+            try:
+                self._keep()
+            except OSError:
+                self._hosts = before
+                return None
         return self._hosts[number]
 
     def registers(self, number: int, drive: int) -> None:

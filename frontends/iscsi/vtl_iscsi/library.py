@@ -91,8 +91,8 @@ def _placed(cartridges: dict[str, Cartridge], places: dict[str, list[int]]) -> N
     taken: dict[int, str] = {}
     for it in cartridges.values():
         if it.at in taken:
-            raise Refused(f"{it.barcode} and {taken[it.at]} are both at {it.at}: a host moved one of them there; give the "
-                          "other another home")
+            raise Refused(f"{it.barcode} and {taken[it.at]} are both at {it.at}: a host moved one of them there; give "
+                          "the other another home")
         taken[it.at] = it.barcode
 
 

@@ -7,6 +7,7 @@ from collections.abc import Callable
 
 READ, WRITE, END = select.EPOLLIN, select.EPOLLOUT, select.EPOLLHUP | select.EPOLLERR
 Handler = Callable[[int], None]
+_MOST_CANCELLED = 256
 
 
 class Timer:
@@ -15,9 +16,6 @@ class Timer:
     def __init__(self, call: Callable[[], None]) -> None:
         self.call: Callable[[], None] | None = call
 
-    def cancel(self) -> None:
-        self.call = None
-
 
 class Loop:
     def __init__(self) -> None:
@@ -25,7 +23,10 @@ class Loop:
         self._handlers: dict[int, Handler] = {}
         self._times: list[tuple[float, int, Timer]] = []
         self._numbers = itertools.count()
+        self._cancelled = 0
         self._is_ended = False
+        # what is done with an exception that no handler took
+        self.on_fault: Callable[[Exception], None] = lambda error: None
 
     def watch(self, fd: int, events: int, handler: Handler) -> None:
         self._handlers[fd] = handler
@@ -44,16 +45,28 @@ class Loop:
         heapq.heappush(self._times, (time.monotonic() + seconds, next(self._numbers), timer))
         return timer
 
+    def cancel(self, timer: Timer) -> None:
+        """What was cancelled takes no more room than what is not."""
+        timer.call = None
+        self._cancelled += 1
+        if self._cancelled > _MOST_CANCELLED and 2 * self._cancelled > len(self._times):
+            self._times = [it for it in self._times if it[2].call]
+            heapq.heapify(self._times)
+            self._cancelled = 0
+
     def end(self) -> None:
         self._is_ended = True
 
     def run(self) -> None:
         while not self._is_ended:
-            for fd, events in self._epoll.poll(self._rest()):
-                # one that was forgotten meanwhile is ready no more
-                if handler := self._handlers.get(fd):
-                    handler(events)
-            self._call_due()
+            try:
+                for fd, events in self._epoll.poll(self._rest()):
+                    # one that was forgotten meanwhile is ready no more
+                    if handler := self._handlers.get(fd):
+                        handler(events)
+                self._call_due()
+            except Exception as error:  # one host's fault ends no other's session
+                self.on_fault(error)
 
     def _rest(self) -> float:
         """Seconds until the next time; -1 where there is none."""

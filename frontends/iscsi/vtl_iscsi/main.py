@@ -41,6 +41,7 @@ class FrontEnd:
     def __init__(self, given: Options) -> None:
         self._given, self._status = given, 0
         self._loop, self._log = Loop(), Log(given.log)
+        self._loop.on_fault = lambda error: self._log.own_fault("the front end", error)
         folder = Folder(given.config)
         folder.take()
         access = read_access(given.access, given.is_open)

@@ -16,14 +16,18 @@ if TYPE_CHECKING:
 
 ABORT_TASK, ABORT_TASK_SET, CLEAR_ACA, CLEAR_TASK_SET = 1, 2, 3, 4
 LOGICAL_UNIT_RESET, WARM_RESET, COLD_RESET, TASK_REASSIGN = 5, 6, 7, 8
-COMPLETE, NO_TASK, NO_UNIT, NO_REASSIGNMENT, NOT_SUPPORTED = 0, 1, 2, 4, 5
+COMPLETE, NO_TASK, NO_UNIT, NO_REASSIGNMENT, NOT_SUPPORTED, REJECTED = 0, 1, 2, 4, 5, 255
+# that wait for commands to end, of a session
+_MOST = 8
 _TASK_ABORTED = Reply(0x40)
 
 
 def manage(path: FullFeature, request: Request) -> None:
     function, units = request.flags & 0x7F, path.session.units
     unit = unit_of(request.lun)
-    if not path.session.host or function in (0, CLEAR_ACA) or function > TASK_REASSIGN:
+    if path.session.managed >= _MOST:
+        _respond(path, request, REJECTED)
+    elif not path.session.host or function in (0, CLEAR_ACA) or function > TASK_REASSIGN:
         _respond(path, request, NOT_SUPPORTED)
     elif function == TASK_REASSIGN:
         _respond(path, request, NO_REASSIGNMENT)
@@ -46,7 +50,8 @@ def _abort_task(path: FullFeature, request: Request) -> None:
         _respond(path, request, NO_TASK if came else COMPLETE)
         return
     path.session.abort(task)
-    path.session.units.when_ended([task], lambda: _respond(path, request, COMPLETE))
+    path.session.managed += 1
+    path.session.units.when_ended([task], lambda: _done(path, request, set()))
     path.session.go_on()
 
 
@@ -59,12 +64,14 @@ def _clear(path: FullFeature, request: Request, units: set[int], is_reset: bool,
             elif not task.is_running and task.is_delivered:
                 session.terminate(task, _TASK_ABORTED)
             concerned.append(task)
+    path.session.managed += 1
     path.session.units.when_ended(concerned, lambda: _done(path, request, units if is_reset else set()))
     for session in path.target.sessions():
         session.go_on()
 
 
 def _done(path: FullFeature, request: Request, units: set[int]) -> None:
+    path.session.managed -= 1
     for unit in units:
         path.session.units.was_reset(unit)
     _respond(path, request, COMPLETE)

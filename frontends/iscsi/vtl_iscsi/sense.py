@@ -39,6 +39,8 @@ SAVING_NOT_SUPPORTED = check(ILLEGAL_REQUEST, 0x39, 0x00)
 REMOVAL_PREVENTED = check(ILLEGAL_REQUEST, 0x53, 0x02)
 # INTERNAL TARGET FAILURE: vtl ended before it answered
 LOST = check(HARDWARE_ERROR, 0x44, 0x00)._replace(is_lost=True)
+# the same: a move was made, and its place could not be written down
+NOT_KEPT = check(HARDWARE_ERROR, 0x44, 0x00)
 # PROTOCOL SERVICE CRC ERROR (RFC 7143, 7.8)
 DIGEST_ERROR = check(ABORTED_COMMAND, 0x47, 0x05)
 UNIT_IS_BUSY = Reply(BUSY)

@@ -1,5 +1,4 @@
 """A running `vtl serve`: requests go to its standard input, answers come from its standard output, by their tags."""
-import errno
 import fcntl
 import os
 import subprocess
@@ -40,7 +39,7 @@ class Served:
         self._waits: dict[int, Then] = {}
         self._tag = 0
         self._queue: deque[memoryview] = deque()
-        self._is_writing = self._is_closing = self._has_ended = False
+        self._is_writing = self._is_closing = self._is_closed = False
         self._head: Head | None = None
         self._ahead, self._got = b"", 0
         self._body, self._said = bytearray(), b""
@@ -81,28 +80,36 @@ class Served:
         return self._tag
 
     def _send(self, *pieces: Piece) -> None:
-        self._queue.extend(memoryview(it) for it in pieces if len(it))
+        """Behind the end of its input nothing is sent: it is answered LOST as the process ends."""
+        self._queue.extend(memoryview(it) for it in pieces if len(it) and not self._is_closing)
         if not self._is_writing:
             self._write()
 
     def _writable(self, events: int) -> None:
-        self._write() if events & WRITE else self._loop.forget(self._in)
+        self._write() if events & WRITE else self._close_input()
 
     def _write(self) -> None:
         """What the pipe takes; the rest once it takes more. A pipe that broke is seen by its end."""
+        if self._is_closed:
+            return
         try:
             while self._queue:
                 self._sent(os.writev(self._in, [self._queue[at] for at in range(min(len(self._queue), _PIECES))]))
         except BlockingIOError:
             pass
-        except OSError as error:
-            if error.errno not in (errno.EPIPE, errno.EBADF):
-                raise
+        except BrokenPipeError:
+            self._close_input()
             return
-        if bool(self._queue) != self._is_writing and not self._has_ended:
+        if self._is_closing and not self._queue:
+            self._close_input()
+        elif bool(self._queue) != self._is_writing:
             self._is_writing = bool(self._queue)
             self._loop.change(self._in, WRITE if self._is_writing else 0)
-        if self._is_closing and not self._queue and self._process.stdin and not self._process.stdin.closed:
+
+    def _close_input(self) -> None:
+        if not self._is_closed and self._process.stdin:
+            self._is_closed = True
+            self._queue.clear()
             self._loop.forget(self._in)
             self._process.stdin.close()
 
@@ -179,12 +186,12 @@ class Served:
         while self._read():
             pass
         self._speaks(READ)
-        self._has_ended = True
-        for fd in (self._in, self._out, self._err, self._pidfd):
+        self._close_input()
+        for fd in (self._out, self._err, self._pidfd):
             self._loop.forget(fd)
         os.close(self._pidfd)
-        for pipe in (self._process.stdin, self._process.stdout, self._process.stderr):
-            if pipe and not pipe.closed:
+        for pipe in (self._process.stdout, self._process.stderr):
+            if pipe:
                 pipe.close()
         self._on_end(status)
         waits, self._waits = self._waits, {}

@@ -3,6 +3,7 @@ from __future__ import annotations
 
 from collections import deque
 from collections.abc import Callable
+from functools import partial
 from typing import TYPE_CHECKING
 
 from .hosts import Host
@@ -35,6 +36,8 @@ class Session:
         # one that takes several frames; nothing of the session is started beside it
         self.alone: Task | None = None
         self._next_tag = self._used = 0
+        # task management requests that wait for commands to end
+        self.managed = 0
         self.commands = self.bytes_in = self.bytes_out = 0
         self.is_closed = False
 
@@ -99,8 +102,13 @@ class Session:
         self.bytes_in += task.received
         if task.failure:
             self.finish(task, task.failure)
-        else:
-            self.units.start(task, lambda reply: self.finish(task, reply))
+            return
+        try:
+            self.units.start(task, partial(self.finish, task))
+        except Exception as error:
+            self.units.log.own_fault(f"a command of a session of {self.label()}", error)
+            if not task.is_answered:
+                self.finish(task, LOST)
 
     def _ask(self) -> None:
         """One R2T at a time, for the first task in order that needs one (MaxOutstandingR2T is 1)."""
@@ -124,6 +132,9 @@ class Session:
         task.answer(reply)
         self.units.ended(task)
         self.go_on()
+        if self.is_closed:
+            # the next session of the host may have waited for it
+            self.units.go_on_of(self.number)
 
     def terminate(self, task: Task, reply: Reply) -> None:
         """One that was not started is answered so at once."""

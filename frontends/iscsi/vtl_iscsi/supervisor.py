@@ -45,6 +45,8 @@ class Supervisor:
         return self._sent[number]
 
     def start(self) -> None:
+        if self.is_ending:
+            return
         self._attentions.power_on()
         self._library.loaded.clear()
         self.starts += 1

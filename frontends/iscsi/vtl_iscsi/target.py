@@ -35,6 +35,7 @@ class Target:
         self._sessions: dict[int, Session] = {}
         self._last_tsih = 0
         self._is_admitting = False
+        units.go_on_of = self._go_on_of
         # set by who uses it
         self.on_full: Callable[[], None] = lambda: None
 
@@ -183,6 +184,11 @@ class Target:
         for session in self.sessions():
             session.lose()
         self.units.power_on()
+
+    def _go_on_of(self, number: int) -> None:
+        session = self.session_of(number)
+        if session:
+            session.go_on()
 
     def go_on(self) -> None:
         for session in self.sessions():

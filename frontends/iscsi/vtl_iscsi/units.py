@@ -32,6 +32,8 @@ class Units:
         self._drives = {number: Drive(self, number, fixed) for number in library.drives}
         self._changer = Changer(self)
         self._waits: list[tuple[set[Task], Callable[[], None]]] = []
+        # set by who has the sessions: one of a host may go on
+        self.go_on_of: Callable[[int], None] = lambda number: None
 
     def numbers(self) -> list[int]:
         return [CHANGER, *self._drives]
