@@ -17,7 +17,7 @@ TARGET = "iqn.2026-11.local.vtl:library"
 PACKAGES = {"iscsi-test-cu": "libiscsi-bin", "cc": "gcc libc6-dev libiscsi-dev"}
 GUEST_PACKAGES = {"qemu-system-x86_64": "qemu-system-x86", "mmdebstrap": "mmdebstrap", "mke2fs": "e2fsprogs"}
 INSIDE = ("linux-image-amd64,open-iscsi,mt-st,mtx,sg3-utils,lsscsi,kmod,iproute2,tar,procps,udev,"
-          "bacula-director-sqlite3,bacula-sd,bacula-fd,bacula-console,sqlite3")
+          "bacula-director,bacula-director-sqlite3,bacula-sd,bacula-fd,bacula-console,sqlite3")
 # QEMU's own processor, since not every machine lends its own to a guest
 ACCELERATION = ["-accel", "tcg", "-cpu", "max"]
 DRIVE = ["SCSI.Inquiry", "SCSI.ModeSense6.AllPages", "SCSI.ModeSense6.Residuals", "SCSI.PrinReadKeys",
@@ -78,8 +78,8 @@ def booted(folder: str, port: int, seconds: int) -> int:
     words = f"root=/dev/vda rw console=ttyS0 quiet no_timer_check net.ifnames=0 init=/sbin/guest port={port}"
     with open(os.path.join(folder, "guest.log"), "w+", encoding="utf-8", errors="replace") as log:
         subprocess.run(["qemu-system-x86_64", *ACCELERATION, "-m", "1024", "-nographic", "-no-reboot",
-                        "-kernel", kernel, "-initrd", disk, "-append", words, "-drive", f"file={folder}/guest.img,if=virtio,format=raw",
-                        "-nic", "user,model=virtio-net-pci"],
+                        "-kernel", kernel, "-initrd", disk, "-append", words, "-drive",
+                        f"file={folder}/guest.img,if=virtio,format=raw", "-nic", "user,model=virtio-net-pci"],
                        stdin=subprocess.DEVNULL, stdout=log, check=False, timeout=seconds)
         log.seek(0)
         lines = [line.strip() for line in log if line.startswith("== ")]

@@ -1,5 +1,5 @@
-/* iscsi-test-cu begins with READ CAPACITY(10), and ends where it is not answered: it is made for disks. This file, before
- * libiscsi, answers the first one in the place of a tape drive or a changer, which have no such command. */
+/* iscsi-test-cu begins with READ CAPACITY(10), and ends where it is not answered: it is made for disks. This file,
+ * before libiscsi, answers the first one in the place of a tape drive or a changer, which have no such command. */
 #define _GNU_SOURCE
 #include <dlfcn.h>
 #include <stdlib.h>
