@@ -74,6 +74,7 @@ int main(int count_of, char **words)
     int count = atoi(words[5]), block = atoi(words[6]), group = atoi(words[7]), depth = atoi(words[8]);
     unsigned char ready[6] = {0}, load[6] = {0x1b, 0, 0, 0, 1, 0}, rewind[6] = {1}, mark[6] = {0x10, 0, 0, 0, 1, 0};
     unsigned char moves[6] = {work[0] == 'w' ? 0x0a : 0x08, 0, block >> 16, block >> 8, block, 0};
+    int is_ready = !strcmp(work, "ready");
     struct iscsi_context *iscsi = iscsi_create_context("iqn.2000-01.example:bench");
     lun = atoi(words[3]);
     data = malloc(block + 1);
@@ -90,14 +91,14 @@ int main(int count_of, char **words)
     sync_one(iscsi, rewind);
     double start = now();
     for (int at = 0; at < count && !failed; at++) {
-        if (work[0] == 'r' && work[2] == 'a' && work[3] == 'd' && work[4] == 'y')
+        if (is_ready)
             send_one(iscsi, ready, SCSI_XFER_NONE, 0);
         else
             send_one(iscsi, moves, work[0] == 'w' ? SCSI_XFER_WRITE : SCSI_XFER_READ, block);
         while (waiting >= depth && !failed)
             served(iscsi);
         /* a filemark behind each group; a read meets one there */
-        if (group && at % group == group - 1) {
+        if (!is_ready && at % group == group - 1) {
             if (work[0] == 'w')
                 send_one(iscsi, mark, SCSI_XFER_NONE, 0);
             else

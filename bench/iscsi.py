@@ -81,17 +81,11 @@ def best(*works: Work) -> list[tuple[float, float]]:
     return [(min(times), statistics.median(times)) for times in zip(*rounds)]
 
 
-def all_at_once(program: str, port: int, depth: int) -> float:
-    """Eight hosts write to eight drives; until the last has ended."""
+def all_at_once(program: str, port: int, blocks: int, depth: int, hosts: int = HOSTS) -> float:
+    """So many hosts write to a drive each, until the last has ended."""
     start = time.perf_counter()
-    for process in [ran(program, port, VTL, at, "write", BLOCKS // 4, depth) for at in range(1, HOSTS + 1)]:
+    for process in [ran(program, port, VTL, at, "write", blocks, depth) for at in range(1, hosts + 1)]:
         seconds(process)
-    return time.perf_counter() - start
-
-
-def one_alone(program: str, port: int, depth: int) -> float:
-    start = time.perf_counter()
-    seconds(ran(program, port, VTL, 1, "write", BLOCKS // 4, depth))
     return time.perf_counter() - start
 
 
@@ -113,6 +107,8 @@ def main() -> None:
     parser = argparse.ArgumentParser()
     parser.add_argument("--program", default=PROVED)
     parser.add_argument("--depth", type=int, default=1)
+    parser.add_argument("--blocks", type=int, default=BLOCKS)
+    parser.add_argument("--trips", type=int, default=TRIPS)
     given = parser.parse_args()
     if not shutil.which("tgtd") or not shutil.which("cc"):
         sys.exit("this needs the Debian packages tgt, libiscsi-dev and gcc")
@@ -121,7 +117,7 @@ def main() -> None:
         with harness.bench(given.program, None, config=CONFIG) as bench:
             rest, session = memory(bench)
             print(f"memory: {rest / 1048576:.1f} MiB at rest, {session / 1048576:.2f} MiB more for each session")
-            for work, count in (("ready", TRIPS), ("write", BLOCKS), ("read", BLOCKS)):
+            for work, count in (("ready", given.trips), ("write", given.blocks), ("read", given.blocks)):
                 ours, theirs = best(
                     lambda: seconds(ran(made, bench.port, VTL, 1, work, count, given.depth)),
                     lambda: seconds(ran(made, port, TGT, 1, work, count, given.depth)))
@@ -132,8 +128,9 @@ def main() -> None:
                     print(f"{work.upper()}: {count * BLOCK / ours[0] / 1e6:,.0f} MB/s, tgt "
                           f"{count * BLOCK / theirs[0] / 1e6:,.0f}: {theirs[0] / ours[0]:.2f} "
                           f"({theirs[1] / ours[1]:.2f}) times tgt's", flush=True)
-            eight, one = best(lambda: all_at_once(made, bench.port, given.depth),
-                              lambda: one_alone(made, bench.port, given.depth))
+            part = given.blocks // 4
+            eight, one = best(lambda: all_at_once(made, bench.port, part, given.depth),
+                              lambda: all_at_once(made, bench.port, part, given.depth, 1))
             print(f"eight hosts at eight drives, WRITE: {HOSTS * one[0] / eight[0]:.2f} "
                   f"({HOSTS * one[1] / eight[1]:.2f}) times as much as one")
 
