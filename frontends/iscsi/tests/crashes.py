@@ -1,5 +1,9 @@
 """Tests of ends: vtl is killed, the front end is killed, both are ended, in the middle of everything."""
+import os
 import random
+import signal
+import socket
+import subprocess
 import time
 
 from harness import LOAD, LOST, MARK, NO_TAPE, POSITION, POWER_ON, READY, REWIND, Bench, equal, sense, until
@@ -115,18 +119,43 @@ def places_stay_over_every_restart(bench: Bench) -> None:
 
 
 def a_second_front_end_is_refused(bench: Bench) -> None:
-    import subprocess
     done = subprocess.run([*bench.starter, "--config", "library.toml", "--open", "--program", bench.program],
                           cwd=bench.folder, capture_output=True, check=False, timeout=20)
     equal((done.returncode, b"is in use" in done.stderr), (2, True))
 
 
 def it_listens_beyond_this_machine_with_secrets_alone(bench: Bench) -> None:
-    import subprocess
     bench.end()
     done = subprocess.run([*bench.starter, "--config", "library.toml", "--open", "--program", bench.program,
                            "--listen", "0.0.0.0:0"], cwd=bench.folder, capture_output=True, check=False, timeout=20)
     equal((done.returncode, b"loopback alone" in done.stderr), (1, True))
+    bench.start("--open")
+
+
+def a_second_sigterm_ends_it_at_once(bench: Bench) -> None:
+    """Also where vtl stands still, and would not store what waits."""
+    pid = bench.status()["vtl"]["pid"]
+    os.kill(pid, signal.SIGSTOP)
+    assert bench.process
+    bench.process.send_signal(signal.SIGTERM)
+    until(lambda: "it ends" in bench.read("said"), "it ends")
+    equal(bench.end(), 2, "the status")
+    bench.start("--open")
+
+
+def systemd_hears_that_it_is_ready(bench: Bench) -> None:
+    bench.end()
+    with socket.socket(socket.AF_UNIX, socket.SOCK_DGRAM) as sock:
+        sock.settimeout(30)
+        sock.bind(f"{bench.folder}/notify")
+        os.environ["NOTIFY_SOCKET"] = f"{bench.folder}/notify"
+        try:
+            bench.start("--open")
+        finally:
+            del os.environ["NOTIFY_SOCKET"]
+        equal(sock.recv(100), b"READY=1")
+        bench.end()
+        equal(sock.recv(100), b"STOPPING=1")
     bench.start("--open")
 
 
@@ -148,5 +177,6 @@ def a_damaged_cartridge_is_an_exception(bench: Bench) -> None:
 
 
 TESTS = [what_a_filemark_acknowledged_is_there, what_was_answered_is_there_behind_sigterm,
-         places_stay_over_every_restart, a_second_front_end_is_refused,
-         it_listens_beyond_this_machine_with_secrets_alone, a_damaged_cartridge_is_an_exception]
+         places_stay_over_every_restart, a_second_front_end_is_refused, a_second_sigterm_ends_it_at_once,
+         systemd_hears_that_it_is_ready, it_listens_beyond_this_machine_with_secrets_alone,
+         a_damaged_cartridge_is_an_exception]

@@ -2,6 +2,7 @@
 import os
 import signal
 import struct
+import subprocess
 
 from harness import (INVALID_FIELD, LOAD, MARK, NO_TAPE, POWER_ON, PREVENTED, READY, REWIND, UNLOAD, Bench, equal,
                      sense, until)
@@ -182,7 +183,6 @@ def hosts_are_listed_and_freed(bench: Bench) -> None:
 
 
 def free(bench: Bench, number: int) -> int:
-    import subprocess
     return subprocess.run([*bench.starter, "hosts", "--config", "library.toml", "--free", str(number)],
                           cwd=bench.folder, capture_output=True, check=False).returncode
 
