@@ -131,8 +131,9 @@ class FullFeature:
             return Reason.PROTOCOL_ERROR
         if request.itt in session.tasks:
             return Reason.TASK_IN_PROGRESS
-        urgent = sum(it.request.is_immediate for it in session.tasks.values())
-        return Reason.TOO_MANY_IMMEDIATE if request.is_immediate and urgent >= IMMEDIATE else None
+        if request.is_immediate and sum(it.request.is_immediate for it in session.tasks.values()) >= IMMEDIATE:
+            return Reason.TOO_MANY_IMMEDIATE
+        return None
 
     def _command(self, request: Request, is_whole: bool) -> None:
         task = self._task if request.length else self._task_of(request)

@@ -28,6 +28,7 @@ class ProtocolError(Exception):
 
 
 _SEQUENCE = struct.Struct(">IIIIIIII")
+_HEADER = struct.Struct(">BBBB4x8sIIIIIIII")
 
 
 class Request:
@@ -75,11 +76,7 @@ def unit_of(lun: bytes) -> int | None:
 def header(opcode: int, flags: int, itt: int, *, second: int = 0, third: int = 0, lun: bytes = bytes(8),
            words: tuple[int, int, int, int, int, int, int] = (0, 0, 0, 0, 0, 0, 0)) -> bytearray:
     """A response's header; `words` are bytes 20 to 47, four each. Its length is filled in as it is sent."""
-    made = bytearray(BHS)
-    made[0:4] = bytes((opcode, flags, second, third))
-    made[8:16] = lun
-    _SEQUENCE.pack_into(made, 16, itt, *words)
-    return made
+    return bytearray(_HEADER.pack(opcode, flags, second, third, lun, itt, *words))
 
 
 def is_before(one: int, other: int) -> bool:

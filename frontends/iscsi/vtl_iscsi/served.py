@@ -6,6 +6,7 @@ from collections import deque
 from collections.abc import Callable
 
 from . import frames
+from .buffers import BUFFERS
 from .frames import HEADER, Head
 from .loop import END, READ, WRITE, Loop
 from .sense import LOST, Reply
@@ -42,7 +43,7 @@ class Served:
         self._is_writing = self._is_closing = self._is_closed = False
         self._head: Head | None = None
         self._ahead, self._got = b"", 0
-        self._body, self._said = bytearray(), b""
+        self._body, self._said = memoryview(b""), b""
         self._pidfd = os.pidfd_open(self._process.pid)
         loop.watch(self._in, 0, self._writable)
         loop.watch(self._out, READ, self._readable)
@@ -138,11 +139,11 @@ class Served:
                     if 0 < len(piece) < _AHEAD and self._head is None:
                         return True  # most likely nothing more is there
                 else:
-                    count = os.readv(self._out, [memoryview(self._body)[self._got:]])
+                    count = os.readv(self._out, [self._body[self._got:]])
                     piece, self._got = b"x" * bool(count), self._got + count
                     if self._got == len(self._body):
-                        self._answered(self._head, memoryview(self._body))
-                        self._head = None
+                        head, body, self._head, self._body = self._head, self._body, None, memoryview(b"")
+                        self._answered(head, body)
                 if not piece:
                     return False
         except BlockingIOError:
@@ -155,7 +156,7 @@ class Served:
             head, start = Head(*HEADER.unpack_from(piece, at)), at + HEADER.size
             end = start + head.sense + head.data
             if end > len(piece):
-                self._head, self._body = head, bytearray(head.sense + head.data)
+                self._head, self._body = head, BUFFERS.take(head.sense + head.data)
                 self._got = len(piece) - start
                 self._body[:self._got] = piece[start:]
                 self._ahead = b""

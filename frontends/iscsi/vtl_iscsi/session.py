@@ -112,6 +112,9 @@ class Session:
 
     def _ask(self) -> None:
         """One R2T at a time, for the first task in order that needs one (MaxOutstandingR2T is 1)."""
+        if not self._queue:
+            self._asked = None
+            return
         if self._asked and (self._asked.needs_asking() or self._asked.is_ready() or self._asked.is_aborted):
             self._asked = None
         if self._asked:

@@ -3,6 +3,7 @@ from __future__ import annotations
 
 from typing import TYPE_CHECKING
 
+from .buffers import BUFFERS
 from .frames import MOST_DATA
 from .pdu import (FINAL, HAS_STATUS, OVERFLOW, READS, RESERVED_TAG, UNDERFLOW, WRITES, Opcode, ProtocolError, Request,
                   header, unit_of)
@@ -32,7 +33,7 @@ class Task:
         # bytes of data-out that the command wants of those that the host has; they may be dropped
         self.wanted = 0
         self.is_dropped = False
-        self._data = bytearray()
+        self._data = memoryview(b"")
         self.received = 0
         # more data come without being asked for
         self.is_open = self.writes and not request.is_final
@@ -46,11 +47,11 @@ class Task:
         """The command block asks for so many bytes of data-out. Memory is taken for what a drive can take."""
         self.wanted = min(count, self.length) if self.writes else 0
         self.is_dropped = self.wanted > MOST_DATA
-        self._data = bytearray(0 if self.is_dropped else self.wanted)
+        self._data = BUFFERS.take(0 if self.is_dropped else self.wanted)
 
     @property
     def data(self) -> memoryview:
-        return memoryview(self._data)
+        return self._data
 
     def is_ready(self) -> bool:
         """All its data are there."""
@@ -66,7 +67,7 @@ class Task:
         if self.is_aborted or self.failure or self.is_dropped:
             return nowhere(length)
         kept = max(0, min(length, self.wanted - offset))
-        return [memoryview(self._data)[offset:offset + kept], *nowhere(length - kept)]
+        return [self._data[offset:offset + kept], *nowhere(length - kept)]
 
     def takes_unasked(self, length: int, most: int) -> None:
         """Immediate and unsolicited data are at most FirstBurstLength (13.14)."""
@@ -105,7 +106,7 @@ class Task:
         self.is_answered = True
         if not self.is_aborted and not self.path.connection.is_closed:
             _send(self, reply)
-        self._data = bytearray()
+        self._data = memoryview(b"")
 
 
 def nowhere(length: int) -> list[memoryview]:
