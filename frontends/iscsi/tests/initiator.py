@@ -47,11 +47,14 @@ class Refused(Exception):
 
 
 class Initiator:
+    # the longest that it waits for a PDU
+    seconds = 20.0
+
     def __init__(self, port: int, name: str = "iqn.2000-01.example:one", isid: bytes = b"\0\2\x3d\0\0\0", *,
                  keys: dict[str, str] | None = None, chap: tuple[str, str, str] | None = None,
                  mutual: tuple[str, str] | None = None, session: str = "Normal", tsih: int = 0, cid: int = 0,
-                 cmdsn: int = 1, address: str = "127.0.0.1", seconds: float = 20.0) -> None:
-        self.socket = socket.create_connection((address, port), timeout=seconds)
+                 cmdsn: int = 1, address: str = "127.0.0.1", seconds: float = 0) -> None:
+        self.socket = socket.create_connection((address, port), timeout=seconds or Initiator.seconds)
         self.socket.setsockopt(socket.IPPROTO_TCP, socket.TCP_NODELAY, 1)
         self.name, self.isid, self.tsih, self.cid = name, isid, tsih, cid
         self.cmdsn, self.itt, self.last = cmdsn, 0, cmdsn

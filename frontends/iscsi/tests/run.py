@@ -19,6 +19,7 @@ import harness  # noqa: E402
 import strangers  # noqa: E402
 import transport  # noqa: E402
 import units_tests  # noqa: E402
+from initiator import Initiator  # noqa: E402
 from sabotaged import SABOTAGES  # noqa: E402
 
 TOP = os.path.dirname(os.path.dirname(os.path.dirname(HERE)))
@@ -58,6 +59,7 @@ def is_found(program: str, name: str, test: Test) -> bool:
 
 
 def selftest(program: str, only: str) -> int:
+    Initiator.seconds = 8.0
     tests = {test.__name__: test for group in GROUPS for test in group}
     chosen = {name: tests[test] for name, (_, test) in SABOTAGES.items() if only in name}
     missed = []

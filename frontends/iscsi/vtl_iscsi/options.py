@@ -1,5 +1,6 @@
 """The words of the command line."""
 import argparse
+import ipaddress
 from dataclasses import dataclass
 
 DEFAULT_TARGET, DEFAULT_LISTEN = "iqn.2026-11.local.vtl:library", "127.0.0.1:3260"
@@ -23,9 +24,13 @@ class Options:
 
 def _address(text: str) -> tuple[str, int]:
     host, colon, port = text.rpartition(":")
-    if not colon or not port.isdecimal() or not 0 <= int(port) <= 65_535:
-        raise argparse.ArgumentTypeError(f"{text} is no ADDRESS:PORT")
-    return host.strip("[]"), int(port)
+    try:
+        address = str(ipaddress.ip_address(host.strip("[]")))
+    except ValueError:
+        address = ""
+    if not address or not colon or not port.isdecimal() or not 0 <= int(port) <= 65_535:
+        raise argparse.ArgumentTypeError(f"{text} is no ADDRESS:PORT; an address is digits")
+    return address, int(port)
 
 
 def _block(text: str) -> int:
