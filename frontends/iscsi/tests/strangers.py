@@ -33,9 +33,14 @@ def _models(number: int) -> list[bytearray]:
     ]
 
 
-def _login() -> bytearray:
-    text = f"InitiatorName={_NAME}\0TargetName={TARGET}\0SessionType=Normal\0AuthMethod=CHAP,None\0HeaderDigest=None\0"
-    return _segment(0x40 | LOGIN, 0x87, b"\0\2\x3d\1\1\1\0\0", (0, 0, 1, 0, 0, 0, 0, 0), text.encode())
+def _logins() -> list[bytearray]:
+    """In one step, and the steps of CHAP."""
+    first = f"InitiatorName={_NAME}\0TargetName={TARGET}\0SessionType=Normal\0"
+    lun, words = b"\0\2\x3d\1\1\1\0\0", (0, 0, 1, 0, 0, 0, 0, 0)
+    return [_segment(0x40 | LOGIN, flags, lun, words, text.encode()) for flags, text in (
+        (0x87, first + "HeaderDigest=CRC32C,None\0MaxRecvDataSegmentLength=0x40000\0FirstBurstLength=512\0"),
+        (0x00, first + "AuthMethod=CHAP,None\0"), (0x00, "CHAP_A=7,5\0"),
+        (0x81, "CHAP_N=user\0CHAP_R=0b" + "QUJD" * 8 + "\0CHAP_I=255\0CHAP_C=0x" + "5a" * 16 + "\0"))]
 
 
 def _mutated(model: bytearray, chance: random.Random) -> bytes:
@@ -75,7 +80,7 @@ def mutated_pdus(bench: Bench) -> None:
         count = chance.randrange(1, 24)
         if chance.random() < 0.4:
             sock = socket.create_connection(("127.0.0.1", bench.port))
-            pdus = [_mutated(_login(), chance) for _ in range(count)]
+            pdus = [_mutated(chance.choice(_logins()), chance) for _ in range(count)]
         else:
             host = Initiator(bench.port, _NAME, b"\0\2\x3d\1\1\1")
             sock = host.socket

@@ -22,6 +22,8 @@ def _asked(given: Options, question: str) -> Any:
         said = b""
         while piece := sock.recv(65_536):
             said += piece
+    if not said:
+        sys.exit("vtl-iscsi: the front end gave no answer in time")
     return json.loads(said)
 
 

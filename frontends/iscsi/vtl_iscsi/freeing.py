@@ -8,7 +8,9 @@ from __future__ import annotations
 from collections.abc import Callable
 from typing import TYPE_CHECKING, Any
 
+from .loop import Loop
 from .sense import GOOD, RESERVATION_CONFLICT, Reply, is_owed
+from .session import SENT
 from .supervisor import Supervisor
 
 if TYPE_CHECKING:
@@ -17,12 +19,14 @@ if TYPE_CHECKING:
 
 _REGISTER = bytes.fromhex("5f000000000000001800")
 _NO_KEYS = bytes(24)
+_PAUSE = 0.05
 Keys = dict[int, list[int]]
 
 
 class Freeing:
-    def __init__(self, target: Target, units: Units, supervisor: Supervisor) -> None:
-        self._target, self._units, self._supervisor = target, units, supervisor
+    def __init__(self, loop: Loop, target: Target, units: Units, supervisor: Supervisor) -> None:
+        self._loop, self._target, self._units, self._supervisor = loop, target, units, supervisor
+        self._is_looking = False
 
     def keys(self, then: Callable[[Keys], None], only: int = 0) -> None:
         """The drives at which each host holds a key; -1 in the place of one that gave no answer."""
@@ -33,14 +37,24 @@ class Freeing:
 
     def look_anew(self) -> None:
         """Whether hosts that may hold a key hold one: what a start, or PREEMPT, took from them they have no more."""
+        if self._is_looking:
+            return
+        self._is_looking = True
         asked = [(it.number, drive) for it in self._target.hosts.all() for drive in sorted(it.drives)]
-        self._look(asked, {number: [] for number, _ in asked}, lambda _: None)
+        self._look(asked, {number: [] for number, _ in asked}, self._looked)
+
+    def _looked(self, _: Keys) -> None:
+        self._is_looking = False
 
     def _look(self, asked: list[tuple[int, int]], found: Keys, then: Callable[[Keys], None]) -> None:
         if not asked:
             then(found)
             return
         number, drive = asked[0]
+        if self._supervisor.sent_of(number) >= SENT:
+            # a third command of a host would hold up all hosts
+            self._loop.after(_PAUSE, lambda: self._look(asked, found, then))
+            return
 
         def looked(reply: Reply) -> None:
             if is_owed(reply):

@@ -15,7 +15,7 @@ from .supervisor import Supervisor
 from .target import Target
 from .units import Units
 
-_MOST_QUESTION, _MOST_WAITING, _SECONDS = 256, 16, 5.0
+_MOST_QUESTION, _MOST_WAITING, _SECONDS = 256, 16, 30.0
 
 
 class Status:
@@ -23,7 +23,7 @@ class Status:
                  supervisor: Supervisor) -> None:
         self._loop, self._log = loop, log
         self._target, self._units, self._supervisor = target, units, supervisor
-        self.freeing = Freeing(target, units, supervisor)
+        self.freeing = Freeing(loop, target, units, supervisor)
         self._since = time.time()
         path = folder.of(STATUS)
         if os.path.exists(path):
