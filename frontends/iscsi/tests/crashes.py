@@ -120,14 +120,16 @@ def places_stay_over_every_restart(bench: Bench) -> None:
 
 def a_second_front_end_is_refused(bench: Bench) -> None:
     done = subprocess.run([*bench.starter, "--config", "library.toml", "--open", "--program", bench.program],
-                          cwd=bench.folder, capture_output=True, check=False, timeout=Initiator.seconds)
+                          cwd=bench.folder, capture_output=True, check=False,
+                          timeout=Initiator.seconds)
     equal((done.returncode, b"is in use" in done.stderr), (2, True))
 
 
 def it_listens_beyond_this_machine_with_secrets_alone(bench: Bench) -> None:
     bench.end()
     done = subprocess.run([*bench.starter, "--config", "library.toml", "--open", "--program", bench.program,
-                           "--listen", "0.0.0.0:0"], cwd=bench.folder, capture_output=True, check=False, timeout=Initiator.seconds)
+                           "--listen", "0.0.0.0:0"], cwd=bench.folder, capture_output=True, check=False,
+                          timeout=Initiator.seconds)
     equal((done.returncode, b"loopback alone" in done.stderr), (1, True))
     bench.start("--open")
 
