@@ -75,7 +75,7 @@ def booted(folder: str, port: int, seconds: int) -> int:
     boot = os.path.join(folder, "root", "boot")
     kernel, disk = (next(os.path.join(boot, it) for it in sorted(os.listdir(boot)) if it.startswith(name))
                     for name in ("vmlinuz", "initrd"))
-    words = f"root=/dev/vda rw console=ttyS0 quiet no_timer_check acpi=off net.ifnames=0 init=/sbin/guest port={port}"
+    words = f"root=/dev/vda rw console=ttyS0 quiet no_timer_check net.ifnames=0 init=/sbin/guest port={port}"
     with open(os.path.join(folder, "guest.log"), "w+", encoding="utf-8", errors="replace") as log:
         subprocess.run(["qemu-system-x86_64", *ACCELERATION, "-m", "1024", "-nographic", "-no-reboot",
                         "-kernel", kernel, "-initrd", disk, "-append", words, "-drive",

@@ -35,9 +35,9 @@ class Attentions:
                 self.owe(number, unit, NEXUS_LOST)
 
     def changed(self, unit: int, sense: bytes, but: int) -> None:
-        """For every other host."""
-        for number in range(1, MOST + 1):
-            if number != but:
+        """For every other host that has met power on."""
+        for number, other in list(self._met):
+            if other == unit and number != but:
                 self.owe(number, unit, sense)
 
     def take(self, number: int, unit: int) -> bytes | None:

@@ -7,7 +7,7 @@ from typing import TYPE_CHECKING, Any
 
 from . import vital
 from .fixed import Fixed
-from .sense import (GOOD, INVALID_FIELD, REMOVAL_PREVENTED, RESERVATION_CONFLICT, Reply, code_of, good, is_owed)
+from .sense import CHECK_CONDITION, GOOD, INVALID_FIELD, REMOVAL_PREVENTED, Reply, code_of, good, is_owed
 from .tasks import Task
 
 if TYPE_CHECKING:
@@ -127,7 +127,8 @@ class Drive:
             return
 
         def keep() -> None:
-            self._units.prevent(task.session.number, self.number, bool(flags))
+            if not task.is_aborted:  # a nexus that was lost meanwhile prevents nothing
+                self._units.prevent(task.session.number, self.number, bool(flags))
             done(good())
 
         self._behind_checks(task, _PROBE if flags else _READY, keep, done)
@@ -137,8 +138,9 @@ class Drive:
         task.session.alone = task
 
         def looked(reply: Reply) -> None:
-            stops = reply.is_lost or is_owed(reply) or reply.status not in (GOOD, 0x02) or (
-                reply.status == RESERVATION_CONFLICT)
-            done(reply) if stops else then()
+            if reply.is_lost or is_owed(reply) or reply.status not in (GOOD, CHECK_CONDITION):
+                done(reply)
+            else:
+                then()
 
         self._units.command(task, probe, b"", looked)

@@ -151,7 +151,7 @@ class Session:
             task.fail(LOST)
 
     def abort(self, task: Task) -> None:
-        """It is answered no more. What is with a drive cannot be stopped, and is waited for (`units.when_quiet`)."""
+        """It is answered no more. What is with a drive cannot be stopped, and is waited for (`Units.when_ended`)."""
         task.is_aborted = True
         if not task.is_running:
             self._leaves(task)

@@ -11,14 +11,15 @@ from .drives import Drive
 from .hosts import Hosts
 from .library import Library
 from .log import Log
-from .sense import NO_SENSE, NO_SUCH_UNIT, Reply, good
+from .sense import CHECK_CONDITION, NO_SENSE, NO_SUCH_UNIT, Reply, good
 from .supervisor import Supervisor
 from .tasks import Task
 
 if TYPE_CHECKING:
     from .session import Session
 
-TEST_UNIT_READY, REQUEST_SENSE, INQUIRY, REPORT_LUNS = 0x00, 0x03, 0x12, 0xA0
+REQUEST_SENSE, INQUIRY, REPORT_LUNS = 0x03, 0x12, 0xA0
+_DESC = 0x01
 Done = Callable[[Reply], None]
 
 
@@ -67,12 +68,13 @@ class Units:
 
     def owed_first(self, task: Task) -> Reply | None:
         """What is reported in the place of the command; REQUEST SENSE has it as its data."""
-        if task.block[0] == INQUIRY or task.unit is None:
+        is_refused = task.block[0] == REQUEST_SENSE and task.block[1] & _DESC
+        if task.block[0] == INQUIRY or is_refused or task.unit is None:
             return None
         sense = self.attentions.take(task.session.number, task.unit)
         if not sense:
             return None
-        return good(sense[:task.block[4]]) if task.block[0] == REQUEST_SENSE else Reply(0x02, sense)
+        return good(sense[:task.block[4]]) if task.block[0] == REQUEST_SENSE else Reply(CHECK_CONDITION, sense)
 
     def command(self, task: Task, block: bytes, data: bytes | memoryview, then: Done) -> None:
         self._supervisor.command(task.session.number, task.unit or 0, block, data, then)
