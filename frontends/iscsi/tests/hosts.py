@@ -77,9 +77,10 @@ def booted(folder: str, port: int, seconds: int) -> int:
                     for name in ("vmlinuz", "initrd"))
     words = f"root=/dev/vda rw console=ttyS0 quiet no_timer_check net.ifnames=0 init=/sbin/guest port={port}"
     with open(os.path.join(folder, "guest.log"), "w+", encoding="utf-8", errors="replace") as log:
-        subprocess.run(["qemu-system-x86_64", *ACCELERATION, "-m", "1024", "-nographic", "-no-reboot",
+        subprocess.run(["qemu-system-x86_64", *ACCELERATION, "-m", "1024", "-smp", "1", "-nographic", "-no-reboot",
                         "-kernel", kernel, "-initrd", disk, "-append", words, "-drive",
-                        f"file={folder}/guest.img,if=virtio,format=raw", "-nic", "user,model=virtio-net-pci"],
+                        f"file={folder}/guest.img,if=virtio,format=raw", "-netdev", "user,id=net", "-device",
+                        "virtio-net-pci,netdev=net"],
                        stdin=subprocess.DEVNULL, stdout=log, check=False, timeout=seconds)
         log.seek(0)
         lines = [line.strip() for line in log if line.startswith("== ")]
