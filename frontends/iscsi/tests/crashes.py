@@ -118,6 +118,30 @@ def places_stay_over_every_restart(bench: Bench) -> None:
     host.close()
 
 
+def a_home_that_is_taken_is_refused(bench: Bench) -> None:
+    """A cartridge stands where a host put it; another one's home is there now."""
+    host = bench.ready(0, load=False)
+    equal(host.command(0, move(1002, 1007)), Answer(0))
+    bench.end()
+    before = bench.read("library.toml")
+    bench.write("library.toml", before + """
+[[cartridge]]
+barcode = "TAPE05L6"
+file = "TAPE05L6.tape"
+capacities = [4096]
+home = 1007
+""")
+    bench.vtl("create", "--config", "library.toml")
+    done = subprocess.run([*bench.starter, "--config", "library.toml", "--open", "--program", bench.program],
+                          cwd=bench.folder, capture_output=True, check=False, timeout=Initiator.seconds)
+    equal((done.returncode, b"TAPE05L6 and TAPE04L6 are both at 1007" in done.stderr), (1, True), done.stderr.decode())
+    bench.write("library.toml", before)
+    bench.start("--open")
+    host = bench.ready(0, load=False)
+    equal(host.command(0, move(1007, 1002)), Answer(0))
+    host.close()
+
+
 def a_second_front_end_is_refused(bench: Bench) -> None:
     done = subprocess.run([*bench.starter, "--config", "library.toml", "--open", "--program", bench.program],
                           cwd=bench.folder, capture_output=True, check=False,
@@ -179,6 +203,6 @@ def a_damaged_cartridge_is_an_exception(bench: Bench) -> None:
 
 
 TESTS = [what_a_filemark_acknowledged_is_there, what_was_answered_is_there_behind_sigterm,
-         places_stay_over_every_restart, a_second_front_end_is_refused, a_second_sigterm_ends_it_at_once,
-         systemd_hears_that_it_is_ready, it_listens_beyond_this_machine_with_secrets_alone,
-         a_damaged_cartridge_is_an_exception]
+         places_stay_over_every_restart, a_home_that_is_taken_is_refused, a_second_front_end_is_refused,
+         a_second_sigterm_ends_it_at_once, systemd_hears_that_it_is_ready,
+         it_listens_beyond_this_machine_with_secrets_alone, a_damaged_cartridge_is_an_exception]
