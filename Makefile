@@ -2,7 +2,7 @@
 RT := $(shell command -v rt)
 
 .PHONY: demo vtl check wrong rows rows-wrong nomemory mutants faults explained hostile memory endings examples stops kills \
-	mended bench gate fmt definitions install manual need-rt
+	mended iscsi hosts page bench gate fmt definitions install manual need-rt
 .DEFAULT_GOAL := demo
 
 need-rt:
@@ -17,6 +17,7 @@ demo: need-rt
 # Where `make install` puts things; DESTDIR stands before it for a package.
 PREFIX = /usr/local
 DOC = $(DESTDIR)$(PREFIX)/share/doc/vtl
+ISCSI = frontends/iscsi
 # The examples, without the files that a run of them made.
 EXAMPLES = $(filter-out %.tape %.tape.2 %.pr,$(wildcard examples/*.*))
 
@@ -37,6 +38,12 @@ install: crates/vtl/out/vtl
 	install -m 644 docs/*.md $(DOC)/docs
 	install -m 644 $(filter-out examples/tape.py,$(EXAMPLES)) $(DOC)/examples
 	install -m 755 examples/tape.py $(DOC)/examples
+	install -D -m 755 $(ISCSI)/vtl-iscsi $(DESTDIR)$(PREFIX)/bin/vtl-iscsi
+	install -D -m 644 $(ISCSI)/vtl-iscsi.8 $(DESTDIR)$(PREFIX)/share/man/man8/vtl-iscsi.8
+	install -D -m 644 $(ISCSI)/vtl-iscsi.service $(DESTDIR)$(PREFIX)/lib/systemd/system/vtl-iscsi.service
+	install -d $(DESTDIR)$(PREFIX)/share/vtl/vtl_iscsi $(DOC)/iscsi
+	install -m 644 $(ISCSI)/vtl_iscsi/*.py $(DESTDIR)$(PREFIX)/share/vtl/vtl_iscsi
+	install -m 644 $(ISCSI)/README.md $(DOC)/iscsi
 
 check: need-rt
 	.ci/run
@@ -87,6 +94,16 @@ examples: vtl
 manual: vtl
 	python3 checks/manual.py --selftest
 	python3 checks/manual.py
+
+iscsi: $(if $(PROGRAM),,vtl)
+	python3 $(ISCSI)/tests/run.py --selftest $(if $(PROGRAM),--program $(PROGRAM))
+	python3 $(ISCSI)/tests/run.py $(if $(PROGRAM),--program $(PROGRAM))
+
+hosts: $(if $(PROGRAM),,vtl)
+	python3 $(ISCSI)/tests/hosts.py $(if $(PROGRAM),--program $(PROGRAM))
+
+page: $(if $(PROGRAM),,vtl)
+	python3 $(ISCSI)/tests/page.py $(if $(PROGRAM),--program $(PROGRAM))
 
 stops: vtl
 	python3 checks/stops.py --selftest

@@ -120,8 +120,11 @@ def installed():
                 if not name.endswith((".tape", ".tape.2", ".pr", "__pycache__"))]
     own = [os.path.join("share/doc/vtl", *path) for path in (
         ("README.md",), *(("docs", it) for it in documents), *(("examples", it) for it in examples))]
+    package = os.path.join(TOP, "frontends", "iscsi", "vtl_iscsi")
+    own += ["share/man/man8/vtl-iscsi.8", "lib/systemd/system/vtl-iscsi.service", "share/doc/vtl/iscsi/README.md"]
+    own += [f"share/vtl/vtl_iscsi/{name}" for name in os.listdir(package) if name.endswith(".py")]
     wanted = {path: 0o644 for path in ["share/man/man1/vtl.1", *own]}
-    wanted |= {"bin/vtl": 0o755, "share/doc/vtl/examples/tape.py": 0o755}
+    wanted |= {"bin/vtl": 0o755, "bin/vtl-iscsi": 0o755, "share/doc/vtl/examples/tape.py": 0o755}
     return [f"make install: {path} has mode {found.get(path, 0):o} in the place of {wanted.get(path, 0):o}"
             for path in sorted({*found, *wanted}) if found.get(path) != wanted.get(path)]
 

@@ -1,0 +1,1 @@
+"""An iSCSI front end of `vtl serve`: a medium changer and tape drives for hosts on a network."""
