@@ -1,0 +1,65 @@
+"""A GlusterFS volume of three replicas on three machines, with the terms of docs/CLUSTER.md or with the defaults."""
+import os
+
+from cluster_machines import wait_for
+
+MOUNTED = "direct-io-mode=enable,attribute-timeout=0,entry-timeout=0"
+TERMS = {"performance.quick-read": "off", "performance.stat-prefetch": "off", "client.strict-locks": "on",
+         "cluster.quorum-type": "auto", "cluster.server-quorum-type": "server", "network.ping-timeout": "5"}
+VOLUME, SECONDS = "tapes", 120
+
+
+class Gluster:
+    """Three servers and their volume."""
+    name, mortal, evicts = "GlusterFS", (0, 1, 2), False
+
+    def __init__(self, network, defaults=False):
+        self.defaults = defaults
+        self.servers = [network.machine(f"server{at}", at) for at in (1, 2, 3)]
+        for server in self.servers:
+            self.serve(server)
+        for other in self.servers[1:]:
+            self.ordered("peer", "probe", other.address)
+        wait_for("the peers", lambda: self.ordered("peer", "status").count("(Connected)") == 2, SECONDS)
+        bricks = [f"{server.address}:{server.folder}/brick" for server in self.servers]
+        self.ordered("volume", "create", VOLUME, "replica", "3", *bricks, "force")
+        for option, value in ({} if defaults else TERMS).items():
+            self.ordered("volume", "set", VOLUME, option, value)
+        self.ordered("volume", "start", VOLUME)
+        self.wait_until_whole()
+
+    def ordered(self, *words):
+        """What an order of the administrator's, given at a server that runs, prints."""
+        server = next(it for it in self.servers if it.first)
+        return server.ran("gluster", "--mode=script", *words)
+
+    def serve(self, server):
+        server.ran("glusterd")
+        wait_for("glusterd", lambda: "Number of Peers" in server.ran("gluster", "peer", "status", check=False), SECONDS)
+
+    def lose_server(self, at):
+        self.servers[at].lose()
+
+    def return_server(self, at):
+        self.servers[at].start()
+        self.serve(self.servers[at])
+
+    def is_whole(self):
+        """Whether each brick is served, and none has anything to heal."""
+        status = self.ordered("volume", "status", VOLUME)
+        found = self.ordered("volume", "heal", VOLUME, "info")
+        bricks = [line for line in status.splitlines() if line.startswith("Brick") or " Y " in line]
+        online = sum(" Y " in line for line in bricks)
+        return online >= 3 and found.count("Number of entries: 0") == 3
+
+    def wait_until_whole(self):
+        return wait_for("a whole volume", self.is_whole, SECONDS, 1)
+
+    def mount(self, machine):
+        """Mounts the volume, where the machine's own folder has `tapes`."""
+        folder = os.path.join(machine.folder, "tapes")
+        os.makedirs(folder, exist_ok=True)
+        first, *others = (it.address for it in self.servers)
+        options = [f"backup-volfile-servers={':'.join(others)}"] + ([] if self.defaults else [MOUNTED])
+        machine.ran("mount", "-t", "glusterfs", "-o", ",".join(options), f"{first}:/{VOLUME}", folder)
+        return folder
