@@ -13,8 +13,9 @@ import shutil
 import sys
 import tempfile
 
+import cluster_selftest
 from cluster_ceph import Ceph
-from cluster_gluster import Gluster
+from cluster_gluster import TERMS, Gluster
 from cluster_judge import wrong_in
 from cluster_machines import Network
 from cluster_rounds import SHARES, Rounds
@@ -28,7 +29,7 @@ def line_of(seen, store, wrong):
     return json.dumps({"store": store.name, "kind": seen.kind, "seconds": round(seen.seconds, 2),
                        "slowest": round(seen.slowest, 2), "safe": seen.safe, "sent": len(seen.sent),
                        "found": [None if it is None else len(it) for it in seen.read], "late": seen.late,
-                       "said": seen.said, "refusals": seen.refusals, "old_end": seen.old_end, "wrong": wrong})
+                       "refusals": seen.refusals, "old_end": seen.old_end, "wrong": wrong})
 
 
 def run(rounds, words):
@@ -56,13 +57,17 @@ def main():
     parser.add_argument("--seed", type=int, default=0)
     parser.add_argument("--name", default="vtl")
     parser.add_argument("--defaults", action="store_true")
+    parser.add_argument("--without", action="append", default=[], choices=TERMS)
     parser.add_argument("--into")
     parser.add_argument("--program", default=PROVED)
+    parser.add_argument("--selftest", action="store_true")
     words = parser.parse_args()
+    if words.selftest:
+        return cluster_selftest.main()
     room = tempfile.mkdtemp(prefix="vtl-cluster-", dir="/var/tmp")
     network = Network(words.name, room)
     try:
-        store = Ceph(network) if words.store == "ceph" else Gluster(network, words.defaults)
+        store = Ceph(network) if words.store == "ceph" else Gluster(network, words.defaults, words.without)
         count, wrongs = run(Rounds(store, network, os.path.abspath(words.program), words.seed), words)
     finally:
         network.take_down()

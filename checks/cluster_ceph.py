@@ -132,6 +132,10 @@ class Ceph:
     def wait_until_whole(self):
         return wait_for("a whole store", self.is_whole, SECONDS, 1)
 
+    def heal(self):
+        """The store copies what a server missed by itself."""
+        self.wait_until_whole()
+
     def mount(self, machine):
         folder = os.path.join(machine.folder, "tapes")
         os.makedirs(folder, exist_ok=True)

@@ -5,7 +5,8 @@ from cluster_machines import wait_for
 
 MOUNTED = "direct-io-mode=enable,attribute-timeout=0,entry-timeout=0"
 TERMS = {"performance.quick-read": "off", "performance.stat-prefetch": "off", "client.strict-locks": "on",
-         "cluster.quorum-type": "auto", "cluster.server-quorum-type": "server", "network.ping-timeout": "5"}
+         "cluster.quorum-type": "auto", "cluster.server-quorum-type": "server", "network.ping-timeout": "5",
+         "cluster.eager-lock": "off", "cluster.post-op-delay-secs": "0"}
 VOLUME, SECONDS = "tapes", 120
 
 
@@ -13,7 +14,7 @@ class Gluster:
     """Three servers and their volume."""
     name, mortal, evicts = "GlusterFS", (0, 1, 2), False
 
-    def __init__(self, network, defaults=False):
+    def __init__(self, network, defaults=False, without=()):
         self.defaults = defaults
         self.servers = [network.machine(f"server{at}", at) for at in (1, 2, 3)]
         for server in self.servers:
@@ -24,7 +25,8 @@ class Gluster:
         bricks = [f"{server.address}:{server.folder}/brick" for server in self.servers]
         self.ordered("volume", "create", VOLUME, "replica", "3", *bricks, "force")
         for option, value in ({} if defaults else TERMS).items():
-            self.ordered("volume", "set", VOLUME, option, value)
+            if option not in without:
+                self.ordered("volume", "set", VOLUME, option, value)
         self.ordered("volume", "start", VOLUME)
         self.wait_until_whole()
 
@@ -54,6 +56,11 @@ class Gluster:
 
     def wait_until_whole(self):
         return wait_for("a whole volume", self.is_whole, SECONDS, 1)
+
+    def heal(self):
+        """Copies what a server missed; the program was started anew since, and its files are open at each server."""
+        self.ordered("volume", "heal", VOLUME)
+        self.wait_until_whole()
 
     def mount(self, machine):
         """Mounts the volume, where the machine's own folder has `tapes`."""

@@ -28,15 +28,18 @@ class Seen:
     # What the old process answered once the other one served, and the status of the other one's end.
     late: list = dataclasses.field(default_factory=list)
     ends: list = dataclasses.field(default_factory=list)
-    # What nothing is asked of: seconds up to the take-over, the slowest answer, what the old process said.
+    # Why the round broke off.
+    broken: list = dataclasses.field(default_factory=list)
+    # What nothing is asked of: seconds up to the take-over, the slowest answer, and how the old process went on.
     seconds: float = 0.0
     slowest: float = 0.0
-    said: list = dataclasses.field(default_factory=list)
     refusals: list = dataclasses.field(default_factory=list)
     old_end: object = None
 
 
 LOOKS = 3
+# What acknowledges that something is stored; a buffered block and an unload of a failed cartridge do not.
+PROMISES = ("a filemark", "a filemark behind a load", "a load", "a key")
 
 
 def wrong_tape(seen):
@@ -75,11 +78,12 @@ def wrong_reservations(seen):
 
 def wrong_in(seen):
     """What is wrong in a round, a line each."""
-    found = [*wrong_tape(seen), *wrong_reservations(seen)]
+    found = [*seen.broken, *wrong_tape(seen), *wrong_reservations(seen)]
     if {len(it) for it in (seen.read, seen.reservations, seen.fenced)} != {LOOKS} or len(seen.beside) != 2:
         found.append("not everything was looked at")
     found += [f"a start beside a library that was served ended with {it}" for it in seen.beside if it != 2]
     found += [f"a host that was fenced off was answered {it}" for it in seen.fenced if it != "CONFLICT"]
-    found += [f"the old process acknowledged {what}" for what, answer in seen.late if answer == "GOOD"]
+    found += [f"the old process acknowledged {what}" for what, answer in seen.late
+              if answer == "GOOD" and what in PROMISES]
     found += [f"an end in good order had status {it}" for it in seen.ends if it != 0]
     return found

@@ -1,22 +1,23 @@
 """Rounds of a fault and a take-over: a library is served on one machine, which is hit, and the other one goes on."""
-import contextlib
 import os
 import random
 import time
 
-from cluster_hosts import (FENCED, KEEPER, MARK, PREEMPT, READY, REGISTER, RESERVE, TO_END, WATCHER, WRITER, Keeper,
-                           Served, Writer, block_of, sense_of, write_of)
+from cluster_hosts import (FENCED, KEEPER, LOAD, MARK, PREEMPT, READY, REGISTER, RESERVE, TO_END, UNLOAD,
+                           WATCHER, WRITER, Keeper, Served, Writer, block_of, sense_of, write_of)
 from cluster_judge import Seen
 
 CONFIG = """cartridge = [{ barcode = "T00001L6", file = "t1.tape", capacities = [1_099_511_627_776], home = 1 }]
 drive = [{ number = 1, reservations = "d1.pr" }, { number = 2, reservations = "d2.pr" }]
 """
-KILLED, LOST, BY_HAND, SERVER, CUT, CUT_IDLE = (
-    "program killed", "machine lost", "machine lost, ended by hand", "server lost", "cut while it writes",
-    "cut while idle")
+KILLED, LOST, BY_HAND, SERVER, SECOND, CUT, CUT_IDLE = (
+    "program killed", "machine lost", "machine lost, ended by hand", "server lost", "server back, another lost",
+    "cut while it writes", "cut while idle")
 # How many rounds of twenty each fault has.
-SHARES = {KILLED: 6, LOST: 3, BY_HAND: 2, SERVER: 3, CUT: 3, CUT_IDLE: 3}
+SHARES = {KILLED: 6, LOST: 2, BY_HAND: 2, SERVER: 2, SECOND: 2, CUT: 3, CUT_IDLE: 3}
 LONGEST, PATIENCE, KEY, FENCED_KEY = 600, 200, 0xA1, 0xF1
+# The numbers of blocks that are written behind a take-over begin here.
+ADDED = 10**12
 # A library is made anew after so many rounds, so that its tape stays short.
 ROUNDS_OF_A_LIBRARY = 8
 
@@ -28,7 +29,8 @@ class Rounds:
         self.store, self.program, self.chance = store, program, random.Random(seed)
         self.machines = [network.machine(f"client{at}", 10 + at) for at in (1, 2)]
         self.folders = {machine.name: store.mount(machine) for machine in self.machines}
-        self.served, self.objects, self.serial, self.key, self.made, self.lost = None, [], 0, 0, 0, None
+        self.served, self.objects, self.key = None, [], 0
+        self.serial, self.added, self.made, self.lost = 0, ADDED, 0, None
 
     def a_kind(self):
         shares = {kind: share for kind, share in SHARES.items() if kind != BY_HAND or self.store.evicts}
@@ -72,38 +74,56 @@ class Rounds:
         raise OSError(f"no take-over within {LONGEST} s")
 
     def round(self, kind):
-        """A round with this fault; what was seen in it."""
+        """A round with this fault; what was seen in it, up to where it broke off."""
+        seen = Seen(kind, before=self.objects, key=KEY)
+        try:
+            self.go_through(seen)
+        except OSError as error:
+            seen.broken.append(str(error))
+        return seen
+
+    def go_through(self, seen):
         if self.made % ROUNDS_OF_A_LIBRARY == 0:
             self.new_library()
+            seen.before = []
         old, other = self.served, next(it for it in self.machines if it is not self.served.machine)
-        seen = Seen(kind, before=self.objects, key=KEY)
         self.wants("GOOD", old.order(REGISTER, 0, FENCED_KEY, FENCED, 1))
         self.wants("GOOD", old.order(PREEMPT, KEY, FENCED_KEY, WRITER, 1))
         self.wants("GOOD", old.greeted(TO_END))
         seen.beside.append(self.started(other).end(PATIENCE))
         hosts = Writer(old, self.serial), Keeper(old, self.key)
-        begun = self.strike(kind, old, hosts)
+        begun = self.strike(seen.kind, old, hosts)
         new = self.take_over(other)
         seen.seconds = time.monotonic() - begun
         self.look(seen, new)
-        self.add(seen, new, hosts[0].serial)
+        self.note(seen, hosts)
+        self.add(seen, new)
         self.end_old(seen, old, hosts)
+        self.note(seen, hosts)
         self.look(seen, new)
         seen.beside.append(self.started(old.machine).end(PATIENCE))
         seen.ends.append(new.end(PATIENCE))
         self.served = self.take_over(old.machine)
         self.look(seen, self.served)
-        self.made, self.objects = self.made + 1, seen.read[-1]
+        if seen.kind in (SERVER, SECOND):
+            self.store.heal()
+        self.made, self.objects, self.serial = self.made + 1, seen.read[-1], hosts[0].serial
         self.key = (seen.reservations[-1][1] or [[0]])[0][0]
-        return seen
+
+    def note(self, seen, hosts):
+        """What the hosts of the old process have sent, and had acknowledged, so far."""
+        writer, keeper = hosts
+        seen.safe, seen.sent, seen.slowest = writer.safe, list(writer.sent), writer.slowest
+        seen.kept, seen.given = keeper.kept, list(keeper.given)
+        seen.refusals = [host.refusal for host in hosts]
 
     def strike(self, kind, old, hosts):
         """Makes the fault while hosts write, or have just written, and gives its time."""
         for host in hosts:
             host.start()
         time.sleep(self.chance.uniform(0.3, 2))
-        if kind == SERVER:
-            self.lose_server()
+        if kind in (SERVER, SECOND):
+            self.lose_server(kind == SECOND)
         if kind == CUT_IDLE:
             stop(hosts)
             time.sleep(self.chance.uniform(0, 4))
@@ -114,20 +134,23 @@ class Rounds:
             old.machine.lose()
         else:
             old.kill()
-        for host in hosts:
-            host.is_stopped = True
         if kind == BY_HAND:
             self.store.evict(old.machine)
         return begun
 
-    def lose_server(self):
-        """A server is lost while hosts write, who go on; it comes back now, or after the take-over."""
-        self.lost = self.chance.choice(self.store.mortal)
+    def lose_server(self, has_second):
+        """A server is lost while hosts write, who go on; it comes back now, or after the take-over. Where it does,
+        another one may be lost soon after."""
+        self.lost, second = self.chance.sample(self.store.mortal, 2)
         self.store.lose_server(self.lost)
         time.sleep(self.chance.uniform(1, 15))
-        if self.chance.random() < 0.5:
+        if has_second or self.chance.random() < 0.5:
             self.return_server()
             time.sleep(self.chance.uniform(0, 3))
+        if has_second:
+            self.lost = second
+            self.store.lose_server(second)
+            time.sleep(self.chance.uniform(0, 10))
 
     def return_server(self):
         if self.lost is not None:
@@ -140,15 +163,22 @@ class Rounds:
         seen.reservations.append([served.keys(drive, WATCHER) for drive in (1, 2)])
         seen.read.append(served.objects())
 
-    def add(self, seen, served, serial):
+    def add(self, seen, served):
         """A few blocks and a filemark more, which are acknowledged."""
         self.wants("GOOD", served.greeted(TO_END))
-        for number in range(serial + 1, serial + 4):
-            seen.more.append(block_of(number))
+        for _ in range(3):
+            self.added += 1
+            seen.more.append(block_of(self.added))
             self.wants("GOOD", served.ask(*write_of(seen.more[-1])))
         self.wants("GOOD", served.ask(MARK))
         seen.more.append(MARK)
-        self.serial = serial + 4
+
+    def ask_late(self, seen, old):
+        """What the old process answers beside the new one; a cartridge is loaded anew, since that heals a failed one."""
+        for what, command in (("a block", write_of(b"late")), ("a filemark", [MARK]), ("an unload", [UNLOAD]),
+                              ("a load", [LOAD]), ("a filemark behind a load", [MARK])):
+            seen.late.append((what, sense_of(old.greeted(*command, seconds=PATIENCE))))
+        seen.late.append(("a key", sense_of(old.order(REGISTER, 0, 1, KEEPER, 2, seconds=PATIENCE))))
 
     def end_old(self, seen, old, hosts):
         """The old machine comes back, and its program is asked for what it must not acknowledge any more. Then the
@@ -156,23 +186,15 @@ class Rounds:
         if seen.kind in (CUT, CUT_IDLE):
             old.machine.join()
             stop(hosts)
-            seen.said = [sense_of(old.greeted(*write_of(b"late"), seconds=PATIENCE))]
-            seen.late = [("a filemark", sense_of(old.greeted(MARK, seconds=PATIENCE))),
-                         ("a key", sense_of(old.order(REGISTER, 0, 1, KEEPER, 2, seconds=PATIENCE)))]
+            self.ask_late(seen, old)
             seen.old_end = old.end(PATIENCE)
         stop(hosts)
         self.return_server()
-        if seen.kind == SERVER:
-            self.store.wait_until_whole()
-        if seen.kind not in (KILLED, SERVER):
+        if seen.kind not in (KILLED, SERVER, SECOND):
             old.machine.lose()
             old.machine.start()
             self.folders[old.machine.name] = self.store.mount(old.machine)
-        with contextlib.suppress(OSError):
-            old.process.stdin.close()
-        seen.sent, seen.safe, seen.slowest = hosts[0].sent, hosts[0].safe, hosts[0].slowest
-        seen.given, seen.kept = hosts[1].given, hosts[1].kept
-        seen.refusals = [host.refusal for host in hosts]
+        old.end(PATIENCE)
 
 
 def stop(hosts):
