@@ -10,6 +10,7 @@ import argparse
 import json
 import os
 import shutil
+import signal
 import sys
 import tempfile
 
@@ -64,6 +65,7 @@ def main():
     words = parser.parse_args()
     if words.selftest:
         return cluster_selftest.main()
+    signal.signal(signal.SIGTERM, lambda *_: sys.exit(1))
     room = tempfile.mkdtemp(prefix="vtl-cluster-", dir="/var/tmp")
     network = Network(words.name, room)
     try:

@@ -13,6 +13,7 @@ MARK, READY, REWIND, READ, TO_END, LOAD, UNLOAD = map(bytes.fromhex, (
 READ_KEYS, READ_RESERVATION = bytes.fromhex("5e00000000000010ff00"), bytes.fromhex("5e010000000000001800")
 REGISTER, RESERVE, PREEMPT = 6, 1, 4
 WRITER, KEEPER, FENCED, WATCHER = 1, 2, 3, 64
+BURST = 100
 END_OF_DATA, AT_MARK, EARLY = "8, 00/05", "0, 00/01", "0, 00/02"
 
 
@@ -138,6 +139,8 @@ class Writer(threading.Thread):
             self.give(block_of(self.serial), False)
             if self.serial % 4 == 0 and self.refusal is None:
                 self.give(MARK, True)
+            # so that a long fault leaves no long tape
+            time.sleep(0 if len(self.sent) < BURST else 0.25)
 
     def give(self, item, is_mark):
         self.sent.append(item)

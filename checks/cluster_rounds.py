@@ -19,7 +19,7 @@ LONGEST, PATIENCE, KEY, FENCED_KEY = 600, 200, 0xA1, 0xF1
 # The numbers of blocks that are written behind a take-over begin here.
 ADDED = 10**12
 # A library is made anew after so many rounds, so that its tape stays short.
-ROUNDS_OF_A_LIBRARY = 8
+ROUNDS_OF_A_LIBRARY = 6
 
 
 class Rounds:
