@@ -19,15 +19,16 @@ from cluster_ceph import Ceph
 from cluster_gluster import TERMS, Gluster
 from cluster_judge import wrong_in
 from cluster_machines import Network
+from cluster_manager import Managed
 from cluster_rounds import SHARES, Rounds
 
 TOP = os.path.dirname(os.path.dirname(os.path.abspath(__file__)))
 PROVED = os.path.join(TOP, "crates", "vtl", "out", "vtl")
 
 
-def line_of(seen, store, wrong):
+def line_of(seen, store, by, wrong):
     """A round as a line of the file."""
-    return json.dumps({"store": store.name, "kind": seen.kind, "seconds": round(seen.seconds, 2),
+    return json.dumps({"store": store.name, "by": by, "kind": seen.kind, "seconds": round(seen.seconds, 2),
                        "slowest": round(seen.slowest, 2), "safe": seen.safe, "sent": len(seen.sent),
                        "found": [None if it is None else len(it) for it in seen.read], "late": seen.late,
                        "refusals": seen.refusals, "old_end": seen.old_end, "wrong": wrong})
@@ -39,7 +40,7 @@ def run(rounds, words):
     for at in range(words.rounds):
         seen = rounds.round(words.kind or rounds.a_kind())
         wrong = wrong_in(seen)
-        line = line_of(seen, rounds.store, wrong)
+        line = line_of(seen, rounds.store, type(rounds).__name__, wrong)
         print(f"round {at + 1}: {line}", flush=True)
         if words.into:
             with open(words.into, "a", encoding="utf-8") as file:
@@ -58,6 +59,7 @@ def main():
     parser.add_argument("--seed", type=int, default=0)
     parser.add_argument("--name", default="vtl")
     parser.add_argument("--defaults", action="store_true")
+    parser.add_argument("--pacemaker", action="store_true")
     parser.add_argument("--without", action="append", default=[], choices=TERMS)
     parser.add_argument("--into")
     parser.add_argument("--program", default=PROVED)
@@ -70,7 +72,8 @@ def main():
     network = Network(words.name, room)
     try:
         store = Ceph(network) if words.store == "ceph" else Gluster(network, words.defaults, words.without)
-        count, wrongs = run(Rounds(store, network, os.path.abspath(words.program), words.seed), words)
+        rounds = Managed if words.pacemaker else Rounds
+        count, wrongs = run(rounds(store, network, os.path.abspath(words.program), words.seed), words)
     finally:
         network.take_down()
         shutil.rmtree(room, ignore_errors=True)

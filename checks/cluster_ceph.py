@@ -37,7 +37,7 @@ ALL = ("--cap", "mon", "allow *", "--cap", "osd", "allow *", "--cap", "mds", "al
 
 class Ceph:
     """Three servers and their file system; the first has the monitor and the manager, which are not lost."""
-    name, mortal, evicts = "CephFS", (1, 2), True
+    name, kind, mortal, evicts = "CephFS", "ceph", (1, 2), True
 
     def __init__(self, network, session=30):
         self.fsid, self.session = str(uuid.uuid4()), session
@@ -46,7 +46,7 @@ class Ceph:
         self.config = CONFIG.format(fsid=self.fsid, monitor=self.monitor.address)
         self.start_monitor()
         for server in self.servers:
-            self.configure(server)
+            self.prepare(server)
         self.start_manager()
         for at, server in enumerate(self.servers):
             self.make_store(at, server)
@@ -57,7 +57,7 @@ class Ceph:
     def ordered(self, *words, check=True):
         return self.monitor.ran("ceph", "--connect-timeout", "60", *words, check=check)
 
-    def configure(self, machine):
+    def prepare(self, machine):
         """What each machine of the cluster has in /etc/ceph."""
         for name, text in (("ceph.conf", self.config), ("ceph.client.admin.keyring", self.keyring())):
             with open(machine.own(f"/etc/ceph/{name}"), "w", encoding="utf-8") as file:
@@ -139,7 +139,7 @@ class Ceph:
     def mount(self, machine):
         folder = os.path.join(machine.folder, "tapes")
         os.makedirs(folder, exist_ok=True)
-        self.configure(machine)
+        self.prepare(machine)
         machine.ran("ceph-fuse", "--client-fs", FILE_SYSTEM, folder)
         return folder
 

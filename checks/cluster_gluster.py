@@ -7,12 +7,13 @@ MOUNTED = "direct-io-mode=enable,attribute-timeout=0,entry-timeout=0"
 TERMS = {"performance.quick-read": "off", "performance.stat-prefetch": "off", "client.strict-locks": "on",
          "cluster.quorum-type": "auto", "cluster.server-quorum-type": "server", "network.ping-timeout": "5",
          "cluster.eager-lock": "off", "cluster.post-op-delay-secs": "0"}
-VOLUME, SECONDS = "tapes", 120
+VOLUME, SECONDS = "tapes", 300
+GEO_REPLICATION = "/usr/lib/x86_64-linux-gnu/glusterfs/gsyncd"
 
 
 class Gluster:
     """Three servers and their volume."""
-    name, mortal, evicts = "GlusterFS", (0, 1, 2), False
+    name, kind, mortal, evicts = "GlusterFS", "gluster", (0, 1, 2), False
 
     def __init__(self, network, defaults=False, without=()):
         self.defaults = defaults
@@ -36,6 +37,13 @@ class Gluster:
         return server.ran("gluster", "--mode=script", *words)
 
     def serve(self, server):
+        """Starts the daemon. The program of geo-replication, which nobody uses and which is started some twenty times,
+        only gives its name."""
+        fake = server.own("/run/gsyncd")
+        with open(fake, "w", encoding="ascii") as file:
+            file.write("#!/bin/sh\necho gsyncd 10.3\n")
+        os.chmod(fake, 0o755)
+        server.ran("mount", "--bind", fake, GEO_REPLICATION)
         server.ran("glusterd")
         wait_for("glusterd", lambda: "Number of Peers" in server.ran("gluster", "peer", "status", check=False), SECONDS)
 
@@ -61,6 +69,9 @@ class Gluster:
         """Copies what a server missed; the program was started anew since, and its files are open at each server."""
         self.ordered("volume", "heal", VOLUME)
         self.wait_until_whole()
+
+    def prepare(self, machine):
+        """What a machine needs beside its packages: nothing."""
 
     def mount(self, machine):
         """Mounts the volume, where the machine's own folder has `tapes`."""

@@ -38,11 +38,11 @@ def write_of(data):
 
 
 class Served:
-    """A `vtl serve` on a machine, and the answers that it gave, by their tags."""
+    """A `vtl serve` on a machine, or what leads to one, and the answers that it gave, by their tags."""
 
-    def __init__(self, program, machine, folder):
-        self.process = machine.popen(program, "serve", "--config", "lib.toml", folder=folder, bufsize=0,
-                                     stdin=subprocess.PIPE, stdout=subprocess.PIPE, stderr=subprocess.DEVNULL)
+    def __init__(self, machine, words, folder="/"):
+        self.process = machine.popen(*words, folder=folder, bufsize=0, stdin=subprocess.PIPE, stdout=subprocess.PIPE,
+                                     stderr=subprocess.DEVNULL)
         self.answers, self.news, self.has_ended = {}, threading.Condition(), False
         self.tag, self.sending, self.machine = 0, threading.Lock(), machine
         self.reader = threading.Thread(target=self.read, daemon=True)

@@ -57,7 +57,7 @@ class Machine:
     """A machine that can be lost and come back with its disk, and whose link can be cut."""
 
     def __init__(self, network, name, number):
-        self.network, self.name, self.first, self.holder = network, name, None, None
+        self.network, self.name, self.first, self.holder, self.is_joined = network, name, None, None, False
         self.address, self.space, self.port = f"{SUBNET}.{number}", f"{network.name}-{name}", f"to-{name}"
         self.folder = os.path.join(network.room, name)
         for path in PRIVATE:
@@ -89,10 +89,12 @@ class Machine:
 
     def join(self):
         ran("ip", "-n", self.network.hub, "link", "set", self.port, "master", "bridge")
+        self.is_joined = True
 
     def cut(self):
         """Takes the link out of the bridge: packets are lost, and no end sees a link that is down."""
         ran("ip", "-n", self.network.hub, "link", "set", self.port, "nomaster")
+        self.is_joined = False
 
     def lose(self):
         """The machine is gone at once: its link first, so that no connection of it is closed in good order."""
@@ -109,11 +111,9 @@ class Machine:
     def ran(self, *words, check=True):
         return ran(*self.words(*words), check=check)
 
-    def popen(self, *words, folder=None, **given):
+    def popen(self, *words, folder="/", **given):
         """A process of this machine; its own number is that of `child_of`."""
-        if folder:
-            words = ("sh", "-c", 'cd "$0" && exec "$@"', folder, *words)
-        return subprocess.Popen(self.words(*words), **given)
+        return subprocess.Popen(self.words("sh", "-c", 'cd "$0" && exec "$@"', folder, *words), **given)
 
 
 def child_of(number, seconds=5):
