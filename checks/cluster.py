@@ -30,13 +30,12 @@ def line_of(seen, store, by, wrong):
     """A round as a line of the file."""
     return json.dumps({"store": store.name, "by": by, "kind": seen.kind, "seconds": round(seen.seconds, 2),
                        "slowest": round(seen.slowest, 2), "safe": seen.safe, "sent": len(seen.sent),
-                       "found": [None if it is None else len(it) for it in seen.read], "late": seen.late,
+                       "found": [it if isinstance(it, str) else len(it) for it in seen.read], "late": seen.late,
                        "refusals": seen.refusals, "old_end": seen.old_end, "wrong": wrong})
 
 
 def run(rounds, words):
-    """How many rounds were run, and how many were wrong; with --defaults it ends with the first one that is."""
-    wrongs = 0
+    """How many rounds were run, and how many were wrong: it ends with the first one that is."""
     for at in range(words.rounds):
         seen = rounds.round(words.kind or rounds.a_kind())
         wrong = wrong_in(seen)
@@ -46,9 +45,9 @@ def run(rounds, words):
             with open(words.into, "a", encoding="utf-8") as file:
                 file.write(line + "\n")
         if wrong:
-            wrongs += 1
-            return at + 1, wrongs
-    return words.rounds, wrongs
+            print(rounds.evidence(), flush=True)
+            return at + 1, 1
+    return words.rounds, 0
 
 
 def main():

@@ -100,9 +100,9 @@ class Served:
         return None
 
     def objects(self):
-        """The objects of the tape in drive 1 from its beginning; None where it cannot be read to its end."""
-        if self.greeted(REWIND) != "GOOD":
-            return None
+        """The objects of the tape in drive 1 from its beginning; the answer where it cannot be read to its end."""
+        if (answer := self.greeted(REWIND)) != "GOOD":
+            return f"REWIND: {sense_of(answer)}"
         found = []
         while True:
             answer = self.ask(READ)
@@ -113,7 +113,7 @@ class Served:
             elif answer and answer.startswith("GOOD "):
                 found.append(bytes.fromhex(answer[5:]))
             else:
-                return None
+                return f"READ {len(found)}: {sense_of(answer)}"
 
     def keys(self, drive, host):
         """The registered keys of a drive, and the key and the type of its reservation, as numbers."""

@@ -11,7 +11,8 @@ class Seen:
     before: list = dataclasses.field(default_factory=list)
     sent: list = dataclasses.field(default_factory=list)
     safe: int = 0
-    # What each look read, and what was written and acknowledged between the first and the second.
+    # What each look read, or the answer where it cannot be read; and what was written and acknowledged between the
+    # first and the second.
     read: list = dataclasses.field(default_factory=list)
     more: list = dataclasses.field(default_factory=list)
     # The keys that host 2 gave, from the one that it had on; the place of the last one that was acknowledged; and
@@ -47,8 +48,8 @@ def wrong_tape(seen):
     and what was added."""
     whole, least = seen.before + seen.sent, len(seen.before) + seen.safe
     for at, found in enumerate(seen.read):
-        if found is None:
-            yield f"look {at}: the tape cannot be read"
+        if isinstance(found, str):
+            yield f"look {at}: the tape cannot be read: {found}"
             continue
         if len(found) < least:
             yield f"look {at}: {least} objects were acknowledged, {len(found)} are there"

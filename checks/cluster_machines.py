@@ -11,7 +11,8 @@ SUBNET = "10.77.0"
 PRIVATE = ("/run", "/var/lib/glusterd", "/var/log/glusterfs", "/var/lib/ceph", "/var/log/ceph", "/etc/ceph",
            "/var/lib/pacemaker", "/var/lib/corosync", "/var/log/pacemaker", "/var/log/cluster", "/etc/corosync")
 # The first process of a machine, which reaps those that lose their parent.
-FIRST = "trap '' CHLD; mount -t proc proc /proc; mount -t tmpfs tmpfs /dev/shm; echo up; exec sleep infinity"
+FIRST = ("mount -t proc proc /proc; mount -t tmpfs tmpfs /dev/shm; echo up; "
+         "exec env --ignore-signal=CHLD sleep infinity")
 
 
 def ran(*words, check=True):

@@ -122,6 +122,9 @@ class Managed:
         last.end()
         session.end(seen)
 
+    def evidence(self):
+        return self.ordered("crm_mon", "-1rf")
+
     def strike(self, kind, machine, hosts):
         """Makes the fault while hosts write, and gives its time."""
         for host in hosts:
@@ -133,7 +136,7 @@ class Managed:
         elif kind == LOST:
             machine.lose()
         else:
-            machine.ran("sh", "-c", 'kill -9 -- "-$(cat /run/resource-agents/vtl-library.group)"', check=False)
+            machine.ran("sh", "-c", 'kill -s KILL -- "-$(cat /run/resource-agents/vtl-library.group)"')
         return begun
 
     def end_old(self, seen, machine, old):

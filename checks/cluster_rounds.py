@@ -91,6 +91,11 @@ class Rounds:
             self.store.heal()
         self.made += 1
 
+    def evidence(self):
+        """What `vtl check` says of the library's files on each machine, and what these are."""
+        words = ("sh", "-c", 'cd "$0"; ls -l; for it in t1.tape d1.pr d2.pr; do "$1" check "$it"; done; md5sum *')
+        return "\n".join(it.ran(*words, self.folder(it), self.program, check=False) for it in self.machines if it.first)
+
     def strike(self, kind, old, hosts):
         """Makes the fault while hosts write, or have just written, and gives its time."""
         for host in hosts:
