@@ -34,7 +34,7 @@ class Gluster:
     def ordered(self, *words):
         """What an order of the administrator's, given at a server that runs, prints."""
         server = next(it for it in self.servers if it.first)
-        return server.ran("gluster", "--mode=script", *words)
+        return server.ran("gluster", "--mode=script", "--timeout=600", *words)
 
     def serve(self, server):
         """Starts the daemon. The program of geo-replication, which nobody uses and which is started some twenty times,
