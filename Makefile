@@ -2,7 +2,7 @@
 RT := $(shell command -v rt)
 
 .PHONY: demo vtl check wrong rows rows-wrong nomemory mutants faults explained hostile memory endings examples stops kills bench \
-	gate fmt definitions install manual need-rt
+	gate fmt definitions install manual cluster need-rt
 .DEFAULT_GOAL := demo
 
 need-rt:
@@ -94,6 +94,18 @@ stops: vtl
 kills: vtl
 	python3 checks/kills.py --selftest
 	python3 checks/kills.py $(if $(COUNT),--count $(COUNT)) $(if $(SEED),--seed $(SEED))
+
+# Debian's packages that `make cluster` wants; it runs as root.
+CLUSTER = glusterfs-server glusterfs-client ceph-mon ceph-mgr ceph-osd ceph-mds ceph-fuse pacemaker corosync crmsh \
+	resource-agents psmisc kmod iproute2 fuse3
+
+cluster: $(if $(PROGRAM),,vtl)
+	@dpkg-query -W $(CLUSTER) > /dev/null || { echo "make cluster wants: apt-get install $(CLUSTER)" >&2; exit 1; }
+	python3 checks/cluster.py --selftest
+	for store in gluster ceph; do python3 checks/cluster.py $$store $(if $(COUNT),--rounds $(COUNT)) \
+		$(if $(PROGRAM),--program $(PROGRAM)) $(if $(RESULTS),--into $(RESULTS)) || exit 1; done
+	python3 checks/cluster.py gluster --pacemaker --rounds 10 $(if $(PROGRAM),--program $(PROGRAM))
+	python3 checks/cluster.py gluster --defaults --rounds 100 $(if $(PROGRAM),--program $(PROGRAM))
 
 bench: need-rt
 	python3 bench/script.py
