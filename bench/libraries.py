@@ -109,8 +109,8 @@ def main():
     parser.add_argument("--program", default=PROVED)
     parser.add_argument("--into")
     words = parser.parse_args()
-    lines = ["| Idle libraries | Memory | Start of all | Processor in 3 s at rest | TEST UNIT READY of a host beside one "
-             "fewer | its blocks of 256 KiB | its filemarks a second |", "|---|---|---|---|---|---|---|"]
+    lines = ["| Idle | Memory | Start of all | Processor in 3 s | Beside one fewer: TEST UNIT READY | blocks of 256 KiB "
+             "| filemarks a second |", "|---|---|---|---|---|---|---|"]
     with tempfile.TemporaryDirectory(prefix="vtl-libraries-", dir=os.path.dirname(TOP)) as room:
         for count in COUNTS:
             lines.append(row(os.path.abspath(words.program), room, count))

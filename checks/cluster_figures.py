@@ -11,8 +11,9 @@ DOCUMENT = os.path.join(os.path.dirname(os.path.dirname(os.path.abspath(__file__
 def span(values):
     """The least, the median and the greatest of some seconds."""
     values = sorted(values)
-    least, most = values[0], values[-1]
-    return f"{least:.1f} to {most:.1f} s, median {values[len(values) // 2]:.1f}" if len(values) > 1 else f"{least:.1f} s"
+    if len(values) == 1:
+        return f"{values[0]:.1f} s"
+    return f"{values[0]:.1f} to {values[-1]:.1f} s, median {values[len(values) // 2]:.1f}"
 
 
 def lines_of(paths):

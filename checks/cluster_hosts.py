@@ -1,4 +1,4 @@
-"""Hosts of a library that `vtl serve` runs on a machine of a cluster: what they send, and what they were acknowledged."""
+"""Hosts of a library that is served on a machine of a cluster: what they send, and what they were acknowledged."""
 import contextlib
 import hashlib
 import subprocess

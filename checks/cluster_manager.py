@@ -15,6 +15,8 @@ TOP = os.path.dirname(os.path.dirname(os.path.abspath(__file__)))
 EXAMPLES = os.path.join(TOP, "examples", "cluster")
 AGENTS, ADDRESS, PORT, FOLDER = "/usr/lib/ocf/resource.d", "10.77.0.100", "3000", "/srv/tapes/daily"
 SECONDS, SHARES = 300, {KILLED: 2, LOST: 1, CUT: 1}
+# Milliseconds after which corosync misses a machine: more than its 3,000, for one whose processors others take.
+TOKEN = 10_000
 # What each machine of the cluster has in mounts of its own: the programs, the agent, an empty /srv. Then corosync.
 PLACES = f"""set -e
 mount -t tmpfs tmpfs /usr/local/bin
@@ -57,7 +59,10 @@ class Managed:
     def manage(self, machine):
         """Starts corosync and Pacemaker on a machine."""
         self.store.prepare(machine)
-        shutil.copy(os.path.join(EXAMPLES, "corosync.conf"), machine.own("/etc/corosync"))
+        with open(os.path.join(EXAMPLES, "corosync.conf"), encoding="utf-8") as file:
+            patient = file.read().replace("totem {", f"totem {{\n    token: {TOKEN}")
+        with open(machine.own("/etc/corosync/corosync.conf"), "w", encoding="utf-8") as file:
+            file.write(patient)
         machine.ran("sh", "-c", PLACES, self.program, EXAMPLES, self.agents)
         machine.popen("pacemakerd", **QUIET)
 
