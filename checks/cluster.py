@@ -20,7 +20,7 @@ import tempfile
 import cluster_figures
 import cluster_selftest
 from cluster_ceph import Ceph
-from cluster_gluster import TERMS, Gluster
+from cluster_gluster import Gluster
 from cluster_judge import wrong_in
 from cluster_machines import Network
 from cluster_manager import Managed
@@ -36,7 +36,7 @@ def line_of(seen, rounds, wrong):
     return {"store": rounds.store.name, "by": type(rounds).__name__, "kind": seen.kind,
             "seconds": round(seen.seconds, 2), "slowest": round(seen.slowest, 2), "safe": seen.safe,
             "sent": len(seen.sent), "found": [it if isinstance(it, str) else len(it) for it in seen.read],
-            "late": seen.late, "refusals": seen.refusals, "old_end": seen.old_end, "wrong": wrong}
+            "without": rounds.store.without, "late": seen.late, "refusals": seen.refusals, "old_end": seen.old_end, "wrong": wrong}
 
 
 def keep(line, path):
@@ -63,7 +63,10 @@ def in_network(words):
     room = tempfile.mkdtemp(prefix="vtl-cluster-", dir="/var/tmp")
     network, program = Network(words.name, room), os.path.abspath(words.program)
     try:
-        store = Ceph(network) if words.store == "ceph" else Gluster(network, words.defaults, words.without)
+        if words.store == "ceph":
+            store = Ceph(network, words.without)
+        else:
+            store = Gluster(network, words.defaults, words.without)
         if words.speed:
             return keep(measured(store, network, program), words.into) or 0
         kind = Managed if words.pacemaker else Rounds
@@ -82,7 +85,7 @@ def main():
         parser.add_argument(word, action="store_true")
     parser.add_argument("--rounds", type=int, default=200)
     parser.add_argument("--kind", choices=SHARES)
-    parser.add_argument("--without", action="append", default=[], choices=TERMS)
+    parser.add_argument("--without", action="append", default=[], metavar="TERM")
     parser.add_argument("--seed", type=int, default=0)
     parser.add_argument("--name", default="vtl")
     parser.add_argument("--into")

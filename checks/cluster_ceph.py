@@ -23,11 +23,12 @@ class Ceph:
     """Three servers and their file system; the first has the monitor and the manager, which are not lost."""
     name, kind, mortal, evicts = "CephFS", "ceph", (1, 2), True
 
-    def __init__(self, network):
+    def __init__(self, network, without=()):
+        self.without = list(without)
         self.servers = [network.machine(f"server{at}", at) for at in (1, 2, 3)]
         self.monitor = self.servers[0]
         with open(os.path.join(EXAMPLES, "ceph.conf"), encoding="utf-8") as file:
-            self.config = file.read() + SMALL
+            self.config = "".join(it for it in file if it.partition(" =")[0] not in without) + SMALL
         self.has("ceph.conf", self.monitor, self.config)
         self.script(self.monitor, "monitor")
         for at, server in enumerate(self.servers):

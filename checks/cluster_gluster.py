@@ -16,7 +16,7 @@ class Gluster:
     name, kind, mortal, evicts = "GlusterFS", "gluster", (0, 1, 2), False
 
     def __init__(self, network, defaults=False, without=()):
-        self.defaults = defaults
+        self.defaults, self.without = defaults, ["any term"] if defaults else list(without)
         self.servers = [network.machine(f"server{at}", at) for at in (1, 2, 3)]
         for server in self.servers:
             self.serve(server)
