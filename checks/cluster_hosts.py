@@ -1,6 +1,8 @@
 """Hosts of a library that is served on a machine of a cluster: what they send, and what they were acknowledged."""
 import contextlib
 import hashlib
+import os
+import signal
 import subprocess
 import threading
 import time
@@ -87,9 +89,9 @@ class Served:
         return self.greeted(block, data, host=host, drive=drive, seconds=seconds)
 
     def kill(self):
-        """Kills the program itself, not the process that put it into the machine's namespaces."""
-        child = child_of(self.process.pid)
-        subprocess.run(["kill", "-9", str(child)], check=False)
+        """Kills the program itself, not only the process that put it into the machine's namespaces."""
+        with contextlib.suppress(OSError):
+            os.kill(child_of(self.process.pid), signal.SIGKILL)
 
     def end(self, seconds=120):
         """The status at the end of the input; None where the program does not end."""

@@ -89,7 +89,7 @@ class Managed:
             served = self.connected(self.host, ADDRESS)
             if sense_of(served.ask(READY, host=WATCHER, seconds=5)) in ("6, 29/00", "GOOD"):
                 return served
-            served.process.kill()
+            served.kill()
             time.sleep(0.2)
         raise OSError(f"nobody serves within {SECONDS} s: {self.ordered('crm_mon', '-1rf')}")
 
@@ -153,7 +153,7 @@ class Managed:
         elif seen.kind == LOST:
             machine.start()
             self.manage(machine)
-        old.process.kill()
+        old.kill()
         wait_for("the return", lambda: self.online() == 3, SECONDS, 1)
 
     def hand_over(self):
