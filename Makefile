@@ -36,6 +36,9 @@ install: crates/vtl/out/vtl
 	install -m 644 docs/*.md $(DOC)/docs
 	install -m 644 $(filter-out examples/tape.py,$(EXAMPLES)) $(DOC)/examples
 	install -m 755 examples/tape.py $(DOC)/examples
+	install -d $(DOC)/examples/cluster
+	install -m 644 examples/cluster/*.* $(DOC)/examples/cluster
+	install -m 755 examples/cluster/ceph.sh examples/cluster/library examples/cluster/vtl-socket $(DOC)/examples/cluster
 
 check: need-rt
 	.ci/run
