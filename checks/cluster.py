@@ -2,7 +2,8 @@
 """Runs a library on two machines before a replicated store, in rounds of a fault and a take-over (docs/CLUSTER.md).
 
   cluster.py gluster | ceph [--rounds N] [--kind FAULT] [--defaults] [--into FILE] [--seed N] [--program PATH]
-  cluster.py gluster | ceph --pacemaker [--rounds N] ..     the same, where Pacemaker decides who serves
+  cluster.py gluster | ceph --pacemaker [--iscsi FOLDER] [--rounds N] ..     the same, where Pacemaker decides who
+                               serves; behind vtl-iscsi, where its folder is named
   cluster.py gluster | ceph --speed [--into FILE]           how fast a host is, beside the disk
   cluster.py --figures FILE..                               writes the figures of these files into docs/CLUSTER.md
   cluster.py --selftest                                     the judge, with rounds that are wrong in one thing each
@@ -69,8 +70,11 @@ def in_network(words):
             store = Gluster(network, words.defaults, words.without)
         if words.speed:
             return keep(measured(store, network, program), words.into) or 0
-        kind = Managed if words.pacemaker else Rounds
-        count, wrongs = run(kind(store, network, program, words.seed), words)
+        if words.pacemaker:
+            rounds = Managed(store, network, program, words.seed, words.iscsi and os.path.abspath(words.iscsi))
+        else:
+            rounds = Rounds(store, network, program, words.seed)
+        count, wrongs = run(rounds, words)
     finally:
         network.take_down()
         shutil.rmtree(room, ignore_errors=True)
@@ -89,6 +93,7 @@ def main():
     parser.add_argument("--seed", type=int, default=0)
     parser.add_argument("--name", default="vtl")
     parser.add_argument("--into")
+    parser.add_argument("--iscsi", metavar="FOLDER")
     parser.add_argument("--figures", nargs="+")
     parser.add_argument("--program", default=PROVED)
     words = parser.parse_args()

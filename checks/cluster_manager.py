@@ -3,8 +3,10 @@ speak to the library at the address that moves."""
 import os
 import shutil
 import subprocess
+import sys
 import time
 
+import cluster_initiator
 from cluster_hosts import READY, WATCHER, Served, sense_of
 from cluster_judge import Seen
 from cluster_machines import wait_for
@@ -21,6 +23,7 @@ TOKEN = 10_000
 PLACES = f"""set -e
 mount -t tmpfs tmpfs /usr/local/bin
 printf '#!/bin/sh\\nexec %s "$@"\\n' "$0" > /usr/local/bin/vtl
+printf '#!/bin/sh\\nexec %s "$@"\\n' "$3/vtl-iscsi" > /usr/local/bin/vtl-iscsi
 cp "$1/vtl-socket" /usr/local/bin
 chmod 755 /usr/local/bin/*
 mount -t overlay -o "lowerdir=$2:{AGENTS}" overlay {AGENTS}
@@ -38,8 +41,8 @@ QUIET = {"stdin": subprocess.DEVNULL, "stdout": subprocess.DEVNULL, "stderr": su
 class Managed:
     """Three machines with Pacemaker before a store, a fourth one that tries to serve beside them, and a host."""
 
-    def __init__(self, store, network, program, seed):
-        self.store, self.program, self.session = store, program, Session(seed)
+    def __init__(self, store, network, program, seed, iscsi=None):
+        self.store, self.program, self.session, self.iscsi = store, program, Session(seed), iscsi
         self.agents = os.path.join(network.room, "agents")
         os.makedirs(os.path.join(self.agents, "vtl"))
         shutil.copy(os.path.join(EXAMPLES, "library"), os.path.join(self.agents, "vtl"))
@@ -47,11 +50,24 @@ class Managed:
         self.witness, self.host = network.machine("witness", 20), network.machine("host", 30)
         self.folder = os.path.join(store.mount(self.witness), "daily")
         make_library(self.witness, self.folder, program)
+        self.witness.ran("sh", "-c", 'umask 077; printf %s "$0" > "$1"/access.toml', cluster_initiator.access(),
+                         self.folder)
         for machine in self.machines:
             self.manage(machine)
         wait_for("the cluster", lambda: self.online() == 3, SECONDS, 1)
-        self.ordered("crm", "configure", "load", "update", os.path.join(EXAMPLES, f"{store.kind}.crm"))
+        self.ordered("crm", "configure", "load", "update", self.resources(network.room))
         self.session.reserve(self.take_over())
+
+    def resources(self, room):
+        """The resources of the example, with the other front end if that is asked for."""
+        with open(os.path.join(EXAMPLES, f"{self.store.kind}.crm"), encoding="utf-8") as file:
+            text = file.read()
+        if self.iscsi:
+            text = text.replace(f'folder="{FOLDER}"', f'folder="{FOLDER}" front=vtl-iscsi port={PORT}')
+        path = os.path.join(room, "resources.crm")
+        with open(path, "w", encoding="utf-8") as file:
+            file.write(text)
+        return path
 
     def a_kind(self):
         return self.session.chance.choices(list(SHARES), list(SHARES.values()))[0]
@@ -63,7 +79,7 @@ class Managed:
             patient = file.read().replace("totem {", f"totem {{\n    token: {TOKEN}")
         with open(machine.own("/etc/corosync/corosync.conf"), "w", encoding="utf-8") as file:
             file.write(patient)
-        machine.ran("sh", "-c", PLACES, self.program, EXAMPLES, self.agents)
+        machine.ran("sh", "-c", PLACES, self.program, EXAMPLES, self.agents, self.iscsi or "")
         machine.popen("pacemakerd", **QUIET)
 
     def ordered(self, *words, check=True):
@@ -80,6 +96,9 @@ class Managed:
         return next((it for it in self.machines if f"running on: {it.name}" in said), None)
 
     def connected(self, machine, address):
+        if self.iscsi:
+            return Served(machine, [sys.executable, cluster_initiator.__file__, os.path.join(self.iscsi, "tests"),
+                                    address, PORT])
         return Served(machine, [os.path.join(EXAMPLES, "vtl-socket"), "connect", address, PORT])
 
     def take_over(self):
@@ -87,7 +106,7 @@ class Managed:
         begun = time.monotonic()
         while time.monotonic() - begun < SECONDS:
             served = self.connected(self.host, ADDRESS)
-            if sense_of(served.ask(READY, host=WATCHER, seconds=5)) in ("6, 29/00", "GOOD"):
+            if sense_of(served.ask(READY, host=WATCHER, seconds=5))[:2] in ("6,", "2,", "GO"):
                 return served
             served.kill()
             time.sleep(0.2)
