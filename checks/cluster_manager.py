@@ -35,7 +35,8 @@ chown hacluster:haclient blackbox cib cores pengine /var/log/pacemaker
 chmod 750 blackbox cib cores pengine
 corosync
 """
-QUIET = {"stdin": subprocess.DEVNULL, "stdout": subprocess.DEVNULL, "stderr": subprocess.DEVNULL}
+QUIET = {"stdin": subprocess.DEVNULL, "stdout": subprocess.DEVNULL, "stderr": subprocess.DEVNULL,
+         "env": {"PATH": "/usr/local/sbin:/usr/local/bin:/usr/sbin:/usr/bin:/sbin:/bin"}}
 
 
 class Managed:
