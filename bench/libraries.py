@@ -23,6 +23,8 @@ PROVED = os.path.join(TOP, "crates", "vtl", "out", "vtl")
 COUNTS, REST, RUNS = (1, 16, 64, 256), 3, 3
 READY, MARK, WRITE = bytes(6), bytes.fromhex("100000000100"), b"\x0a\x00\x04\x00\x00\x00"
 TRIPS, BLOCKS, MARKS, BLOCK = 3_000, 256, 200, os.urandom(262_144)
+HEAD = ("| Idle | Memory | Start of all | Processor in 3 s | Beside one fewer: TEST UNIT READY | blocks of 256 KiB | "
+        "filemarks a second |", "|---|---|---|---|---|---|---|")
 CONFIG = """cartridge = [{ barcode = "T00001L6", file = "t1.tape", capacities = [1_099_511_627_776], home = 1 },
              { barcode = "T00002L6", file = "t2.tape", capacities = [1_099_511_627_776], home = 1001 }]
 drive = [{ number = 1, reservations = "d1.pr" }]
@@ -109,8 +111,7 @@ def main():
     parser.add_argument("--program", default=PROVED)
     parser.add_argument("--into")
     words = parser.parse_args()
-    lines = ["| Idle | Memory | Start of all | Processor in 3 s | Beside one fewer: TEST UNIT READY | blocks of 256 KiB "
-             "| filemarks a second |", "|---|---|---|---|---|---|---|"]
+    lines = list(HEAD)
     with tempfile.TemporaryDirectory(prefix="vtl-libraries-", dir=os.path.dirname(TOP)) as room:
         for count in COUNTS:
             lines.append(row(os.path.abspath(words.program), room, count))

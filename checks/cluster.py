@@ -22,7 +22,7 @@ import cluster_figures
 import cluster_selftest
 from cluster_ceph import Ceph
 from cluster_gluster import Gluster
-from cluster_judge import wrong_in
+from cluster_judge import losses_in, wrong_in
 from cluster_machines import Network
 from cluster_manager import Managed
 from cluster_rounds import SHARES, Rounds
@@ -37,7 +37,8 @@ def line_of(seen, rounds, wrong):
     return {"store": rounds.store.name, "by": type(rounds).__name__, "kind": seen.kind,
             "seconds": round(seen.seconds, 2), "slowest": round(seen.slowest, 2), "safe": seen.safe,
             "sent": len(seen.sent), "found": [it if isinstance(it, str) else len(it) for it in seen.read],
-            "without": rounds.store.without, "late": seen.late, "refusals": seen.refusals, "old_end": seen.old_end, "wrong": wrong}
+            "without": rounds.store.without, "late": seen.late, "refusals": seen.refusals, "old_end": seen.old_end,
+            "wrong": wrong}
 
 
 def keep(line, path):
@@ -48,15 +49,15 @@ def keep(line, path):
 
 
 def run(rounds, words):
-    """How many rounds were run, and how many were wrong: it ends with the first one that is."""
+    """How many rounds were run, whether one was wrong, and whether it lost something: it ends with the first one."""
     for at in range(words.rounds):
         seen = rounds.round(words.kind or rounds.a_kind())
         wrong = wrong_in(seen)
         keep(line_of(seen, rounds, wrong), words.into)
         if wrong:
             print(rounds.evidence(), flush=True)
-            return at + 1, 1
-    return words.rounds, 0
+            return at + 1, True, bool(losses_in(seen))
+    return words.rounds, False, False
 
 
 def in_network(words):
@@ -74,12 +75,13 @@ def in_network(words):
             rounds = Managed(store, network, program, words.seed, words.iscsi and os.path.abspath(words.iscsi))
         else:
             rounds = Rounds(store, network, program, words.seed)
-        count, wrongs = run(rounds, words)
+        count, is_wrong, is_lost = run(rounds, words)
     finally:
         network.take_down()
         shutil.rmtree(room, ignore_errors=True)
-    print(f"{store.name}{' by default' * words.defaults}: {count} rounds, {wrongs} wrong")
-    return 0 if bool(wrongs) == words.defaults else 1
+    print(f"{store.name}{' by default' * words.defaults}: {count} rounds, "
+          f"{'something was lost' if is_lost else 'one is wrong' if is_wrong else 'nothing was lost'}")
+    return 1 if (not is_lost if words.defaults else is_wrong) else 0
 
 
 def main():

@@ -31,10 +31,10 @@ class Gluster:
         self.ordered("volume", "start", VOLUME)
         self.wait_until_whole()
 
-    def ordered(self, *words):
+    def ordered(self, *words, check=True):
         """What an order of the administrator's, given at a server that runs, prints."""
         server = next(it for it in self.servers if it.first)
-        return server.ran("gluster", "--mode=script", "--timeout=600", *words)
+        return server.ran("gluster", "--mode=script", "--timeout=600", *words, check=check)
 
     def serve(self, server):
         """Starts the daemon. The program of geo-replication, which nobody uses and which is started some twenty times,
@@ -66,9 +66,14 @@ class Gluster:
         return wait_for("a whole volume", self.is_whole, SECONDS, 1)
 
     def heal(self):
-        """Copies what a server missed; the program was started anew since, and its files are open at each server."""
-        self.ordered("volume", "heal", VOLUME)
-        self.wait_until_whole()
+        """Copies what a server missed; the program was started anew since, and its files are open at each server. The
+        order is refused while a server is not ready for it."""
+        wait_for("a whole volume", lambda: self.asked_to_heal() and self.is_whole(),
+                 SECONDS, 2)
+
+    def asked_to_heal(self):
+        self.ordered("volume", "heal", VOLUME, check=False)
+        return True
 
     def prepare(self, machine):
         """What a machine needs beside its packages: nothing."""

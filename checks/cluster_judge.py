@@ -77,14 +77,18 @@ def wrong_reservations(seen):
         allowed = [second]
 
 
+def losses_in(seen):
+    """What was acknowledged and is not there, or was acknowledged by a process that served no more; a line each."""
+    late = [f"the old process acknowledged {what}" for what, answer in seen.late if answer == "GOOD" and what in PROMISES]
+    return [*wrong_tape(seen), *wrong_reservations(seen), *late]
+
+
 def wrong_in(seen):
-    """What is wrong in a round, a line each."""
-    found = [*seen.broken, *wrong_tape(seen), *wrong_reservations(seen)]
+    """What is wrong in a round, a line each: losses, and what else should not be."""
+    found = [*losses_in(seen), *seen.broken]
     if {len(it) for it in (seen.read, seen.reservations, seen.fenced)} != {LOOKS} or len(seen.beside) != 2:
         found.append("not everything was looked at")
     found += [f"a start beside a library that was served ended with {it}" for it in seen.beside if it != 2]
     found += [f"a host that was fenced off was answered {it}" for it in seen.fenced if it != "CONFLICT"]
-    found += [f"the old process acknowledged {what}" for what, answer in seen.late
-              if answer == "GOOD" and what in PROMISES]
     found += [f"an end in good order had status {it}" for it in seen.ends if it != 0]
     return found

@@ -2,7 +2,7 @@
 import dataclasses
 
 from cluster_hosts import MARK
-from cluster_judge import Seen, wrong_in
+from cluster_judge import Seen, losses_in, wrong_in
 
 
 def a_good_round():
@@ -59,6 +59,11 @@ def wrong_rounds():
     yield "the round broke off", other(broken=["no take-over"])
 
 
+# Of these nothing is lost.
+NO_LOSS = ("the fence is open", "the fence is open later", "two serve at once", "two serve at once later",
+           "a start beside was not tried", "an end that fails", "a look is missing", "the round broke off")
+
+
 def failures():
     """What the judge says wrongly, a line each."""
     if said := wrong_in(a_good_round()):
@@ -66,6 +71,8 @@ def failures():
     for mistake, seen in wrong_rounds():
         if not wrong_in(seen):
             yield f"passed: {mistake}"
+        if bool(losses_in(seen)) == (mistake in NO_LOSS):
+            yield f"taken for a loss, or not: {mistake}"
 
 
 def main():
