@@ -79,7 +79,8 @@ def wrong_reservations(seen):
 
 def losses_in(seen):
     """What was acknowledged and is not there, or was acknowledged by a process that served no more; a line each."""
-    late = [f"the old process acknowledged {what}" for what, answer in seen.late if answer == "GOOD" and what in PROMISES]
+    late = [f"the old process acknowledged {what}" for what, answer in seen.late
+            if answer == "GOOD" and what in PROMISES]
     return [*wrong_tape(seen), *wrong_reservations(seen), *late]
 
 

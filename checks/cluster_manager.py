@@ -177,9 +177,9 @@ class Managed:
         wait_for("the return", lambda: self.online() == 3, SECONDS, 1)
 
     def hand_over(self):
-        """Moves the library to another machine in good order."""
+        """Moves the library to another machine in good order, once the failures of the round are forgotten."""
+        self.ordered("crm_resource", "--cleanup", "--resource", "tapes")
         other = next(it for it in self.machines if it is not self.active())
         self.ordered("crm_resource", "--move", "--resource", "tapes", "--node", other.name)
         wait_for("the move", lambda: self.active() is other, SECONDS, 0.5)
         self.ordered("crm_resource", "--clear", "--resource", "tapes")
-        self.ordered("crm_resource", "--cleanup", "--resource", "tapes")
