@@ -34,7 +34,7 @@ PROVED = os.path.join(TOP, "crates", "vtl", "out", "vtl")
 
 def line_of(seen, rounds, wrong):
     """A round as a line of the file."""
-    return {"store": rounds.store.name, "by": type(rounds).__name__, "kind": seen.kind,
+    return {"store": rounds.store.name, "by": type(rounds).__name__, "iscsi": bool(rounds.iscsi), "kind": seen.kind,
             "seconds": round(seen.seconds, 2), "slowest": round(seen.slowest, 2), "safe": seen.safe,
             "sent": len(seen.sent), "found": [it if isinstance(it, str) else len(it) for it in seen.read],
             "without": rounds.store.without, "late": seen.late, "refusals": seen.refusals, "old_end": seen.old_end,

@@ -8,36 +8,46 @@ from marked_text import put
 DOCUMENT = os.path.join(os.path.dirname(os.path.dirname(os.path.abspath(__file__))), "docs", "CLUSTER.md")
 
 
-def span(values):
-    """The least, the median and the greatest of some seconds."""
-    values = sorted(values)
-    if len(values) == 1:
-        return f"{values[0]:.1f} s"
-    return f"{values[0]:.1f} to {values[-1]:.1f} s, median {values[len(values) // 2]:.1f}"
-
-
 def lines_of(paths):
     for path in paths:
         with open(path, encoding="utf-8") as file:
             yield from map(json.loads, file)
 
 
+def way_of(line):
+    """The store of a round, and who decided."""
+    return line["store"] + {"Rounds": "", "Managed": ", Pacemaker"}[line["by"]] + ", iSCSI" * bool(line["iscsi"])
+
+
+def cell(found):
+    """How many rounds, and the least and the greatest time up to the take-over."""
+    if not found:
+        return ""
+    seconds = sorted(it["seconds"] for it in found)
+    span = f"{seconds[0]:.1f}" if len(seconds) == 1 else f"{seconds[0]:.1f}–{seconds[-1]:.1f}"
+    return f"{len(found)}: {span} s"
+
+
 def rounds_table(lines):
-    """Per store and fault: rounds, how many were wrong, and the time up to the take-over."""
-    groups = collections.defaultdict(list)
+    """Per fault and way the rounds on all terms; behind them what was lost, with and without each term."""
+    groups, ways = collections.defaultdict(list), {}
     for line in lines:
         if "kind" in line:
-            by = " by Pacemaker" if line.get("by") == "Managed" else ""
-            groups[line["store"] + by, line["kind"]].append(line)
-    yield "| Store | Fault | Rounds | Wrong | Take-over | Slowest answer before |"
-    yield "|---|---|---|---|---|---|"
-    for (store, kind), found in sorted(groups.items()):
-        right = [it for it in found if not it["wrong"]] or found
-        yield (f"| {store} | {kind} | {len(found)} | {sum(bool(it['wrong']) for it in found)} | "
-               f"{span([it['seconds'] for it in right])} | {max(it['slowest'] for it in right):.1f} s |")
-    for store in sorted({store for store, _ in groups}):
-        found = [it for (name, _), those in groups.items() if name == store for it in those]
-        yield f"| {store} | all | {len(found)} | {sum(bool(it['wrong']) for it in found)} | | |"
+            ways.setdefault(way_of(line), None)
+            groups[way_of(line), line["kind"] if not line["without"] else None, tuple(line["without"])].append(line)
+    kinds = dict.fromkeys(kind for _, kind, _ in groups if kind)
+    names = [way for way in ways if any(way == it and kind for it, kind, _ in groups)]
+    yield "| Rounds: time up to the take-over | " + " | ".join(names) + " |"
+    yield "|---" * (len(names) + 1) + "|"
+    for kind in kinds:
+        yield f"| {kind} | " + " | ".join(cell(groups.get((way, kind, ()), [])) for way in names) + " |"
+    totals = [[it for (way, kind, _), found in groups.items() if way == name and kind for it in found] for name in names]
+    yield "| all; wrong | " + " | ".join(f"{len(it)}; {sum(bool(one['wrong']) for one in it)}" for it in totals) + " |"
+    yield ""
+    for (way, kind, without), found in groups.items():
+        if kind is None:
+            yield (f"- {way} without {' and '.join(without)}: {sum(bool(it['wrong']) for it in found)} of "
+                   f"{len(found)} rounds lost something.")
 
 
 def speed_table(lines):

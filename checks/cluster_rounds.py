@@ -18,6 +18,7 @@ ROUNDS_OF_A_LIBRARY = 6
 
 class Rounds:
     """Two machines before a store, and the library that one of them serves."""
+    iscsi = None
 
     def __init__(self, store, network, program, seed):
         self.store, self.program, self.session = store, program, Session(seed)
