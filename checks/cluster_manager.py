@@ -161,7 +161,7 @@ class Managed:
         elif kind == LOST:
             machine.lose()
         else:
-            machine.ran("sh", "-c", 'kill -s KILL -- "-$(cat /run/resource-agents/vtl-library.group)"')
+            machine.ran("sh", "-c", 'kill -s KILL -- "-$(cut -d " " -f 1 /run/resource-agents/vtl-library.group)"')
         return begun
 
     def end_old(self, seen, machine, old):
