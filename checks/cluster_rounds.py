@@ -143,6 +143,8 @@ class Rounds:
         machine is started anew."""
         if seen.kind in (CUT, CUT_IDLE):
             old.machine.join()
+            # before its mount has found the store again, and behind that
+            time.sleep(self.chance.choice((0, 10, 25)))
             stop(hosts)
             seen.late = ask_late(old)
             seen.old_end = old.end(PATIENCE)
