@@ -102,8 +102,8 @@ def row(program, room, count):
         peer.end()
     for folder in folders:
         shutil.rmtree(folder)
-    return (f"| {count} | {memory / 1024:.0f} MiB, {memory / count / 1024:.1f} each | {seconds:.2f} s | {busy:.2f} s | "
-            f"{trip:.0f} µs | {speed:.0f} MB/s | {marks:.0f} |")
+    return (f"| {count} | {memory / 1024:.0f} MiB | {seconds:.2f} s | {busy:.2f} s | {trip:.0f} µs | {speed:.0f} MB/s "
+            f"| {marks:.0f} |")
 
 
 def main():
