@@ -22,7 +22,7 @@ class Gluster:
             self.serve(server)
         for other in self.servers[1:]:
             self.ordered("peer", "probe", other.address)
-        wait_for("the peers", lambda: self.ordered("peer", "status").count("(Connected)") == 2, SECONDS)
+        wait_for("the peers", lambda: self.ordered("peer", "status").count("Peer in Cluster (Connected)") == 2, SECONDS)
         bricks = [f"{server.address}:{server.folder}/brick" for server in self.servers]
         self.ordered("volume", "create", VOLUME, "replica", "3", *bricks, "force")
         for option, value in ({} if defaults else TERMS).items():
