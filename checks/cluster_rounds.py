@@ -12,6 +12,8 @@ KILLED, LOST, BY_HAND, SERVER, SECOND, CUT, CUT_IDLE = (
 # How many rounds of twenty each fault has.
 SHARES = {KILLED: 6, LOST: 2, BY_HAND: 2, SERVER: 2, SECOND: 2, CUT: 3, CUT_IDLE: 3}
 LONGEST, PATIENCE = 600, 200
+# A server that was lost comes back if nobody can serve for so many seconds.
+NEEDED = 120
 # A library is made anew after so many rounds, so that its tape stays short.
 ROUNDS_OF_A_LIBRARY = 6
 
@@ -46,9 +48,12 @@ class Rounds:
         return Served(machine, [self.program, "serve", "--config", "library.toml"], self.folder(machine))
 
     def take_over(self, machine):
-        """Starts on this machine until a start is not refused, as the cluster's agent does."""
+        """Starts on this machine until a start is not refused, as the cluster's agent does. Where two servers were lost
+        the last one may be needed."""
         begun = time.monotonic()
         while time.monotonic() - begun < LONGEST:
+            if time.monotonic() - begun > NEEDED:
+                self.return_server()
             served = self.started(machine)
             if sense_of(served.ask(READY, host=WATCHER, seconds=LONGEST)) == "6, 29/00":
                 return served
