@@ -2,7 +2,7 @@
 RT := $(shell command -v rt)
 
 .PHONY: demo vtl check wrong rows rows-wrong nomemory mutants faults explained hostile memory endings examples stops kills \
-	mended iscsi hosts page bench gate fmt definitions install manual need-rt
+	mended cluster iscsi hosts page bench gate fmt definitions install manual need-rt
 .DEFAULT_GOAL := demo
 
 need-rt:
@@ -44,6 +44,9 @@ install: crates/vtl/out/vtl
 	install -d $(DESTDIR)$(PREFIX)/share/vtl/vtl_iscsi $(DOC)/iscsi
 	install -m 644 $(ISCSI)/vtl_iscsi/*.py $(DESTDIR)$(PREFIX)/share/vtl/vtl_iscsi
 	install -m 644 $(ISCSI)/README.md $(DOC)/iscsi
+	install -d $(DOC)/examples/cluster
+	install -m 644 examples/cluster/*.* $(DOC)/examples/cluster
+	install -m 755 examples/cluster/ceph.sh examples/cluster/library examples/cluster/vtl-socket $(DOC)/examples/cluster
 
 check: need-rt
 	.ci/run
@@ -116,6 +119,18 @@ kills: vtl
 mended: $(if $(PROGRAM),,vtl)
 	python3 checks/mended_faults.py --selftest
 	python3 checks/mended_faults.py $(if $(PROGRAM),--program $(PROGRAM)) $(if $(COUNT),--runs $(COUNT)) $(if $(SEED),--seed $(SEED))
+
+# Debian's packages that `make cluster` wants; it runs as root.
+CLUSTER = glusterfs-server glusterfs-client ceph-mon ceph-mgr ceph-osd ceph-mds ceph-fuse pacemaker corosync crmsh \
+	resource-agents psmisc kmod iproute2 fuse3
+
+cluster: $(if $(PROGRAM),,vtl)
+	@dpkg-query -W $(CLUSTER) > /dev/null || { echo "make cluster wants: apt-get install $(CLUSTER)" >&2; exit 1; }
+	python3 checks/cluster.py --selftest
+	for store in gluster ceph; do python3 checks/cluster.py $$store $(if $(COUNT),--rounds $(COUNT)) \
+		$(if $(PROGRAM),--program $(PROGRAM)) $(if $(RESULTS),--into $(RESULTS)) || exit 1; done
+	python3 checks/cluster.py gluster --pacemaker --rounds 10 $(if $(PROGRAM),--program $(PROGRAM))
+	python3 checks/cluster.py gluster --defaults --rounds 100 $(if $(PROGRAM),--program $(PROGRAM))
 
 bench: need-rt
 	python3 bench/script.py

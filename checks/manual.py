@@ -116,15 +116,18 @@ def installed():
         found = {os.path.relpath(os.path.join(folder, name), os.path.join(room, "usr")): os.stat(
             os.path.join(folder, name)).st_mode & 0o777 for folder, _, names in os.walk(room) for name in names}
     documents = [name for name in os.listdir(os.path.join(TOP, "docs")) if name.endswith(".md")]
-    examples = [name for name in os.listdir(os.path.join(TOP, "examples"))
-                if not name.endswith((".tape", ".tape.2", ".pr", "__pycache__"))]
+    top = os.path.join(TOP, "examples")
+    examples = [os.path.relpath(os.path.join(folder, name), top) for folder, _, names in os.walk(top)
+                for name in names if not name.endswith((".tape", ".tape.2", ".pr", ".pyc"))]
     own = [os.path.join("share/doc/vtl", *path) for path in (
         ("README.md",), *(("docs", it) for it in documents), *(("examples", it) for it in examples))]
     package = os.path.join(TOP, "frontends", "iscsi", "vtl_iscsi")
     own += ["share/man/man8/vtl-iscsi.8", "lib/systemd/system/vtl-iscsi.service", "share/doc/vtl/iscsi/README.md"]
     own += [f"share/vtl/vtl_iscsi/{name}" for name in os.listdir(package) if name.endswith(".py")]
     wanted = {path: 0o644 for path in ["share/man/man1/vtl.1", *own]}
-    wanted |= {"bin/vtl": 0o755, "bin/vtl-iscsi": 0o755, "share/doc/vtl/examples/tape.py": 0o755}
+    programs = ("tape.py", "cluster/ceph.sh", "cluster/library", "cluster/vtl-socket")
+    wanted |= {f"share/doc/vtl/examples/{name}": 0o755 for name in programs}
+    wanted |= {"bin/vtl": 0o755, "bin/vtl-iscsi": 0o755}
     return [f"make install: {path} has mode {found.get(path, 0):o} in the place of {wanted.get(path, 0):o}"
             for path in sorted({*found, *wanted}) if found.get(path) != wanted.get(path)]
 

@@ -1,0 +1,67 @@
+"""The figures of docs/CLUSTER.md, from the lines of the files that rounds and measurements left."""
+import collections
+import json
+import os
+
+from marked_text import put
+
+DOCUMENT = os.path.join(os.path.dirname(os.path.dirname(os.path.abspath(__file__))), "docs", "CLUSTER.md")
+
+
+def lines_of(paths):
+    for path in paths:
+        with open(path, encoding="utf-8") as file:
+            yield from map(json.loads, file)
+
+
+def way_of(line):
+    """The store of a round, and who decided."""
+    return line["store"] + {"Rounds": "", "Managed": ", Pacemaker"}[line["by"]] + ", iSCSI" * bool(line["iscsi"])
+
+
+def cell(found):
+    """How many rounds, and the least and the greatest time up to the take-over."""
+    if not found:
+        return ""
+    seconds = sorted(it["seconds"] for it in found)
+    span = f"{seconds[0]:.1f}" if len(seconds) == 1 else f"{seconds[0]:.1f}–{seconds[-1]:.1f}"
+    return f"{len(found)}: {span} s"
+
+
+def rounds_table(lines):
+    """Per fault and way the rounds on all terms; behind them what was lost, with and without each term."""
+    groups, ways = collections.defaultdict(list), {}
+    for line in lines:
+        if "kind" in line:
+            ways.setdefault(way_of(line), None)
+            groups[way_of(line), line["kind"] if not line["without"] else None, tuple(line["without"])].append(line)
+    kinds = dict.fromkeys(kind for _, kind, _ in groups if kind)
+    names = [way for way in ways if any(way == it and kind for it, kind, _ in groups)]
+    yield "| Rounds: time up to the take-over | " + " | ".join(names) + " |"
+    yield "|---" * (len(names) + 1) + "|"
+    for kind in kinds:
+        yield f"| {kind} | " + " | ".join(cell(groups.get((way, kind, ()), [])) for way in names) + " |"
+    totals = [[it for (way, kind, _), found in groups.items() if way == name and kind for it in found] for name in names]
+    yield "| all; wrong | " + " | ".join(f"{len(it)}; {sum(bool(one['wrong']) for one in it)}" for it in totals) + " |"
+    yield ""
+    for (way, kind, without), found in groups.items():
+        if kind is None:
+            yield (f"- {way} without {' and '.join(without)}: {sum(bool(it['wrong']) for it in found)} of "
+                   f"{len(found)} rounds lost something.")
+
+
+def speed_table(lines):
+    yield "| Store | Filemarks a second, store and disk | Blocks of 256 KiB, store and disk |"
+    yield "|---|---|---|"
+    for line in lines:
+        if "speed" in line:
+            store, disk = line["speed"]["store"], line["speed"]["disk"]
+            yield (f"| {line['store']} | {store['marks']:.0f}, {disk['marks']:.0f} | "
+                   f"{store['blocks']:.1f}, {disk['blocks']:.1f} MB/s |")
+
+
+def write(paths):
+    lines = list(lines_of(paths))
+    for name, table in (("rounds", rounds_table), ("speed", speed_table)):
+        put(DOCUMENT, name, list(table(lines)))
+    return 0
