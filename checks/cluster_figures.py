@@ -41,7 +41,8 @@ def rounds_table(lines):
     yield "|---" * (len(names) + 1) + "|"
     for kind in kinds:
         yield f"| {kind} | " + " | ".join(cell(groups.get((way, kind, ()), [])) for way in names) + " |"
-    totals = [[it for (way, kind, _), found in groups.items() if way == name and kind for it in found] for name in names]
+    totals = [[it for (way, kind, _), found in groups.items() if way == name and kind for it in found]
+              for name in names]
     yield "| all; wrong | " + " | ".join(f"{len(it)}; {sum(bool(one['wrong']) for one in it)}" for it in totals) + " |"
     yield ""
     for (way, kind, without), found in groups.items():
