@@ -103,7 +103,7 @@ iscsi: $(if $(PROGRAM),,vtl)
 	python3 $(ISCSI)/tests/run.py $(if $(PROGRAM),--program $(PROGRAM))
 
 hosts: $(if $(PROGRAM),,vtl)
-	python3 $(ISCSI)/tests/hosts.py $(if $(PROGRAM),--program $(PROGRAM))
+	python3 $(ISCSI)/tests/hosts.py $(if $(PROGRAM),--program $(PROGRAM)) $(if $(GUEST),--guest $(GUEST))
 
 page: $(if $(PROGRAM),,vtl)
 	python3 $(ISCSI)/tests/page.py $(if $(PROGRAM),--program $(PROGRAM))
