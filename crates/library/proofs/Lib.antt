@@ -1,6 +1,5 @@
 mod CountLemmas
 mod EndLemmas
-mod EntryLemmas
 mod HalfLemmas
 mod LoopLemmas
 mod OutcomeLemmas

@@ -1,4 +1,4 @@
-use Rattle.std.proofs.Common.{rules, ◌≡◌, Option, None, Some}
+use Rattle.std.proofs.Common.{rules}
 use Rattle.library.proofs.places.moves.move_known.Goals.{in-Some-Some, in-Some-None, in-None-Some, in-None-None}
 use Rattle.library.proofs.places.moves.move_known.Goals as goal
 
