@@ -67,7 +67,12 @@ pub fn counts_moves<D: Disk + Drop, B: Parties + Rings, H: Parties, R: Wait + Ab
 ) {
     let mut operator = operator;
     assert_equal!(rt; operator.moved(), 0);
-    is_answer(rt, &library.move_medium(rt, &mut operator, 1001, 1300), NO_ADDRESS, 0);
+    is_answer(
+        rt,
+        &library.move_medium(rt, &mut operator, 1001, 1300),
+        NO_ADDRESS,
+        0,
+    );
     assert_equal!(rt; operator.moved(), 1);
 }
 
