@@ -20,10 +20,10 @@ def way_of(line):
 
 
 def cell(found):
-    """How many rounds, and the least and the greatest time up to the take-over."""
-    if not found:
-        return ""
-    seconds = sorted(it["seconds"] for it in found)
+    """How many rounds, and of those that were right the least and the greatest time up to the take-over."""
+    seconds = sorted(it["seconds"] for it in found if not it["wrong"])
+    if not seconds:
+        return f"{len(found)}" if found else ""
     span = f"{seconds[0]:.1f}" if len(seconds) == 1 else f"{seconds[0]:.1f}–{seconds[-1]:.1f}"
     return f"{len(found)}: {span} s"
 
@@ -37,7 +37,7 @@ def rounds_table(lines):
             groups[way_of(line), line["kind"] if not line["without"] else None, tuple(line["without"])].append(line)
     kinds = dict.fromkeys(kind for _, kind, _ in groups if kind)
     names = [way for way in ways if any(way == it and kind for it, kind, _ in groups)]
-    yield "| Rounds: time up to the take-over | " + " | ".join(names) + " |"
+    yield "| Rounds: take-over | " + " | ".join(names) + " |"
     yield "|---" * (len(names) + 1) + "|"
     for kind in kinds:
         yield f"| {kind} | " + " | ".join(cell(groups.get((way, kind, ()), [])) for way in names) + " |"
@@ -48,11 +48,11 @@ def rounds_table(lines):
     for (way, kind, without), found in groups.items():
         if kind is None:
             yield (f"- {way} without {' and '.join(without)}: {sum(bool(it['wrong']) for it in found)} of "
-                   f"{len(found)} rounds lost something.")
+                   f"{len(found)} rounds wrong.")
 
 
 def speed_table(lines):
-    yield "| Store | Filemarks a second, store and disk | Blocks of 256 KiB, store and disk |"
+    yield "| Store, disk | Filemarks a second | Blocks of 256 KiB |"
     yield "|---|---|---|"
     for line in lines:
         if "speed" in line:
