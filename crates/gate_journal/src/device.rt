@@ -61,8 +61,8 @@ fn cut_behind<D: Disk>(disk: &mut D, len: u64) -> Result<(), DevFault>
     disk.cut(len)
 }
 
-// Removes what stands behind the gate at place `end`, writes the gathered bytes, the parts behind them and a closed gate
-// there, and then opens the gate at `end`. At Ok the disk ends with the closed gate.
+// Removes what stands behind the gate at place `end`, writes the gathered bytes, the parts behind them and a closed
+// gate there, and then opens the gate at `end`. At Ok the disk ends with the closed gate.
 pub(crate) fn write_frame<D: Disk, P: BodyParts>(
     disk: &mut D,
     end: u64,
