@@ -125,8 +125,8 @@ class Running:
     """A run of the program, which is given a command at a time."""
 
     def __init__(self, program, folder):
-        self.child = subprocess.Popen([program, "run", "--config", "library.toml"], cwd=folder, stdin=subprocess.PIPE,
-                                      stdout=subprocess.PIPE, stderr=subprocess.DEVNULL)
+        self.child = subprocess.Popen([program, "run", "--explain", "--config", "library.toml"], cwd=folder,
+                                      stdin=subprocess.PIPE, stdout=subprocess.PIPE, stderr=subprocess.PIPE)
 
     def tell(self, block, data=b"", host=1):
         """The answer to a command, word by word; none where the program has ended."""
@@ -142,14 +142,22 @@ class Running:
 
     def until_good(self, block, host=1):
         """Gives a command until it is answered GOOD: conditions and a deferred error come before it."""
-        return any(self.is_good(block, host=host) for _ in range(6))
+        answers = []
+        for _ in range(6):
+            answers.append(self.tell(block, host=host))
+            if answers[-1][:1] == ["GOOD"]:
+                return True
+        self.refused = answers
+        return False
 
     def end(self):
         with contextlib.suppress(BrokenPipeError):
             self.child.stdin.close()
         self.child.stdout.read()
         self.child.stdout.close()
-        return self.child.wait()
+        said = self.child.stderr.read()
+        self.child.stderr.close()
+        return self.child.wait(), said
 
 
 class Cartridge:
@@ -187,7 +195,7 @@ class Cartridge:
         """The blocks and marks that are found; None where the cartridge is refused."""
         run, found = Running(self.program, self.folder), []
         if not run.until_good(READY):
-            run.end()
+            print(f"not read: {run.refused}, {run.end()}", flush=True)
             return None
         while answer := run.tell(READ):
             if answer[0] == "GOOD":

@@ -205,22 +205,14 @@ fn what_stands_behind_the_end(rt: HostRuntime) -> Result<(), Fail> {
     )
 }
 
-// An append writes 8,388,613 bytes behind the end gate at most: as many are written again, in pages of 4,096 bytes,
-// and of a longer hole no more.
+// An append writes 8,388,613 bytes behind the end gate at most: of a longer hole as many are written again, in pages
+// of 4,096 bytes.
 #[test]
 fn a_long_hole_behind_the_end(rt: HostRuntime) -> Result<(), Fail> {
     let mut bytes = Vec::from_slice(rt.alloc(), side_of(rt.alloc(), &[b"body"])?.bytes())?;
-    assert_equal!(&rt; bytes.len(), 37);
-    for (length, last, written) in [
-        (37 + 8_388_612, 37 + 8_388_608, 8_388_613),
-        (37 + 8_388_613, 37 + 8_388_608, 8_388_614),
-        (37 + 8_388_700, 37 + 8_388_608, 8_388_614),
-    ] {
-        bytes.resize(length, 0)?;
-        let rows = [(Step::Sync, 0, written, last, 1)];
-        opened(&rt, rt.alloc(), &bytes, &[], &rows)?;
-    }
-    Ok(())
+    bytes.resize(37 + 8_388_700, 0)?;
+    let rows = [(Step::Sync, 0, 8_388_614, 37 + 8_388_608, 1)];
+    opened(&rt, rt.alloc(), &bytes, &[], &rows)
 }
 
 // Files of other programs: nothing is written to them.
