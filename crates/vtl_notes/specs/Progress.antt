@@ -15,4 +15,4 @@ gib_line full = decimal full ++ codes " GiB written\n"
 
 -- the line of a check for this many GiB of so many (own)
 abbrev pub gib_read_line : ℕ → ℕ → List ℕ
-gib_read_line full all = decimal full ++ codes " of " ++ decimal all ++ codes " GiB read\n"
+gib_read_line full all = decimal full ++ (codes " of " ++ (decimal all ++ codes " GiB read\n"))
