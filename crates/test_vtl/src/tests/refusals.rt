@@ -11,10 +11,10 @@ const BAD_STATE: &[u8] = b"\xa5VTLRESV1\0\0DRIVE1          \xa5\0\0\0\x01\x02\0"
 const NOTED: &str = "vtl run --config c";
 
 const THREE: &str =
-    "read c;open t;pair t;second t.2;open u;pair u;second u.2;open 1;back 1;give up;";
+    "read c;report t;open t;pair t;second t.2;report u;open u;pair u;second u.2;report 1;open 1;back 1;give up;";
 
 const FOUR: &str =
-    "read c;open t;pair t;second t.2;open u;pair u;second u.2;open 1;open 2;back 2;give up;";
+    "read c;report t;open t;pair t;second t.2;report u;open u;pair u;second u.2;report 1;open 1;report 2;open 2;back 2;give up;";
 
 // Stores whose first and second call fails, and stores that are refused.
 static REFUSED: &'static [Row<'static>] = &[
