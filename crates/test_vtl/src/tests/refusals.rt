@@ -14,7 +14,8 @@ const THREE: &str =
     "read c;report t;open t;pair t;second t.2;report u;open u;pair u;second u.2;report 1;open 1;back 1;give up;";
 
 const FOUR: &str =
-    "read c;report t;open t;pair t;second t.2;report u;open u;pair u;second u.2;report 1;open 1;report 2;open 2;back 2;give up;";
+    "read c;report t;open t;pair t;second t.2;report u;open u;pair u;second u.2;\
+    report 1;open 1;report 2;open 2;back 2;give up;";
 
 // Stores whose first and second call fails, and stores that are refused.
 static REFUSED: &'static [Row<'static>] = &[
