@@ -4,7 +4,7 @@ use std::cell::Cell;
 use std::test::Fail;
 use tape_disk::{Disk, MemDisk, OnceDisk};
 use test_assertions::assert_equal;
-use vtl_notes::progress::{ask_to_reclaim, full_gib, gib_line};
+use vtl_notes::progress::{ask_to_reclaim, full_gib, gib_line, gib_read_line};
 use vtl_notes::watched::{Progress, Watched};
 
 // How many writes were reported, and of how many bytes.
@@ -110,6 +110,25 @@ static LINES: &'static [(u64, &'static str)] = &[
 fn a_line_says_how_many_gib_were_written(rt: HostRuntime) -> Result<(), Fail> {
     for (full, line) in LINES {
         assert_equal!(rt; gib_line(*full)?.as_str(), *line);
+    }
+    Ok(())
+}
+
+// How many GiB were read, of how many.
+static READ_LINES: &'static [(u64, u64, &'static str)] = &[
+    (1, 1, "1 of 1 GiB read\n"),
+    (17, 1024, "17 of 1024 GiB read\n"),
+    (
+        18_446_744_073_709_551_615,
+        18_446_744_073_709_551_615,
+        "18446744073709551615 of 18446744073709551615 GiB read\n",
+    ),
+];
+
+#[test]
+fn a_line_says_how_many_gib_were_read(rt: HostRuntime) -> Result<(), Fail> {
+    for (full, all, line) in READ_LINES {
+        assert_equal!(rt; gib_read_line(*full, *all)?.as_str(), *line);
     }
     Ok(())
 }
