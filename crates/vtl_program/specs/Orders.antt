@@ -20,7 +20,7 @@ use Rattle.vtl_files.specs.Checks.{ChecksOrder}
 use Rattle.vtl_files.specs.ConfigChecks.{ChecksConfig}
 use Rattle.vtl_files.specs.Creating.{MakeAnswers, PrintsFiles, files_of, makes_of}
 use Rattle.vtl_program.specs.Files.{FileAnswers}
-use Rattle.vtl_files.specs.Configured.{ReadsToOpen}
+use Rattle.vtl_files.specs.Configured.{ReadsToOpen, ReadsConfig}
 use Rattle.vtl_faults.specs.Endings.{EndsProgram}
 use Rattle.vtl_power_on.specs.Running.{IsIdle, RunsOrder}
 use Rattle.vtl_files.specs.Reclaims.{ReclaimsNamed}
