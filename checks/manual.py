@@ -25,7 +25,9 @@ GOOD
 GOOD 68656c6c6f
 """
 PRINTED = ["created DAILY1L6\ncreated DRIVE1\n", ANSWERS,
-           "cartridge DAILY1L6 partitions 1 frames 1\npartition 0 objects 2 used 37\n", "reclaimed DAILY1L6 epoch 1\n"]
+           "cartridge DAILY1L6 partitions 1 frames 1\npartition 0 objects 2 used 37\n",
+           "DAILY1L6 daily1.tape\ncartridge DAILY1L6 partitions 1 frames 1\npartition 0 objects 2 used 37\n"
+           "DRIVE1 drive1.pr\nreservations DRIVE1 frames 0 registrations 0\n", "reclaimed DAILY1L6 epoch 1\n"]
 
 
 def text_of(path):

@@ -291,6 +291,9 @@ def one_run(python, program, name, kind, chance):
         os.mkdir(folder)
         with open(os.path.join(folder, "library.toml"), "w") as file:
             file.write(CONFIGURATION)
+            # what nobody syncs may be gone behind the mount, and this file is not the program's
+            file.flush()
+            os.fsync(file.fileno())
         done = subprocess.run([program, "create", "--config", "library.toml"], cwd=folder, capture_output=True)
         if done.returncode:
             raise Broken("create failed")

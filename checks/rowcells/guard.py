@@ -17,7 +17,7 @@ LINES = {
     "What created and kept mean": [2], "Exit status": [12], "The exit status at a damaged cartridge": [5],
     "The header": [9], "Which file counts": [2, 12, 8], "What a reclaim does": [5], "A cartridge's file": [6, 3],
     "A reservation store's file": [6, 5],
-    "The lines of an explanation": [3], "The lines of a check of a configuration": [4],
+    "The lines of an explanation": [4], "The lines of a check of a configuration": [4],
     "The lines of vtl check": [5, 4], "The lines of vtl reclaim": [3], "What an opening writes": [6],
 }
 NO_CELLS = {"Formats", "The standards' terms", "Our terms"}

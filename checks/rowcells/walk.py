@@ -206,7 +206,9 @@ class Walk(Folder):
             self.check_all(run, config)
         else:
             for said in run.says:
-                self.see(f"said at once | a {'store' if b', for reservations ' in said else 'cartridge'} at a start")
+                what = f"a {'store' if b', for reservations ' in said else 'cartridge'}"
+                what = "frames behind the end" if said.startswith(b"found: frames behind the end at ") else what
+                self.see(f"said at once | {what} at a start")
             self.opened(run, config, raw, asked.memory or raw is None)
 
     def create(self, run, config, raw):
