@@ -82,10 +82,15 @@ impl<'a> SystemFiles<'a> {
 
 impl<'a> SystemFiles<'a> {
     // Opens the second file of a cartridge whose pair gate is open. A disk of no bytes stands for a missing one, and
-    // nothing is made. A line says that it is missing or has no byte, where an explanation is wanted.
+    // nothing is made. A link that leads nowhere is no missing file. A line says that it is missing or has no byte,
+    // where an explanation is wanted.
     fn second_of_pair(&self, name: &str) -> Result<FileDisk, FileError> {
         let opened = match file_disk::open(self.rt, name) {
-            Err(FileError::Missing) => Ok(file_disk::no_file()),
+            Err(FileError::Missing) => match file_disk::look(self.rt, name) {
+                Err(FileError::Missing) => Ok(file_disk::no_file()),
+                Err(error) => Err(error),
+                Ok(_) => Err(FileError::Missing),
+            },
             opened => opened,
         };
         if let Ok(disk) = &opened {

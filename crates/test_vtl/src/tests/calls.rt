@@ -1,5 +1,5 @@
 //! Rows of calls for files, and which a run, a check and refused words make: in which order, and where they stop.
-use super::noted_files::{DEVICE_ERROR, Failing, NotedFiles, PAIRED};
+use super::noted_files::{DEVICE_ERROR, Failing, NotedFiles, PAIRED, WRITTEN};
 use super::streams::{BadReader, BadWriter};
 use file_disk::FileError;
 use std::alloc::Global;
@@ -261,6 +261,21 @@ static CHECKS: &'static [Row<'static>] = &[
         "",
         FAILED,
     ),
+    // A block is read to its end where that is asked for.
+    (
+        Failing::Side("t", WRITTEN),
+        CHECK,
+        "look t;look t.2;close t;close t.2;",
+        "cartridge T00001L6 partitions 1 frames 1\npartition 0 objects 1 used 21\n",
+        DONE,
+    ),
+    (
+        Failing::Side("t", WRITTEN),
+        "vtl check t --data",
+        "look t;look t.2;read block;close t;close t.2;",
+        "cartridge T00001L6 partitions 1 frames 1\npartition 0 objects 1 used 21\n",
+        DONE,
+    ),
 ];
 
 #[test]
@@ -329,6 +344,15 @@ static CONFIG_CHECKS: &'static [ConfigRow<'static>] = &[
         "T00001L6 t\nnot a side\n",
         BEHIND,
         ("", 1),
+    ),
+    // A block of the first cartridge is read to its end.
+    (
+        Failing::Side("t", WRITTEN),
+        "read c;look t;look t.2;read block;close t;close t.2;look u;look u.2;close u;close u.2;\
+            look 1;look 1.2;close 1;close 1.2;look 2;look 2.2;close 2;close 2.2;",
+        "T00001L6 t\ncartridge T00001L6 partitions 1 frames 1\npartition 0 objects 1 used 21\n",
+        BEHIND,
+        DONE,
     ),
     // The writer fails at the line that names the first cartridge, or behind it: no file behind it is opened.
     (Failing::Write(1), "read c;", "", "", FAILED),
