@@ -69,9 +69,14 @@ class Folder:
         entry = self.folder.get(name)
         return entry.to if isinstance(entry, Link) else name
 
+    def second(self, name):
+        """What has this name with `.2` added. A link that leads nowhere is no regular file there, as a folder is."""
+        found, at = self.find(name + ".2"), os.path.normpath(os.fsencode(name + ".2"))
+        return FOLDER if found is None and isinstance(self.folder.get(at), Link) else found
+
     def pair(self, name):
         """What has this name, and the same with `.2`."""
-        return self.find(name), self.find(name + ".2")
+        return self.find(name), self.second(name)
 
     def open(self, what, name, names):
         """The side in a file, without a name where it is damaged; or why it ends the run."""
@@ -81,7 +86,7 @@ class Folder:
         if at in names:
             return None, "a second name of one file"
         names[at] = True
-        second = self.find(name + ".2") if what == "cartridge" else None
+        second = self.second(name) if what == "cartridge" else None
         if second is FOLDER:
             return None, "a folder"
         if what == "cartridge" and second is None and is_paired(entry):
