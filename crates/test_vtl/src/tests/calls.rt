@@ -211,6 +211,9 @@ fn a_run_opens_cartridges_and_then_stores(rt: HostRuntime) -> Result<(), Fail> {
 
 const CHECK: &str = "vtl check t";
 
+const BLOCKS: &str =
+    "cartridge T00001L6 partitions 2 frames 2\npartition 0 objects 1 used 21\npartition 1 objects 1 used 21\n";
+
 static CHECKS: &'static [Row<'static>] = &[
     (
         Failing::Nothing,
@@ -261,19 +264,19 @@ static CHECKS: &'static [Row<'static>] = &[
         "",
         FAILED,
     ),
-    // A block is read to its end where that is asked for.
+    // Each block is read to its end where that is asked for.
     (
         Failing::Side("t", WRITTEN),
         CHECK,
         "look t;look t.2;close t;close t.2;",
-        "cartridge T00001L6 partitions 1 frames 1\npartition 0 objects 1 used 21\n",
+        BLOCKS,
         DONE,
     ),
     (
         Failing::Side("t", WRITTEN),
         "vtl check t --data",
-        "look t;look t.2;read block;close t;close t.2;",
-        "cartridge T00001L6 partitions 1 frames 1\npartition 0 objects 1 used 21\n",
+        "look t;look t.2;read block;read block;close t;close t.2;",
+        BLOCKS,
         DONE,
     ),
 ];
@@ -345,12 +348,13 @@ static CONFIG_CHECKS: &'static [ConfigRow<'static>] = &[
         BEHIND,
         ("", 1),
     ),
-    // A block of the first cartridge is read to its end.
+    // Each block of the first cartridge is read to its end.
     (
         Failing::Side("t", WRITTEN),
-        "read c;look t;look t.2;read block;close t;close t.2;look u;look u.2;close u;close u.2;\
+        "read c;look t;look t.2;read block;read block;close t;close t.2;look u;look u.2;close u;close u.2;\
             look 1;look 1.2;close 1;close 1.2;look 2;look 2.2;close 2;close 2.2;",
-        "T00001L6 t\ncartridge T00001L6 partitions 1 frames 1\npartition 0 objects 1 used 21\n",
+        "T00001L6 t\ncartridge T00001L6 partitions 2 frames 2\npartition 0 objects 1 used 21\n\
+            partition 1 objects 1 used 21\n",
         BEHIND,
         DONE,
     ),

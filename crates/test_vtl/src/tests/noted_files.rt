@@ -36,9 +36,10 @@ pub const PAIRED: &[u8] = b"\xa5VTLCART1\xa5";
 /// The side of its first cartridge, new.
 pub const CARTRIDGE: &[u8] = b"\xa5VTLCART1\0\x01T00001L6        \0\0\0\0\0\0\x10\0\0";
 
-/// The same with a block of 5 bytes.
-pub const WRITTEN: &[u8] = b"\xa5VTLCART1\0\x01T00001L6        \0\0\0\0\0\0\x10\0\
-    \xa5\0\0\0\x0f\x01\0\0\0\0\0\0\0\0\x05hello\0";
+/// A side of the same name, with two partitions and a block of 5 bytes in each.
+pub const WRITTEN: &[u8] = b"\xa5VTLCART1\0\x02T00001L6        \0\0\0\0\0\0\x10\0\0\0\0\0\0\0\x10\0\
+    \xa5\0\0\0\x0f\x01\0\0\0\0\0\0\0\0\x05hello\
+    \xa5\0\0\0\x0f\x01\x01\0\0\0\0\0\0\0\x05HELLO\0";
 
 // Bytes that are no side, but can be beside one of a pair.
 const SPARE: &[u8] = b"\0VTLCART1\0";
