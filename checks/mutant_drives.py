@@ -88,6 +88,11 @@ EDITS = [
     ("the blocks of the first partition alone are read", "check_lines", "src/reading.rt",
      "    for part in 0..cartridge.parts() {\n        if let Err(fault) = read_partition(",
      "    for part in 0..1 {\n        if let Err(fault) = read_partition(", ["a_check_opens_both_files_to_read"]),
+    ("a check of a configuration ends at a file that is not read", "vtl_files", "src/config_checks.rt",
+     "    let Ok(report) = check_report(alloc, word, label, &lines) else {\n",
+     "    if let Err(fault) = &lines {\n        return Err(*fault);\n    }\n"
+     "    let Ok(report) = check_report(alloc, word, label, &lines) else {\n",
+     ["a_check_of_a_configuration_opens_each_file", "rows/15-files/check-of-a-configuration-goes-on.row"]),
     ("a check of a configuration passes blocks over", "vtl_files", "src/config_checks.rt",
      "lines_of::<D, F>(alloc, files, path, true)", "lines_of::<D, F>(alloc, files, path, false)",
      ["a_check_of_a_configuration_opens_each_file"]),
