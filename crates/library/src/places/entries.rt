@@ -1,8 +1,8 @@
 //! The change that a drive accepted with a command is entered in the ledgers.
-ghost use Rattle.std.specs.Prelude.{◌≡◌, ◌≢◌, ◌+◌, true, false, IfSome};
+ghost use Rattle.std.specs.Prelude.{◌≡◌, ◌≢◌, ◌+◌, ◌^◌, true, false, IfSome};
 ghost use Rattle.drive_commands.specs.ShownChanges.{IsChanging, IsWriteError, ShowsWriteError, changes_medium};
 ghost use Rattle.drive_commands.specs.Synchronize.{Acknowledges};
-ghost use Rattle.library.specs.Inner.Entering.{CanEnter, ShowsNone};
+ghost use Rattle.library.specs.Inner.Entering.{CanEnter, IsNoRefusal, MayHaveChanged, ShowsNone};
 
 use super::seats::Seat;
 use ledgers::{Parties, PartyShare, Tally};
@@ -27,6 +27,7 @@ fn changes_medium(command: Command) -> bool
 fn is_refusal(reply: &Reply) -> bool
     ensures acknowledges { result ≡ true → Acknowledges reply.now → ⊥ }
     ensures write_error { result ≡ true → ShowsWriteError reply.now → ⊥ }
+    ensures other { result ≡ false → IsNoRefusal reply.now }
 {
     match (reply.status, reply.sense) {
         (Status::Good, _) => false,
@@ -37,7 +38,8 @@ fn is_refusal(reply: &Reply) -> bool
 
 // Whether sense data report a write error of the command itself.
 fn is_write_error(sense: Sense) -> bool
-    ensures { result ≡ false → IsWriteError sense → ⊥ }
+    ensures write_error { result ≡ true → IsWriteError sense }
+    ensures other { result ≡ false → IsWriteError sense → ⊥ }
 {
     sense.key == SenseKey::MediumError
         && sense.code == 0x0c
@@ -47,7 +49,8 @@ fn is_write_error(sense: Sense) -> bool
 
 // Whether this is the block of a command that changes the medium.
 fn is_changing(cdb: &[u8]) -> bool
-    ensures { result ≡ false → IsChanging cdb.now → ⊥ }
+    ensures changing { result ≡ true → IsChanging cdb.now }
+    ensures other { result ≡ false → IsChanging cdb.now → ⊥ }
 {
     match Cdb::decode(cdb) {
         Ok(command) => changes_medium(command),
@@ -57,7 +60,8 @@ fn is_changing(cdb: &[u8]) -> bool
 
 // Whether the reply to a command shows that no change was made. After a write error it does not.
 fn shows_none(cdb: &[u8], reply: &Reply) -> bool
-    ensures { result ≡ true → ShowsNone cdb.now reply.now }
+    ensures none { result ≡ true → ShowsNone cdb.now reply.now }
+    ensures open { result ≡ false → MayHaveChanged cdb.now reply.now }
 {
     if is_changing(cdb) {
         return is_refusal(reply);
@@ -65,12 +69,20 @@ fn shows_none(cdb: &[u8], reply: &Reply) -> bool
     true
 }
 
-// Waits forever where a change may have been made by a drive that had counted 2^64 - 1 already: its share could not
-// follow the count. Any other answer is given.
+// Whether a change may have been made by a drive that had counted 2^64 - 1 already: its share can not follow the count.
+fn is_past_limit(before: u64, cdb: &[u8], reply: &Reply) -> bool
+    ensures within { result ≡ false → CanEnter before cdb.now reply.now }
+    ensures past { result ≡ true → (before + 1 ≡ 2 ^ 64) × MayHaveChanged cdb.now reply.now }
+{
+    before == u64::MAX && !shows_none(cdb, reply)
+}
+
+// Waits forever where a change may have been made by a drive that had counted 2^64 - 1 already. Any other answer is
+// given.
 pub(super) fn wait_at_limit<R: Wait>(rt: &R, before: u64, cdb: &[u8], reply: &Reply)
     ensures { CanEnter before cdb.now reply.now }
 {
-    if before == u64::MAX && !shows_none(cdb, reply) {
+    if is_past_limit(before, cdb, reply) {
         for _ in rt.forever() {}
         unreachable!()
     }
