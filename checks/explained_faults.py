@@ -3,8 +3,8 @@
 compares what stands behind the one line: where the program ends with a device fault, the call that failed, what it was
 for, and the answer. Without --explain there is the one line alone. Where memory is refused in turn, a line says what it
 was wanted for, or none does. Of `vtl create` the calls that fail have their names and files in the order in which they
-are made. A closed standard error changes neither the status nor the output. Where no file has locks, lines say so once for
-the files of a folder.
+are made. A closed standard error changes neither the status nor the output. Where no file has locks, lines say so once
+for the files of a folder.
 
 --program PATH another program than the proved one; --no-memory: memory is not refused; --locks: of all this the last
 alone; --selftest: of each call another
@@ -144,8 +144,8 @@ def plain(tools, pristine):
 
 def lockless(name):
     """The lines for a folder without locks, of which this file is opened first."""
-    return (f"no lock: the folder of the file {name} has no locks\nto do: let no other program use its files while this "
-            "one runs, or move them to a folder that has locks\n")
+    return (f"no lock: the folder of the file {name} has no locks\n"
+            "to do: let no other program use its files while this one runs, or move them to a folder that has locks\n")
 
 
 def without_locks(tools, new):

@@ -2,8 +2,8 @@
 // one call of a program end otherwise: of the kind that FAULTS names the FAULTS_AT-th. "memory": no memory is given.
 // "fault": a call for a file or a stream fails (EIO). "interrupted": it fails once (EINTR). "short": of several bytes
 // one is read or written. "lost": a write at a place is said to be done, and is not. "thread": a thread is not started
-// (EAGAIN). "threads": nor is any behind it. "unlocked": no file has locks (EOPNOTSUPP). Without FAULTS_AT none does. With FAULTS_BEHIND only the calls count
-// between that read of standard input and the next one; 0 is the start.
+// (EAGAIN). "threads": nor is any behind it. Without FAULTS_AT none does. With FAULTS_BEHIND only the calls count
+// between that read of standard input and the next one; 0 is the start. "unlocked": no file has locks (EOPNOTSUPP).
 // The file that FAULTS_TOLD names gets how many calls of the kind there were, the name of the one, and how many threads
 // were started. The file that FAULTS_ASKED names gets a line for each call of malloc and realloc: how many bytes were
 // asked for. To the file that FAULTS_NOTES names each call is added that did something to a file or to standard output,

@@ -14,8 +14,8 @@ use vtl_files::files::{
     ChangeFiles, LookFiles, MakeFiles, ReadFiles, SecondFiles, TakesBack, TextFiles,
 };
 use vtl_notes::at_once::AtOnce;
-use vtl_notes::notes::Notes;
 use vtl_notes::noted_disk::NotedDisk;
+use vtl_notes::notes::Notes;
 use vtl_notes::progress::GibLines;
 use vtl_notes::watched::Watched;
 use vtl_power_on::starting::NotStarted;

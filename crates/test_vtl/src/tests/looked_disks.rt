@@ -95,7 +95,15 @@ static CALLS: &'static [(Call, u64)] = &[
 static FAILED: &'static [(u64, &'static [(Call, u64)])] = &[
     (1, &[(Call::Sync, 1), (Call::Cut, 1), (Call::Sync, 2)]),
     (1, &[(Call::Sync, 1), (Call::Write, 1), (Call::Sync, 2)]),
-    (2, &[(Call::Sync, 1), (Call::Write, 1), (Call::Sync, 1), (Call::Sync, 2)]),
+    (
+        2,
+        &[
+            (Call::Sync, 1),
+            (Call::Write, 1),
+            (Call::Sync, 1),
+            (Call::Sync, 2),
+        ],
+    ),
 ];
 
 // Makes these calls, of which that of this number fails.

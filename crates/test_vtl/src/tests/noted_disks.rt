@@ -12,8 +12,8 @@ use tape_disk::{Disk, MemDisk, OnceDisk};
 use test_assertions::assert_equal;
 use vtl_base::DevFault;
 use vtl_notes::at_once::failed_text;
-use vtl_notes::notes::Notes;
 use vtl_notes::noted_disk::{NotedDisk, SaysMore};
+use vtl_notes::notes::Notes;
 use vtl_notes::open_files::OpenFiles;
 
 // A disk that says of each call that it failed so.
