@@ -5,7 +5,7 @@ use Rattle.tape_disk.specs.Disk.{DiskCall, DiskState}
 use Rattle.tape_disk.specs.Moments.{LeavesOnly}
 use Rattle.tape_disk.specs.TwoDisks.{Images, KeepsDisks, MayLeave, TwoDisks, TwoLeave, seen_of_two}
 use Rattle.gate_journal.specs.Answers.{NoneFailed}
-use Rattle.gate_journal.specs.Reads.{OnlyOpenings}
+use Rattle.gate_journal.specs.Reads.{OnlyOpenings, ReadsOnce}
 use Rattle.cartridge_sides.specs.declared.which.Which.{Which}
 use Rattle.cartridge_sides.specs.declared.which.Which.TheVariants.{First, Second}
 use Rattle.cartridge_sides.specs.Choosing.{IsFaultOfOne}
@@ -72,3 +72,9 @@ pub record EachOpened {D : Type 0} (state : D → DiskState) (effect : DiskCall 
     (old new : TwoDisks D) : Type 0 where
   pub stays : EachStays state old new
   pub reads : OpensEach effect old new
+
+module _ {D : Type 0} (effect : DiskCall → Result Unit DevFault → D → D → Type 0) where
+  -- the disk of that side was read once, of so many bytes (own)
+  abbrev pub ReadsSide : Which → ℕ → TwoDisks D → TwoDisks D → Type 0
+  ReadsSide First count old new = (place : ℕ) × ReadsOnce effect place count old.first new.first
+  ReadsSide Second count old new = (place : ℕ) × ReadsOnce effect place count old.second new.second
