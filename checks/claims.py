@@ -18,7 +18,6 @@ from wrong_edits import TOP, crates, read
 
 # lines of tests, without blank ones: the gate proves and runs each, which takes as long as the program's own proofs
 MOST = 15_000
-WORDS = r"the tests of `\w+`|the stored run|mutants?: "
 
 
 def laws():
@@ -49,7 +48,7 @@ def faults_of(row, found, targets):
         items += [] if name in found else [(crate, item) for item in re.findall(r"\w+", name)]
     has_contract = any(crate for crate, _ in items)
     is_law = edits.strip().startswith(("(a law", "(law"))
-    is_tested = bool(wrong.names_in(tests) or named(tests) or re.search(WORDS, tests))
+    is_tested = wrong.names_in(tests) or named(tests) or re.search(r"the tests of `|the stored run|mutants?: ", tests)
     if not has_contract and not is_tested:
         yield "names no contract and no test"
     if is_law and not any(name in found.get(crate, ()) for crate, name in items):
@@ -79,7 +78,7 @@ def said_of(rows, count):
         yield f"the tests have {count} lines, and the gate has time for {MOST}: no test has to say what a clause says"
 
 
-# rows, each with the beginning of what is wrong with it; nothing for a good one
+# rows, each with the beginning of what is wrong with it, if anything
 CASES = [
     (("`tape_disk`: `MemDisk::crash`, `image`", "`an_edit`", ""), None),
     (("`drive_theorems`: `honest_steps`", "(a law)", ""), None),
@@ -98,7 +97,7 @@ CASES = [
 def selftest():
     said = [(list(said_of([row], MOST)), row, why) for row, why in CASES]
     missed = [row for found, row, why in said if len(found) != bool(why) or why and why not in found[0]]
-    missed += ["a line of the tests too many"] if len(list(said_of([], MOST + 1))) != 1 else []
+    missed += ["a line too many"] if list(said_of([], MOST)) or len(list(said_of([], MOST + 1))) != 1 else []
     print("".join(f"not judged as it should be: {row}\n" for row in missed), end="")
     print(f"claims --selftest: {len(CASES) + 1} cases, {len(missed)} not judged as they should be")
     return 1 if missed else 0
