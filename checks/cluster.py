@@ -5,6 +5,7 @@
   cluster.py gluster | ceph --pacemaker [--iscsi FOLDER] [--rounds N] ..     the same, where Pacemaker decides who
                                serves; behind vtl-iscsi, where its folder is named
   cluster.py gluster | ceph --speed [--into FILE]           how fast a host is, beside the disk
+  cluster.py gluster | ceph --planted                       programs that are wrong in one thing each: rounds report all
   cluster.py --figures FILE..                               writes the figures of these files into docs/CLUSTER.md
   cluster.py --selftest                                     the judge, with rounds that are wrong in one thing each
 
@@ -19,6 +20,7 @@ import sys
 import tempfile
 
 import cluster_figures
+import cluster_planted
 import cluster_selftest
 from cluster_ceph import Ceph
 from cluster_gluster import Gluster
@@ -60,6 +62,13 @@ def run(rounds, words):
     return words.rounds, False, False
 
 
+def report(passed):
+    """The status for the mistakes that rounds did not report."""
+    print(f"not as it should be: {', '.join(passed)}" if passed else
+          f"rounds report each of {len(cluster_planted.SHOWN) - 1} planted mistakes, and none without one")
+    return 1 if passed else 0
+
+
 def in_network(words):
     """Makes the store and what stands before it, runs what was asked for, and takes all down."""
     room = tempfile.mkdtemp(prefix="vtl-cluster-", dir="/var/tmp")
@@ -75,6 +84,8 @@ def in_network(words):
             rounds = Managed(store, network, program, words.seed, words.iscsi and os.path.abspath(words.iscsi))
         else:
             rounds = Rounds(store, network, program, words.seed)
+        if words.planted:
+            return report(list(cluster_planted.passed(rounds, room, wrong_in)))
         count, is_wrong, is_lost = run(rounds, words)
     finally:
         network.take_down()
@@ -87,7 +98,7 @@ def in_network(words):
 def main():
     parser = argparse.ArgumentParser(description=__doc__, formatter_class=argparse.RawDescriptionHelpFormatter)
     parser.add_argument("store", nargs="?", choices=("gluster", "ceph"))
-    for word in ("--defaults", "--pacemaker", "--speed", "--selftest"):
+    for word in ("--defaults", "--pacemaker", "--planted", "--speed", "--selftest"):
         parser.add_argument(word, action="store_true")
     parser.add_argument("--rounds", type=int, default=200)
     parser.add_argument("--kind", choices=SHARES)
