@@ -56,7 +56,7 @@ class Wrong:
         if self.mistake == CHANGED and block[0] == WRITE:
             self.blocks += 1
             data = bytes([data[0] ^ 1]) + data[1:] if self.blocks == 2 else data
-        if self.mistake == OPEN and host == FENCED:
+        if self.mistake == OPEN and host == FENCED and block[0] == WRITE:
             host = WRITER
         return host, drive, block, data
 
@@ -87,7 +87,7 @@ class Wrong:
 
     def commands(self):
         """Sends on what hosts ask for, up to the end of the input."""
-        read = open(0, "rb", buffering=0)
+        read = open(0, "rb", buffering=0, closefd=False)
         with contextlib.suppress(OSError):
             while len(header := read_whole(read, HEADER.size)) == HEADER.size:
                 _, host, drive, block, data, tag = HEADER.unpack(header)
@@ -102,7 +102,7 @@ class Wrong:
         with contextlib.suppress(OSError):
             self.begin()
         threading.Thread(target=self.commands, daemon=True).start()
-        out, read = open(1, "wb", buffering=0), self.child.stdout
+        out, read = open(1, "wb", buffering=0, closefd=False), self.child.stdout
         while len(header := read_whole(read, HEADER.size)) == HEADER.size:
             kind, _, status, sense, length, tag = HEADER.unpack(header)
             behind, data = read_whole(read, sense), read_whole(read, length)
@@ -120,25 +120,29 @@ def copied(source, target):
         shutil.copy(os.path.join(source, name), target)
 
 
+def is_held(file):
+    """Whether another one has the lock of a file; it is taken otherwise."""
+    try:
+        fcntl.flock(file, fcntl.LOCK_EX | fcntl.LOCK_NB)
+        return False
+    except OSError:
+        return True
+
+
 def serve_a_copy(mistake, program, words):
-    """Serves a copy of the machine's own. Under the lock of the store's files it is copied back now and then."""
+    """Serves a copy of the machine's own. Where the store copies later it is copied back now and then, under the lock of
+    the store's file; where two serve it is lost."""
     store, own = os.getcwd(), f"/run/copy-{os.path.basename(os.getcwd())}"
-    with open("t1.tape", "rb") as held:
-        if mistake == COPIED:
-            try:
-                fcntl.flock(held, fcntl.LOCK_EX | fcntl.LOCK_NB)
-            except OSError:
-                return IN_USE
-        shutil.rmtree(own, ignore_errors=True)
-        os.makedirs(own)
-        copied(store, own)
-        os.chdir(own)
-        if mistake == COPIED:
-            threading.Thread(target=copies, args=(own, store), daemon=True).start()
-        status = Wrong(mistake, program, words).serve()
-        if mistake == COPIED:
-            copied(own, store)
-        return status
+    shutil.rmtree(own, ignore_errors=True)
+    os.makedirs(own)
+    copied(store, own)
+    os.chdir(own)
+    if mistake == COPIED:
+        threading.Thread(target=copies, args=(own, store), daemon=True).start()
+    status = Wrong(mistake, program, words).serve()
+    if mistake == COPIED:
+        copied(own, store)
+    return status
 
 
 def copies(own, store):
@@ -151,10 +155,12 @@ def copies(own, store):
 def main(mistake, program, *words):
     if words[:1] != ("serve",):
         os.execv(program, [program, *words])
-    if mistake == COPIED:
-        return serve_a_copy(mistake, program, words)
-    status = Wrong(mistake, program, words).serve()
-    return serve_a_copy(mistake, program, words) if mistake == BESIDE and status == IN_USE else status
+    with contextlib.nullcontext() if mistake not in (BESIDE, COPIED) else open("t1.tape", "rb") as file:
+        if mistake == COPIED and is_held(file):
+            return IN_USE
+        if mistake == COPIED or mistake == BESIDE and is_held(file):
+            return serve_a_copy(mistake, program, words)
+    return Wrong(mistake, program, words).serve()
 
 
 def planted(room, mistake, program):
@@ -176,7 +182,8 @@ def passed(rounds, room, judge):
             found += judge(rounds.round(kind))
             if found:
                 break
-        print(f"{mistake}: {found[:3]}", flush=True)
+        shown = [it for it in found if said and said in it] or found
+        print(f"{mistake}: {'; '.join(shown) or 'nothing was wrong'}", flush=True)
         if not any(said in it for it in found) if said else found:
             yield mistake
         rounds.served.end()

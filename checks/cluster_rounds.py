@@ -49,13 +49,15 @@ class Rounds:
 
     def take_over(self, machine):
         """Starts on this machine until a start is not refused, as the cluster's agent does. Where two servers were lost
-        the last one may be needed."""
+        the last one may be needed, and a start may wait for it."""
         begun = time.monotonic()
         while time.monotonic() - begun < LONGEST:
-            if time.monotonic() - begun > NEEDED:
-                self.return_server()
             served = self.started(machine)
-            if sense_of(served.ask(READY, host=WATCHER, seconds=LONGEST)) == "6, 29/00":
+            tag = served.send(READY, host=WATCHER)
+            answer = served.answer(tag, max(0, begun + NEEDED - time.monotonic()))
+            if time.monotonic() - begun >= NEEDED:
+                self.return_server()
+            if sense_of(answer or served.answer(tag, LONGEST)) == "6, 29/00":
                 return served
             status = served.end(PATIENCE)
             if status != 2:
