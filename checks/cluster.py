@@ -1,7 +1,8 @@
 #!/usr/bin/env python3
 """Runs a library on two machines before a replicated store, in rounds of a fault and a take-over (docs/CLUSTER.md).
 
-  cluster.py gluster | ceph [--rounds N] [--kind FAULT] [--defaults] [--into FILE] [--seed N] [--program PATH]
+  cluster.py gluster | ceph [--rounds N] [--kind FAULT] [--without TERM].. [--defaults] [--into FILE] [--seed N]
+                            [--program PATH] [--beside N]   on N stores side by side, which share the rounds
   cluster.py gluster | ceph --pacemaker [--iscsi FOLDER] [--rounds N] ..     the same, where Pacemaker decides who
                                serves; behind vtl-iscsi, where its folder is named
   cluster.py gluster | ceph --speed [--into FILE]           how fast a host is, beside the disk
@@ -16,6 +17,7 @@ import json
 import os
 import shutil
 import signal
+import subprocess
 import sys
 import tempfile
 
@@ -95,6 +97,18 @@ def in_network(words):
     return 1 if (not is_lost if words.defaults else is_wrong) else 0
 
 
+def side_by_side(words):
+    """The greatest status of as many runs as are asked for, each over a store of its own and with its own chances."""
+    shares = [(words.rounds + at) // words.beside for at in range(words.beside)]
+    runs = [subprocess.Popen([sys.executable, *sys.argv, "--beside", "1", "--rounds", str(share), "--name",
+                              f"{words.name}{at}", "--seed", str(words.seed + at)]) for at, share in enumerate(shares)]
+    try:
+        return max(run.wait() for run in runs)
+    finally:
+        for run in runs:
+            run.terminate()
+
+
 def main():
     parser = argparse.ArgumentParser(description=__doc__, formatter_class=argparse.RawDescriptionHelpFormatter)
     parser.add_argument("store", nargs="?", choices=("gluster", "ceph"))
@@ -105,6 +119,7 @@ def main():
     parser.add_argument("--without", action="append", default=[], metavar="TERM")
     parser.add_argument("--seed", type=int, default=0)
     parser.add_argument("--name", default="vtl")
+    parser.add_argument("--beside", type=int, default=1)
     parser.add_argument("--into")
     parser.add_argument("--iscsi", metavar="FOLDER")
     parser.add_argument("--figures", nargs="+")
@@ -117,7 +132,7 @@ def main():
     if words.store is None or os.getuid() != 0:
         parser.error("a store, and root")
     signal.signal(signal.SIGTERM, lambda *_: sys.exit(1))
-    return in_network(words)
+    return in_network(words) if words.beside == 1 else side_by_side(words)
 
 
 if __name__ == "__main__":
