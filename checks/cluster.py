@@ -7,7 +7,8 @@
                                serves; behind vtl-iscsi, where its folder is named
   cluster.py gluster | ceph --speed [--into FILE]           how fast a host is, beside the disk
   cluster.py gluster | ceph --planted                       programs that are wrong in one thing each: rounds report all
-  cluster.py --figures FILE..                               writes the figures of these files into docs/CLUSTER.md
+  cluster.py --measure FILE [--program PATH] [--beside N]   measures all figures of docs/CLUSTER.md into a file, and
+                               writes them there; `--figures FILE..` only writes those of these files
   cluster.py --selftest                                     the judge, with rounds that are wrong in one thing each
 
 Root only. The machines are namespaces of this one, which are made and taken down; their packages are Debian's. With
@@ -42,7 +43,7 @@ def line_of(seen, rounds, wrong):
             "seconds": round(seen.seconds, 2), "slowest": round(seen.slowest, 2), "safe": seen.safe,
             "sent": len(seen.sent), "found": [it if isinstance(it, str) else len(it) for it in seen.read],
             "without": rounds.store.without, "late": seen.late, "refusals": seen.refusals, "old_end": seen.old_end,
-            "wrong": wrong}
+            "lost": losses_in(seen), "wrong": wrong}
 
 
 def keep(line, path):
@@ -123,12 +124,15 @@ def main():
     parser.add_argument("--into")
     parser.add_argument("--iscsi", metavar="FOLDER")
     parser.add_argument("--figures", nargs="+")
+    parser.add_argument("--measure")
     parser.add_argument("--program", default=PROVED)
     words = parser.parse_args()
     if words.selftest:
         return cluster_selftest.main()
     if words.figures:
         return cluster_figures.write(words.figures)
+    if words.measure:
+        return cluster_figures.measure(words.measure, words.program, words.beside)
     if words.store is None or os.getuid() != 0:
         parser.error("a store, and root")
     signal.signal(signal.SIGTERM, lambda *_: sys.exit(1))
