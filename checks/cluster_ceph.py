@@ -69,7 +69,7 @@ class Ceph:
         self.watch(self.servers[at], at)
 
     def watch(self, server, at):
-        """Starts an object store again that ended, as its unit of systemd does: it may abort where peers come and go."""
+        """Starts an object store again that ended, as its unit of systemd does: it may abort as peers come and go."""
         server.popen("sh", "-c", WATCHED, str(at), stdin=DEVNULL, stdout=DEVNULL, stderr=DEVNULL)
 
     def is_whole(self):

@@ -62,7 +62,8 @@ def rounds_table(lines):
     yield "|---" * (len(names) + 1) + "|"
     for kind in kinds:
         yield f"| {kind} | " + " | ".join(cell(groups.get((way, kind, ()), [])) for way in names) + " |"
-    rounds = [[it for (way, kind, _), found in groups.items() if way == name and kind for it in found] for name in names]
+    rounds = [[it for (way, kind, _), found in groups.items() if way == name and kind for it in found]
+              for name in names]
     yield "| slowest answer where a server was lost | " + " | ".join(map(slowest, rounds)) + " |"
     yield "| all; wrong; something lost | " + " | ".join(map(counts, rounds)) + " |"
     yield ""

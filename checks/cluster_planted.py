@@ -130,8 +130,8 @@ def is_held(file):
 
 
 def serve_a_copy(mistake, program, words):
-    """Serves a copy of the machine's own. Where the store copies later it is copied back now and then, under the lock of
-    the store's file; where two serve it is lost."""
+    """Serves a copy of the machine's own. Where the store copies later it is copied back now and then, under the lock
+    of the store's file; where two serve it is lost."""
     store, own = os.getcwd(), f"/run/copy-{os.path.basename(os.getcwd())}"
     shutil.rmtree(own, ignore_errors=True)
     os.makedirs(own)
