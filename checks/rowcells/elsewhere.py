@@ -19,8 +19,8 @@ CELLS = {
     "attentions | 2A/03 is reported before 2A/05": ["a_set_has_its_conditions"],
     # a cartridge's file is full at 1,099,511,627,776 bytes
     "does | ERASE | the file is full": [DRIVES, "a_side_fills_and_a_device_fails"],
-    "full file | WRITE": [DRIVES, "what_a_file_has_room_for"],
-    "full file | WRITE FILEMARKS": [DRIVES, "what_a_file_has_room_for"],
+    "full file | WRITE": [DRIVES],
+    "full file | WRITE FILEMARKS": [DRIVES],
     # the device fails
     "does | LOAD UNLOAD, LOAD 1 | a loaded cartridge, its medium failed": [UNLOADS, DRIVES],
     "does | LOAD UNLOAD, LOAD 0 | a loaded cartridge, and a device fault": [UNLOADS],
@@ -101,9 +101,7 @@ CELLS = {
     "reclaim | each step of it, stopped": ["a_reclaim_is_stopped_at_each_call", "reclaim_stops.py"],
     "reclaim | a device fault": ["a_fault_at_each_call", FAULTS],
     "create | a file that could not be completed is taken away": [ENDINGS, "a_creation_takes_away_what_is_not_whole"],
-    "opening | what the first sync writes again": [
-        "an_opening_of_a_store_writes_one_byte", "what_stands_behind_the_end", "a_file_that_is_no_side",
-        "a_gate_is_written_again"],
+    "opening | what the first sync writes again": ["what_an_opening_writes_again", "a_gate_is_written_again"],
     "opening | what the next sync writes after one that failed": ["a_sync_behind_one_that_failed"],
 }
 
