@@ -51,9 +51,8 @@ CELLS = {
     "flush | SPACE, except over 0 blocks or 0 filemarks": [STORES], "flush | READ POSITION": [STORES],
     "flush | WRITE FILEMARKS with IMMED 0, of any count, 0 too": [STORES, DRIVES],
     "flush | LOAD UNLOAD of a loaded cartridge whose medium has not failed": [STORES, UNLOADS],
-    "flush | in unbuffered mode also WRITE of at least one byte, and ERASE": ["an_unbuffered_write_is_stored_at_once"],
-    "buffer | 256 changes, 4,194,304 bytes of blocks": ["a_change_too_many_is_preceded_by_a_settle",
-                                                       "a_turn_reports_how_many_waited", "what_waits_is_counted"],
+    "flush | in unbuffered mode also WRITE of at least one byte, and ERASE": ["writes_wait_for_one_frame"],
+    "buffer | 256 changes, 4,194,304 bytes of blocks": ["writes_wait_for_one_frame"],
     # the streams
     "stream | an interrupted read": ["reads_that_are_interrupted_many_times"],
     "stream | any other error of the reader, or a script that is too long": ["reads_that_fail", ENDINGS],
@@ -98,8 +97,8 @@ CELLS = {
     "limits | a script of 4,294,967,296 reads, and one more": ["limits_of_bytes_and_reads", "reads_are_counted"],
     "limits | PRGENERATION wraps at 2^32": ["the_generation_wraps"],
     "run | a file that is open in another process": [ENDINGS],
-    "reclaim | each step of it, stopped": ["a_reclaim_is_stopped_at_each_call", "reclaim_stops.py"],
-    "reclaim | a device fault": ["a_fault_at_each_call", FAULTS],
+    "reclaim | each step of it, stopped": ["a_stop_at_each_call_of_both", "reclaim_stops.py"],
+    "reclaim | a device fault": ["a_fault_at_each_call_of_either", FAULTS],
     "create | a file that could not be completed is taken away": [ENDINGS, "a_creation_takes_away_what_is_not_whole"],
     "opening | what the first sync writes again": [
         "an_opening_of_a_store_writes_one_byte", "what_stands_behind_the_end", "a_file_that_is_no_side",
