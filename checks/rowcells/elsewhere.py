@@ -52,7 +52,7 @@ CELLS = {
     "flush | WRITE FILEMARKS with IMMED 0, of any count, 0 too": [STORES, DRIVES],
     "flush | LOAD UNLOAD of a loaded cartridge whose medium has not failed": [STORES, UNLOADS],
     "flush | in unbuffered mode also WRITE of at least one byte, and ERASE": ["writes_wait_for_one_frame"],
-    "buffer | 256 changes, 4,194,304 bytes of blocks": ["writes_wait_for_one_frame"],
+    "buffer | 256 changes, 4,194,304 bytes of blocks": ["a_change_too_many_is_preceded_by_a_settle"],
     # the streams
     "stream | an interrupted read": ["reads_that_are_interrupted_many_times"],
     "stream | any other error of the reader, or a script that is too long": ["reads_that_fail", ENDINGS],

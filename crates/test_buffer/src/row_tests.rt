@@ -110,13 +110,25 @@ fn writes(
     Ok(())
 }
 
-// Each step takes as many syncs as it says.
+// Whatever becomes of the bytes that are not sure, a crash leaves this of the tape.
+fn is_left(rt: &impl Abort, alloc: Global, disk: &MemDisk, wanted: &[u8]) -> Result<(), Fail> {
+    for keep in [0, 1, u64::MAX] {
+        for fill in [0x00, 0xa5, 0xff] {
+            let text = found(alloc, disk.copy()?.crash(keep, fill)?)?;
+            assert_equal!(rt; text.as_slice(), wanted; (keep, fill));
+        }
+    }
+    Ok(())
+}
+
+// Each step takes as many syncs as it says. Behind them a crash leaves this of the tape, if that is said.
 fn goes(
     rt: &impl Abort,
     alloc: Global,
     drive: &mut Tape<MemDisk>,
     is_lent: bool,
     steps: &[Step],
+    wanted: Option<&[u8]>,
 ) -> Result<(), Fail> {
     for (at, &step) in steps.iter().enumerate() {
         let before = syncs(drive);
@@ -138,21 +150,14 @@ fn goes(
         };
         assert_equal!(rt; syncs(drive).saturating_sub(before), wanted; (is_lent, at));
     }
-    Ok(())
-}
-
-// Whatever becomes of the bytes that are not sure, a crash leaves this of the tape.
-fn is_left(rt: &impl Abort, alloc: Global, disk: &MemDisk, wanted: &[u8]) -> Result<(), Fail> {
-    for keep in [0, 1, u64::MAX] {
-        for fill in [0x00, 0xa5, 0xff] {
-            let text = found(alloc, disk.copy()?.crash(keep, fill)?)?;
-            assert_equal!(rt; text.as_slice(), wanted; (keep, fill));
-        }
+    match (wanted, drive.medium()) {
+        (None, _) => Ok(()),
+        (Some(wanted), Some(medium)) => is_left(rt, alloc, medium.disk(), wanted),
+        (Some(_), None) => Err(Fail::from("no medium")),
     }
-    Ok(())
 }
 
-// The steps from an empty tape, and what a crash leaves of it behind them, if that is said.
+// The steps from an empty tape.
 fn is_done(
     rt: &impl Abort,
     alloc: Global,
@@ -162,15 +167,9 @@ fn is_done(
 ) -> Result<(), Fail> {
     let disk = MemDisk::from_bytes(alloc, EMPTY)?;
     let mut drive = greeted(rt, alloc, disk, MemDisk::new(alloc))?;
-    let done = goes(rt, alloc, &mut drive, is_lent, steps);
-    let left = match (wanted, drive.medium()) {
-        (None, _) => Ok(()),
-        (Some(wanted), Some(medium)) => is_left(rt, alloc, medium.disk(), wanted),
-        (Some(_), None) => Err(Fail::from("no medium")),
-    };
+    let done = goes(rt, alloc, &mut drive, is_lent, steps, wanted);
     switch_off(drive);
-    done?;
-    left
+    done
 }
 
 // How many steps of a course are done, and what is left.
@@ -193,8 +192,15 @@ fn writes_wait_for_one_frame(rt: HostRuntime) -> Result<(), Fail> {
             let steps = &steps[..steps.len().min(count)];
             is_done(&rt, alloc, is_lent, steps, Some(wanted))?;
         }
-        is_done(&rt, alloc, is_lent, CHANGES, None)?;
-        is_done(&rt, alloc, is_lent, BYTES, None)?;
+    }
+    Ok(())
+}
+
+#[test]
+fn a_change_too_many_is_preceded_by_a_settle(rt: HostRuntime) -> Result<(), Fail> {
+    for is_lent in [false, true] {
+        is_done(&rt, rt.alloc(), is_lent, CHANGES, None)?;
+        is_done(&rt, rt.alloc(), is_lent, BYTES, None)?;
     }
     Ok(())
 }
