@@ -3,19 +3,19 @@
 EDITS = [
     ("what waits is stored before each write", "tape_buffer", "src/adding.rt", "    if !pending.is_full_for(change) {",
      "    if pending.is_empty() {",
-     ["writes_wait_for_one_frame", "a_turn_reports_how_many_waited", "what_waits_is_counted"]),
+     ["writes_wait_for_one_frame"]),
     ("each write is stored at once", "tape_buffer", "src/adding.rt",
      "    match add_over(cartridge, pending, change) {\n        Ok(()) => Ok(()),",
      "    match add_over(cartridge, pending, change) {\n"
      "        Ok(()) => { let _ = settle_over(cartridge, pending); Ok(()) }",
-     ["writes_wait_for_one_frame", "a_turn_reports_how_many_waited", "what_waits_is_counted"]),
+     ["writes_wait_for_one_frame"]),
     ("a change is stored one change early", "tape_buffer", "src/adding.rt", "    if !pending.is_full_for(change) {",
      "    if pending.len() < 255 && !pending.is_full_for(change) {",
-     ["a_turn_reports_how_many_waited", "what_waits_is_counted"]),
+     ["writes_wait_for_one_frame"]),
     ("what waits is stored before each write", "drive_commands", "src/writes.rt",
      "    let mut copy = Bytes::from_slice(alloc, sent)?;\n",
      "    crate::storing::store_pending(medium)?;\n    let mut copy = Bytes::from_slice(alloc, sent)?;\n",
-     ["writes_wait_for_one_frame", "a_turn_reports_how_many_waited"]),
+     ["writes_wait_for_one_frame"]),
     ("what waits is stored before each lent write", "drive_commands", "src/drives/lending.rt",
      "        write(\n            self.alloc,\n            medium,\n",
      "        let (part, at, bytes) = (self.position.part, self.position.obj, sent.len() as u32);\n"
@@ -23,7 +23,7 @@ EDITS = [
      "            && medium.used(part, at) + bytes as u64 + 16 <= medium.capacity(part);\n"
      "        if fits {\n            crate::storing::store_pending(medium)?;\n        }\n"
      "        write(\n            self.alloc,\n            medium,\n",
-     ["writes_wait_for_one_frame", "a_turn_reports_how_many_waited"]),
+     ["writes_wait_for_one_frame"]),
     ("a side that is refused at power on is reported as memory that ran out", "drive_commands", "src/opening.rt",
      "        Err(MediumError::Unreadable) => Ok(Bay::Unloaded(medium)),",
      "        Err(MediumError::Unreadable) => Err(medium),",
@@ -151,7 +151,7 @@ EDITS = [
     ("the memory for the fourth change of a body is refused", "change_records", "src/spelling.rt",
      "        changes.reserve(1)?;\n",
      "        if changes.len() >= 3 {\n            return Err(RecordError::NoMemory);\n        }\n"
-     "        changes.reserve(1)?;\n", ["bodies_by_chance"]),
+     "        changes.reserve(1)?;\n", ["every_cutting_in_three"]),
     ("a cartridge that is moved into a drive behind the second runs out of memory", "bay_moves", "src/lent.rt",
      "    let cartridge = take_held(slots, from);\n    match destination.load(cartridge) {\n",
      "    let cartridge = take_held(slots, from);\n    if to > 2 {\n"
@@ -187,13 +187,13 @@ STOPS = [
     ("a copy is not opened", "side_reclaim", "src/taking.rt",
      "    write_copy(spare, header, copied, source, buffer)?;\n    open_copy(spare)\n",
      "    write_copy(spare, header, copied, source, buffer)\n",
-     ["a_stop_at_each_call_of_both", "the_worked_row", "volumes_that_look_random"]),
+     ["a_stop_at_each_call_of_both", "the_worked_row"]),
     ("a pair gate that is open is opened again", "cartridge_sides", "src/passes.rt",
      "    if pair == OPEN {\n        return Ok(());\n    }\n", "    let _ = pair;\n",
-     ["test_reclaim::a_stop_at_each_call_of_both"]),
+     ["a_stop_at_each_call_of_both"]),
     ("a frame of a copy is one byte short of full", "volume_copy", "src/spelling.rt",
      "    if ahead.entry.item.size() <= FRAME_BODY - bytes {\n",
-     "    if ahead.entry.item.size() < FRAME_BODY - bytes {\n", ["copies"]),
+     "    if ahead.entry.item.size() < FRAME_BODY - bytes {\n", ["rows/16-reclaiming/frames-of-a-copy.row"]),
     ("a gate is opened with no sync before", "gate_journal", "src/gathering.rt",
      "    disk.write_at(at, bytes)?;\n    disk.sync()\n",
      "    disk.write_at(at, bytes)?;\n    disk.read_at(from, &mut [0u8])\n",
