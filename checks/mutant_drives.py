@@ -84,7 +84,7 @@ EDITS = [
      ["test_disk::what_is_refused"]),
     ("the blocks of a cartridge are passed over where they are to be read", "check_lines", "src/reading.rt",
      "        Some(reports) => read_blocks(alloc, cartridge, reports),",
-     "        Some(_reports) => Ok(()),", ["a_check_that_reads_blocks"]),
+     "        Some(_reports) => Ok(()),", ["a_disk_that_fails"]),
     ("the blocks of the first partition alone are read", "check_lines", "src/reading.rt",
      "    for part in 0..cartridge.parts() {\n        if let Err(fault) = read_partition(",
      "    for part in 0..1 {\n        if let Err(fault) = read_partition(", ["a_check_opens_both_files_to_read"]),

@@ -28,7 +28,7 @@ CELLS = {
     "out | drive | a device fault in that": ["what_is_not_written_stays_in_its_drive", FAULTS],
     "out | drive | its medium failed already": ["what_is_not_written_stays_in_its_drive", FAULTS],
     "back | out of memory": ["what_is_not_loaded_goes_back", FAULTS],
-    "exit | run, serve: a buffer could not be written out": ["a_line_that_can_not_be_written", FAULTS],
+    "exit | run, serve: a buffer could not be written out": ["the_first_fault_is_reported", FAULTS],
     "exit | a read or write of the streams failed": [ENDINGS],
     "exit | out of memory": [ENDINGS, FAULTS],
     "said at once | a call that failed": ["explained_faults.py"],
@@ -54,9 +54,9 @@ CELLS = {
     "flush | in unbuffered mode also WRITE of at least one byte, and ERASE": ["writes_wait_for_one_frame"],
     "buffer | 256 changes, 4,194,304 bytes of blocks": ["a_change_too_many_is_preceded_by_a_settle"],
     # the streams
-    "stream | an interrupted read": ["reads_that_are_interrupted_many_times"],
+    "stream | an interrupted read": ["reads_that_fail"],
     "stream | any other error of the reader, or a script that is too long": ["reads_that_fail", ENDINGS],
-    "stream | an interrupted write": ["writes_that_are_interrupted_many_times"],
+    "stream | an interrupted write": ["writes_that_fail"],
     "stream | any other error of the writer, and an interrupted flush": ["writes_that_fail", ENDINGS],
     "stream | after a fault, and where memory runs out": ["writes_that_fail", ENDINGS],
     # frames, which are no lines of a row
@@ -84,8 +84,7 @@ CELLS = {
             "0, 00/00", "2, 3A/00", "5, 20/00", "5, 24/00", "5, 1A/00", "5, 26/00", "5, 26/04",
             "5, 21/01", "5, 3B/0D", "5, 3B/0E", "5, 55/04"]),
         ("each_fault_in_words", [
-            "3, 0C/00", "3, 11/00", "4, 44/00", "Bh, 55/03", "any other"]),
-        ("each_attention_in_words", [
+            "3, 0C/00", "3, 11/00", "4, 44/00", "Bh, 55/03", "any other",
             "6, 29/00", "6, 28/00", "6, 2A/03", "6, 2A/05", "6, 2A/04", "6, 2A/01"]))
        for what in those},
     "words where | deferred": ["each_fault_in_words"],
