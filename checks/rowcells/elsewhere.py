@@ -10,7 +10,7 @@ UNLOADS = "an_unloading_meets_a_fault"
 OPENS = "a_fault_at_each_call_of_a_loading"
 SAVES = "a_fault_at_each_call_of_a_save"
 SERVED = "served_endings.py"
-FRAMES = ["each_request", "each_request_written", "each_answer", "refused_headers"]
+FRAMES = ["in_any_pieces", "each_frame_written", "refused_frames"]
 # by cell: the tests
 CELLS = {
     # a block of no byte has no line
@@ -69,10 +69,10 @@ CELLS = {
         "nomemory_rows.py"],
     **{f"frame, byte | {at}": FRAMES for at in ("0", "1", "2", "3", "4 to 7", "8 to 11", "12 to 15", "16 on")},
     **{f"frame | {what}": [test] for test, those in (
-        ("each_request", ["TEST UNIT READY of host 1 to drive 2, tag 7",
+        ("in_any_pieces", ["TEST UNIT READY of host 1 to drive 2, tag 7",
                           "WRITE(6) of the three bytes 61h 62h 63h, host 3, drive 1, tag FFFFFFFEh",
                           "a move from slot 1001 to drive 1, tag 9", "an inventory, tag 01000000h"]),
-        ("each_answer", ["its answer from an empty drive", "an answer with these three bytes",
+        ("each_frame_written", ["its answer from an empty drive", "an answer with these three bytes",
                          "CONFLICT for host 64, tag 0", "its answer, GOOD",
                          "an answer with drive 1, in which nothing is, and slot 1001 with T00001L6"]))
        for what in those},
