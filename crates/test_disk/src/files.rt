@@ -14,10 +14,15 @@ use test_assertions::{assert_equal, assert_holds};
 
 // A call after an opening, and what the file holds then.
 static READ_BACK: &'static [(Step, &'static [u8; 8])] = &[
+    (Step::Sync, b"........"),
+    (Step::Put(0, b"z"), b"z......."),
+    (Step::Cut(0), b"........"),
     (Step::Put(0, b"abcdef"), b"abcdef.."),
     (Step::Put(4, b"XYZ"), b"abcdXYZ."),
     (Step::Cut(5), b"abcdX..."),
     (Step::Sync, b"abcdX..."),
+    (Step::Put(5, b""), b"abcdX..."),
+    (Step::Put(1, b"2"), b"a2cdX..."),
 ];
 
 fn read_back(abort: &impl Abort, rt: &HostRuntime, path: &str) -> Result<(), Fail> {
@@ -31,7 +36,7 @@ fn read_back(abort: &impl Abort, rt: &HostRuntime, path: &str) -> Result<(), Fai
     }
     // made for its owner alone
     assert_equal!(abort; fs::metadata(rt, path)?.mode() & 0o777, 0o600);
-    holds(abort, rt, path, b"abcdX")
+    holds(abort, rt, path, b"a2cdX")
 }
 
 // Of a file that is only read, and of none: the calls that would change it fail.
@@ -55,7 +60,7 @@ fn a_file_is_read_back(rt: HostRuntime) -> Result<(), Fail> {
     let path = named(&rt, &folder, "t1.tape")?;
     read_back(&rt, &rt, &path)?;
     counts(&rt, &mut open_to_read(&rt, &path)?, ONLY_READ);
-    holds(&rt, &rt, &path, b"abcdX")?;
+    holds(&rt, &rt, &path, b"a2cdX")?;
     counts(&rt, &mut no_file(), OVER_NOTHING);
     Ok(fs::remove_dir_all(&rt, &folder)?)
 }
