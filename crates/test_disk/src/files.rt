@@ -1,8 +1,8 @@
-//! Files of the system: what is read back, which name is no disk, and what a look finds.
+//! Files of the system: what is read back, which name is no disk, which call failed, and what a look finds.
 use crate::steps::{Counted, Step, act, counts, get, holds, named, new_folder, put};
 use file_disk::{
-    FailedCall, FileError, FileLook, SystemCall, create, has_open_pair, look, no_file, open,
-    open_to_read,
+    CallFailed, FailedCall, FileError, FileLook, RawFile, Stop, SystemCall, SystemFile, create,
+    has_open_pair, look, no_file, open, open_to_read,
 };
 use std::fs::{self, File};
 use std::io::ErrorKind;
@@ -178,6 +178,37 @@ fn what_is_refused(rt: HostRuntime) -> Result<(), Fail> {
     read_by_two(&rt, &rt, &path)?;
     of_a_loop(&rt, &rt, &named(&rt, &folder, "loop")?)?;
     Ok(fs::remove_dir_all(&rt, &folder)?)
+}
+
+fn failed(call: SystemCall, kind: ErrorKind, number: Option<i32>) -> Option<FailedCall> {
+    Some(FailedCall { call, kind, number })
+}
+
+// A folder is not written, cut or read (EBADF, EINVAL, EISDIR of Linux). A device with no bytes comes to its end at
+// once, which is a failure where bytes are asked for.
+#[test]
+fn the_call_that_failed_last(rt: HostRuntime) -> Result<(), Fail> {
+    let folder = new_folder(&rt)?;
+    let mut file = SystemFile::over(File::open(&rt, &folder)?);
+    assert_equal!(rt; file.write_some(0, b"x"), Err(Stop::Failed));
+    let written = failed(SystemCall::WriteAt, ErrorKind::Uncategorized, Some(9));
+    assert_equal!(rt; file.failed(), written);
+    assert_equal!(rt; file.cut(0), Err(CallFailed));
+    let cut = failed(SystemCall::Cut, ErrorKind::InvalidInput, Some(22));
+    assert_equal!(rt; file.failed(), cut);
+    assert_equal!(rt; (file.sync(), file.failed()), (Ok(()), cut));
+    assert_equal!(rt; file.read_some(0, &mut [0; 4]), Err(Stop::Failed));
+    let read = failed(SystemCall::ReadAt, ErrorKind::IsADirectory, Some(21));
+    assert_equal!(rt; file.failed(), read);
+    fs::remove_dir_all(&rt, &folder)?;
+    let mut file = SystemFile::over(File::open(&rt, "/dev/null")?);
+    assert_equal!(rt; (file.read_some(0, &mut []), file.failed()), (Ok(0), None));
+    let ended = failed(SystemCall::ReadAt, ErrorKind::UnexpectedEof, None);
+    assert_equal!(rt; (file.read_some(0, &mut [0]), file.failed()), (Ok(0), ended));
+    assert_equal!(rt; file.sync(), Err(CallFailed));
+    let synced = failed(SystemCall::Sync, ErrorKind::InvalidInput, Some(22));
+    assert_equal!(rt; file.failed(), synced);
+    Ok(())
 }
 
 // What a look at a regular file finds.
