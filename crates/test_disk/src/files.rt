@@ -26,7 +26,9 @@ static READ_BACK: &'static [(Step, &'static [u8; 8])] = &[
 ];
 
 fn read_back(abort: &impl Abort, rt: &HostRuntime, path: &str) -> Result<(), Fail> {
-    drop(create(rt, path)?);
+    let made = create(rt, path)?;
+    assert_equal!(abort; made.file().lacks_locks(), false);
+    drop(made);
     for &(step, seen) in READ_BACK {
         let mut disk = open(rt, path)?;
         act(&mut disk, step)?;
