@@ -167,8 +167,8 @@ class Rounds:
 
 
 def ask_late(old, is_loaded=False):
-    """What the old process answers beside the new one. Where its cartridge does not stay loaded it is loaded anew, since
-    that heals a failed one."""
+    """What the old process answers beside the new one. Where its cartridge does not stay loaded it is loaded anew,
+    since that heals a failed one."""
     asked = [("a block", write_of(b"late")), ("a filemark", [MARK])]
     if not is_loaded:
         asked += [("an unload", [UNLOAD]), ("a load", [LOAD]), ("a filemark behind a load", [MARK])]
