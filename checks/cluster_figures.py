@@ -63,7 +63,7 @@ def rounds_table(lines):
         yield f"| {kind} | " + " | ".join(cell(groups.get((way, kind, ()), [])) for way in names) + " |"
     rounds = [[it for (way, kind, _), found in groups.items() if way == name and kind for it in found]
               for name in names]
-    yield "| seconds to an answer, server lost | " + " | ".join(map(slowest, rounds)) + " |"
+    yield "| longest wait for an answer, server lost | " + " | ".join(map(slowest, rounds)) + " |"
     yield "| all; wrong; lost | " + " | ".join(map(counts, rounds)) + " |"
     yield ""
     for (way, kind, without), found in groups.items():
