@@ -23,8 +23,8 @@ PROVED = os.path.join(TOP, "crates", "vtl", "out", "vtl")
 COUNTS, REST, RUNS = (1, 16, 64, 256), 3, 3
 READY, MARK, WRITE = bytes(6), bytes.fromhex("100000000100"), b"\x0a\x00\x04\x00\x00\x00"
 TRIPS, BLOCKS, MARKS, BLOCK = 3_000, 256, 200, os.urandom(262_144)
-HEAD = ("| Idle | Memory | Start of all | Processor in 3 s | Beside one fewer: TEST UNIT READY | blocks of 256 KiB | "
-        "filemarks a second |", "|---|---|---|---|---|---|---|")
+HEAD = ("| Idle | Memory, MiB | Start of all, s | Processor in 3 s | Beside one fewer: TEST UNIT READY, µs | "
+        "blocks of 256 KiB, MB/s | filemarks a second |", "|---|---|---|---|---|---|---|")
 CONFIG = """cartridge = [{ barcode = "T00001L6", file = "t1.tape", capacities = [1_099_511_627_776], home = 1 },
              { barcode = "T00002L6", file = "t2.tape", capacities = [1_099_511_627_776], home = 1001 }]
 drive = [{ number = 1, reservations = "d1.pr" }]
@@ -102,8 +102,7 @@ def row(program, room, count):
         peer.end()
     for folder in folders:
         shutil.rmtree(folder)
-    return (f"| {count} | {memory / 1024:.0f} MiB | {seconds:.2f} s | {busy:.2f} s | {trip:.0f} µs | {speed:.0f} MB/s "
-            f"| {marks:.0f} |")
+    return (f"| {count} | {memory / 1024:.0f} | {seconds:.2f} | {busy:.2f} | {trip:.0f} | {speed:.0f} | {marks:.0f} |")
 
 
 def main():

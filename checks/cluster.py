@@ -12,7 +12,8 @@
   cluster.py --selftest                                     the judge, with rounds that are wrong in one thing each
 
 Root only. The machines are namespaces of this one, which are made and taken down; their packages are Debian's. With
---defaults the store is GlusterFS on its default options, and a loss has to be found. Each round is a line of FILE."""
+--defaults the store is GlusterFS on its default options, and a loss has to be found. Each round is a line of FILE. More
+than five of Ceph's stores side by side want `sysctl fs.aio-max-nr=1048576`."""
 import argparse
 import contextlib
 import json

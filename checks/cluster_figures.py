@@ -31,18 +31,18 @@ def way_of(line):
 
 
 def cell(found):
-    """How many rounds, and of those that were right the least and the greatest time up to the take-over."""
+    """How many rounds, and of those that were right the least and the greatest seconds up to the take-over."""
     seconds = sorted(it["seconds"] for it in found if not it["wrong"])
     if not seconds:
         return f"{len(found)}" if found else ""
     span = f"{seconds[0]:.1f}" if len(seconds) == 1 else f"{seconds[0]:.1f}–{seconds[-1]:.1f}"
-    return f"{len(found)}: {span} s"
+    return f"{len(found)}: {span}"
 
 
 def slowest(found):
     """The longest time that a host waited for an answer while a server was lost, in the rounds that were right."""
     seconds = [it["slowest"] for it in found if SERVER in it["kind"] and not it["wrong"]]
-    return f"{max(seconds):.1f} s" if seconds else ""
+    return f"{max(seconds):.1f}" if seconds else ""
 
 
 def counts(found):
@@ -57,19 +57,19 @@ def rounds_table(lines):
             groups[way_of(line), line["kind"] if not line["without"] else None, tuple(line["without"])].append(line)
     kinds = dict.fromkeys(kind for _, kind, _ in groups if kind)
     names = sorted({way for way, kind, _ in groups if kind}, key=lambda way: (way.count(","), way))
-    yield "| Rounds: take-over | " + " | ".join(names) + " |"
+    yield "| Rounds: seconds to the take-over | " + " | ".join(names) + " |"
     yield "|---" * (len(names) + 1) + "|"
     for kind in kinds:
         yield f"| {kind} | " + " | ".join(cell(groups.get((way, kind, ()), [])) for way in names) + " |"
     rounds = [[it for (way, kind, _), found in groups.items() if way == name and kind for it in found]
               for name in names]
-    yield "| slowest answer, server lost | " + " | ".join(map(slowest, rounds)) + " |"
+    yield "| longest wait for an answer, server lost | " + " | ".join(map(slowest, rounds)) + " |"
     yield "| all; wrong; lost | " + " | ".join(map(counts, rounds)) + " |"
     yield ""
     for (way, kind, without), found in groups.items():
         if kind is None:
             yield (f"- {way} without {' and '.join(without)}: {sum(bool(it['wrong']) for it in found)} of "
-                   f"{len(found)} rounds wrong.")
+                   f"{len(found)} wrong.")
 
 
 def speed_table(lines):

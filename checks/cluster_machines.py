@@ -6,7 +6,7 @@ import signal
 import subprocess
 import time
 
-SUBNET = "10.77.0"
+SUBNET, CONNECTIONS = "10.77.0", "/sys/fs/fuse/connections"
 # What a daemon writes outside a store's own folders; each machine has its own.
 PRIVATE = ("/run", "/var/lib/glusterd", "/var/log/glusterfs", "/var/lib/ceph", "/var/log/ceph", "/etc/ceph",
            "/var/lib/pacemaker", "/var/lib/corosync", "/var/log/pacemaker", "/var/log/cluster", "/etc/corosync")
@@ -24,6 +24,18 @@ def ran(*words, check=True, seconds=None):
     if check and done.returncode:
         raise OSError(f"{' '.join(words)}: status {done.returncode}: {(done.stdout + done.stderr).strip()}")
     return done.stdout
+
+
+def fuse_of(process):
+    """The numbers of the mounts of a process that other processes serve."""
+    with open(f"/proc/{process}/mountinfo", encoding="utf-8") as file:
+        return {line.split()[2].partition(":")[2] for line in file if " - fuse." in line}
+
+
+def let_go(numbers):
+    """Ends these mounts, since a process that waits for one cannot be killed."""
+    orders = "".join(f"echo 1 > {CONNECTIONS}/{number}/abort; " for number in numbers)
+    ran("unshare", "-m", "sh", "-c", f"mount -t fusectl none {CONNECTIONS}; {orders}", check=False)
 
 
 def wait_for(what, holds, seconds, step=0.2):
@@ -104,7 +116,9 @@ class Machine:
         """The machine is gone at once: its link first, so that no connection of it is closed in good order."""
         if self.first:
             self.cut()
+            mounted = fuse_of(self.first) - fuse_of("self")
             os.kill(self.first, signal.SIGKILL)
+            let_go(mounted)
             self.holder.wait()
             self.first = None
 
