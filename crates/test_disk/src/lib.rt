@@ -15,3 +15,5 @@ mod openings;
 mod staged;
 #[cfg(test)]
 mod steps;
+#[cfg(test)]
+mod system;

@@ -123,5 +123,6 @@ fn a_move_behind_a_write_that_fails(rt: HostRuntime) {
         let failed = answered(rt.alloc(), b"1 1 00\nmove 1001 1\n", plan);
         assert_equal!(rt; (failed.end, failed.items), (WRITE_FAULT, items); call);
         assert_equal!(rt; failed.text.as_slice(), &MOVED[..count.min(MOVED.len())]; call);
+        assert_holds!(rt; !failed.read_early; call);
     }
 }
