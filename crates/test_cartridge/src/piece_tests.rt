@@ -1,5 +1,6 @@
-//! The bodies of a cartridge are read in pieces while it is opened, and long blocks are passed over; the longest body.
-use crate::samples::{FAULT, block, extent_of, has, made, opened, spare};
+//! The bodies of a cartridge are read in pieces while it is opened, and long blocks are passed over; many frames, and
+//! the longest body.
+use crate::samples::{FAULT, block, extent_of, has, made, marks, opened, spare};
 use cartridge::Cartridge;
 use std::alloc::Global;
 use std::process::Abort;
@@ -72,14 +73,17 @@ fn how_often_the_disk_is_asked(rt: HostRuntime) -> Result<(), Fail> {
     Ok(())
 }
 
-// Eight records of 1,048,576 bytes, of which ten are the head: 8,388,608.
+// 300 frames of a filemark. Then eight records of 1,048,576 bytes, of which ten are the head: 8,388,608.
 #[test]
 fn the_longest_body(rt: HostRuntime) -> Result<(), Fail> {
     let alloc = rt.alloc();
     let long = vec![in alloc; 0x5a; 1_048_566]?;
     let mut known = made(alloc, 16_777_216)?;
+    for at in 0..300 {
+        assert_equal!(rt; known.store(alloc, &[marks(0, at, 1)]), Ok(()); at);
+    }
     let mut changes = Vec::new(alloc);
-    for at in 0..8 {
+    for at in 300..308 {
         changes.push(block(alloc, 0, at, &long)?)?;
     }
     known.store(alloc, &changes)?;
@@ -87,7 +91,7 @@ fn the_longest_body(rt: HostRuntime) -> Result<(), Fail> {
         return Err(Fail::from("not opened again"));
     };
     let mut cartridge = known.into_cartridge();
-    assert_equal!(rt; extent_of(&cartridge), (1, 8, 8_388_656));
-    assert_equal!(rt; has(alloc, &mut cartridge, 7, &long), Ok(true));
+    assert_equal!(rt; extent_of(&cartridge), (301, 308, 8_393_456));
+    assert_equal!(rt; has(alloc, &mut cartridge, 307, &long), Ok(true));
     Ok(())
 }

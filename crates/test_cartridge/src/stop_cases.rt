@@ -88,6 +88,8 @@ const CUT_55: Left = &[(0, 0, DAMAGED_55)];
 
 const OPEN_70: Left = &[(0, 0, DAMAGED_70)];
 
+const BAD_35: Left = &[(0, 0, (Ok(2), Err(CartridgeError::BadRecord { at: 35 })))];
+
 const BAD_55: Left = &[(0, 0, (Ok(2), Err(CartridgeError::BadRecord { at: 55 })))];
 
 // Eleven calls make a cartridge and open it. Then come two writes for each long block, of what was gathered and of the
@@ -109,11 +111,13 @@ pub static CASES: &'static [Case] = &[
     (Erase, TAIL, 10, 15, ERASE_TAIL, Some(ERASED)),
     // An opening that is refused.
     (Erase, (SIDE, 26, 0, 0xa5), 2, 2, OTHER, None),
+    (Erase, (SIDE, 34, 0, 0xa5), 2, 2, OTHER, None),
     (Erase, (SIDE, 71, 10, 0x05), 2, 2, OTHER, None),
     (Erase, (SIDE, 35, 0, 0xa5), 5, 5, CUT_35, None),
     (Erase, (SIDE, 55, 0, 0xa5), 6, 6, CUT_35, None),
     (Erase, (SIDE, 70, 0, 0xa5), 7, 7, CUT_55, None),
     (Erase, (SIDE, 71, 70, 0xa5), 8, 8, OPEN_70, None),
+    (Erase, (SIDE, 71, 40, 0x04), 9, 9, BAD_35, None),
     (Erase, (SIDE, 71, 65, 0x03), 10, 10, BAD_55, None),
     // A cartridge is made where nothing is, and where a side is.
     (Store, EMPTY, 0, 45, STORED, None),

@@ -1,8 +1,8 @@
-//! Files of the system: what is read back, which name is no disk, and what a look finds.
+//! Files of the system: what is read back, which name is no disk, which call failed, and what a look finds.
 use crate::steps::{Counted, Step, act, counts, get, holds, named, new_folder, put};
 use file_disk::{
-    FailedCall, FileError, FileLook, SystemCall, create, has_open_pair, look, no_file, open,
-    open_to_read,
+    CallFailed, FailedCall, FileError, FileLook, RawFile, Stop, SystemCall, SystemFile, create,
+    has_open_pair, look, no_file, open, open_to_read,
 };
 use std::fs::{self, File};
 use std::io::ErrorKind;
@@ -14,14 +14,21 @@ use test_assertions::{assert_equal, assert_holds};
 
 // A call after an opening, and what the file holds then.
 static READ_BACK: &'static [(Step, &'static [u8; 8])] = &[
+    (Step::Sync, b"........"),
+    (Step::Put(0, b"z"), b"z......."),
+    (Step::Cut(0), b"........"),
     (Step::Put(0, b"abcdef"), b"abcdef.."),
     (Step::Put(4, b"XYZ"), b"abcdXYZ."),
     (Step::Cut(5), b"abcdX..."),
     (Step::Sync, b"abcdX..."),
+    (Step::Put(5, b""), b"abcdX..."),
+    (Step::Put(1, b"2"), b"a2cdX..."),
 ];
 
 fn read_back(abort: &impl Abort, rt: &HostRuntime, path: &str) -> Result<(), Fail> {
-    drop(create(rt, path)?);
+    let made = create(rt, path)?;
+    assert_equal!(abort; made.file().lacks_locks(), false);
+    drop(made);
     for &(step, seen) in READ_BACK {
         let mut disk = open(rt, path)?;
         act(&mut disk, step)?;
@@ -31,7 +38,7 @@ fn read_back(abort: &impl Abort, rt: &HostRuntime, path: &str) -> Result<(), Fai
     }
     // made for its owner alone
     assert_equal!(abort; fs::metadata(rt, path)?.mode() & 0o777, 0o600);
-    holds(abort, rt, path, b"abcdX")
+    holds(abort, rt, path, b"a2cdX")
 }
 
 // Of a file that is only read, and of none: the calls that would change it fail.
@@ -55,7 +62,7 @@ fn a_file_is_read_back(rt: HostRuntime) -> Result<(), Fail> {
     let path = named(&rt, &folder, "t1.tape")?;
     read_back(&rt, &rt, &path)?;
     counts(&rt, &mut open_to_read(&rt, &path)?, ONLY_READ);
-    holds(&rt, &rt, &path, b"abcdX")?;
+    holds(&rt, &rt, &path, b"a2cdX")?;
     counts(&rt, &mut no_file(), OVER_NOTHING);
     Ok(fs::remove_dir_all(&rt, &folder)?)
 }
@@ -173,6 +180,37 @@ fn what_is_refused(rt: HostRuntime) -> Result<(), Fail> {
     read_by_two(&rt, &rt, &path)?;
     of_a_loop(&rt, &rt, &named(&rt, &folder, "loop")?)?;
     Ok(fs::remove_dir_all(&rt, &folder)?)
+}
+
+fn failed(call: SystemCall, kind: ErrorKind, number: Option<i32>) -> Option<FailedCall> {
+    Some(FailedCall { call, kind, number })
+}
+
+// A folder is not written, cut or read (EBADF, EINVAL, EISDIR of Linux). A device with no bytes comes to its end at
+// once, which is a failure where bytes are asked for.
+#[test]
+fn the_call_that_failed_last(rt: HostRuntime) -> Result<(), Fail> {
+    let folder = new_folder(&rt)?;
+    let mut file = SystemFile::over(File::open(&rt, &folder)?);
+    assert_equal!(rt; file.write_some(0, b"x"), Err(Stop::Failed));
+    let written = failed(SystemCall::WriteAt, ErrorKind::Uncategorized, Some(9));
+    assert_equal!(rt; file.failed(), written);
+    assert_equal!(rt; file.cut(0), Err(CallFailed));
+    let cut = failed(SystemCall::Cut, ErrorKind::InvalidInput, Some(22));
+    assert_equal!(rt; file.failed(), cut);
+    assert_equal!(rt; (file.sync(), file.failed()), (Ok(()), cut));
+    assert_equal!(rt; file.read_some(0, &mut [0; 4]), Err(Stop::Failed));
+    let read = failed(SystemCall::ReadAt, ErrorKind::IsADirectory, Some(21));
+    assert_equal!(rt; file.failed(), read);
+    fs::remove_dir_all(&rt, &folder)?;
+    let mut file = SystemFile::over(File::open(&rt, "/dev/null")?);
+    assert_equal!(rt; (file.read_some(0, &mut []), file.failed()), (Ok(0), None));
+    let ended = failed(SystemCall::ReadAt, ErrorKind::UnexpectedEof, None);
+    assert_equal!(rt; (file.read_some(0, &mut [0]), file.failed()), (Ok(0), ended));
+    assert_equal!(rt; file.sync(), Err(CallFailed));
+    let synced = failed(SystemCall::Sync, ErrorKind::InvalidInput, Some(22));
+    assert_equal!(rt; file.failed(), synced);
+    Ok(())
 }
 
 // What a look at a regular file finds.

@@ -28,6 +28,11 @@ const CARTRIDGE: &'static [u8] = b"\xa5VTLCART1\0\x01T00001L6        \0\0\0\0\0\
 const CLOSED: &'static [u8] = b"\0VTLCART1\0\x01T00001L6        \0\0\0\0\0\0\x10\0\
     \xa5\0\0\0\x04body\0";
 
+// One with four partitions.
+const FOUR_PARTS: &'static [u8] = b"\xa5VTLCART1\0\x04T00001L6        \0\0\0\0\0\0\x10\0\
+    \0\0\0\0\0\0\x10\0\0\0\0\0\0\0\x10\0\0\0\0\0\0\0\x10\0\
+    \xa5\0\0\0\x04body\0";
+
 // A call, the failures that it reports, and the totals of all calls then: the bytes that were written, the
 // place of the last write, and the good syncs.
 type Row = (Step, u64, u64, u64, u64);
@@ -60,13 +65,23 @@ static OPENINGS: &'static [(&'static [u8], u64, u64)] = &[
     // of the pair may be open.
     (CARTRIDGE, 11, 0),
     (PAIR_IS_OPEN, 11, 0),
+    (FOUR_PARTS, 11, 0),
     // All of a side whose own gate is closed, and of one that is shorter than the start of a side.
     (b"\0VTLCART1\0", 10, 0),
     (b"\0VTLCART1\xa5", 10, 0),
     (b"\x07VTLCART1\0", 10, 0),
     (b"\0VTLCART1\0\xa5\xa5\xa5", 13, 0),
+    (b"\0VTLCART1\0\x81T00001L6", 19, 0),
     (CLOSED, 45, 0),
     (b"", 0, 0),
+    (b"\0", 1, 0),
+    (b"\0V", 2, 0),
+    (b"\0VT", 3, 0),
+    (b"\0VTL", 4, 0),
+    (b"\0VTLC", 5, 0),
+    (b"\0VTLCA", 6, 0),
+    (b"\0VTLCAR", 7, 0),
+    (b"\0VTLCART", 8, 0),
     (b"\0VTLCART1", 9, 0),
     // Nothing of files of other programs, and of a side that is damaged.
     (b"something else", 0, 0),
@@ -202,6 +217,15 @@ fn a_sync_behind_one_that_failed(rt: HostRuntime) -> Result<(), Fail> {
         let file = counting(rt.alloc(), b"0123456789abcdef", turns)?;
         are_written(&rt, &mut DiskOver::new(file), rows);
     }
+    // The same of an opened file, whose first sync, of eight calls, wrote the gate again: that is left alone.
+    let turns = [W, W, W, W, W, W, W, W, W, F];
+    let rows = [
+        (Step::Sync, 0, 1, 27, 1),
+        (Step::Put(32, b"y"), 0, 2, 32, 1),
+        (Step::Sync, 1, 2, 32, 1),
+        (Step::Sync, 0, 3, 32, 2),
+    ];
+    opened(&rt, counting(rt.alloc(), BODY, &turns)?, &rows);
     Ok(())
 }
 

@@ -1,10 +1,10 @@
 //! Each public call once, over a medium whose side is limited and whose device fails.
 use crate::asked::{
     Answer, BLOCK_LIMITS, CHANGED, END, ERASE, FAILED, FULL, FULL_BY_1, FULL_BY_3, FULL_BY_5, GOOD,
-    HELLO, INQUIRY, IS, LATE_ERROR, LIMITS, LOCATE_0, MARK, MARK_AT_ONCE, MARK_FORWARD, NO_MARKS,
-    NO_MEMORY, NONE, NOTHING_PENDING, POSITION, POWERED_ON, READ_5, READ_ERROR, REQUEST_SENSE,
-    REWIND, Row, SELECT, SENSE_MODE, TEST_UNIT_READY, THREE_MARKS, UNBUFFERED, UNKNOWN, WRITE_5,
-    WRITE_ERROR, WRITE_MARK,
+    HELLO, INQUIRY, IS, LATE_ERROR, LIMITS, LOAD, LOCATE_0, MARK, MARK_AT_ONCE, MARK_FORWARD,
+    NO_MARKS, NO_MEMORY, NONE, NOTHING_PENDING, POSITION, POWERED_ON, READ_5, READ_ERROR,
+    REQUEST_SENSE, REWIND, Row, SELECT, SENSE_MODE, TEST_UNIT_READY, THREE_MARKS, UNBUFFERED,
+    UNKNOWN, UNLOAD, WRITE_5, WRITE_ERROR, WRITE_MARK,
 };
 use crate::asking::{AT_ONCE, Plain, SOUND, ask_all, asks, assert_answer, load, with_side};
 use drive_commands::Fault;
@@ -22,6 +22,8 @@ use vtl_base::NoMemory;
 
 // A side of 50 bytes: a block of five bytes takes 20 of it, one of one byte 16, marks 15.
 const FILLING: &'static [Row<'static>] = &[
+    // a command block of no byte, before anything else
+    (1, NONE, NONE, UNKNOWN),
     (1, TEST_UNIT_READY, NONE, POWERED_ON),
     (1, WRITE_5, b"hello", GOOD),
     (1, MARK_AT_ONCE, NONE, GOOD),
@@ -213,6 +215,18 @@ const BY_REQUEST_SENSE: &'static [Row<'static>] = &[
     (1, TEST_UNIT_READY, NONE, FAILED),
 ];
 
+// UNLOAD reports it and does nothing else; then LOAD opens what is on the side, without what was pending.
+const AFTER_AN_UNLOADING: &'static [Row<'static>] = &[
+    (1, UNLOAD, NONE, LATE_ERROR),
+    (1, TEST_UNIT_READY, NONE, FAILED),
+    (1, UNLOAD, NONE, GOOD),
+    (1, LOAD, NONE, GOOD),
+    (1, TEST_UNIT_READY, NONE, GOOD),
+    (1, READ_5, NONE, END),
+    (2, TEST_UNIT_READY, NONE, POWERED_ON),
+    (2, TEST_UNIT_READY, NONE, CHANGED),
+];
+
 // Where the cartridge was moved out of the drive and back before any command.
 const AFTER_A_MOVE: &'static [Row<'static>] = &[
     (1, TEST_UNIT_READY, NONE, LATE_ERROR),
@@ -225,6 +239,7 @@ const AFTER_A_MOVE: &'static [Row<'static>] = &[
 // Whether the cartridge is moved after a turn that met a fault, and the answers then.
 static LATE: &'static [(bool, &'static [Row<'static>])] = &[
     (false, BY_REQUEST_SENSE),
+    (false, AFTER_AN_UNLOADING),
     (true, AFTER_A_MOVE),
 ];
 

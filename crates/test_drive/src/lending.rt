@@ -68,11 +68,20 @@ const FAILS_BEHIND: &'static [Lent<'static>] = &[
     ((1, WRITE_5, b"world", FAILED), b"world", 1),
 ];
 
+// An ERASE first stores what is pending, and the device fails: the ERASE is not accepted.
+const FAILS_BEFORE: &'static [Lent<'static>] = &[
+    ((1, TEST_UNIT_READY, NONE, POWERED_ON), NONE, 0),
+    ((1, WRITE_5, b"hello", GOOD), NONE, 1),
+    ((1, ERASE, NONE, WRITE_ERROR), NONE, 1),
+    ((1, WRITE_5, b"hello", FAILED), b"hello", 1),
+];
+
 // The room of a side, the storing that fails, and the commands.
 static COURSES: &'static [(u64, Option<u32>, &'static [Lent<'static>])] = &[
     (10_000, None, CHANGES),
     (50, None, UP_TO_THE_END),
     (1_000, Some(0), FAILS_BEHIND),
+    (1_000, Some(0), FAILS_BEFORE),
 ];
 
 fn lends(rt: &impl Abort, alloc: Global, drive: &mut Plain, rows: &[Lent]) -> Result<(), Fail> {

@@ -5,11 +5,12 @@ use crate::asking::{
     Row, SIDE, SIDE_WITHOUT_APTPL, TEST_UNIT_READY, WITHOUT_APTPL, ask_all, found, host_over, made,
 };
 use aptpl_store::StoreError;
+use pr_core::{Keeper, Reservations};
 use std::alloc::Global;
 use std::process::Abort;
 use std::test::Fail;
 use tape_disk::MemDisk;
-use test_assertions::assert_equal;
+use test_assertions::{assert_equal, assert_holds};
 
 const KEY_A: &'static [u8] = b"\0\0\0\0\0\0\0\x08\0\0\0\0\0\0\0\xa1";
 
@@ -80,6 +81,19 @@ fn reservations_outlive_a_loss_of_power(rt: HostRuntime) -> Result<(), Fail> {
     for course in COURSES {
         disk = asked(&rt, rt.alloc(), disk, *course)?;
     }
+    Ok(())
+}
+
+// Memory is reserved for 256 saves at first.
+#[test]
+fn more_is_saved_than_was_reserved(rt: HostRuntime) -> Result<(), Fail> {
+    let Ok(mut store) = made(rt.alloc(), MemDisk::new(rt.alloc())) else {
+        return Err(Fail::from("not made"));
+    };
+    for save in 0..300u32 {
+        assert_holds!(rt; store.save(&Reservations::empty()).is_ok(); save);
+    }
+    assert_equal!(rt; found(rt.alloc(), store.close()), Ok((300, [0; 4])));
     Ok(())
 }
 

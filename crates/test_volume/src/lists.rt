@@ -10,11 +10,7 @@ use vtl_base::{ObjNo, PartNo};
 
 fn record(part: PartNo, at: ObjNo, add: Add) -> Record {
     match add {
-        Add::Block(length) => Record::Put {
-            part,
-            at,
-            length: length as u32,
-        },
+        Add::Block(length) => Record::Put { part, at, length },
         Add::Marks(count) => Record::Marks { part, at, count },
         Add::Nothing => Record::Erase { part, at },
     }

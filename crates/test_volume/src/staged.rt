@@ -60,6 +60,12 @@ const PARK_FAILS: &'static [Row] = &[
     (Ask::Reopen, FAULT, 1, true, 2),
 ];
 
+// The first storing fails at once.
+const AT_ONCE: &'static [Row] = &[
+    (Ask::Put(0, 5), Answer::Done, 1, false, 1),
+    (Ask::Settle, FAULT, 1, true, 1),
+];
+
 // A reading fails, and later a storing.
 const BOTH_FAIL: &'static [Row] = &[
     (Ask::Put(0, 5), Answer::Done, 1, false, 1),
@@ -120,6 +126,7 @@ static RUNS: &'static [Run] = &[
     ((Some(1), None, true, true), 0, 999, TURN_FAILS, WITH),
     ((Some(1), None, true, false), 0, 999, PARK_FAILS, WITHOUT),
     ((None, Some(1), true, true), 0, 999, FETCH_FAILS, NO_ROW),
+    ((Some(0), None, true, true), 0, 999, AT_ONCE, NO_ROW),
     ((Some(1), Some(0), true, true), 0, 999, BOTH_FAIL, NO_ROW),
 ];
 

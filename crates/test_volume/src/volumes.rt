@@ -15,7 +15,7 @@ const TEBIBYTE: u64 = 1_099_511_627_776;
 /// What a change adds: a block of this size, this many marks, or nothing.
 #[derive(Clone, Copy, Debug)]
 pub enum Add {
-    Block(usize),
+    Block(u32),
     Marks(u32),
     Nothing,
 }
@@ -26,7 +26,7 @@ pub fn make_change(alloc: Global, part: PartNo, at: ObjNo, add: Add) -> Result<C
         Add::Block(length) => Change::Put {
             part,
             at,
-            block: Bytes::from_vec(vec![in alloc; 7u8; length]?),
+            block: Bytes::from_vec(vec![in alloc; 7u8; length as usize]?),
         },
         Add::Marks(count) => Change::Marks { part, at, count },
         Add::Nothing => Change::Erase { part, at },
