@@ -15,5 +15,3 @@ mod openings;
 mod staged;
 #[cfg(test)]
 mod steps;
-#[cfg(test)]
-mod system;
