@@ -22,7 +22,7 @@ fn longest_command(alloc: Global, spaces: usize) -> Result<Vec<u8>, AllocError> 
 fn the_longest_command(rt: HostRuntime) -> Result<(), Fail> {
     // 2,200,000 bytes, which are taken whole, whatever a drive replies, also by many reads and writes; one byte more.
     let script = longest_command(rt.alloc(), 1)?;
-    assert_equal!(rt; script.len(), 2_200_001);
+    assert_eq!(rt; script.len(), 2_200_001);
     let mut wanted = joined(rt.alloc(), &["GOOD 010100"])?;
     wanted.extend_from_slice(&script.as_slice()[8..])?;
     for (piece, taken) in [(usize::MAX, usize::MAX), (1_000, 17)] {
