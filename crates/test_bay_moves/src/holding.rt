@@ -53,6 +53,7 @@ fn are_drives(rt: &impl Abort, drives: &[Option<Bay<Once>>], wanted: [bool; 2]) 
 
 fn is_shown(rt: &impl Abort, alloc: Global, held: &mut Held<Once>) -> Result<(), Fail> {
     are_held(rt, held.inventory().slots, &[(0, FIRST)]);
+    assert_holds!(rt; held.slot(1001).is_some() && held.slot(1002).is_none());
     are_drives(rt, held.inventory().drives, [false, false]);
     place(held, 1256, cartridge(alloc, b"T00002L6", NEVER)?)?;
     are_held(rt, held.inventory().slots, &[(0, FIRST), (255, SECOND)]);
@@ -64,8 +65,11 @@ fn is_shown(rt: &impl Abort, alloc: Global, held: &mut Held<Once>) -> Result<(),
     Ok(())
 }
 
+fn may_go_to_another_thread<H: Send>() {}
+
 #[test]
 fn each_slot_and_each_drive_is_shown(rt: HostRuntime) -> Result<(), Fail> {
+    may_go_to_another_thread::<Held<Once>>();
     let mut held = library(rt.alloc(), NEVER)?;
     let shown = is_shown(&rt, rt.alloc(), &mut held);
     drop(held);

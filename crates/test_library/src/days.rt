@@ -204,3 +204,17 @@ pub fn are_all_there(rt: &impl Abort, finished: &Finished<TestDisk>, most: usize
     }
     assert_equal!(rt; finished.slots.inventory().len(), 256);
 }
+
+/// Sixteen drives are returned, each with the cartridge of its number.
+pub fn are_in_their_places(rt: &impl Abort, finished: &Finished<TestDisk>) {
+    let mut last = 0usize;
+    for bay in finished.bays.iter().flatten() {
+        last = last.saturating_add(1);
+        let number = match bay.drive().medium() {
+            Some(medium) => number_of(medium),
+            None => 0,
+        };
+        assert_equal!(rt; number, last);
+    }
+    assert_equal!(rt; last, 16);
+}

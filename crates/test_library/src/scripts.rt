@@ -1,6 +1,6 @@
 //! Scripts over a library: the hosts of a phase run side by side, and flushers beside them, from the first phase to the
 //! last; and where a script ends.
-use crate::days::{are_all_there, has_ended};
+use crate::days::{are_all_there, are_in_their_places, has_ended};
 use crate::samples::{First, NEVER, Sample, TestDisk, make_sample};
 use crate::stages::{ARMED, FREED, HELD, LATE, Stage, StageGate, Stands};
 use library::{Finished, Gate, RingRow};
@@ -116,7 +116,7 @@ fn meet<R: Threads + Wait + Abort + Clock + Sync>(
         }
     }
     stage.add(ARMED, u64::from(lines));
-    writes(
+    let finished = writes(
         rt,
         alloc,
         &stage,
@@ -126,6 +126,7 @@ fn meet<R: Threads + Wait + Abort + Clock + Sync>(
         wanted.as_str(),
     )?;
     assert_equal!(rt; stage.value(FREED), u64::from(lines));
+    are_in_their_places(rt, &finished);
     Ok(())
 }
 

@@ -31,6 +31,7 @@ const DATA: &str = "4278190080 bytes of data";
 
 // A header, what is refused of it, the byte, and what is allowed.
 static REFUSED: &'static [(Head, &'static str, u64, &'static str)] = &[
+    ((0, 1, 1, 0, 0, 0), "kind 0", 0, KINDS),
     ((4, 1, 1, 0, 0, 0), "kind 4", 0, KINDS),
     ((1, 65, 1, 0, 0, 0), "host 65", 1, HOSTS),
     ((2, 1, 0, 8, 0, 0), "host 1", 1, HOSTS),

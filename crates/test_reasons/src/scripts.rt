@@ -44,6 +44,8 @@ const MOVE: &str = "move FROM TO, each a number of 1 to 5 digits";
 
 const ODD: &str = "an odd number of hexadecimal digits, 000";
 
+const ODD_DATA: &str = "an odd number of hexadecimal digits, f";
+
 const TAB: &str = "HOST is 1?1 (? is no printable ASCII character)";
 
 const DELETE: &str = "DRIVE is ? (? is no printable ASCII character)";
@@ -67,6 +69,7 @@ static COMMANDS: &'static [Row] = &[
     // what is shown begins at the first byte that is no digit
     (b"1 1 1000O0100", "no hexadecimal digits, O0100", 9, HEX),
     (b"1 1 00 0a g0", "a field too many, g0", 11, LINE),
+    (b"1 1 00 f", ODD_DATA, 8, HEX),
     (b"1 1 00 zz", "no hexadecimal digits, zz", 8, HEX),
     (b"1\t1 00", TAB, 1, HOSTS),
     // at the limits of what is printed

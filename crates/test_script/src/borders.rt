@@ -20,14 +20,21 @@ fn longest_command(alloc: Global, spaces: usize) -> Result<Vec<u8>, AllocError> 
 
 #[test]
 fn the_longest_command(rt: HostRuntime) -> Result<(), Fail> {
-    // 2,200,000 bytes, which are taken whole, whatever a drive replies; and one byte more.
+    // 2,200,000 bytes, which are taken whole, whatever a drive replies, also by many reads and writes; one byte more.
     let script = longest_command(rt.alloc(), 1)?;
     assert_eq!(rt; script.len(), 2_200_001);
-    let outcome = answered(rt.alloc(), script.as_slice(), Plan::whole());
-    assert_equal!(rt; outcome.end, DONE);
     let mut wanted = joined(rt.alloc(), &["GOOD 010100"])?;
     wanted.extend_from_slice(&script.as_slice()[8..])?;
-    assert_holds!(rt; outcome.text.as_slice() == wanted.as_slice());
+    for (piece, taken) in [(usize::MAX, usize::MAX), (1_000, 17)] {
+        let plan = Plan {
+            piece,
+            taken,
+            ..Plan::whole()
+        };
+        let outcome = answered(rt.alloc(), script.as_slice(), plan);
+        assert_equal!(rt; outcome.end, DONE; piece);
+        assert_holds!(rt; outcome.text.as_slice() == wanted.as_slice(); piece);
+    }
     let script = longest_command(rt.alloc(), 2)?;
     let outcome = answered(rt.alloc(), script.as_slice(), Plan::whole());
     assert_equal!(rt; (outcome.end, outcome.text.len()), (BAD_1, 0));

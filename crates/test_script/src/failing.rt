@@ -32,13 +32,8 @@ fn reads_that_fail(rt: HostRuntime) {
         for call in 1..reads.saturating_add(1) {
             for &kind in FAULTS {
                 let failed = answered(rt.alloc(), TWO_PHASES, Plan::read(piece, call, kind, 1));
-                ends(
-                    &rt,
-                    &failed,
-                    if call > first { 22 } else { 0 },
-                    READ_FAULT,
-                    call,
-                );
+                let count = if call > first { 22 } else { 0 };
+                ends(&rt, &failed, count, READ_FAULT, call);
                 assert_equal!(rt; failed.reads, call; (call, reads));
             }
             // A read is made again however often it is interrupted.
@@ -73,11 +68,8 @@ fn fails_at(rt: &impl Abort, alloc: Global, taken: usize, call: u32, count: usiz
     // bytes repeats its own writes.
     let is_flush = count == next;
     for times in [1, 40] {
-        let interrupted = answered(
-            alloc,
-            TWO_PHASES,
-            Plan::write(taken, call, Interrupted, times),
-        );
+        let plan = Plan::write(taken, call, Interrupted, times);
+        let interrupted = answered(alloc, TWO_PHASES, plan);
         if is_flush {
             ends(rt, &interrupted, count, WRITE_FAULT, call);
         } else {
@@ -99,13 +91,8 @@ fn writes_that_fail(rt: HostRuntime) {
             None => 0,
         };
         let whole = answered(rt.alloc(), TWO_PHASES, Plan::write(taken, 100, Other, 1));
-        ends(
-            &rt,
-            &whole,
-            last,
-            if taken == 0 { WRITE_FAULT } else { DONE },
-            0,
-        );
+        let end = if taken == 0 { WRITE_FAULT } else { DONE };
+        ends(&rt, &whole, last, end, 0);
     }
 }
 
@@ -123,5 +110,6 @@ fn a_move_behind_a_write_that_fails(rt: HostRuntime) {
         let failed = answered(rt.alloc(), b"1 1 00\nmove 1001 1\n", plan);
         assert_equal!(rt; (failed.end, failed.items), (WRITE_FAULT, items); call);
         assert_equal!(rt; failed.text.as_slice(), &MOVED[..count.min(MOVED.len())]; call);
+        assert_holds!(rt; !failed.read_early; call);
     }
 }

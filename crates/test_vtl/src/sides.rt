@@ -1,10 +1,10 @@
-//! The lines of sides over a disk that fails.
+//! The lines of sides over a disk that fails, and of a side of which a byte has any value.
 use check_lines::checking::check_side;
 use check_lines::reading::{ReportsRead, Unreported};
 use std::cell::Cell;
 use std::test::Fail;
 use tape_disk::{MemDisk, OnceDisk};
-use test_assertions::assert_equal;
+use test_assertions::{assert_equal, assert_holds};
 use vtl_faults::faults::VtlFault;
 
 // A cartridge `T00001L6` of one partition of 4,096 bytes, with two frames, whose gates are at 35, 55 and 70:
@@ -90,6 +90,26 @@ fn a_disk_that_fails(rt: HostRuntime) -> Result<(), Fail> {
                 NOTHING
             };
             assert_equal!(rt; (reported.last.get(), reported.count.get()), told; calls);
+        }
+    }
+    Ok(())
+}
+
+// The contract says which lines there are of bytes in memory, unless there are none.
+#[test]
+fn each_byte_with_each_value(rt: HostRuntime) -> Result<(), Fail> {
+    let alloc = rt.alloc();
+    for side in [SIDE.as_slice(), STORE.as_slice()] {
+        for place in 0..side.len() {
+            for value in 0..=255u8 {
+                let mut bytes = Vec::new(alloc);
+                for (at, byte) in side.iter().enumerate() {
+                    bytes.push(if at == place { value } else { *byte })?;
+                }
+                let disk = MemDisk::from_bytes(alloc, bytes.as_slice())?;
+                let checked = check_side(alloc, disk, MemDisk::new(alloc), None::<&Unreported>);
+                assert_holds!(rt; checked.lines.is_ok(); (value, place));
+            }
         }
     }
     Ok(())

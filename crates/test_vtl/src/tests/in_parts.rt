@@ -1,4 +1,4 @@
-//! The line of a fault over writers that take parts, or fail at a call: what is out, and what is reported.
+//! A text and the line of a fault over writers that take parts, or fail at a call: what is out, and what is reported.
 use super::streams::{ALL, BAD, Errors, PartWriter};
 use std::io::ErrorKind;
 use std::process::Abort;
@@ -6,6 +6,7 @@ use test_assertions::assert_equal;
 use vtl_faults::endings::{Ended, end};
 use vtl_faults::faults::VtlFault;
 use vtl_faults::faults::VtlFault::{Config, Device, Frame, NoMemory, Script, Words};
+use vtl_files::writing::print_text;
 
 const INTERRUPTED: Option<ErrorKind> = Some(ErrorKind::Interrupted);
 
@@ -53,5 +54,26 @@ fn a_line_is_taken_in_parts(rt: HostRuntime) {
     for (at, taken) in LINES.iter().enumerate() {
         let mut writer = PartWriter::new(rt.alloc(), taken.1, taken.2);
         is_taken(&rt, &mut writer, taken, at);
+    }
+}
+
+// How many bytes a writer takes at once, and the results of its first calls; what is then out of `abcdef`, and what is
+// returned.
+static TEXTS: &'static [(usize, Errors<'static>, &'static [u8], Result<(), VtlFault>)] = &[
+    (1, &[], b"abcdef", Ok(())),
+    (4, &[None, INTERRUPTED], b"abcdef", Ok(())),
+    (4, &[INTERRUPTED, INTERRUPTED], b"abcdef", Ok(())),
+    (4, &[None, BAD], b"abcd", Err(Device)),
+    (0, &[], b"", Err(Device)),
+    // The flush behind it fails.
+    (ALL, &[None, BAD], b"abcdef", Err(Device)),
+];
+
+#[test]
+fn a_text_is_written_in_parts(rt: HostRuntime) {
+    for (at, &(most, errors, text, wanted)) in TEXTS.iter().enumerate() {
+        let mut writer = PartWriter::new(rt.alloc(), most, errors);
+        assert_equal!(rt; print_text(&mut writer, b"abcdef"), wanted; at);
+        assert_equal!(rt; writer.text(), text; at);
     }
 }

@@ -21,6 +21,10 @@ const BOTH: &str = "CHECK 700006000000000a00000000290000000000\nGOOD\n";
 // A call that is made again.
 const AGAIN: Option<ErrorKind> = Some(ErrorKind::Interrupted);
 
+const READ: &str = "read, of standard input";
+
+const WRITE: &str = "write, of standard output";
+
 // How a stream behaves, what is on standard output, and what the call that failed was answered, if one did.
 type End<'a> = (Parts<'a>, &'a str, &'a str);
 
@@ -88,14 +92,7 @@ fn what_standard_input_answered_is_reported(rt: HostRuntime) -> Result<(), Fail>
     let alloc = rt.alloc();
     for (at, &(parts, output, answer)) in INPUTS.iter().enumerate() {
         let streams = (SCRIPT, parts, WHOLE, WHOLE, WHOLE);
-        each_has_ended(
-            &rt,
-            alloc,
-            streams,
-            "read, of standard input",
-            (output, answer),
-            at,
-        )?;
+        each_has_ended(&rt, alloc, streams, READ, (output, answer), at)?;
     }
     Ok(())
 }
@@ -105,14 +102,7 @@ fn what_standard_output_answered_is_reported(rt: HostRuntime) -> Result<(), Fail
     let alloc = rt.alloc();
     for (at, &(parts, output, answer)) in OUTPUTS.iter().enumerate() {
         let streams = (SCRIPT, WHOLE, parts, WHOLE, WHOLE);
-        each_has_ended(
-            &rt,
-            alloc,
-            streams,
-            "write, of standard output",
-            (output, answer),
-            at,
-        )?;
+        each_has_ended(&rt, alloc, streams, WRITE, (output, answer), at)?;
     }
     Ok(())
 }
