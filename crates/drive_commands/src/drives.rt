@@ -12,6 +12,7 @@ ghost use Rattle.drive_commands.specs.Media.{TakesTurn, TakesIn, InsertSteps, Lo
 mod alone;
 pub mod apart;
 mod lending;
+mod lifting;
 mod loading;
 mod looking;
 mod modes;
