@@ -8,12 +8,12 @@ ghost use Rattle.bay_moves.specs.Reservations.{IsHolding};
 use crate::bays::{Bay, known};
 use aptpl_store::AptplStore;
 use drive_commands::Drive;
-use tape_buffer::Cataloged;
+use tape_buffer::Buffered;
 use tape_disk::Disk;
 
 impl<D: Disk> Bay<D> {
     /// Returns the drive. The bay's invariant still holds for its cartridge and its store.
-    pub fn into_drive(self) -> Drive<Cataloged<D>, AptplStore<D>>
+    pub fn into_drive(self) -> Drive<Buffered<D>, AptplStore<D>>
         ensures same { result ≡ self }
         ensures keeps { KeepsBoth D.state self }
     {
@@ -23,7 +23,7 @@ impl<D: Disk> Bay<D> {
     /// Makes a bay of `drive`, a drive over a cartridge and a store. Its reservations must agree with the store
     /// (`IsHolding`): a loss of power must leave the same of the state that was saved last as of the reservations that
     /// the drive holds.
-    pub fn of_drive(drive: Drive<Cataloged<D>, AptplStore<D>>) -> Bay<D>
+    pub fn of_drive(drive: Drive<Buffered<D>, AptplStore<D>>) -> Bay<D>
         requires { IsHolding (state_of D.state) (buffer_below D.state) D.state drive }
         ensures { result ≡ drive }
     {

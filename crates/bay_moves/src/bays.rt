@@ -25,7 +25,7 @@ use pr_core::Reservations;
 use scsi_sense::Reply;
 use std::alloc::Global;
 use std::marker::Model;
-use tape_buffer::Cataloged;
+use tape_buffer::Buffered;
 use tape_disk::Disk;
 use volume_core::{Medium, Turn};
 use vtl_base::{Bytes, Nexus, NoMemory};
@@ -44,7 +44,7 @@ pub struct NotOn<D: Disk> {
 /// invariant says what a stop may leave of the cartridge and of the store.
 #[derive(Drop)]
 pub struct Bay<D: Disk> {
-    pub(crate) drive: Drive<Cataloged<D>, AptplStore<D>>,
+    pub(crate) drive: Drive<Buffered<D>, AptplStore<D>>,
 }
 
 impl<D: Disk> Model for Bay<D> {
@@ -71,7 +71,7 @@ impl<D: Disk> Accepting for Bay<D> {
 }
 
 // Establishes, for proofs, the invariant of the cartridge in a drive, if there is one.
-pub(crate) fn known<D: Disk>(drive: &Drive<Cataloged<D>, AptplStore<D>>)
+pub(crate) fn known<D: Disk>(drive: &Drive<Buffered<D>, AptplStore<D>>)
     ensures { KeepsCartridgeIn D.state (medium_in drive.now.bay) }
 {
     if let Some(medium) = drive.medium() {
@@ -80,7 +80,7 @@ pub(crate) fn known<D: Disk>(drive: &Drive<Cataloged<D>, AptplStore<D>>)
 }
 
 // The medium of a closed cartridge, if there is one.
-fn medium_of<D: Disk>(cartridge: Option<Parked<D>>) -> Option<Cataloged<D>>
+fn medium_of<D: Disk>(cartridge: Option<Parked<D>>) -> Option<Buffered<D>>
     ensures same { result ≡ cartridge }
     ensures parked { IfSome result (λ medium. (state_of D.state medium).awake ≡ false) }
     ensures keeps { KeepsCartridgeIn D.state result }
@@ -115,7 +115,7 @@ impl<D: Disk> Bay<D> {
             EveryMomentOff D.state cartridge store not.cartridge not.store) }
     {
         // The law, and the facts of store and reservations, for the proof alone.
-        reservations_outlive_each_stop::<Cataloged<D>, D>();
+        reservations_outlive_each_stop::<Buffered<D>, D>();
         store.known();
         let _ = reservations.state();
         match Drive::power_on(alloc, store, reservations, medium_of(cartridge)) {
@@ -153,7 +153,7 @@ impl<D: Disk> Bay<D> {
             → IsSafeIn D.state (medium_in self.new.bay) }
     {
         // The law, and the facts of what is in the drive, for the proof alone.
-        reservations_outlive_each_stop::<Cataloged<D>, D>();
+        reservations_outlive_each_stop::<Buffered<D>, D>();
         let reply = self.drive.execute(nexus, cdb, sent);
         known(&self.drive);
         let _ = self.drive.medium();
@@ -179,7 +179,7 @@ impl<D: Disk> Bay<D> {
             → Acknowledges result → HonestIn (buffer_below D.state) (medium_in self.old.bay)
             → IsSafeIn D.state (medium_in self.new.bay) }
     {
-        reservations_outlive_each_stop::<Cataloged<D>, D>();
+        reservations_outlive_each_stop::<Buffered<D>, D>();
         let reply = self.drive.execute_lent(nexus, cdb, sent);
         known(&self.drive);
         let _ = self.drive.medium();
@@ -193,7 +193,7 @@ impl<D: Disk> Bay<D> {
         ensures moments { EveryMoment D.state self.old FlushTurn made_nothing (medium_in self.old.bay)
             (medium_in self.new.bay) self.new }
     {
-        reservations_outlive_each_stop::<Cataloged<D>, D>();
+        reservations_outlive_each_stop::<Buffered<D>, D>();
         let turn = self.drive.turn();
         known(&self.drive);
         turn
@@ -208,7 +208,7 @@ impl<D: Disk> Bay<D> {
         ensures moments { EveryMoment D.state self.old (Load (state_of D.state cartridge)) made_nothing
             (Some cartridge) (loaded_or_back D.state result self.new) self.new }
     {
-        reservations_outlive_each_stop::<Cataloged<D>, D>();
+        reservations_outlive_each_stop::<Buffered<D>, D>();
         let medium = cartridge.into_medium();
         let loaded = self.drive.load(medium);
         known(&self.drive);
@@ -226,7 +226,7 @@ impl<D: Disk> Bay<D> {
         ensures moments { EveryMoment D.state self.old (Insert (state_of D.state cartridge)) made_nothing
             (Some cartridge) (medium_in self.new.bay) self.new }
     {
-        reservations_outlive_each_stop::<Cataloged<D>, D>();
+        reservations_outlive_each_stop::<Buffered<D>, D>();
         let medium = cartridge.into_medium();
         self.drive.insert(medium);
         known(&self.drive);
@@ -241,7 +241,7 @@ impl<D: Disk> Bay<D> {
         ensures moments { EveryMoment D.state self.old Unload made_nothing (medium_in self.old.bay)
             (out_or_in D.state result self.new) self.new }
     {
-        reservations_outlive_each_stop::<Cataloged<D>, D>();
+        reservations_outlive_each_stop::<Buffered<D>, D>();
         // Read for the proof: a loaded medium is awake.
         let _ = self.drive.medium();
         let out = self.drive.unload();
@@ -286,12 +286,12 @@ impl<D: Disk> Bay<D> {
         // A loaded medium is awake, and the position is on it. A medium that is not loaded is parked.
         ensures positioned { IsBayPositioned (state_of D.state) self.now.bay self.now.position }
     {
-        reservations_outlive_each_stop::<Cataloged<D>, D>();
+        reservations_outlive_each_stop::<Buffered<D>, D>();
         let _ = self.drive.medium();
     }
 
     /// The drive, for reading.
-    pub fn drive(&self) -> &Drive<Cataloged<D>, AptplStore<D>>
+    pub fn drive(&self) -> &Drive<Buffered<D>, AptplStore<D>>
         ensures { result.now ≡ self.now }
     {
         &self.drive

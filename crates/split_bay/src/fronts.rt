@@ -21,7 +21,7 @@ use bay_moves::laws::reservations::reservations_outlive_each_stop;
 use drive_commands::Drive;
 use scsi_sense::Reply;
 use std::marker::Model;
-use tape_buffer::Cataloged;
+use tape_buffer::Buffered;
 use tape_disk::Disk;
 use vtl_base::{Bytes, Nexus};
 
@@ -29,7 +29,7 @@ use vtl_base::{Bytes, Nexus};
 /// has the sending end of the ring; where the drive is empty, this half itself has it.
 #[derive(Drop)]
 pub struct Front<D: Disk, R: Rings> {
-    pub(crate) drive: Drive<Hosts<Near<R>, Cataloged<D>>, AptplStore<D>>,
+    pub(crate) drive: Drive<Hosts<Near<R>, Buffered<D>>, AptplStore<D>>,
     pub(crate) end: Option<Sending<R>>,
 }
 
@@ -62,7 +62,7 @@ impl<D: Disk, R: Rings> Front<D, R> {
         ensures moments { LeavesOrders D.state self.old.drive (asked nexus cdb.now sent.old) result self.new.drive }
     {
         // The law, for the proof alone.
-        reservations_outlive_each_stop::<Hosts<Near<R>, Cataloged<D>>, D>();
+        reservations_outlive_each_stop::<Hosts<Near<R>, Buffered<D>>, D>();
         self.drive.execute_alone(nexus, cdb, sent)
     }
 
@@ -142,7 +142,7 @@ impl<D: Disk, R: Rings> Front<D, R> {
         ensures keeps { KeepsHostsHalf D.state self.now }
         ensures opens { GivesOrders D.state self.now.drive }
     {
-        reservations_outlive_each_stop::<Hosts<Near<R>, Cataloged<D>>, D>();
+        reservations_outlive_each_stop::<Hosts<Near<R>, Buffered<D>>, D>();
         self.known_end();
         // Read for the proof: the facts are the type's invariant.
         let _ = self.drive.medium();

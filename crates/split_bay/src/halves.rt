@@ -25,7 +25,7 @@ use bay_moves::Bay;
 use drive_commands::{Bay as Place, Drive, Rest};
 use pr_core::Keeper;
 use scsi_sense::Reply;
-use tape_buffer::{Cataloged, Lent};
+use tape_buffer::{Buffered, Lent};
 use tape_disk::Disk;
 use volume_core::Medium;
 use vtl_base::{Bytes, Nexus};
@@ -117,7 +117,7 @@ fn rest_after<K: Keeper>(rest: Rest<K>, fails: bool) -> Rest<K>
 
 // The content of a drive, put together from its halves.
 struct JoinedBay<D: Disk, R: Rings> {
-    bay: Place<Cataloged<D>>,
+    bay: Place<Buffered<D>>,
     ends: Ends<R>,
     // Whether its device has failed, and the fault was not reported.
     fails: bool,
@@ -226,7 +226,7 @@ fn join_there<D: Disk, R: Rings>(
 }
 
 // Splits the content of a drive into its halves.
-fn part_bay<D: Disk, R: Rings>(bay: Place<Cataloged<D>>, ends: Ends<R>) -> PartedBay<D, R>
+fn part_bay<D: Disk, R: Rings>(bay: Place<Buffered<D>>, ends: Ends<R>) -> PartedBay<D, R>
     ensures { PartsBay D.state bay ends result.bay result.end result.back }
 {
     match bay {

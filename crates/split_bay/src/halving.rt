@@ -2,7 +2,6 @@
 ghost use Rattle.std.specs.Prelude.{◌≡◌, ◌≤◌, ◌⊎◌, ◌&&◌, None, length, not};
 ghost use Rattle.vtl_base.specs.declared.limits.TheConstants.{BUFFER_RECORDS};
 ghost use Rattle.cartridge.specs.Shown.{HasEntriesIn, IsGrownIn};
-ghost use Rattle.tape_buffer.specs.Catalogs.{IsCataloged};
 ghost use Rattle.tape_buffer.specs.State.{state_of};
 ghost use Rattle.split_bay.specs.Backs.{FollowsSpan};
 ghost use Rattle.split_bay.specs.Halving.{BeginsNext, JoinsMedium, PartsMedium};
@@ -20,7 +19,7 @@ use crate::taking::take_known;
 use cartridge::shown::reserve_shown;
 use object_index::Index;
 use std::marker::Model;
-use tape_buffer::{Budget, Buffered, Cataloged, Lent};
+use tape_buffer::{Budget, Buffered, Lent};
 use tape_disk::Disk;
 use volume_core::Medium;
 use vtl_base::limits::BUFFER_RECORDS;
@@ -58,7 +57,7 @@ impl<R: Rings> Ends<R> {
 /// A medium, joined from its halves.
 pub(crate) struct Joined<D: Disk, R: Rings> {
     /// The medium.
-    pub(crate) medium: Cataloged<D>,
+    pub(crate) medium: Buffered<D>,
     /// Both ends of the ring.
     pub(crate) ends: Ends<R>,
     /// Whether the device has failed, and the fault was not reported.
@@ -93,7 +92,7 @@ pub(crate) fn join_medium<D: Disk, R: Rings>(
     look_both(&mut sending, &mut receiving);
     take_known(&mut receiving, &mut medium);
     let fails = medium.is_awake() && medium.has_failed() && !failed;
-    let medium = Cataloged::of_halves(medium.into_buffered(), catalog);
+    let medium = medium.into_buffered(catalog);
     let ends = Ends { sending, receiving };
     Joined {
         medium,
@@ -119,14 +118,13 @@ pub(crate) fn join_ends<R: Rings>(sending: Sending<R>, receiving: Receiving<R>) 
 /// Splits a medium into its halves, and begins a span. Where memory for the catalog runs out, no change may be sent in
 /// the span.
 pub(crate) fn part_medium<D: Disk, R: Rings>(
-    medium: Cataloged<D>,
+    medium: Buffered<D>,
     ends: Ends<R>,
 ) -> (Near<R>, Back<D, R>)
     ensures { PartsMedium D.state ends medium result.0 result.1 }
 {
-    let (buffered, catalog) = medium.into_halves();
-    let (failed, waiting) = seen_of(&buffered, &catalog);
-    let lent = buffered.lend();
+    let (failed, waiting) = seen_of(&medium);
+    let (lent, catalog) = medium.lend();
     let (catalog, left) = allow(catalog, lent.left());
     let Ends {
         mut sending,
@@ -169,16 +167,16 @@ pub(crate) fn part_ends<D: Disk, R: Rings>(ends: Ends<R>) -> (Sending<R>, Back<D
 }
 
 // Whether a medium has failed, and how many changes are pending in it: none where it is not awake.
-fn seen_of<D: Disk>(buffered: &Buffered<D>, catalog: &Option<Index>) -> (bool, usize)
-    requires { IsCataloged D.state buffered.now catalog.now }
-    ensures failed { result.0 ≡ (state_of D.state buffered.now).failed }
-    ensures waiting { result.1 ≡ length (state_of D.state buffered.now).pending }
+fn seen_of<D: Disk>(medium: &Buffered<D>) -> (bool, usize)
+    ensures failed { result.0 ≡ (state_of D.state medium.now).failed }
+    ensures waiting { result.1 ≡ length (state_of D.state medium.now).pending }
     ensures few { result.1 ≤ BUFFER_RECORDS }
 {
-    buffered.known();
-    match catalog {
-        Some(_) => (buffered.has_failed(), buffered.pending()),
-        None => (false, 0),
+    medium.known();
+    if medium.is_awake() {
+        (medium.has_failed(), medium.pending())
+    } else {
+        (false, 0)
     }
 }
 

@@ -9,7 +9,7 @@ use crate::hosts::Hosts;
 use crate::near::Near;
 use aptpl_store::AptplStore;
 use drive_theorems::replies_show_changes;
-use tape_buffer::Cataloged;
+use tape_buffer::Buffered;
 use tape_disk::Disk;
 
 /// A reply of the hosts' half shows how many changes this half accepted in the command, as
@@ -17,7 +17,7 @@ use tape_disk::Disk;
 pub fn replies_show_changes_alone<D: Disk, R: Rings>()
     ensures { RepliesShowChanges state_near near_below store_kept (store_below D.state) }
 {
-    replies_show_changes::<Hosts<Near<R>, Cataloged<D>>, AptplStore<D>>();
+    replies_show_changes::<Hosts<Near<R>, Buffered<D>>, AptplStore<D>>();
 }
 
 /// Once both halves are held, a drive with a loaded and awake medium is found as if it had taken one flusher's turn, as

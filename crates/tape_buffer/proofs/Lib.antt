@@ -1,5 +1,6 @@
 mod TwoLemmas
 mod AddingLemmas
+mod ChangeLemmas
 mod ClosingLemmas
 mod CoreLemmas
 mod FetchingLemmas
@@ -8,7 +9,9 @@ mod HeldLemmas
 mod LentLemmas
 mod MediumLemmas
 mod OpeningLemmas
+mod PendingLemmas
 mod ReclaimingLemmas
 mod RoomLemmas
-mod SeenLemmas
+mod SeekingLemmas
+mod VolumeLemmas
 mod WakingLemmas

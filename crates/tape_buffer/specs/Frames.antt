@@ -8,7 +8,7 @@ use Rattle.volume_core.specs.declared.media.Turn.TheVariants.{Idle, Stored, Devi
 use Rattle.cartridge.specs.State.{ClosedCartridge, OpenCartridge}
 use Rattle.tape_buffer.specs.declared.holding.Holding.{Holding}
 use Rattle.tape_buffer.specs.declared.holding.Holding.TheVariants.{Open, Closed, Between}
-use Rattle.waiting_changes.specs.Limits.{FitsBuffer}
+use Rattle.tape_buffer.specs.Limits.{FitsBuffer}
 use Rattle.tape_buffer.specs.State.{BufferState}
 
 -- the frames of a cartridge that is held, each the changes that it spells; of a closed one those that are known (own)

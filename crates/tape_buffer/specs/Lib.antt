@@ -2,6 +2,7 @@ pub mod Catalogs
 pub mod Frames
 pub mod Inner
 pub mod Invariants
+pub mod Limits
 pub mod Moves
 pub mod Reclaiming
 pub mod Rules

@@ -5,56 +5,45 @@ ghost use Rattle.volume_core.specs.Volume.{Part, refusal_of};
 ghost use Rattle.volume_core.specs.Medium.{Turns, turn_met_fault, volume_of};
 ghost use Rattle.volume_core.specs.Stores.{Stores};
 ghost use Rattle.accepted_changes.specs.Core.{IsCore};
+ghost use Rattle.tape_buffer.specs.Catalogs.{IsCataloged};
 ghost use Rattle.tape_buffer.specs.Frames.{IsOneFrameIn, frames_in};
-ghost use Rattle.waiting_changes.specs.Limits.{FitsBuffer};
+ghost use Rattle.tape_buffer.specs.Limits.{FitsBuffer};
 ghost use Rattle.tape_buffer.specs.Moves.{IsSafeOrPending, ShowsOn, StoresBehind, buffer_below, medium_core};
 ghost use Rattle.tape_buffer.specs.State.{IsSettledIn, disk_in, disks_in, state_of};
 ghost use Rattle.tape_buffer.specs.Taking.{KeepsBudget, budget_after};
 
 use crate::budgets::Budget;
 use crate::buffered::Buffered;
-use crate::holding::Holding;
-use crate::lending::{take_over, turn_lent};
-use cartridge::Cartridge;
+use crate::holding::{Holding, Opened, disk_of, is_open, known_in};
+use crate::lending::take_over;
+use crate::storing::turn_over;
+use cartridge::Shelved;
+use object_index::Index;
 use std::alloc::Global;
 use std::marker::Model;
 use tape_disk::Disk;
-use volume_core::{Change, Medium, Turn};
-use waiting_changes::loose::Loose;
+use volume_core::{Change, Turn};
 
 /// A medium that is lent. Within its budget it accepts changes without allocating memory and without calling its
 /// device. A flusher's turn stores all that is pending, as one frame. Until the medium is returned (`into_buffered`),
 /// it shows nothing of its volume and reads no block.
 #[derive(Drop)]
 pub struct Lent<D: Disk> {
-    pub(crate) lending: Lending<D>,
+    pub(crate) alloc: Global,
+    pub(crate) held: Holding<Opened<D>, Shelved<D>>,
     pub(crate) left: Budget,
 }
 
-// An open cartridge that accepts changes; or a medium that accepts none.
-#[derive(Drop)]
-pub(crate) enum Lending<D: Disk> {
-    Taking(Taking<D>),
-    Resting(Buffered<D>),
-}
-
-// An open cartridge, and what is pending over it.
-#[derive(Drop)]
-pub(crate) struct Taking<D: Disk> {
-    pub(crate) alloc: Global,
-    pub(crate) cartridge: Cartridge<D>,
-    pub(crate) loose: Loose,
-}
-
 impl<D: Disk> Model for Lent<D> {
-    ghost use Rattle.tape_buffer.specs.Inner.Lending.{MayBeLent, buffer_lent};
+    ghost use Rattle.tape_buffer.specs.Inner.Lending.{MayBeLent};
+    ghost use Rattle.tape_buffer.specs.Invariants.{buffer_of};
     ghost use Rattle.tape_buffer.specs.Taking.{LentState};
 
     ghost Value = { LentState D };
 
-    ghost view = { λ l. record { buffer = buffer_lent l.lending; left = l.left } };
+    ghost view = { λ l. record { buffer = buffer_of l.held; left = l.left } };
 
-    ghost invariant = { λ l. MayBeLent l.lending l.left };
+    ghost invariant = { λ l. MayBeLent l.held l.left };
 }
 
 impl<D: Disk> Lent<D> {
@@ -83,11 +72,11 @@ impl<D: Disk> Lent<D> {
             Advances (buffer_below D.state) self.old.buffer (change ∷ []) false self.new.buffer }
     {
         let left = self.left;
-        match &mut self.lending {
-            Lending::Taking(taking) => {
-                self.left = take_over(&taking.cartridge, &mut taking.loose, left, change);
+        match &mut self.held {
+            Holding::Open(opened) => {
+                self.left = take_over(&opened.cartridge, &mut opened.pending, left, change);
             }
-            Lending::Resting(_) => unreachable!(),
+            Holding::Closed(_) | Holding::Between => unreachable!(),
         }
     }
 
@@ -105,32 +94,23 @@ impl<D: Disk> Lent<D> {
             self.new.buffer }
         ensures behind { StoresBehind D.state self.old.buffer self.new.buffer }
     {
-        match &mut self.lending {
-            Lending::Taking(taking) => turn_lent(&mut taking.cartridge, &mut taking.loose),
-            Lending::Resting(buffered) => buffered.flush_turn(),
+        match &mut self.held {
+            Holding::Open(opened) => turn_over(&mut opened.cartridge, &mut opened.pending),
+            Holding::Closed(_) | Holding::Between => unreachable!(),
         }
     }
 
-    /// Returns the medium, in which all that was accepted and is not stored is pending. The call allocates no memory.
-    pub fn into_buffered(self) -> Buffered<D>
+    /// Returns the medium, in which all that was accepted and is not stored is pending. `catalog` must be that of the
+    /// volume that a caller sees; that of a parked medium must be None. The call allocates no memory.
+    pub fn into_buffered(self, catalog: Option<Index>) -> Buffered<D>
+        requires { IsCataloged D.state self.buffer catalog }
         ensures { result ≡ self.buffer }
     {
-        let Lent { lending, .. } = self;
-        match lending {
-            Lending::Taking(taking) => {
-                let Taking {
-                    alloc,
-                    cartridge,
-                    loose,
-                } = taking;
-                let pending = loose.into_pending(&cartridge);
-                Buffered {
-                    alloc,
-                    held: Holding::Open(cartridge),
-                    pending,
-                }
-            }
-            Lending::Resting(buffered) => buffered,
+        let Lent { alloc, held, .. } = self;
+        Buffered {
+            alloc,
+            catalog,
+            held,
         }
     }
 
@@ -138,10 +118,7 @@ impl<D: Disk> Lent<D> {
     pub fn is_awake(&self) -> bool
         ensures { result ≡ (state_of D.state self.now.buffer).awake }
     {
-        match &self.lending {
-            Lending::Taking(_) => true,
-            Lending::Resting(buffered) => buffered.is_awake(),
-        }
+        is_open(&self.held)
     }
 
     /// Whether the device has failed since the medium was opened. If so, nothing more is stored. The medium must be
@@ -150,9 +127,9 @@ impl<D: Disk> Lent<D> {
         requires { (state_of D.state self.now.buffer).awake ≡ true }
         ensures { result ≡ (state_of D.state self.now.buffer).failed }
     {
-        match &self.lending {
-            Lending::Taking(taking) => taking.cartridge.has_failed(),
-            Lending::Resting(buffered) => buffered.has_failed(),
+        match &self.held {
+            Holding::Open(opened) => opened.cartridge.has_failed(),
+            Holding::Closed(_) | Holding::Between => unreachable!(),
         }
     }
 
@@ -166,22 +143,13 @@ impl<D: Disk> Lent<D> {
             (volume : List Part) → (state_of D.state self.now.buffer).stored ≡ Some volume →
             ShowsOn D.state (disks_in self.now.buffer.held) (medium_core D.state self.now.buffer) }
     {
-        match &self.lending {
-            Lending::Taking(taking) => {
-                taking.loose.within();
-                taking.cartridge.known();
-            }
-            Lending::Resting(buffered) => buffered.known(),
-        }
+        known_in(&self.held);
     }
 
     /// For reading: the disk of the side that counts, or the first disk where the medium is parked.
     pub fn disk(&self) -> &D
         ensures { disk_in self.now.buffer.held ≡ Some result.now }
     {
-        match &self.lending {
-            Lending::Taking(taking) => taking.cartridge.disk(),
-            Lending::Resting(buffered) => buffered.disk(),
-        }
+        disk_of(&self.held)
     }
 }

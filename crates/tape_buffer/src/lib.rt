@@ -4,8 +4,6 @@
 mod adding;
 pub mod budgets;
 mod buffered;
-mod cataloged;
-mod cataloging;
 mod catalogs;
 mod closing;
 mod fetching;
@@ -13,14 +11,13 @@ pub mod holding;
 mod lending;
 pub mod lent;
 mod media;
+mod pending;
 mod reclaiming;
-mod seen;
+mod seeking;
 mod storing;
-mod waking;
 
 pub use budgets::Budget;
 pub use buffered::Buffered;
-pub use cataloged::Cataloged;
 pub use holding::Holding;
 pub use lent::Lent;
 pub use reclaiming::reclaim;

@@ -8,9 +8,9 @@ ghost use Rattle.tape_buffer.specs.State.{IsSettledIn, disks_in, state_of};
 ghost use Rattle.tape_buffer.specs.Frames.{AcceptsInFrames, IsOneFrame, IsOneFrameIn, ParksInFrames, frames_in};
 ghost use Rattle.tape_buffer.specs.Moves.{HonestOn, LeavesAlone, LeavesEachAlone, StoresBehind, buffer_below};
 
-use crate::adding::has_room_over;
+use crate::adding::{accept_over, has_room_over};
 use crate::buffered::Buffered;
-use crate::closing::park_over;
+use crate::closing::{park_over, wake_closed};
 use crate::fetching::fetch_over;
 use crate::holding::{Holding, hold};
 use crate::storing::{settle_over, turn_over};
@@ -44,14 +44,30 @@ impl<D: Disk> Medium for Buffered<D> {
         ensures advances { Advances (buffer_below D.state) self.old (accepted_by (accept_answer result) change)
             (met_fault (accept_answer result)) self.new }
     {
-        self.accept_if(change, true)
+        let Some(index) = &mut self.catalog else {
+            unreachable!()
+        };
+        match &mut self.held {
+            Holding::Open(opened) => accept_over(
+                index,
+                &mut opened.cartridge,
+                &mut opened.pending,
+                change,
+            ),
+            Holding::Closed(_) | Holding::Between => unreachable!(),
+        }
     }
 
     fn fetch(&mut self, part: PartNo, at: ObjNo, into: &mut Vec<u8>) -> Result<(), MediumError> {
         match &mut self.held {
-            Holding::Open(cartridge) => fetch_over(cartridge, &self.pending, part, at, into),
-            Holding::Closed(_) => unreachable!(),
-            Holding::Between => unreachable!(),
+            Holding::Open(opened) => fetch_over(
+                &mut opened.cartridge,
+                &opened.pending,
+                part,
+                at,
+                into,
+            ),
+            Holding::Closed(_) | Holding::Between => unreachable!(),
         }
     }
 
@@ -64,9 +80,8 @@ impl<D: Disk> Medium for Buffered<D> {
         ensures advances { Advances (buffer_below D.state) self.old [] (met_fault result) self.new }
     {
         match &mut self.held {
-            Holding::Open(cartridge) => settle_over(cartridge, &mut self.pending),
-            Holding::Closed(_) => unreachable!(),
-            Holding::Between => unreachable!(),
+            Holding::Open(opened) => settle_over(&mut opened.cartridge, &mut opened.pending),
+            Holding::Closed(_) | Holding::Between => unreachable!(),
         }
     }
 
@@ -80,9 +95,8 @@ impl<D: Disk> Medium for Buffered<D> {
         ensures behind { StoresBehind D.state self.old self.new }
     {
         match &mut self.held {
-            Holding::Open(cartridge) => turn_over(cartridge, &mut self.pending),
-            Holding::Closed(_) => unreachable!(),
-            Holding::Between => unreachable!(),
+            Holding::Open(opened) => turn_over(&mut opened.cartridge, &mut opened.pending),
+            Holding::Closed(_) | Holding::Between => unreachable!(),
         }
     }
 
@@ -98,9 +112,10 @@ impl<D: Disk> Medium for Buffered<D> {
         ensures advances { Advances (buffer_below D.state) self.old [] (met_fault result) self.new }
     {
         match mem::replace(&mut self.held, Holding::Between) {
-            Holding::Open(cartridge) => match park_over(cartridge, &mut self.pending) {
+            Holding::Open(opened) => match park_over(opened) {
                 Ok(shelved) => {
                     hold(&mut self.held, Holding::Closed(shelved));
+                    self.catalog = None;
                     Ok(())
                 }
                 Err(broken) => {
@@ -126,19 +141,35 @@ impl<D: Disk> Medium for Buffered<D> {
         ensures each { LeavesEachAlone D.state self.old self.new }
         ensures settled { IfErr result (λ error. error ≢ Errors.Device → IsSettledIn D.state self.new.held) }
     {
-        match self.wake_as(false) {
-            Ok(_) => Ok(()),
-            Err(error) => Err(error),
+        if let Holding::Open(opened) = &self.held {
+            if opened.cartridge.has_failed() {
+                return Err(MediumError::Failed);
+            }
+            return Ok(());
+        }
+        match mem::replace(&mut self.held, Holding::Between) {
+            Holding::Closed(shelved) => match wake_closed(self.alloc, shelved) {
+                Ok((opened, index)) => {
+                    hold(&mut self.held, Holding::Open(opened));
+                    self.catalog = Some(index);
+                    Ok(())
+                }
+                Err((error, shelved)) => {
+                    hold(&mut self.held, Holding::Closed(shelved));
+                    Err(error)
+                }
+            },
+            Holding::Open(_other) => unreachable!(),
+            Holding::Between => unreachable!(),
         }
     }
 
     fn has_room_for(&self, bytes: u32) -> bool {
         match &self.held {
-            Holding::Open(cartridge) => {
-                has_room_over(cartridge, &self.pending, 15 + bytes as u64)
+            Holding::Open(opened) => {
+                has_room_over(&opened.cartridge, &opened.pending, 15 + bytes as u64)
             }
-            Holding::Closed(_) => unreachable!(),
-            Holding::Between => unreachable!(),
+            Holding::Closed(_) | Holding::Between => unreachable!(),
         }
     }
 
@@ -148,14 +179,16 @@ impl<D: Disk> Medium for Buffered<D> {
     }
 
     fn pending(&self) -> usize {
-        self.pending.len()
+        match &self.held {
+            Holding::Open(opened) => opened.pending.len(),
+            Holding::Closed(_) | Holding::Between => 0,
+        }
     }
 
     fn has_failed(&self) -> bool {
         match &self.held {
-            Holding::Open(cartridge) => cartridge.has_failed(),
-            Holding::Closed(_) => unreachable!(),
-            Holding::Between => unreachable!(),
+            Holding::Open(opened) => opened.cartridge.has_failed(),
+            Holding::Closed(_) | Holding::Between => unreachable!(),
         }
     }
 

@@ -2,11 +2,11 @@
 use crate::disks::TestDisk;
 use library::Finished;
 use std::process::Abort;
-use tape_buffer::Cataloged;
+use tape_buffer::Buffered;
 use test_assertions::assert_equal;
 
 // The number in the barcode of a cartridge, whose two digits are in its file after place 14.
-fn number_of(medium: &Cataloged<TestDisk>) -> usize {
+fn number_of(medium: &Buffered<TestDisk>) -> usize {
     match medium.disk().inner().inner().bytes().get(15..17) {
         Some([tens, ones]) => usize::from(*tens % 16) * 10 + usize::from(*ones % 16),
         _ => 0,

@@ -18,7 +18,7 @@ use ledgers::{Parties, PartyShare, Tally};
 use scsi_sense::Reply;
 use split_bay::{Back, Front, Rings, execute_both, replies_show_changes_alone, report_fault};
 use std::sync::{Mutex, Wait};
-use tape_buffer::Cataloged;
+use tape_buffer::Buffered;
 use tape_disk::Disk;
 use vtl_base::Bytes;
 
@@ -79,7 +79,7 @@ fn answer_both<D: Disk + Drop, B: Parties + Rings, H: Parties, R: Wait>(
     ensures serves { ServesHalves D.state front back (asked seat.old.nexus cdb.now sent.old) seat.old
         result.0 result.1 result.2 sent.new seat.new }
 {
-    replies_show_changes::<Cataloged<D>, AptplStore<D>>();
+    replies_show_changes::<Buffered<D>, AptplStore<D>>();
     let before = front.accepted();
     let (reply, front, back) = execute_both(front, back, seat.nexus(), cdb, sent);
     let after = front.accepted();

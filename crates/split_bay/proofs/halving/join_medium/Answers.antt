@@ -1,5 +1,4 @@
 use Rattle.std.proofs.Common.{List, ap, subst, sym, ◌∙◌}
-use Rattle.tape_buffer.specs.Catalogs.{IsCataloged}
 use Rattle.tape_buffer.specs.State.{BufferState}
 use Rattle.split_bay.specs.declared.items.Item.{Item}
 use Rattle.split_bay.specs.Halving.{JoinsMedium}
@@ -9,8 +8,8 @@ use Rattle.split_bay.specs.Spans.{KeepsLimits, span_of}
 use Rattle.split_bay.proofs.HalvingLemmas.{all_received, catalog_found, joins_medium}
 use Rattle.split_bay.proofs.halving.join_medium.Goals as goal
 
-pub of_halves-medium-requires : goal.of_halves-medium-requires
-of_halves-medium-requires g c =
+pub into_buffered-medium-requires : goal.into_buffered-medium-requires
+into_buffered-medium-requires g c =
     let look = c.look_both.ensures in
     let taken = c.take_known.new.medium in
     let new = c.take_known.new.receiving in
@@ -19,10 +18,7 @@ of_halves-medium-requires g c =
     c.take_known.ensures.takes in
     let shows = subst (λ (l : List Item). ShowsSpanIn c.near.inside.catalog (span_of l))
     (sym (all ∙ ap (λ (s : SendingState). s.sent) look.sending)) c.near.invariant.0 in
-    subst (λ (b : BufferState g.row.D.Denot). IsCataloged g.D.Disk.state b c.near.inside.catalog)
-    (sym c.into_buffered.ensures)
-    (catalog_found g.D.Disk.state c.near.inside.catalog (span_of new.received) taken shows
-    c.take_known.ensures.follows)
+    catalog_found g.D.Disk.state c.near.inside.catalog (span_of new.received) taken shows c.take_known.ensures.follows
 
 pub invariant_of-ends : goal.invariant_of-ends
 invariant_of-ends g c =
@@ -43,7 +39,7 @@ returns-clause-joins g c =
     subst
     (λ (b : BufferState g.row.D.Denot).
     JoinsMedium g.D.Disk.state c.args.near c.args.receiving.received c.args.medium b)
-    (sym (c.of_halves-medium.ensures ∙ c.into_buffered.ensures))
+    (sym c.into_buffered-medium.ensures)
     (subst
     (λ (s : SendingState).
     JoinsMedium g.D.Disk.state s c.args.receiving.received c.args.medium taken.buffer)

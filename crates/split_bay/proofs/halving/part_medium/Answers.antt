@@ -1,11 +1,10 @@
 use Rattle.std.proofs.Common.{◌++◌, List, [], ◌∷◌, ap, refl, subst, sym, ◌∙◌}
 use Rattle.std.specs.Prelude.{is_some}
 use Rattle.tape_buffer.specs.declared.budgets.Budget.{Budget}
-use Rattle.tape_buffer.specs.State.{BufferState, state_of}
 use Rattle.split_bay.specs.declared.items.Item.{Item}
 use Rattle.split_bay.specs.declared.items.Item.TheVariants.{Begins}
 use Rattle.split_bay.specs.Backs.{FollowsSpan}
-use Rattle.split_bay.specs.Halving.{IsAllowed, IsLent}
+use Rattle.split_bay.specs.Halving.{IsAllowed}
 use Rattle.split_bay.specs.Nears.{KnowsSpan, ShowsSpanIn}
 use Rattle.split_bay.specs.Rings.{SendingState}
 use Rattle.split_bay.specs.Spans.{Span, medium_seen}
@@ -16,8 +15,8 @@ use Rattle.split_bay.proofs.halving.part_medium.Goals as goal
 pub invariant_of-near : goal.invariant_of-near
 invariant_of-near g c =
     let state = g.D.Disk.state in
-    let old = c.into_halves-buffered.result.0 in
-    let lent = c.lend-lent.result in
+    let old = c.args.medium in
+    let lent = c.lend-lent.result.0 in
     let cut = c.allow-catalog.result.1 in
     let told = c.lend-lent.ensures in
     let is = subst (λ (b : Budget). IsCut b cut) c.left.ensures c.allow-catalog.ensures.left in
@@ -28,8 +27,8 @@ invariant_of-near g c =
     subst (λ (s : Span). ShowsSpanIn c.allow-catalog.result.0 s × KnowsSpan c.seen_of-failed.result.0
     c.seen_of-failed.result.1 s)
     (sym next) (
-      shows_lent state old lent cut facts told.state is c.into_halves-buffered.result.1 c.allow-catalog.result.0
-          c.into_halves-buffered.ensures.catalog c.allow-catalog.ensures.grown c.allow-catalog.ensures.entries,
+      shows_lent state old lent cut facts told.state is c.lend-lent.result.1 c.allow-catalog.result.0
+          told.catalog c.allow-catalog.ensures.grown c.allow-catalog.ensures.entries,
       knows_lent state old lent cut facts told.state is c.seen_of-failed.result.0 c.seen_of-failed.result.1
           c.seen_of-failed.ensures.failed c.seen_of-failed.ensures.waiting c.seen_of-failed.ensures.few,
     )
@@ -37,8 +36,8 @@ invariant_of-near g c =
 pub invariant_of-result : goal.invariant_of-result
 invariant_of-result g c =
     let state = g.D.Disk.state in
-    let old = c.into_halves-buffered.result.0 in
-    let lent = c.lend-lent.result in
+    let old = c.args.medium in
+    let lent = c.lend-lent.result.0 in
     let cut = c.allow-catalog.result.1 in
     let told = c.lend-lent.ensures in
     let is = subst (λ (b : Budget). IsCut b cut) c.left.ensures c.allow-catalog.ensures.left in
@@ -50,8 +49,8 @@ invariant_of-result g c =
 pub returns : goal.returns
 returns g c =
     let state = g.D.Disk.state in
-    let old = c.into_halves-buffered.result.0 in
-    let lent = c.lend-lent.result in
+    let old = c.args.medium in
+    let lent = c.lend-lent.result.0 in
     let cut = c.allow-catalog.result.1 in
     let told = c.lend-lent.ensures in
     let is = subst (λ (b : Budget). IsCut b cut) c.left.ensures c.allow-catalog.ensures.left in
@@ -77,11 +76,9 @@ returns g c =
       new = lent;
       medium = refl;
       lent =
-          subst (λ (b : BufferState g.row.D.Denot). IsLent state b lent) c.into_halves-buffered.ensures.same
-          (record { lends = told.lends; state_is = told.state; advances = told.advances });
+          record { lends = told.lends; state_is = told.state; advances = told.advances };
       seen =
-          ap medium_seen next ∙ seen_lent state lent cut ∙ told.state
-          ∙ ap (λ (b : BufferState g.row.D.Denot). state_of state b) c.into_halves-buffered.ensures.same;
+          ap medium_seen next ∙ seen_lent state lent cut ∙ told.state;
       allowed =
           subst (λ (s : Span). IsAllowed (medium_seen s) s.begin) (sym next)
           (allowed_lent state old lent cut (lend_facts state old lent told.lends) told.state is);

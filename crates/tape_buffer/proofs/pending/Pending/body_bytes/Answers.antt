@@ -1,8 +1,8 @@
 use Rattle.std.proofs.Common.{List, ap, arith, length}
 use Rattle.volume_core.specs.declared.changes.Change.{Change}
 use Rattle.change_records.specs.Records.{spell_all}
-use Rattle.waiting_changes.proofs.PendingLemmas.{records_of}
-use Rattle.waiting_changes.proofs.pending.Pending.body_bytes.Goals as goal
+use Rattle.tape_buffer.proofs.PendingLemmas.{records_of}
+use Rattle.tape_buffer.proofs.pending.Pending.body_bytes.Goals as goal
 
 pub returns-clause-value : goal.returns-clause-value
 returns-clause-value c =

@@ -1,7 +1,7 @@
 use Rattle.std.proofs.Common.{ap, arith, sum_by}
 use Rattle.volume_core.specs.Medium.{frame_size}
-use Rattle.waiting_changes.proofs.PendingLemmas.{frames_of}
-use Rattle.waiting_changes.proofs.pending.Pending.frame_bytes.Goals as goal
+use Rattle.tape_buffer.proofs.PendingLemmas.{frames_of}
+use Rattle.tape_buffer.proofs.pending.Pending.frame_bytes.Goals as goal
 
 pub returns : goal.returns
 returns c =
