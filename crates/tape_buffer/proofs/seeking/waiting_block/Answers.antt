@@ -3,7 +3,7 @@ use Rattle.std.specs.Prelude.{slice_get}
 use Rattle.std.proofs.lemmas.Option.{slice_get-get_or}
 use Rattle.volume_core.specs.declared.changes.Change.{Change}
 use Rattle.tape_buffer.proofs.FetchingLemmas.{short_block}
-use Rattle.tape_buffer.proofs.SeekingLemmas.{last_inside, puts_block, puts_no_marks, puts_something}
+use Rattle.tape_buffer.proofs.SeekingLemmas.{last_inside, puts_block, puts_no_marks, puts_no_erase}
 use Rattle.tape_buffer.proofs.seeking.waiting_block.Given.{Over}
 use Rattle.tape_buffer.proofs.seeking.waiting_block.Goals as goal
 
