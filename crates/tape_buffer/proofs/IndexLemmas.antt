@@ -1,6 +1,6 @@
 -- An index in which memory is reserved shows the same volume.
-use Rattle.std.proofs.Common.{◌≡◌, ℕ, zero, suc, List, [], ◌∷◌, length, Option, None, Some, refl, sym, ◌∙◌, ap, arith, subst}
-use Rattle.std.specs.Prelude.{map, slice_get, slice_set}
+use Rattle.std.proofs.Common.{◌≡◌, ℕ, zero, suc, List, [], ◌∷◌, length, Option, None, Some, refl, ◌∙◌, ap, arith}
+use Rattle.std.specs.Prelude.{slice_get, slice_set}
 use Rattle.std.proofs.lemmas.List.{length-map}
 use Rattle.volume_core.specs.Volume.{Part}
 use Rattle.object_index.specs.Places.{PlacedPart, blank, filled_part, outline, placed_objects, placed_objects_in, with_objects, with_objects_in}

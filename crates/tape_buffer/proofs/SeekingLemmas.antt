@@ -1,11 +1,10 @@
 -- Which of the changes that wait put an object.
 use Rattle.std.proofs.Common.{◌≡◌, ◌≢◌, ◌≤◌, ◌<◌, ◌-◌, ◌++◌, ℕ, zero, suc, List, [], ◌∷◌, length, take, None, Some, refl, sym, ◌∙◌, ap, subst, arith, ⊎_elim, ◌⊎◌}
-use Rattle.std.specs.Prelude.{Option, replicate, slice_get}
+use Rattle.std.specs.Prelude.{replicate, slice_get}
 use Rattle.std.proofs.lemmas.Bool.{cases_eq}
 use Rattle.std.proofs.lemmas.Option.{slice_get_within}
 use Rattle.volume_core.specs.declared.changes.Change.{Change}
 use Rattle.volume_core.specs.declared.changes.Change.TheVariants.{Put, Marks, Erase}
-use Rattle.volume_core.specs.declared.objects.Kind.{Kind}
 use Rattle.volume_core.specs.declared.objects.Kind.TheVariants as Kinds
 use Rattle.volume_core.specs.declared.objects.Object.{Object}
 use Rattle.volume_core.specs.declared.objects.Object.TheVariants.{Block, Mark}

@@ -1,5 +1,5 @@
 //! Accepting a change.
-ghost use Rattle.std.specs.Prelude.{◌≡◌, ◌≤◌, ◌+◌, ◌↔◌, ◌++◌, ◌∷◌, [], List, None, IsTrue, IfErr, OnErr, OnOk, true, false, sum_by};
+ghost use Rattle.std.specs.Prelude.{◌≡◌, ◌≤◌, ◌+◌, ◌↔◌, ◌++◌, ◌∷◌, [], List, None, IsTrue, IfErr, OnErr, OnOk, false, sum_by};
 ghost use Rattle.vtl_base.specs.Below.{Advances};
 ghost use Rattle.volume_core.specs.Volume.{Part, after, part_of, refusal_of};
 ghost use Rattle.volume_core.specs.Medium.{Accepts, accept_answer, accepted_by, frame_size, met_fault, volume_of};

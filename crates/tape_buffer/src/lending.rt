@@ -61,11 +61,12 @@ fn allow<D: Disk>(held: &mut Holding<Opened<D>, Shelved<D>>) -> Budget
 {
     match held {
         Holding::Open(opened) => allow_over(&mut opened.cartridge, &opened.pending),
-        Holding::Closed(_) | Holding::Between => Budget {
+        Holding::Closed(_) => Budget {
             records: 0,
             bytes: 0,
             room: 0,
         },
+        Holding::Between => unreachable!(),
     }
 }
 

@@ -10,7 +10,7 @@ use Rattle.tape_disk.specs.TwoDisks.{AreHonest, seen_of_two}
 use Rattle.gate_journal.specs.State.{room_behind}
 use Rattle.cartridge_sides.specs.Pairs.{gate_behind}
 use Rattle.cartridge.specs.declared.error.CartridgeError.TheVariants as Cartridges
-use Rattle.cartridge.specs.Contents.{bodies_of}
+use Rattle.cartridge.specs.Contents.{bodies_of, volume_made}
 use Rattle.cartridge.specs.State.{ClosedCartridge, OpenCartridge}
 use Rattle.tape_buffer.specs.Inner.Waking.{wake_error_of}
 use Rattle.tape_buffer.specs.Moves.{LeavesAlone, LeavesEachAlone, buffer_below}
@@ -54,7 +54,8 @@ pub returns-in-Ok-memory_for-clause-catalog : goal.returns-in-Ok-memory_for-clau
 returns-in-Ok-memory_for-clause-catalog g c =
     subst (λ (p : OpenCartridge _ × List Change). IsIndexOf c.in-Ok-memory_for.index (volume_of (open_state p.0 p.1)))
     (λ i. ((sym c.keep-cartridge.ensures) i, (sym c.in-Ok-memory_for.ensures.1) i))
-    c.in-Ok-memory_for.ensures.0
+    (subst (λ (k : OpenCartridge _). IsIndexOf c.in-Ok-memory_for.index (volume_made k.contents)) c.cartridge.ensures
+    c.in-Ok-memory_for.ensures.0)
 
 pub returns-in-Err-memory_for-clause-err : goal.returns-in-Err-memory_for-clause-err
 returns-in-Err-memory_for-clause-err g c =
