@@ -8,7 +8,7 @@ ghost use Rattle.cartridge.specs.Answers.{HasReserved, KeepsReserved};
 ghost use Rattle.cartridge.specs.Contents.{volume_made};
 ghost use Rattle.tape_buffer.specs.declared.budgets.Budget.{Budget};
 ghost use Rattle.tape_buffer.specs.Catalogs.{IsCataloged};
-ghost use Rattle.tape_buffer.specs.Inner.Lending.{LendsIn, MayBeLent};
+ghost use Rattle.tape_buffer.specs.Inner.Lending.{MayBeLent};
 ghost use Rattle.tape_buffer.specs.Inner.Storing.{IsRoomyFor};
 ghost use Rattle.tape_buffer.specs.Invariants.{IsHeld, buffer_of};
 ghost use Rattle.tape_buffer.specs.Limits.{FitsBuffer};
@@ -54,7 +54,7 @@ impl<D: Disk> Buffered<D> {
 // How much may be accepted over what is held, once memory is reserved for it.
 fn allow<D: Disk>(held: &mut Holding<Opened<D>, Shelved<D>>) -> Budget
     requires { IsHeld held.old }
-    ensures lends { LendsIn (buffer_of held.old) (buffer_of held.new) result }
+    ensures lends { LendsFrom (buffer_of held.old) (record { buffer = buffer_of held.new; left = result }) }
     ensures may { MayBeLent held.new result }
     ensures state { state_of D.state (buffer_of held.new) ≡ state_of D.state (buffer_of held.old) }
     ensures advances { Advances (buffer_below D.state) (buffer_of held.old) [] false (buffer_of held.new) }
