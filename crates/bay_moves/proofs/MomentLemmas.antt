@@ -18,7 +18,7 @@ use Rattle.accepted_changes.specs.Events.{core_moves_nowhere}
 use Rattle.aptpl_store.specs.Contents.{ShowsStates}
 use Rattle.aptpl_store.specs.Kept.{StoreMoves, core_of, store_below, store_kept, store_rules}
 use Rattle.aptpl_store.specs.State.{OpenStore}
-use Rattle.tape_buffer.specs.Moves.{MovesOn, ShowsOn, buffer_below, medium_core}
+use Rattle.tape_buffer.specs.Moves.{MovesOn, ShowsOn, buffer_below, medium_core, moves_here}
 use Rattle.tape_buffer.specs.State.{BufferState, disks_in, state_of}
 use Rattle.drive_commands.specs.declared.bays.Bay.{Bay}
 use Rattle.drive_commands.specs.declared.bays.Bay.TheVariants.{Empty, Unloaded, Loaded}
@@ -52,7 +52,7 @@ module _ {D : Type 0} (state : D → DiskState) (is_disk : (disk : D) → (state
   event_in (Some old) (Some new) made keeps moved =
       λ sure volume is. event_on (disks_in old.held) (disks_in new.held) (medium_core state old)
       (medium_core state new)
-      made (keeps.shows sure volume is) moved
+      made (keeps.shows sure volume is) (moves_here state old new made keeps.hand moved).0
   event_in None None made keeps moved = moved
   event_in None (Some new) made keeps moved = moved
   event_in (Some old) None made keeps moved = moved

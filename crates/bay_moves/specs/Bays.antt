@@ -13,7 +13,7 @@ use Rattle.cartridge.specs.Contents.{Start}
 use Rattle.accepted_changes.specs.Core.{CanAcknowledge, Core, IsCore}
 use Rattle.accepted_changes.specs.Device.{one_disk, two_disks}
 use Rattle.accepted_changes.specs.Events.{IsEvent, ShowsCore}
-use Rattle.tape_buffer.specs.Moves.{IsSafeOrPending, ShowsOn, buffer_below, medium_core}
+use Rattle.tape_buffer.specs.Moves.{IsHere, IsSafeOrPending, ShowsOn, buffer_below, medium_core}
 use Rattle.tape_buffer.specs.Rules.{medium_rules}
 use Rattle.tape_buffer.specs.State.{BufferState, IsSettledIn, disks_in, state_of}
 use Rattle.aptpl_store.specs.Contents.{ShowsStates}
@@ -34,10 +34,12 @@ module _ {D : Type 0} (state : D → DiskState) where
   abbrev pub IsOpenedOrSettled : BufferState D → Type 0
   IsOpenedOrSettled medium = ((state_of state medium).unread ≡ false) ⊎ IsSettledIn state medium.held
 
-  -- The invariant of a cartridge. What is safe is stored, and what is stored was accepted. While its device works and
-  -- nothing was stopped, all that is stored is safe, and the rest is pending. Where it was opened or is settled, and
-  -- gives a volume, each pair of images that a crash may leave now gives what is safe, or what is stored (own).
+  -- The invariant of a cartridge. Its disks are at hand. What is safe is stored, and what is stored was accepted. While
+  -- its device works and nothing was stopped, all that is stored is safe, and the rest is pending. Where it was opened
+  -- or is settled, and gives a volume, each pair of images that a crash may leave now gives what is safe, or what is
+  -- stored (own).
   pub record KeepsCartridge (medium : BufferState D) : Type 0 where
+    pub hand : IsHere medium.held
     pub core : IsCore (medium_core state medium)
     pub whole : IsSafeOrPending (medium_core state medium) medium.pending
     pub shows :

@@ -1,6 +1,7 @@
 //! The drive of a bay, taken out and put in again.
 ghost use Rattle.std.specs.Prelude.{◌≡◌};
-ghost use Rattle.tape_buffer.specs.Moves.{buffer_below};
+ghost use Rattle.drive_commands.specs.State.{IsAtHand};
+ghost use Rattle.tape_buffer.specs.Moves.{IsHere, buffer_below};
 ghost use Rattle.tape_buffer.specs.State.{state_of};
 ghost use Rattle.bay_moves.specs.Bays.{KeepsBoth};
 ghost use Rattle.bay_moves.specs.Reservations.{IsHolding};
@@ -24,7 +25,8 @@ impl<D: Disk> Bay<D> {
     /// (`IsHolding`): a loss of power must leave the same of the state that was saved last as of the reservations that
     /// the drive holds.
     pub fn of_drive(drive: Drive<Buffered<D>, AptplStore<D>>) -> Bay<D>
-        requires { IsHolding (state_of D.state) (buffer_below D.state) D.state drive }
+        requires holding { IsHolding (state_of D.state) (buffer_below D.state) D.state drive }
+        requires hand { IsAtHand (λ m. IsHere m.held) drive.bay }
         ensures { result ≡ drive }
     {
         known(&drive);

@@ -2,13 +2,13 @@
 ghost use Rattle.std.specs.Prelude.{[], Some, ◌≡◌, ◌↔◌, IsTrue, IfOk, IfErr, IfSome, Err, false, is_some, option_map, None};
 ghost use Rattle.tape_disk.specs.Disk.{Each};
 ghost use Rattle.drive_commands.specs.declared.bays.Bay.TheVariants as Bays;
-ghost use Rattle.drive_commands.specs.State.{IsBayPositioned, left_of, machine_of, medium_in};
+ghost use Rattle.drive_commands.specs.State.{IsAtHand, IsBayPositioned, left_of, machine_of, medium_in};
 ghost use Rattle.drive_commands.specs.Data.{AnswersLent};
 ghost use Rattle.drive_commands.specs.Execute.{Answers, HonestIn, asked};
 ghost use Rattle.drive_commands.specs.Media.{GoesOut, SwitchesOn, TakesIn, TakesTurn};
 ghost use Rattle.drive_commands.specs.Relations.{made_nothing};
 ghost use Rattle.drive_commands.specs.Synchronize.{Acknowledges, IsSynchronizing, NothingPending};
-ghost use Rattle.tape_buffer.specs.Moves.{buffer_below};
+ghost use Rattle.tape_buffer.specs.Moves.{IsHere, buffer_below};
 ghost use Rattle.tape_buffer.specs.State.{state_of};
 ghost use Rattle.aptpl_store.specs.Kept.{store_below, store_kept};
 ghost use Rattle.bay_moves.specs.Bays.{AnswersInEvent, AnswersLentInEvent, EveryMoment, EveryMomentOff, EveryMomentOn, IsSafeIn, KeepsBoth, KeepsCartridgeIn, ShowsOrders, loaded_or_back, out_or_in};
@@ -72,6 +72,7 @@ impl<D: Disk> Accepting for Bay<D> {
 
 // Establishes, for proofs, the invariant of the cartridge in a drive, if there is one.
 pub(crate) fn known<D: Disk>(drive: &Drive<Buffered<D>, AptplStore<D>>)
+    requires { IsAtHand (λ m. IsHere m.held) drive.now.bay }
     ensures { KeepsCartridgeIn D.state (medium_in drive.now.bay) }
 {
     if let Some(medium) = drive.medium() {

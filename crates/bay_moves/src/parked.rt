@@ -1,5 +1,6 @@
 //! A closed cartridge: in a slot, or on its way.
 ghost use Rattle.std.specs.Prelude.{◌≡◌, false};
+ghost use Rattle.tape_buffer.specs.Moves.{IsHere};
 ghost use Rattle.tape_buffer.specs.State.{closed_buffer, state_of};
 ghost use Rattle.tape_buffer.specs.declared.holding.Holding.TheVariants as Holdings;
 ghost use Rattle.bay_moves.specs.Bays.{KeepsCartridge};
@@ -42,7 +43,8 @@ impl<D: Disk> Parked<D> {
 
     /// Makes a closed cartridge of a medium, which must be parked.
     pub fn of_medium(medium: Buffered<D>) -> Parked<D>
-        requires { (state_of D.state medium).awake ≡ false }
+        requires parked { (state_of D.state medium).awake ≡ false }
+        requires hand { IsHere medium.held }
         ensures { result ≡ medium }
     {
         medium.known();
@@ -76,7 +78,8 @@ impl<D: Disk> Parked<D> {
 
     /// The medium, for reading.
     pub fn medium(&self) -> &Buffered<D>
-        ensures { result.now ≡ self.now }
+        ensures same { result.now ≡ self.now }
+        ensures hand { IsHere self.now.held }
     {
         &self.medium
     }

@@ -12,10 +12,10 @@ use Rattle.cartridge.specs.Shown.{HasEntriesIn, IsGrownIn}
 use Rattle.cartridge.specs.State.{ClosedCartridge, OpenCartridge}
 use Rattle.tape_buffer.specs.declared.budgets.Budget.{Budget}
 use Rattle.tape_buffer.specs.declared.holding.Holding.{Holding}
-use Rattle.tape_buffer.specs.declared.holding.Holding.TheVariants.{Open, Closed, Between}
+use Rattle.tape_buffer.specs.declared.holding.Holding.TheVariants.{Open, Closed, Away}
 use Rattle.accepted_changes.specs.Core.{IsCore}
 use Rattle.tape_buffer.specs.Catalogs.{IsCataloged}
-use Rattle.tape_buffer.specs.Moves.{MovesUnreported, medium_core}
+use Rattle.tape_buffer.specs.Moves.{IsHere, MovesUnreported, medium_core}
 use Rattle.tape_buffer.specs.State.{BufferState, awake_is_read, state_held, state_of}
 use Rattle.tape_buffer.specs.Taking.{LendsFrom, LendsHeld, LentState}
 use Rattle.split_bay.specs.declared.items.Item.{Item}
@@ -67,9 +67,10 @@ module _ {D : Type 0} (state : D → DiskState) where
 
     pub joins_medium : ((disk : D) → (state disk).honest → IsDisk (state disk))
         → FollowsSpan state medium (span_of old.received) → KeepsLimits (span_of near.sent)
-        → IsCore (medium_core state medium.buffer) → FollowsSpan state medium' (span_of new.received)
+        → IsCore (medium_core state medium.buffer) → IsHere medium.buffer.held
+        → FollowsSpan state medium' (span_of new.received)
         → JoinsMedium state near old.received medium medium'.buffer
-    joins_medium is_disk before within core follows =
+    joins_medium is_disk before within core here follows =
         record {
           waiting = takes.takes.found;
           prefix = sent_so;
@@ -83,7 +84,7 @@ module _ {D : Type 0} (state : D → DiskState) where
               (sym takes.takes.pending)
               (accepts_waiting state is_disk (span_of old.received) medium.buffer takes.takes.found
               before.looked.volume before.looked.awake before.rests
-              (subst KeepsLimits (ap span_of sent_so ∙ span_more old.received takes.takes.found) within) core);
+              (subst KeepsLimits (ap span_of sent_so ∙ span_more old.received takes.takes.found) within) core here);
         }
 
   -- what is known of a medium that is lent
@@ -117,10 +118,10 @@ module _ {D : Type 0} (state : D → DiskState) where
             room = λ awake. absurd (cc);
           }
       by (Open c) (Closed c') lent = absurd lent
-      by (Open c) Between lent = absurd lent
+      by (Open c) (Away away) lent = absurd lent
       by (Closed c) (Open c') lent = absurd lent
-      by (Closed c) Between lent = absurd lent
-      by Between held' lent = absurd lent
+      by (Closed c) (Away away) lent = absurd lent
+      by (Away away) held' lent = absurd lent
 
 pub grown_outline : (old new : List PlacedPart) → IsGrown old new → outline new ≡ outline old
 grown_outline [] [] grown = refl

@@ -3,7 +3,8 @@ ghost use Rattle.std.specs.Prelude.{◌≡◌, ◌&&◌, None, not};
 ghost use Rattle.drive_commands.specs.declared.bays.Bay.TheVariants as Bays;
 ghost use Rattle.tape_buffer.specs.State.{state_of};
 ghost use Rattle.drive_commands.specs.Execute.{asked};
-ghost use Rattle.drive_commands.specs.State.{bay_of};
+ghost use Rattle.drive_commands.specs.State.{IsAtHand, bay_of};
+ghost use Rattle.tape_buffer.specs.Moves.{IsHere};
 ghost use Rattle.split_bay.specs.declared.hosts.Hosts.TheVariants as Variants;
 ghost use Rattle.split_bay.specs.Fronts.{HasEnd, end_in, end_of};
 ghost use Rattle.split_bay.specs.Hosts.{IsApartIn, near_of};
@@ -140,7 +141,8 @@ fn join_bay<D: Disk, R: Rings>(
     requires end { HasEnd bay end }
     requires ends { AreEnds (end_in bay end) receiving.number receiving.received }
     requires follows { FollowsIn D.state medium (span_of receiving.received) }
-    ensures { JoinsBay D.state bay end receiving.received medium result.bay result.ends result.fails }
+    ensures joins { JoinsBay D.state bay end receiving.received medium result.bay result.ends result.fails }
+    ensures hand { IsAtHand (λ m. IsHere m.held) result.bay }
 {
     match bay {
         Place::Empty => {
@@ -209,6 +211,7 @@ fn join_there<D: Disk, R: Rings>(
     requires ends { AreEnds near receiving.number receiving.received }
     requires follows { FollowsIn D.state medium (span_of receiving.received) }
     ensures joins { JoinsThere D.state near receiving.received medium result.medium }
+    ensures hand { IsHere result.medium.held }
     ensures ends { result.ends ≡ near }
     ensures fails { result.fails
         ≡ (is_broken (state_of D.state result.medium) && not (state_near near).failed) }
@@ -227,6 +230,7 @@ fn join_there<D: Disk, R: Rings>(
 
 // Splits the content of a drive into its halves.
 fn part_bay<D: Disk, R: Rings>(bay: Place<Buffered<D>>, ends: Ends<R>) -> PartedBay<D, R>
+    requires { IsAtHand (λ m. IsHere m.held) bay }
     ensures { PartsBay D.state bay ends result.bay result.end result.back }
 {
     match bay {

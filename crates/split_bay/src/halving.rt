@@ -2,6 +2,7 @@
 ghost use Rattle.std.specs.Prelude.{◌≡◌, ◌≤◌, ◌⊎◌, ◌&&◌, None, length, not};
 ghost use Rattle.vtl_base.specs.declared.limits.TheConstants.{BUFFER_RECORDS};
 ghost use Rattle.cartridge.specs.Shown.{HasEntriesIn, IsGrownIn};
+ghost use Rattle.tape_buffer.specs.Moves.{IsHere};
 ghost use Rattle.tape_buffer.specs.State.{state_of};
 ghost use Rattle.split_bay.specs.Backs.{FollowsSpan};
 ghost use Rattle.split_bay.specs.Halving.{BeginsNext, JoinsMedium, PartsMedium};
@@ -75,6 +76,7 @@ pub(crate) fn join_medium<D: Disk, R: Rings>(
     requires follows { FollowsSpan D.state medium (span_of receiving.received) }
     ensures ends { result.ends ≡ near }
     ensures joins { JoinsMedium D.state near receiving.received medium result.medium }
+    ensures hand { IsHere result.medium.held }
     ensures fails { result.fails
         ≡ (is_broken (state_of D.state result.medium) && not (state_near near).failed) }
 {
@@ -121,6 +123,7 @@ pub(crate) fn part_medium<D: Disk, R: Rings>(
     medium: Buffered<D>,
     ends: Ends<R>,
 ) -> (Near<R>, Back<D, R>)
+    requires { IsHere medium.held }
     ensures { PartsMedium D.state ends medium result.0 result.1 }
 {
     let (failed, waiting) = seen_of(&medium);

@@ -13,7 +13,7 @@ use Rattle.cartridge.specs.State.{ClosedCartridge}
 use Rattle.accepted_changes.specs.Core.{IsCore}
 use Rattle.accepted_changes.specs.Events.{ShowsCore}
 use Rattle.tape_buffer.specs.declared.holding.Holding.{Holding}
-use Rattle.tape_buffer.specs.declared.holding.Holding.TheVariants.{Open, Closed, Between}
+use Rattle.tape_buffer.specs.declared.holding.Holding.TheVariants.{Open, Closed, Away}
 use Rattle.tape_buffer.specs.declared.holding.Opened.{Opened}
 use Rattle.tape_buffer.specs.Invariants.{IsHeld, buffer_of}
 use Rattle.tape_buffer.specs.Moves.{IsSafeOrPending, ShowsOn, medium_core}
@@ -110,7 +110,7 @@ module _ {D : Type 0} (state : D → DiskState) (is_disk : (disk : D) → (state
       → IsCore (medium_core state (buffer_of held))
   held_is_core (Open opened) over = open_is_core opened.cartridge opened.pending over.torn
   held_is_core (Closed c) over = found_is_core (found_in state c) (torn_in state c)
-  held_is_core Between over = absurd over
+  held_is_core (Away away) over = found_is_core None []
 
 -- what of an open medium that works is stored is safe, and the rest is pending
 pub whole_open : {D : Type 0} (opened : Opened D)

@@ -19,7 +19,8 @@ use Rattle.tape_buffer.specs.Inner.Storing.{IsRoomyFor}
 use Rattle.tape_buffer.specs.Limits.{FitsBuffer}
 use Rattle.tape_buffer.specs.Moves.{buffer_below}
 use Rattle.tape_buffer.specs.State.{IsPendingOver, IsReservedFor, IsTornFrom, open_buffer, open_state}
-use Rattle.tape_buffer.specs.Taking.{KeepsBudget, LendsRecords, budget_after, longest_body}
+use Rattle.tape_buffer.specs.Budgets.{KeepsBudget, budget_after}
+use Rattle.tape_buffer.specs.Taking.{LendsRecords, longest_body}
 use Rattle.tape_buffer.proofs.AddingLemmas.{advances_more, apply_more, pending_still, ready_as_it_is, spelled_short}
 use Rattle.tape_buffer.proofs.ChangeLemmas.{inside_of}
 use Rattle.tape_buffer.proofs.CoreLemmas.{rests}

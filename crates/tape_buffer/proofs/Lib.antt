@@ -1,5 +1,6 @@
 mod TwoLemmas
 mod AddingLemmas
+mod AwayLemmas
 mod ChangeLemmas
 mod ClosingLemmas
 mod CoreLemmas

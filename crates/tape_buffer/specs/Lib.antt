@@ -1,4 +1,7 @@
+pub mod Aways
+pub mod Budgets
 pub mod Catalogs
+pub mod Detaching
 pub mod Frames
 pub mod Inner
 pub mod Invariants
@@ -6,5 +9,6 @@ pub mod Limits
 pub mod Moves
 pub mod Reclaiming
 pub mod Rules
+pub mod SeenCodes
 pub mod State
 pub mod Taking

@@ -5,10 +5,10 @@ ghost use Rattle.accepted_changes.specs.Core.{IsCore};
 ghost use Rattle.tape_buffer.specs.Limits.{FitsBuffer};
 ghost use Rattle.tape_buffer.specs.Rules.{medium_rules};
 ghost use Rattle.tape_buffer.specs.State.{IsSettledIn, closed_buffer, disk_in, disks_in, state_of};
-ghost use Rattle.tape_buffer.specs.Moves.{IsSafeOrPending, ShowsOn, medium_core};
+ghost use Rattle.tape_buffer.specs.Moves.{IsAway, IsHere, IsSafeOrPending, ShowsOn, medium_core};
 ghost use Rattle.tape_buffer.specs.declared.holding.Holding.TheVariants as Holdings;
 
-use crate::holding::{Holding, Opened, disk_of, is_open, known_in};
+use crate::holding::{Holding, Opened, disk_of, known_in};
 use accepted_changes::Accepting;
 use cartridge::Shelved;
 use object_index::Index;
@@ -21,6 +21,10 @@ use tape_disk::Disk;
 /// 257th change is accepted, and before the blocks that wait would have more than 4,194,304 bytes. After a device fault
 /// the medium accepts nothing until it is parked and woken. While it is open, it has a catalog of the volume that a
 /// caller sees.
+///
+/// Its disks are at hand, or they are away (`detach`), behind a lock of their own. While they are away, it answers from
+/// its catalog, and accepts one change at a time, within a budget. That change is to be passed on (`take_loose`) to
+/// whoever has the disks.
 #[derive(Drop)]
 pub struct Buffered<D: Disk> {
     pub(crate) alloc: Global,
@@ -31,13 +35,14 @@ pub struct Buffered<D: Disk> {
 impl<D: Disk> Model for Buffered<D> {
     ghost use Rattle.tape_buffer.specs.Catalogs.{IsCataloged};
     ghost use Rattle.tape_buffer.specs.State.{BufferState};
-    ghost use Rattle.tape_buffer.specs.Invariants.{IsHeld, buffer_of};
+    ghost use Rattle.tape_buffer.specs.Invariants.{IsHeld, KnowsIn, buffer_of};
 
     ghost Value = { BufferState D };
 
     ghost view = { λ b. buffer_of b.held };
 
-    ghost invariant = { λ b. IsHeld b.held × IsCataloged D.state (buffer_of b.held) b.catalog };
+    ghost invariant = { λ b. IsHeld b.held × IsCataloged D.state (buffer_of b.held) b.catalog
+        × KnowsIn b.held b.catalog };
 }
 
 impl<D: Disk> Accepting for Buffered<D> {
@@ -66,14 +71,15 @@ impl<D: Disk> Buffered<D> {
 
     /// Returns the closed cartridge of a parked medium. `parked` makes the same medium of it again.
     pub fn into_shelved(self) -> Shelved<D>
-        requires { (state_of D.state self).awake ≡ false }
+        requires parked { (state_of D.state self).awake ≡ false }
+        requires hand { IsHere self.held }
         ensures { self.held ≡ Holdings.Closed result }
     {
         let Buffered { held, .. } = self;
         match held {
             Holding::Closed(shelved) => shelved,
             Holding::Open(_opened) => unreachable!(),
-            Holding::Between => unreachable!(),
+            Holding::Away(_away) => unreachable!(),
         }
     }
 
@@ -98,11 +104,12 @@ impl<D: Disk> Buffered<D> {
     pub fn is_awake(&self) -> bool
         ensures { result ≡ (state_of D.state self.now).awake }
     {
-        is_open(&self.held)
+        self.catalog.is_some()
     }
 
     /// For reading: the disk of the side that counts, or the first disk where the medium is parked.
     pub fn disk(&self) -> &D
+        requires { IsHere self.now.held }
         ensures { disk_in self.now.held ≡ Some result.now }
     {
         disk_of(&self.held)

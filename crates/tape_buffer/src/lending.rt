@@ -12,9 +12,10 @@ ghost use Rattle.tape_buffer.specs.Inner.Lending.{LendsIn, MayBeLent};
 ghost use Rattle.tape_buffer.specs.Inner.Storing.{IsRoomyFor};
 ghost use Rattle.tape_buffer.specs.Invariants.{IsHeld, buffer_of};
 ghost use Rattle.tape_buffer.specs.Limits.{FitsBuffer};
-ghost use Rattle.tape_buffer.specs.Moves.{buffer_below};
+ghost use Rattle.tape_buffer.specs.Moves.{IsHere, buffer_below};
 ghost use Rattle.tape_buffer.specs.State.{IsPendingOver, open_buffer, open_state, state_of};
-ghost use Rattle.tape_buffer.specs.Taking.{KeepsBudget, LendsFrom, LendsOpen, LendsRecords, budget_after, longest_body};
+ghost use Rattle.tape_buffer.specs.Budgets.{KeepsBudget, budget_after};
+ghost use Rattle.tape_buffer.specs.Taking.{LendsFrom, LendsOpen, LendsRecords, longest_body};
 
 use crate::budgets::Budget;
 use crate::buffered::Buffered;
@@ -35,6 +36,7 @@ impl<D: Disk> Buffered<D> {
     /// as its buffer and its side have room for. It accepts none where it is parked, where it has failed, or where
     /// memory ran out. Returns its catalog too, which is None where the medium is parked.
     pub fn lend(self) -> (Lent<D>, Option<Index>)
+        requires { IsHere self.held }
         ensures lends { LendsFrom self result.0 }
         ensures state { state_of D.state result.0.buffer ≡ state_of D.state self }
         ensures advances { Advances (buffer_below D.state) self [] false result.0.buffer }
@@ -52,16 +54,18 @@ impl<D: Disk> Buffered<D> {
 }
 
 // How much may be accepted over what is held, once memory is reserved for it.
-fn allow<D: Disk>(held: &mut Holding<Opened<D>, Shelved<D>>) -> Budget
-    requires { IsHeld held.old }
+pub(crate) fn allow<D: Disk>(held: &mut Holding<Opened<D>, Shelved<D>>) -> Budget
+    requires held { IsHeld held.old }
+    requires hand { IsHere held.old }
     ensures lends { LendsIn (buffer_of held.old) (buffer_of held.new) result }
     ensures may { MayBeLent held.new result }
+    ensures few { result.records ≤ BUFFER_RECORDS }
     ensures state { state_of D.state (buffer_of held.new) ≡ state_of D.state (buffer_of held.old) }
     ensures advances { Advances (buffer_below D.state) (buffer_of held.old) [] false (buffer_of held.new) }
 {
     match held {
         Holding::Open(opened) => allow_over(&mut opened.cartridge, &opened.pending),
-        Holding::Closed(_) | Holding::Between => Budget {
+        Holding::Closed(_) | Holding::Away(_) => Budget {
             records: 0,
             bytes: 0,
             room: 0,

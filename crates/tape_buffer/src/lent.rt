@@ -8,9 +8,9 @@ ghost use Rattle.accepted_changes.specs.Core.{IsCore};
 ghost use Rattle.tape_buffer.specs.Catalogs.{IsCataloged};
 ghost use Rattle.tape_buffer.specs.Frames.{IsOneFrameIn, frames_in};
 ghost use Rattle.tape_buffer.specs.Limits.{FitsBuffer};
-ghost use Rattle.tape_buffer.specs.Moves.{IsSafeOrPending, ShowsOn, StoresBehind, buffer_below, medium_core};
+ghost use Rattle.tape_buffer.specs.Moves.{IsHere, IsSafeOrPending, ShowsOn, StoresBehind, buffer_below, medium_core};
 ghost use Rattle.tape_buffer.specs.State.{IsSettledIn, disk_in, disks_in, state_of};
-ghost use Rattle.tape_buffer.specs.Taking.{KeepsBudget, budget_after};
+ghost use Rattle.tape_buffer.specs.Budgets.{KeepsBudget, budget_after};
 
 use crate::budgets::Budget;
 use crate::buffered::Buffered;
@@ -76,7 +76,7 @@ impl<D: Disk> Lent<D> {
             Holding::Open(opened) => {
                 self.left = take_over(&opened.cartridge, &mut opened.pending, left, change);
             }
-            Holding::Closed(_) | Holding::Between => unreachable!(),
+            Holding::Closed(_) | Holding::Away(_) => unreachable!(),
         }
     }
 
@@ -96,7 +96,7 @@ impl<D: Disk> Lent<D> {
     {
         match &mut self.held {
             Holding::Open(opened) => turn_over(&mut opened.cartridge, &mut opened.pending),
-            Holding::Closed(_) | Holding::Between => unreachable!(),
+            Holding::Closed(_) | Holding::Away(_) => unreachable!(),
         }
     }
 
@@ -104,7 +104,8 @@ impl<D: Disk> Lent<D> {
     /// volume that a caller sees; that of a parked medium must be None. The call allocates no memory.
     pub fn into_buffered(self, catalog: Option<Index>) -> Buffered<D>
         requires { IsCataloged D.state self.buffer catalog }
-        ensures { result ≡ self.buffer }
+        ensures same { result ≡ self.buffer }
+        ensures hand { IsHere self.buffer.held }
     {
         let Lent { alloc, held, .. } = self;
         Buffered {
@@ -129,7 +130,7 @@ impl<D: Disk> Lent<D> {
     {
         match &self.held {
             Holding::Open(opened) => opened.cartridge.has_failed(),
-            Holding::Closed(_) | Holding::Between => unreachable!(),
+            Holding::Closed(_) | Holding::Away(_) => unreachable!(),
         }
     }
 
@@ -138,6 +139,7 @@ impl<D: Disk> Lent<D> {
         ensures core { IsCore (medium_core D.state self.now.buffer) }
         ensures whole { IsSafeOrPending (medium_core D.state self.now.buffer) self.now.buffer.pending }
         ensures fits { FitsBuffer self.now.buffer.pending }
+        ensures hand { IsHere self.now.buffer.held }
         ensures shows { ((state_of D.state self.now.buffer).unread ≡ false)
             ⊎ IsSettledIn D.state self.now.buffer.held →
             (volume : List Part) → (state_of D.state self.now.buffer).stored ≡ Some volume →

@@ -2,10 +2,12 @@
 #![tactic(auto)]
 
 mod adding;
+pub mod aways;
 pub mod budgets;
 mod buffered;
 mod catalogs;
 mod closing;
+mod detaching;
 mod fetching;
 pub mod holding;
 mod lending;
@@ -16,6 +18,7 @@ mod reclaiming;
 mod seeking;
 mod storing;
 
+pub use aways::Away;
 pub use budgets::Budget;
 pub use buffered::Buffered;
 pub use holding::Holding;

@@ -3,7 +3,7 @@ use Rattle.std.specs.Prelude.{◌≡◌}
 use Rattle.cartridge.specs.State.{ClosedCartridge}
 use Rattle.tape_buffer.specs.declared.budgets.Budget.{Budget}
 use Rattle.tape_buffer.specs.declared.holding.Holding.{Holding}
-use Rattle.tape_buffer.specs.declared.holding.Holding.TheVariants.{Open, Closed, Between}
+use Rattle.tape_buffer.specs.declared.holding.Holding.TheVariants.{Open, Closed, Away}
 use Rattle.tape_buffer.specs.declared.holding.Opened.{Opened}
 use Rattle.tape_buffer.specs.Inner.Storing.{IsRoomyFor}
 use Rattle.tape_buffer.specs.State.{BufferState, IsPendingOver}
@@ -15,7 +15,7 @@ module _ {D : Type 0} where
   MayBeLent (Open opened) left =
       IsPendingOver opened.cartridge opened.pending × IsRoomyFor opened.cartridge opened.pending left
   MayBeLent (Closed cartridge) left = left.records ≡ 0
-  MayBeLent Between left = ⊥
+  MayBeLent (Away away) left = ⊥
 
   -- a medium is lent, with what is pending, and with this budget (own)
   pub record LendsIn (old new : BufferState D) (left : Budget) : Type 0 where

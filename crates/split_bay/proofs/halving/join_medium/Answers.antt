@@ -39,7 +39,7 @@ returns-clause-joins g c =
     subst
     (λ (b : BufferState g.row.D.Denot).
     JoinsMedium g.D.Disk.state c.args.near c.args.receiving.received c.args.medium b)
-    (sym c.into_buffered-medium.ensures)
+    (sym c.into_buffered-medium.ensures.same)
     (subst
     (λ (s : SendingState).
     JoinsMedium g.D.Disk.state s c.args.receiving.received c.args.medium taken.buffer)
@@ -48,4 +48,4 @@ returns-clause-joins g c =
     taken (ap (λ (r : ReceivingState). r.received) look.same) look.fifo look.changes c.take_known.ensures.takes
     g.met.D.Disk.is_disk c.requires.follows
     (subst (λ (s : SendingState). KeepsLimits (span_of s.sent)) (sym look.sending) c.known.ensures)
-    c.known-2.ensures.core c.take_known.ensures.follows))
+    c.known-2.ensures.core c.known-2.ensures.hand c.take_known.ensures.follows))

@@ -51,7 +51,7 @@ changes-preserved g c =
       follows =
           subst (λ (s : Span). FollowsSpan g.D.Disk.state new s) (sym next)
           (follows_next g.D.Disk.state (span_of items) change old new within c.changes.invariant.follows
-          c.take.ensures.taken);
+          c.take.ensures.taken c.take.ensures.state);
       takes =
           takes_more g.D.Disk.state c.args.receiving.now c.changes.receiving c.receive-change.new.self first old new
           change takes told.number told.received told.waiting
