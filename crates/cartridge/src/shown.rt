@@ -1,12 +1,12 @@
 //! The catalog of a volume as a caller sees it: an index with the kinds and lengths of the objects, in which the places
 //! of blocks mean nothing.
-ghost use Rattle.std.specs.Prelude.{◌≡◌, ◌≤◌, ◌+◌, List, None, ℕ, OnErr, OnOk, length};
+ghost use Rattle.std.specs.Prelude.{◌≡◌, ◌≤◌, ◌+◌, List, None, ℕ, IfNone, IfSome, OnErr, OnOk, length};
 ghost use Rattle.volume_core.specs.declared.changes.Change.{Change};
 ghost use Rattle.volume_core.specs.Volume.{Part, changed, part_of, refusal_of};
 ghost use Rattle.object_index.specs.Places.{reserved_of};
 ghost use Rattle.change_records.specs.Records.{record_of};
 ghost use Rattle.object_index.specs.Shapes.{IsIndexOf};
-ghost use Rattle.cartridge.specs.Shown.{HasEntriesIn, IsGrownIn, LacksEntriesIn, MayEnter};
+ghost use Rattle.cartridge.specs.Shown.{HasEntriesIn, HasNoEntryFor, IsEntryFor, IsGrownIn, LacksEntriesIn, MayEnter};
 
 use crate::reserving::reserve_each;
 use change_records::Record;
@@ -40,33 +40,29 @@ pub fn refusal_shown(index: &Index, change: &Change) -> Option<Refusal>
     None
 }
 
-/// Reserves memory in the index for a change, which the volume that the index shows must not refuse.
-pub fn reserve_entry(index: &mut Index, change: &Change) -> Result<(), NoMemory>
-    requires { (volume : List Part) × IsIndexOf index.old volume × (refusal_of volume change.now ≡ None) }
+/// Reserves memory in the index for a change, and returns the change's entry. Returns None where the volume that the
+/// index shows refuses the change, or where memory runs out and none was reserved for the change.
+pub fn entry_for(index: &mut Index, change: &Change) -> Option<Record>
+    requires { (volume : List Part) × IsIndexOf index.old volume }
     ensures shows { (volume : List Part) → IsIndexOf index.old volume → IsIndexOf index.new volume }
-    ensures ok { OnOk result (1 ≤ reserved_of index.new (part_of change.now)) }
-    ensures err { OnErr result (reserved_of index.old (part_of change.now) ≡ 0) }
+    ensures entry { IfSome result (λ item. IsEntryFor index.old change.now item index.new) }
+    ensures none { IfNone result (HasNoEntryFor index.old change.now) }
 {
-    index.reserve(change.part(), 1)
-}
-
-/// Enters a change into an index in which memory for it is reserved. The volume that the index shows must not refuse
-/// the change.
-pub fn enter_shown(index: &mut Index, change: &Change)
-    requires { (volume : List Part) × MayEnter index.old volume change.now }
-    ensures shows { (volume : List Part) → IsIndexOf index.old volume
-        → IsIndexOf index.new (changed volume change.now) }
-    ensures parts { length index.new ≡ length index.old }
-    ensures reserved { (part : ℕ) → reserved_of index.old part ≤ reserved_of index.new part + 1 }
-{
+    match refusal_shown(index, change) {
+        Some(_) => return None,
+        None => {}
+    }
     // Called for the proof: the index keeps the limits of a volume.
     let _ = index.parts();
-    enter_item(index, Record::of(change));
+    let Ok(()) = index.reserve(change.part(), 1) else {
+        return None;
+    };
+    Some(Record::of(change))
 }
 
-// Enters the change whose entry is `item` into an index in which memory for it is reserved. The volume that the index
-// shows must not refuse the change.
-fn enter_item(index: &mut Index, item: Record)
+/// Enters the change whose entry is `item` into an index in which memory for it is reserved. The volume that the index
+/// shows must not refuse the change.
+pub fn enter_item(index: &mut Index, item: Record)
     requires { (volume : List Part) × (change : Change) × (item ≡ record_of change)
         × MayEnter index.old volume change }
     ensures shows { (volume : List Part) (change : Change) → item ≡ record_of change
@@ -81,6 +77,20 @@ fn enter_item(index: &mut Index, item: Record)
         Err(ApplyError::Refused(_)) => unreachable!(),
         Err(ApplyError::NoMemory) => unreachable!(),
     }
+}
+
+/// Enters a change into an index in which memory for it is reserved. The volume that the index shows must not refuse
+/// the change.
+pub fn enter_shown(index: &mut Index, change: &Change)
+    requires { (volume : List Part) × MayEnter index.old volume change.now }
+    ensures shows { (volume : List Part) → IsIndexOf index.old volume
+        → IsIndexOf index.new (changed volume change.now) }
+    ensures parts { length index.new ≡ length index.old }
+    ensures reserved { (part : ℕ) → reserved_of index.old part ≤ reserved_of index.new part + 1 }
+{
+    // Called for the proof: the index keeps the limits of a volume.
+    let _ = index.parts();
+    enter_item(index, Record::of(change));
 }
 
 /// Reserves memory for `entries` more blocks and runs of filemarks in each partition of a catalog. Does nothing where

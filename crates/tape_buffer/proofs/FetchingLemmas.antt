@@ -1,8 +1,8 @@
 -- A block is read: from a pending change, or from the disk.
-use Rattle.std.specs.Prelude.{◌≡◌, ◌<◌, ◌≤◌, ℕ, zero, suc, List, [], ◌∷◌, true, false, Bool, Option, Some, Result, Ok, Err, OnOk, IfSome, length, slice_get, slice_index_or, refl}
+use Rattle.std.specs.Prelude.{◌≡◌, ◌<◌, ◌≤◌, ℕ, zero, suc, List, [], ◌∷◌, true, false, Bool, Option, Some, Result, Ok, Err, OnOk, IfSome, length, slice_get, refl}
 use Rattle.std.proofs.Common.{sym, ◌∙◌, ap, subst, arith}
 use Rattle.std.proofs.lemmas.Bool.{and_parts, leb-true}
-use Rattle.std.proofs.lemmas.Option.{get_or_from_slice_get, slice_get_within}
+use Rattle.std.proofs.lemmas.Result.{on_ok_weaker}
 use Rattle.vtl_base.specs.Below.{Advances}
 use Rattle.vtl_base.specs.declared.limits.TheConstants.{MAX_BLOCK}
 use Rattle.tape_disk.specs.Disk.{DiskState, IsDisk}
@@ -11,7 +11,7 @@ use Rattle.volume_core.specs.declared.changes.Change.{Change}
 use Rattle.volume_core.specs.declared.changes.Change.TheVariants.{Put}
 use Rattle.volume_core.specs.declared.media.MediumError.{MediumError}
 use Rattle.volume_core.specs.declared.media.MediumError.TheVariants.{Refused, NoMemory, SideFull, Device, Failed, Unreadable}
-use Rattle.volume_core.specs.Volume.{AllApply, Part, after, block_at, changed}
+use Rattle.volume_core.specs.Volume.{AllApply, Part, changed}
 use Rattle.volume_core.specs.Medium.{met_fault}
 use Rattle.cartridge.specs.Disks.{UnwrittenTwo}
 use Rattle.cartridge.specs.State.{OpenCartridge}
@@ -61,11 +61,12 @@ module _ (block : List ℕ) (capacity : ℕ) where
   module _ (seen : Option (List ℕ)) (is : seen ≡ Some block) (result : Result Unit MediumError) (bytes : List ℕ)
       (same : IsCopyOf block capacity result bytes) where
     pub copied_block : OnOk result (seen ≡ Some bytes)
-    copied_block = on_ok_weaker result (copied result bytes same) (λ same. is ∙ ap Some (sym same))
+    copied_block = on_ok_weaker result (λ same. is ∙ ap Some (sym same)) (copied result bytes same)
 
     pub copied_short : length block ≤ MAX_BLOCK → OnOk result (length bytes ≤ MAX_BLOCK)
     copied_short short =
-        on_ok_weaker result (copied result bytes same) (λ same. omega (arith, ap (λ (l : List ℕ). length l) same, short))
+        on_ok_weaker result (λ same. omega (arith, ap (λ (l : List ℕ). length l) same, short))
+        (copied result bytes same)
 
     pub copied_memory : result ≡ Err NoMemory → IfSome seen (λ block. capacity < length block)
     copied_memory none =

@@ -7,6 +7,7 @@ mod CoreLemmas
 mod FetchingLemmas
 mod FrameLemmas
 mod HeldLemmas
+mod IndexLemmas
 mod LentLemmas
 mod MediumLemmas
 mod OpeningLemmas

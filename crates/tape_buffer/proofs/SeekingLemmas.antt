@@ -1,11 +1,10 @@
 -- Which of the changes that wait put an object.
 use Rattle.std.proofs.Common.{◌≡◌, ◌≢◌, ◌≤◌, ◌<◌, ◌-◌, ◌++◌, ℕ, zero, suc, List, [], ◌∷◌, length, take, None, Some, refl, sym, ◌∙◌, ap, subst, arith, ⊎_elim, ◌⊎◌}
-use Rattle.std.specs.Prelude.{Option, replicate, slice_get}
+use Rattle.std.specs.Prelude.{replicate, slice_get}
 use Rattle.std.proofs.lemmas.Bool.{cases_eq}
 use Rattle.std.proofs.lemmas.Option.{slice_get_within}
 use Rattle.volume_core.specs.declared.changes.Change.{Change}
 use Rattle.volume_core.specs.declared.changes.Change.TheVariants.{Put, Marks, Erase}
-use Rattle.volume_core.specs.declared.objects.Kind.{Kind}
 use Rattle.volume_core.specs.declared.objects.Kind.TheVariants as Kinds
 use Rattle.volume_core.specs.declared.objects.Object.{Object}
 use Rattle.volume_core.specs.declared.objects.Object.TheVariants.{Block, Mark}
@@ -59,7 +58,8 @@ module _ (volume : List Part) (changes : List Change) (number : ℕ) (change : C
   so = changes_so before change (applies_one volume changes number change is all)
 
   -- a change of another partition, or behind the object, leaves it
-  pub stays_at : (part ≢ part_of change) → SameAt volume changes part at (suc number) → SameAt volume changes part at number
+  pub stays_at : (part ≢ part_of change) → SameAt volume changes part at (suc number)
+      → SameAt volume changes part at number
   stays_at apart same =
       same ∙ ap (λ (v : List Part). slice_get (objects_of v part) at) (after_one volume changes number change is)
       ∙ ap (λ (l : List Object). slice_get l at) (so.others part apart)
@@ -107,9 +107,11 @@ module _ (volume : List Part) (changes : List Change) (part at number : ℕ)
   last_inside = slice_get_within changes number last.0 last.1
 
   module _ (change : Change) (is : slice_get changes number ≡ Some change) where
-    stands : slice_get (objects_of (after volume changes) part) at ≡ slice_get (added_by change) (at - staying_of change)
+    stands : slice_get (objects_of (after volume changes) part) at
+        ≡ slice_get (added_by change) (at - staying_of change)
     stands =
-        last.2 ∙ ap (λ (c : Change). slice_get (added_by c) (at - staying_of c)) (some_is last.0 change (sym last.1 ∙ is))
+        last.2
+        ∙ ap (λ (c : Change). slice_get (added_by c) (at - staying_of c)) (some_is last.0 change (sym last.1 ∙ is))
       where
         some_is : (a b : Change) → Some a ≡ Some b → a ≡ b
         some_is a b e = cc
@@ -129,8 +131,8 @@ module _ (volume : List Part) (changes : List Change) (part at number : ℕ)
         no_block count (at - staying)
         (subst (λ (c : Change). kind_in (slice_get (added_by c) (at - staying_of c)) ≡ Some Kinds.Block) marks kind)
 
-    pub puts_something : (of staying : ℕ) → change ≡ Erase of staying → ⊥
-    puts_something of staying erase =
+    pub puts_no_erase : (of staying : ℕ) → change ≡ Erase of staying → ⊥
+    puts_no_erase of staying erase =
         let is : None ≡ Some Kinds.Block =
         subst (λ (c : Change). kind_in (slice_get (added_by c) (at - staying_of c)) ≡ Some Kinds.Block) erase kind in
         absurd (cc)

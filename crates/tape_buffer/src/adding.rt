@@ -1,9 +1,10 @@
 //! Accepting a change.
-ghost use Rattle.std.specs.Prelude.{◌≡◌, ◌≤◌, ◌+◌, ◌↔◌, ◌++◌, ◌∷◌, [], List, None, IsTrue, IfErr, OnOk, true, false, sum_by};
+ghost use Rattle.std.specs.Prelude.{◌≡◌, ◌≤◌, ◌+◌, ◌↔◌, ◌++◌, ◌∷◌, [], List, None, IsTrue, IfErr, OnErr, OnOk, false, sum_by};
 ghost use Rattle.vtl_base.specs.Below.{Advances};
-ghost use Rattle.volume_core.specs.Volume.{Part, after, refusal_of};
+ghost use Rattle.volume_core.specs.Volume.{Part, after, part_of, refusal_of};
 ghost use Rattle.volume_core.specs.Medium.{Accepts, accept_answer, accepted_by, frame_size, met_fault, volume_of};
 ghost use Rattle.volume_core.specs.Stores.{Stores};
+ghost use Rattle.object_index.specs.Places.{reserved_of};
 ghost use Rattle.object_index.specs.Shapes.{IsIndexOf};
 ghost use Rattle.cartridge.specs.Contents.{volume_made};
 ghost use Rattle.tape_buffer.specs.Frames.{AcceptsInFrames};
@@ -15,10 +16,11 @@ ghost use Rattle.tape_buffer.specs.Inner.Adding.{IsReadyToAdd, IsWay, with_added
 use crate::pending::Pending;
 use crate::storing::{reserve_over, settle_over};
 use cartridge::Cartridge;
-use cartridge::shown::{enter_shown, refusal_shown, reserve_entry};
+use cartridge::shown::{enter_shown, refusal_shown};
 use object_index::Index;
 use tape_disk::Disk;
 use volume_core::{Change, MediumError, NotAccepted};
+use vtl_base::NoMemory;
 
 // Accepts a change over an open cartridge, or refuses it. `index` is the catalog of the volume that is seen. Where no
 // more may be pending, what is pending is stored first. A change that is not accepted is returned.
@@ -141,4 +143,14 @@ fn add_over<D: Disk>(
     enter_shown(index, &change);
     pending.push(change);
     Ok(())
+}
+
+// Reserves memory in a catalog for a change, which the volume that it shows must not refuse.
+fn reserve_entry(index: &mut Index, change: &Change) -> Result<(), NoMemory>
+    requires { (volume : List Part) × IsIndexOf index.old volume × (refusal_of volume change.now ≡ None) }
+    ensures shows { (volume : List Part) → IsIndexOf index.old volume → IsIndexOf index.new volume }
+    ensures ok { OnOk result (1 ≤ reserved_of index.new (part_of change.now)) }
+    ensures err { OnErr result (reserved_of index.old (part_of change.now) ≡ 0) }
+{
+    index.reserve(change.part(), 1)
 }

@@ -65,11 +65,12 @@ pub(crate) fn allow<D: Disk>(held: &mut Holding<Opened<D>, Shelved<D>>) -> Budge
 {
     match held {
         Holding::Open(opened) => allow_over(&mut opened.cartridge, &opened.pending),
-        Holding::Closed(_) | Holding::Away(_) => Budget {
+        Holding::Closed(_) => Budget {
             records: 0,
             bytes: 0,
             room: 0,
         },
+        Holding::Between => unreachable!(),
     }
 }
 

@@ -11,7 +11,8 @@ use volume_core::Change;
 use vtl_base::NoMemory;
 use vtl_base::limits::{BUFFER_BYTES, BUFFER_RECORDS};
 
-/// Pending changes, in order: at most 256, whose blocks have at most 4,194,304 bytes in all (own). It has memory for 256.
+/// Pending changes, in order: at most 256, whose blocks have at most 4,194,304 bytes in all (own). There is memory for
+/// 256 of them.
 #[derive(Drop)]
 pub(crate) struct Pending {
     changes: Vec<Change>,

@@ -1,5 +1,5 @@
 //! Which of the changes that wait put an object.
-ghost use Rattle.std.specs.Prelude.{◌≡◌, ◌≢◌, ◌≤◌, ◌<◌, ◌⊎◌, ◌×◌, IfNone, IfSome, List, Some, length, slice_get, true, false};
+ghost use Rattle.std.specs.Prelude.{◌≡◌, ◌≢◌, ◌≤◌, ◌<◌, ◌⊎◌, IfNone, IfSome, List, Some, length, slice_get, true, false};
 ghost use Rattle.vtl_base.specs.declared.limits.TheConstants.{MAX_BLOCK};
 ghost use Rattle.volume_core.specs.declared.objects.Kind.TheVariants as Kinds;
 ghost use Rattle.volume_core.specs.Volume.{AllApply, Part, after, block_at, kind_at, objects_of, part_of, staying_of};

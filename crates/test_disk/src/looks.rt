@@ -1,10 +1,11 @@
 //! What a look at a name finds, and who may read and write a file that was made.
 use crate::steps::{Folder, named, new_folder, taken_away};
-use file_disk::{FileError, FileLook, create, has_open_pair, look};
+use file_disk::{FileDisk, FileError, FileLook, create, has_open_pair, look, no_file, open};
 use std::fs;
 use std::os::unix::fs::{MetadataExt, symlink};
 use std::process::Abort;
 use std::test::Fail;
+use tape_disk::Disk;
 use test_assertions::assert_equal;
 
 // What a look at a regular file finds.
@@ -80,5 +81,40 @@ fn of_its_owner(abort: &impl Abort, rt: &HostRuntime, path: &str) -> Result<(), 
 fn a_file_is_made_for_its_owner(rt: HostRuntime) -> Result<(), Fail> {
     let folder = new_folder(&rt)?;
     of_its_owner(&rt, &rt, &folder.path)?;
+    taken_away(&rt, &folder)
+}
+
+// A cartridge `T1` whose end gate stands at 35. Behind it stand a frame of a filemark, and the gate at 50.
+const BEHIND: &'static [u8; 51] = b"\xa5VTLCART1\0\x01T1              \0\0\0\0\0\0\x10\0\
+    \0\0\0\0\x0a\x02\0\0\0\0\0\0\0\0\x01\
+    \xa5";
+
+fn changed(disk: &mut FileDisk, at: u64, byte: u8) -> Result<Option<u64>, Fail> {
+    disk.write_at(at, &[byte])?;
+    Ok(disk.file().frames_behind())
+}
+
+// Of a file that is open and locked; a disk beside it is not asked.
+fn of_ends(abort: &impl Abort, rt: &HostRuntime, path: &str) -> Result<(), Fail> {
+    fs::write(rt, path, BEHIND.as_slice())?;
+    let mut disk = open(rt, path)?;
+    assert_equal!(abort; disk.file().frames_behind(), Some(35));
+    // A closed gate behind the frame is one that a stop leaves. Where the end gate is open the side is damaged.
+    assert_equal!(abort; changed(&mut disk, 50, 0)?, None);
+    assert_equal!(abort; changed(&mut disk, 50, 0xa5)?, Some(35));
+    assert_equal!(abort; changed(&mut disk, 35, 0xa5)?, None);
+    assert_equal!(abort; changed(&mut disk, 35, 0)?, Some(35));
+    disk.cut(36)?;
+    assert_equal!(abort; disk.file().frames_behind(), None);
+    assert_equal!(abort; disk.file().failed().is_none(), true);
+    drop(disk);
+    Ok(())
+}
+
+#[test]
+fn frames_behind_the_end_of_an_open_file(rt: HostRuntime) -> Result<(), Fail> {
+    let folder = new_folder(&rt)?;
+    of_ends(&rt, &rt, &folder.path)?;
+    assert_equal!(rt; no_file().file().frames_behind(), None);
     taken_away(&rt, &folder)
 }

@@ -3,6 +3,7 @@ mod calls;
 mod creations;
 mod failing;
 mod in_parts;
+mod looked_disks;
 mod lost_lines;
 mod noted;
 mod noted_disks;

@@ -12,8 +12,9 @@ use tape_disk::{Disk, MemDisk, OnceDisk};
 use test_assertions::assert_equal;
 use vtl_base::DevFault;
 use vtl_notes::at_once::failed_text;
+use vtl_notes::noted_disk::{NotedDisk, SaysMore};
 use vtl_notes::notes::Notes;
-use vtl_notes::open_files::{NotedDisk, OpenFiles, SaysFailed};
+use vtl_notes::open_files::OpenFiles;
 
 // A disk that says of each call that it failed so.
 #[derive(Drop)]
@@ -50,9 +51,13 @@ impl<D: Disk> Disk for ReportingDisk<D> {
     }
 }
 
-impl<D> SaysFailed for ReportingDisk<D> {
+impl<D> SaysMore for ReportingDisk<D> {
     fn failed(&self) -> Option<FailedCall> {
         self.failed
+    }
+
+    fn frames_behind(&self) -> Option<u64> {
+        None
     }
 }
 
@@ -79,13 +84,8 @@ fn failing(
 }
 
 // Each call of the disk of this file once: which of them succeed.
-fn used<D: Disk + Drop + SaysFailed>(files: &OpenFiles, number: u64, disk: D) -> [bool; 4] {
-    let mut disk = NotedDisk {
-        disk,
-        number,
-        files,
-        lines: None,
-    };
+fn used<D: Disk + Drop + SaysMore>(files: &OpenFiles, number: u64, disk: D) -> [bool; 4] {
+    let mut disk = NotedDisk::new(disk, number, files, None);
     [
         disk.read_at(0, &mut []).is_ok(),
         disk.cut(0).is_ok(),
@@ -268,12 +268,8 @@ fn of_the_system(abort: &impl Abort, rt: &HostRuntime, path: &str) -> Result<(),
     let alloc = rt.alloc();
     for &(step, told) in ANSWERS {
         let files = OpenFiles::new(alloc, true);
-        let mut disk = NotedDisk {
-            disk: opened(rt, path, step)?,
-            number: files.enter(alloc, "a"),
-            files: &files,
-            lines: None,
-        };
+        let number = files.enter(alloc, "a");
+        let mut disk = NotedDisk::new(opened(rt, path, step)?, number, &files, None);
         let len = match step {
             Step::SyncOfADevice => 0,
             _ => 4,

@@ -71,7 +71,8 @@ returns-in-Err-clause-frames g c =
 pub returns-in-Err-clause-answer : goal.returns-in-Err-clause-answer
 returns-in-Err-clause-answer g c =
     accepts_broken c.args.cartridge.now c.make_way.new.cartridge c.args.pending.now c.make_way.new.pending
-    c.args.change c.in-Err.error (sym (c.refusal_shown.ensures (volume_of (open_state c.args.cartridge.now c.args.pending.now)) c.requires.shows)
+    c.args.change c.in-Err.error
+    (sym (c.refusal_shown.ensures (volume_of (open_state c.args.cartridge.now c.args.pending.now)) c.requires.shows)
     ∙ c.in-None.is)
     (sym c.has_failed.ensures ∙ c.if-has_failed.false)
     (fits_more c.args.cartridge.now.room c.frame_size.result c.has_room_over.result c.args.pending.now c.args.change

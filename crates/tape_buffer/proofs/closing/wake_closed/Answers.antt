@@ -10,7 +10,7 @@ use Rattle.tape_disk.specs.TwoDisks.{AreHonest, seen_of_two}
 use Rattle.gate_journal.specs.State.{room_behind}
 use Rattle.cartridge_sides.specs.Pairs.{gate_behind}
 use Rattle.cartridge.specs.declared.error.CartridgeError.TheVariants as Cartridges
-use Rattle.cartridge.specs.Contents.{bodies_of}
+use Rattle.cartridge.specs.Contents.{bodies_of, volume_made}
 use Rattle.cartridge.specs.State.{ClosedCartridge, OpenCartridge}
 use Rattle.tape_buffer.specs.Inner.Waking.{wake_error_of}
 use Rattle.tape_buffer.specs.Moves.{LeavesAlone, LeavesEachAlone, buffer_below}
@@ -47,14 +47,15 @@ returns-in-Ok-memory_for-clause-ok g c =
       advances_opened disk g.met.D.Disk.is_disk one old new told.disks told.ok.0 told.ok.1 told.gives told.any_moment
           told.ok.2,
       told.any_moment,
-      told.each,
+      told.each.stays,
     )
 
 pub returns-in-Ok-memory_for-clause-catalog : goal.returns-in-Ok-memory_for-clause-catalog
 returns-in-Ok-memory_for-clause-catalog g c =
     subst (λ (p : OpenCartridge _ × List Change). IsIndexOf c.in-Ok-memory_for.index (volume_of (open_state p.0 p.1)))
     (λ i. ((sym c.keep-cartridge.ensures) i, (sym c.in-Ok-memory_for.ensures.1) i))
-    c.in-Ok-memory_for.ensures.0
+    (subst (λ (k : OpenCartridge _). IsIndexOf c.in-Ok-memory_for.index (volume_made k.contents)) c.cartridge.ensures
+    c.in-Ok-memory_for.ensures.0)
 
 pub returns-in-Err-memory_for-clause-err : goal.returns-in-Err-memory_for-clause-err
 returns-in-Err-memory_for-clause-err g c =
@@ -76,7 +77,7 @@ returns-in-Err-memory_for-clause-err g c =
     × Advances (buffer_below disk) (closed_buffer old) [] (met_fault (Err Media.NoMemory)) (closed_buffer s)
     × LeavesAlone disk (closed_buffer old) (closed_buffer s)
     × LeavesEachAlone disk (closed_buffer old) (closed_buffer s)) (sym (c.into_shelved-shelved.ensures ∙ told.ok.3))
-    (stays.0, stays.1, stays.2, told.any_moment, told.each)
+    (stays.0, stays.1, stays.2, told.any_moment, told.each.stays)
 
 pub returns-in-Err-clause-err : goal.returns-in-Err-clause-err
 returns-in-Err-clause-err g c =
@@ -101,4 +102,4 @@ returns-in-Err-clause-err g c =
     (closed_buffer s)
     × LeavesAlone disk (closed_buffer old) (closed_buffer s)
     × LeavesEachAlone disk (closed_buffer old) (closed_buffer s)) (sym told.same)
-    (stays.0, stays.1, stays.2, told.any_moment, told.each))
+    (stays.0, stays.1, stays.2, told.any_moment, told.each.stays))

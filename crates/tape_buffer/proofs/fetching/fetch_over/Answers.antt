@@ -38,7 +38,8 @@ waits g c =
 
 -- what is stored
 stored : (g : Over) (c : goal.In-None g)
-    → slice_get (objects_of (after (volume_made c.args.cartridge.now.contents) c.args.pending.now) c.args.part) c.args.at
+    → slice_get (objects_of (after (volume_made c.args.cartridge.now.contents) c.args.pending.now) c.args.part)
+    c.args.at
     ≡ slice_get (objects_of (volume_made c.args.cartridge.now.contents) c.args.part) c.args.at
 stored g c =
     let volume = volume_made c.args.cartridge.now.contents in

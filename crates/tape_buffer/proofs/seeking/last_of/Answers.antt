@@ -35,5 +35,6 @@ back-preserved c =
           λ volume all.
           let same = subst (λ (n : ℕ). SameAt volume changes c.args.part c.args.at n) more
           (c.back.invariant.same volume all) in
-          stays_so volume changes number change c.args.part c.args.at is all (c.reaches.ensures.no c.if-reaches.false) same;
+          stays_so volume changes number change c.args.part c.args.at is all (c.reaches.ensures.no c.if-reaches.false)
+          same;
     }

@@ -1,10 +1,8 @@
-use Rattle.std.proofs.Common.{◌≡◌, ◌∙◌, Some, ap, sym, subst}
+use Rattle.std.proofs.Common.{◌≡◌, ◌∙◌, Some, ap, sym}
 use Rattle.std.specs.Prelude.{slice_get}
 use Rattle.std.proofs.lemmas.Option.{slice_get-get_or}
-use Rattle.volume_core.specs.declared.changes.Change.{Change}
 use Rattle.tape_buffer.proofs.FetchingLemmas.{short_block}
-use Rattle.tape_buffer.proofs.SeekingLemmas.{last_inside, puts_block, puts_no_marks, puts_something}
-use Rattle.tape_buffer.proofs.seeking.waiting_block.Given.{Over}
+use Rattle.tape_buffer.proofs.SeekingLemmas.{last_inside, puts_block}
 use Rattle.tape_buffer.proofs.seeking.waiting_block.Goals as goal
 
 pub bounds-changes-number : goal.bounds-changes-number

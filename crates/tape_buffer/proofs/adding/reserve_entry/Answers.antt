@@ -1,8 +1,8 @@
 use Rattle.std.proofs.Common.{arith}
 use Rattle.object_index.specs.Places.{reserved_of}
-use Rattle.cartridge.proofs.EnterLemmas.{as_many_parts, shown_grown}
-use Rattle.cartridge.proofs.RecordLemmas.{inside_of}
-use Rattle.cartridge.proofs.shown.reserve_entry.Goals as goal
+use Rattle.tape_buffer.proofs.IndexLemmas.{as_many_parts, shown_reserved}
+use Rattle.tape_buffer.proofs.ChangeLemmas.{inside_of}
+use Rattle.tape_buffer.proofs.adding.reserve_entry.Goals as goal
 
 pub reserve-requires : goal.reserve-requires
 reserve-requires c =
@@ -15,5 +15,5 @@ reserve-requires c =
 
 pub returns-clause-shows : goal.returns-clause-shows
 returns-clause-shows c = λ volume is.
-    shown_grown c.args.index.now c.reserve.new.self volume c.part.result
-    (reserved_of c.reserve.new.self c.part.result) c.reserve.ensures.same c.reserve.ensures.grows is
+    shown_reserved c.args.index.now c.reserve.new.self volume c.part.result
+    (reserved_of c.reserve.new.self c.part.result) c.reserve.ensures.same is
