@@ -1,4 +1,5 @@
 mod AcceptedLemmas
+mod HandLemmas
 mod BayLemmas
 mod CarriedLemmas
 mod CartridgeLemmas

@@ -112,7 +112,7 @@ module _ {D : Type 0} (state : D → DiskState) (is_disk : (disk : D) → (state
   opened_in (Err errors.SideFull) opened bay is = absurd (cc)
   opened_in (Err (errors.Refused refusal)) opened bay is = absurd (cc)
 
-  on_moved : (given : Option (BufferState D)) (reservations : PrState) (store : OpenStore D) (new : BayState D)
+  pub on_moved : (given : Option (BufferState D)) (reservations : PrState) (store : OpenStore D) (new : BayState D)
       → SwitchesOn (state_of state) (buffer_below state) given reservations store (Ok new)
       → Moved state is_disk given (medium_in new.bay) []
   on_moved None reservations store new on =
@@ -149,7 +149,7 @@ module _ {D : Type 0} (state : D → DiskState) (is_disk : (disk : D) → (state
             (gives new holding still));
       }
 
-  off_moved : (given : Option (BufferState D)) (reservations : PrState) (store : OpenStore D)
+  pub off_moved : (given : Option (BufferState D)) (reservations : PrState) (store : OpenStore D)
       (back : Option (BufferState D)) (left : OpenStore D) (reason : NoMemory)
       → SwitchesOn (state_of state) (buffer_below state) given reservations store (Err (back, left, reason))
       → Moved state is_disk given back [] × (left ≡ store)

@@ -46,7 +46,20 @@ module _ {D : Type 0} (state : D → DiskState) where
         IsOpenedOrSettled medium → (volume : List Part) → (state_of state medium).stored ≡ Some volume
         → ShowsOn state (disks_in medium.held) (medium_core state medium)
 
+  -- the same, but that the disks are at hand (own)
+  pub record ShowsCartridge (medium : BufferState D) : Type 0 where
+    pub core : IsCore (medium_core state medium)
+    pub whole : IsSafeOrPending (medium_core state medium) medium.pending
+    pub shows :
+        IsOpenedOrSettled medium → (volume : List Part) → (state_of state medium).stored ≡ Some volume
+        → ShowsOn state (disks_in medium.held) (medium_core state medium)
+
   -- the same for the cartridge in a drive, if there is one (own)
+  abbrev pub ShowsCartridgeIn : Option (BufferState D) → Type 0
+  ShowsCartridgeIn None = Unit {0}
+  ShowsCartridgeIn (Some medium) = ShowsCartridge medium
+
+  -- the invariant of the cartridge in a drive, if there is one (own)
   abbrev pub KeepsCartridgeIn : Option (BufferState D) → Type 0
   KeepsCartridgeIn None = Unit {0}
   KeepsCartridgeIn (Some medium) = KeepsCartridge medium

@@ -11,7 +11,7 @@ ghost use Rattle.drive_commands.specs.Synchronize.{Acknowledges, IsSynchronizing
 ghost use Rattle.tape_buffer.specs.Moves.{IsHere, buffer_below};
 ghost use Rattle.tape_buffer.specs.State.{state_of};
 ghost use Rattle.aptpl_store.specs.Kept.{store_below, store_kept};
-ghost use Rattle.bay_moves.specs.Bays.{AnswersInEvent, AnswersLentInEvent, EveryMoment, EveryMomentOff, EveryMomentOn, IsSafeIn, KeepsBoth, KeepsCartridgeIn, ShowsOrders, loaded_or_back, out_or_in};
+ghost use Rattle.bay_moves.specs.Bays.{AnswersInEvent, AnswersLentInEvent, EveryMoment, EveryMomentOff, EveryMomentOn, IsSafeIn, KeepsBoth, KeepsCartridgeIn, ShowsCartridgeIn, ShowsOrders, loaded_or_back, out_or_in};
 ghost use Rattle.bay_moves.specs.Inner.Going.{IsAwakeIn};
 ghost use Rattle.drive_commands.specs.Events.{FlushTurn, Insert, Load, Unload};
 ghost use Rattle.bay_moves.specs.Reservations.{GivesHeld};
@@ -70,10 +70,9 @@ impl<D: Disk> Accepting for Bay<D> {
     ghost is_device = { one_is_device D.state };
 }
 
-// Establishes, for proofs, the invariant of the cartridge in a drive, if there is one.
+// Establishes, for proofs, what a crash may leave of the cartridge in a drive, if there is one.
 pub(crate) fn known<D: Disk>(drive: &Drive<Buffered<D>, AptplStore<D>>)
-    requires { IsAtHand (λ m. IsHere m.held) drive.now.bay }
-    ensures { KeepsCartridgeIn D.state (medium_in drive.now.bay) }
+    ensures { ShowsCartridgeIn D.state (medium_in drive.now.bay) }
 {
     if let Some(medium) = drive.medium() {
         medium.known();
@@ -291,9 +290,10 @@ impl<D: Disk> Bay<D> {
         let _ = self.drive.medium();
     }
 
-    /// The drive, for reading.
+    /// The drive, for reading. The disks of what is in it are at hand.
     pub fn drive(&self) -> &Drive<Buffered<D>, AptplStore<D>>
-        ensures { result.now ≡ self.now }
+        ensures same { result.now ≡ self.now }
+        ensures hand { IsAtHand (λ m. IsHere m.held) self.now.bay }
     {
         &self.drive
     }

@@ -1,5 +1,5 @@
 -- A medium whose disks are away, behind a lock of their own: how hosts see it, and what it accepts.
-use Rattle.std.specs.Prelude.{◌≡◌, ◌⊎◌, ◌≤◌, ◌<◌, ◌+◌, ◌++◌, ◌-◌, ◌&&◌, ℕ, List, [], ◌∷◌, length, sum_by, Bool, true, false, not, nat_lt, nat_le, Option, None, Some, refl}
+use Rattle.std.specs.Prelude.{◌≡◌, ◌⊎◌, ◌≤◌, ◌<◌, ◌+◌, ◌++◌, ◌-◌, ◌&&◌, ℕ, List, [], ◌∷◌, length, sum_by, Bool, true, false, not, nat_lt, nat_le, Option, None, Some}
 use Rattle.std.proofs.Common.{ap, sym, subst, ◌∙◌, arith, append_assoc, length-append}
 use Rattle.std.proofs.lemmas.List.{append-nil}
 use Rattle.std.proofs.lemmas.List.Sums.{sum_by-append}
@@ -52,7 +52,7 @@ pub record KnowsAway (catalog : Option (List PlacedPart)) (away : Away) : Type 0
   pub none : away.noted.failed ≡ true → away.left.records ≡ 0
   pub waiting_is : away.waiting ≡ length away.noted.pending
   pub few : length away.noted.pending + away.left.records ≤ BUFFER_RECORDS
-  pub short : sum_by block_bytes away.noted.pending + away.left.bytes ≤ BUFFER_BYTES
+  pub short : 1 ≤ away.left.records → sum_by block_bytes away.noted.pending + away.left.bytes ≤ BUFFER_BYTES
   pub room : away.noted.awake ≡ true → IsRoomFor away.noted.room away.left.room away.noted.pending
 
 -- a medium whose disks are away accepted just these: each applies, and all are within the budget (own)

@@ -1,5 +1,5 @@
 -- How the disks of a medium go away.
-use Rattle.std.specs.Prelude.{◌≡◌, List, [], false, Option, None, Some}
+use Rattle.std.specs.Prelude.{◌≡◌, List, [], false, None}
 use Rattle.vtl_base.specs.Below.{Advances}
 use Rattle.tape_disk.specs.Disk.{DiskState}
 use Rattle.volume_core.specs.declared.changes.Change.{Change}

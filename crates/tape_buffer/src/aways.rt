@@ -1,10 +1,8 @@
 //! What a medium knows of itself while its disks are away.
-ghost use Rattle.std.specs.Prelude.{◌≡◌, ◌≤◌, ◌<◌, ◌⊎◌, ◌+◌, ◌++◌, [], ◌∷◌, None, Some, true, false, IfErr, OnErr, length};
-ghost use Rattle.vtl_base.specs.declared.limits.TheConstants.{BUFFER_RECORDS};
-ghost use Rattle.volume_core.specs.Volume.{AllApply};
+ghost use Rattle.std.specs.Prelude.{◌≡◌, ◌≤◌, ◌+◌, [], ◌∷◌, None, Some, true, false, IfErr, length};
 ghost use Rattle.volume_core.specs.Medium.{Accepts, MediumState, accept_answer, accepted_by, block_bytes, met_fault, volume_of};
 ghost use Rattle.object_index.specs.Shapes.{IsIndexOf};
-ghost use Rattle.tape_buffer.specs.Aways.{IsRoomFor, KnowsAway, MovesAway, loose_in, seen_as, seen_with, takes_loose, takes_one};
+ghost use Rattle.tape_buffer.specs.Aways.{KnowsAway, MovesAway, loose_in, seen_as, seen_with, takes_loose};
 ghost use Rattle.tape_buffer.specs.Budgets.{KeepsBudget, budget_after};
 ghost use Rattle.tape_buffer.specs.Invariants.{IsHeld, buffer_of};
 ghost use Rattle.tape_buffer.specs.Limits.{FitsBuffer};

@@ -5,7 +5,7 @@ ghost use Rattle.accepted_changes.specs.Core.{IsCore};
 ghost use Rattle.tape_buffer.specs.Limits.{FitsBuffer};
 ghost use Rattle.tape_buffer.specs.Rules.{medium_rules};
 ghost use Rattle.tape_buffer.specs.State.{IsSettledIn, closed_buffer, disk_in, disks_in, state_of};
-ghost use Rattle.tape_buffer.specs.Moves.{IsAway, IsHere, IsSafeOrPending, ShowsOn, medium_core};
+ghost use Rattle.tape_buffer.specs.Moves.{IsHere, IsSafeOrPending, ShowsOn, medium_core};
 ghost use Rattle.tape_buffer.specs.declared.holding.Holding.TheVariants as Holdings;
 
 use crate::holding::{Holding, Opened, disk_of, known_in};

@@ -8,6 +8,7 @@ ghost use Rattle.tape_buffer.specs.Catalogs.{IsCataloged};
 ghost use Rattle.tape_buffer.specs.Detaching.{DetachesFrom, IsAwayAs, away_buffer, left_in, loose_of, passed};
 ghost use Rattle.tape_buffer.specs.Inner.Lending.{LendsIn, MayBeLent};
 ghost use Rattle.tape_buffer.specs.Invariants.{IsHeld, buffer_of};
+ghost use Rattle.tape_buffer.specs.Limits.{FitsBuffer};
 ghost use Rattle.tape_buffer.specs.Moves.{IsAway, IsHere, buffer_below};
 ghost use Rattle.tape_buffer.specs.State.{state_of};
 ghost use Rattle.tape_buffer.specs.declared.budgets.Budget.{Budget};
@@ -88,6 +89,7 @@ fn away_from<D: Disk>(
     ensures state { state_of D.state (buffer_of held.new) ≡ state_of D.state (buffer_of held.old) }
     ensures advances { Advances (buffer_below D.state) (buffer_of held.old) [] false (buffer_of held.new) }
     ensures away { IsAwayAs (state_of D.state (buffer_of held.old)) result.1 result.0 }
+    ensures fits { FitsBuffer result.0.noted.pending }
     ensures shows { IsCataloged D.state (away_buffer result.0) catalog.new }
     ensures knows { KnowsAway catalog.new result.0 }
 {

@@ -70,7 +70,7 @@ pub(crate) fn allow<D: Disk>(held: &mut Holding<Opened<D>, Shelved<D>>) -> Budge
             bytes: 0,
             room: 0,
         },
-        Holding::Between => unreachable!(),
+        Holding::Away(_) => unreachable!(),
     }
 }
 

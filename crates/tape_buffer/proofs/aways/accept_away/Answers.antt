@@ -1,11 +1,10 @@
-use Rattle.std.proofs.Common.{◌≡◌, List, [], ◌∷◌, Ok, None, true, ap, sym, subst, ◌∙◌}
+use Rattle.std.proofs.Common.{Ok, sym, subst, ◌∙◌}
 use Rattle.volume_core.specs.Medium.{Accepts, block_bytes, volume_of}
 use Rattle.object_index.specs.Shapes.{IsIndexOf}
 use Rattle.tape_buffer.specs.declared.aways.Away.{Away}
 use Rattle.tape_buffer.specs.Aways.{seen_as}
 use Rattle.tape_buffer.specs.Limits.{FitsBuffer}
 use Rattle.tape_buffer.proofs.AwayLemmas.{Takes, accepts, fits_more, keeps_one, may_enter, seen_more, takes, takes_none}
-use Rattle.tape_buffer.proofs.aways.accept_away.Given.{Over}
 use Rattle.tape_buffer.proofs.aways.accept_away.Goals as goal
 
 took : (c : goal.In-None) → Takes c.args.away.now.left (block_bytes c.args.change)

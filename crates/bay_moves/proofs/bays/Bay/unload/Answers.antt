@@ -1,4 +1,4 @@
-use Rattle.std.proofs.Common.{◌≡◌, sym, subst, Result}
+use Rattle.std.proofs.Common.{◌≡◌, refl, sym, subst, Result}
 use Rattle.scsi_sense.specs.declared.replies.Reply.{Reply}
 use Rattle.tape_buffer.specs.State.{BufferState}
 use Rattle.drive_commands.specs.Events.{Unload}
@@ -8,13 +8,18 @@ use Rattle.bay_moves.specs.Bays.{EveryMoment, out_or_in}
 use Rattle.bay_moves.specs.Elements.{BayState}
 use Rattle.bay_moves.proofs.MomentLemmas.{event_keeps, out_moments}
 use Rattle.bay_moves.proofs.bays.Bay.unload.Goals.{in-Ok, in-Err}
+use Rattle.bay_moves.proofs.HandLemmas.{keeps_here, kept_here, left_here}
 use Rattle.bay_moves.proofs.bays.Bay.unload.Goals as goal
 
 pub invariant_of-self : goal.invariant_of-self
 invariant_of-self g c =
     event_keeps g.D.Disk.state g.met.D.Disk.is_disk c.reservations_outlive_each_stop.ensures.goes_on
     c.self.inside.drive c.unload-out.new.self Unload c.self.invariant
-    (c.unload-out.result, c.unload-out.ensures.out) c.known.ensures
+    (c.unload-out.result, c.unload-out.ensures.out)
+    (keeps_here g.D.Disk.state (medium_in c.unload-out.new.self.bay)
+    (left_here g.D.Disk.state g.met.D.Disk.is_disk c.self.inside.drive.bay c.self.inside.drive c.unload-out.result
+    c.unload-out.new.self refl
+    (kept_here g.D.Disk.state (medium_in c.self.inside.drive.bay) c.self.invariant.cartridge) c.unload-out.ensures.out) c.known.ensures)
 
 pub returns-clause-moments : goal.returns-clause-moments
 returns-clause-moments g c =
