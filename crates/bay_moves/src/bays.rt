@@ -16,6 +16,7 @@ ghost use Rattle.bay_moves.specs.Inner.Going.{IsAwakeIn};
 ghost use Rattle.drive_commands.specs.Events.{FlushTurn, Insert, Load, Unload};
 ghost use Rattle.bay_moves.specs.Reservations.{GivesHeld};
 
+use crate::answering::answer;
 use crate::laws::reservations::reservations_outlive_each_stop;
 use crate::parked::Parked;
 use accepted_changes::Accepting;
@@ -179,11 +180,7 @@ impl<D: Disk> Bay<D> {
             → Acknowledges result → HonestIn (buffer_below D.state) (medium_in self.old.bay)
             → IsSafeIn D.state (medium_in self.new.bay) }
     {
-        reservations_outlive_each_stop::<Buffered<D>, D>();
-        let reply = self.drive.execute_lent(nexus, cdb, sent);
-        known(&self.drive);
-        let _ = self.drive.medium();
-        reply
+        answer(&mut self.drive, nexus, cdb, sent)
     }
 
     /// Takes a flusher's turn: stores the pending changes of the loaded medium, and returns what the turn did. The call
