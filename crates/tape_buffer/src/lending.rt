@@ -8,7 +8,7 @@ ghost use Rattle.cartridge.specs.Answers.{HasReserved, KeepsReserved};
 ghost use Rattle.cartridge.specs.Contents.{volume_made};
 ghost use Rattle.tape_buffer.specs.declared.budgets.Budget.{Budget};
 ghost use Rattle.tape_buffer.specs.Catalogs.{IsCataloged};
-ghost use Rattle.tape_buffer.specs.Inner.Lending.{LendsIn, MayBeLent};
+ghost use Rattle.tape_buffer.specs.Inner.Lending.{MayBeLent};
 ghost use Rattle.tape_buffer.specs.Inner.Storing.{IsRoomyFor};
 ghost use Rattle.tape_buffer.specs.Invariants.{IsHeld, buffer_of};
 ghost use Rattle.tape_buffer.specs.Limits.{FitsBuffer};
@@ -57,7 +57,7 @@ impl<D: Disk> Buffered<D> {
 pub(crate) fn allow<D: Disk>(held: &mut Holding<Opened<D>, Shelved<D>>) -> Budget
     requires held { IsHeld held.old }
     requires hand { IsHere held.old }
-    ensures lends { LendsIn (buffer_of held.old) (buffer_of held.new) result }
+    ensures lends { LendsFrom (buffer_of held.old) (record { buffer = buffer_of held.new; left = result }) }
     ensures may { MayBeLent held.new result }
     ensures few { result.records ≤ BUFFER_RECORDS }
     ensures state { state_of D.state (buffer_of held.new) ≡ state_of D.state (buffer_of held.old) }
