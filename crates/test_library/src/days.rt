@@ -166,7 +166,10 @@ pub fn has_ended<D: Disk + Drop>(
 
 // The number in the barcode of a cartridge, whose two digits are in its file after place 14.
 fn number_of(medium: &Buffered<TestDisk>) -> usize {
-    match medium.disk().inner().inner().bytes().get(15..17) {
+    let Some(disk) = medium.disk() else {
+        return 0;
+    };
+    match disk.inner().inner().bytes().get(15..17) {
         Some([tens, ones]) => usize::from(*tens % 16) * 10 + usize::from(*ones % 16),
         _ => 0,
     }
