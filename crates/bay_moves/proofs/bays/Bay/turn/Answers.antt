@@ -6,15 +6,18 @@ use Rattle.bay_moves.specs.Bays.{EveryMoment}
 use Rattle.bay_moves.specs.Elements.{BayState}
 use Rattle.drive_commands.specs.Events.{FlushTurn}
 use Rattle.bay_moves.proofs.MomentLemmas.{event_keeps, turn_moments}
-use Rattle.bay_moves.proofs.HandLemmas.{advanced_here, keeps_here, kept_here}
+use Rattle.bay_moves.proofs.HandLemmas.{advanced_here, keeps_here, kept_bay, kept_here}
 use Rattle.bay_moves.proofs.bays.Bay.turn.Goals as goal
+
+pub turn-turn-requires : goal.turn-turn-requires
+turn-turn-requires g c = kept_bay g.D.Disk.state c.self.inside.drive.bay c.self.invariant.cartridge
 
 pub invariant_of-self : goal.invariant_of-self
 invariant_of-self g c =
     event_keeps g.D.Disk.state g.met.D.Disk.is_disk c.reservations_outlive_each_stop.ensures.goes_on
     c.self.inside.drive c.turn-turn.new.self FlushTurn c.self.invariant (c.turn-turn.result, c.turn-turn.ensures)
     (keeps_here g.D.Disk.state (medium_in c.turn-turn.new.self.bay)
-    (advanced_here g.D.Disk.state g.met.D.Disk.is_disk (medium_in c.self.inside.drive.bay)
+    (advanced_here g.D.Disk.state (medium_in c.self.inside.drive.bay)
     (medium_in c.turn-turn.new.self.bay) [] (turn_met_fault c.turn-turn.result)
     (kept_here g.D.Disk.state (medium_in c.self.inside.drive.bay) c.self.invariant.cartridge)
     c.turn-turn.ensures.advances) c.known.ensures)
