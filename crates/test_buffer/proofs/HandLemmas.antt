@@ -1,5 +1,5 @@
 -- The disks of what is in a drive stay at hand.
-use Rattle.std.proofs.Common.{◌≡◌, List, Bool, Option, None, Some, Result, Ok, Err, ap, sym, subst}
+use Rattle.std.proofs.Common.{List, Bool, Option, None, Some, Result, Ok, Err, ap, sym, subst}
 use Rattle.vtl_base.specs.Below.{Below}
 use Rattle.pr_core.specs.declared.states.PrState.{PrState}
 use Rattle.volume_core.specs.declared.changes.Change.{Change}
