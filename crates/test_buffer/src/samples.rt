@@ -1,5 +1,6 @@
 //! A drive over a cartridge on two disks, and the commands of the tests.
-use crate::drives::{Tape, switched_on};
+use crate::drives::switched_on;
+pub use crate::drives::{Tape, switch_off};
 use cartridge::{Cartridge, Shelved};
 use scsi_sense::{Reply, Status};
 use std::alloc::Global;
