@@ -11,7 +11,7 @@ use Rattle.drive_commands.specs.State.{IsBayPositioned, Machine, bay_of, has_fai
 use Rattle.bay_moves.specs.Elements.{BayState}
 use Rattle.tape_buffer.specs.Moves.{with_changes}
 use Rattle.tape_buffer.specs.State.{BufferState, state_of}
-use Rattle.tape_buffer.specs.Taking.{LentState}
+use Rattle.tape_buffer.specs.Taking.{DisksState}
 use Rattle.split_bay.specs.Backs.{BackState, is_stuck_in}
 use Rattle.split_bay.specs.Fronts.{FrontState}
 use Rattle.split_bay.specs.Halves.{Joins, Parts, ReportsBoth, ReportsFault, is_unreported}
@@ -38,7 +38,7 @@ module _ {D : Type 0} (state : D → DiskState) where
   broken_in (Some medium) = is_broken (state_of state medium)
 
   -- what is pending does not show it
-  broken_with : (medium : Option (LentState D)) (waiting : List Change)
+  broken_with : (medium : Option (DisksState D)) (waiting : List Change)
       → broken_in (option_map (λ m. with_changes m.buffer waiting) medium) ≡ is_stuck_in state medium
   broken_with None waiting = refl
   broken_with (Some medium) waiting =

@@ -18,7 +18,7 @@ use Rattle.tape_buffer.specs.declared.holding.Holding.TheVariants.{Open, Closed,
 use Rattle.tape_buffer.specs.Moves.{StoresBehind, buffer_below, medium_moves_on, with_changes}
 use Rattle.tape_buffer.specs.State.{BufferState, awake_is_read, state_held, state_of}
 use Rattle.tape_buffer.specs.Budgets.{KeepsBudget, budget_after}
-use Rattle.tape_buffer.specs.Taking.{LentState}
+use Rattle.tape_buffer.specs.Taking.{DisksState}
 use Rattle.split_bay.specs.declared.items.Item.{Item}
 use Rattle.split_bay.specs.declared.items.Item.TheVariants.{Sent}
 use Rattle.split_bay.specs.Backs.{FollowsSpan, LeavesBudget, TurnsBack}
@@ -57,7 +57,7 @@ module _ (span : Span) (change : Change) (within : KeepsLimits (span_with span (
 
 module _ {D : Type 0} (state : D → DiskState) where
   -- the medium follows, once a change more is received and taken
-  pub follows_next : (span : Span) (change : Change) (old new : LentState D)
+  pub follows_next : (span : Span) (change : Change) (old new : DisksState D)
       → KeepsLimits (span_with span (Sent change)) → FollowsSpan state old span
       → new ≡ record { buffer = with_changes old.buffer (change ∷ []); left = budget_after old.left (change ∷ []) }
       → state_of state new.buffer ≡ with_more (state_of state old.buffer) change
@@ -68,13 +68,13 @@ module _ {D : Type 0} (state : D → DiskState) where
         looked =
             looked_next span change (state_of state old.buffer) (state_of state new.buffer) follows.looked more;
         left =
-            subst (λ (l : LentState D). LeavesBudget (span_with span (Sent change)) l.left) (sym is)
+            subst (λ (l : DisksState D). LeavesBudget (span_with span (Sent change)) l.left) (sym is)
             (leaves_next span change within old.left follows.left);
         rests = follows.rests;
       }
 
   -- nothing is taken yet
-  pub takes_none : (receiving : ReceivingState) (medium : LentState D)
+  pub takes_none : (receiving : ReceivingState) (medium : DisksState D)
       → Advances (buffer_below state) medium.buffer [] false medium.buffer
       → TakesWaiting state receiving medium receiving medium
   takes_none receiving medium nowhere =
@@ -88,7 +88,7 @@ module _ {D : Type 0} (state : D → DiskState) where
       }
 
   -- one more is taken
-  pub takes_more : (old mid new : ReceivingState) (medium medium' medium'' : LentState D) (change : Change)
+  pub takes_more : (old mid new : ReceivingState) (medium medium' medium'' : DisksState D) (change : Change)
       → TakesWaiting state old medium mid medium' → new.number ≡ mid.number
       → new.received ≡ mid.received ++ Sent change ∷ [] → mid.waiting ≡ Sent change ∷ new.waiting
       → medium''.buffer ≡ with_changes medium'.buffer (change ∷ [])
@@ -143,7 +143,7 @@ module _ {D : Type 0} (state : D → DiskState) where
       by (Away away) = refl
 
   -- the medium follows, through a turn
-  pub follows_turn : (span : Span) (old new : LentState D) (turn : Turn) → FollowsSpan state old span
+  pub follows_turn : (span : Span) (old new : DisksState D) (turn : Turn) → FollowsSpan state old span
       → (state_of state old.buffer).awake ≡ true → Turns (state_of state old.buffer) turn (state_of state new.buffer)
       → Stores (state_of state old.buffer) [] (state_of state new.buffer) → new.left ≡ old.left
       → FollowsSpan state new span
@@ -160,7 +160,7 @@ module _ {D : Type 0} (state : D → DiskState) where
       }
 
   -- what a turn does
-  pub turns_back : (old looked new : ReceivingState) (medium taken medium' : LentState D) (turn : Turn)
+  pub turns_back : (old looked new : ReceivingState) (medium taken medium' : DisksState D) (turn : Turn)
       → looked ≡ record old { waiting = looked.waiting } → IsPrefix old.waiting looked.waiting
       → TakesKnown state looked medium new taken → (state_of state medium.buffer).failed ≡ false
       → Turns (state_of state taken.buffer) turn (state_of state medium'.buffer)

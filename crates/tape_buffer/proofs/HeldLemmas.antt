@@ -120,7 +120,7 @@ whole_open opened at_rest works going = (
   omega (arith, ap (λ (t : List (List Change)). length (changes_of t)) (at_rest works)),
   ap (λ (l : List Change). l ++ opened.pending)
       (sym (take_at (changes_since opened.cartridge.contents) opened.pending
-          (length (changes_since opened.cartridge.contents)) refl)),
+      (length (changes_since opened.cartridge.contents)) refl)),
 )
 
 -- a closed one was stopped

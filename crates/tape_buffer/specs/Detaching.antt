@@ -7,7 +7,7 @@ use Rattle.volume_core.specs.Medium.{MediumState}
 use Rattle.tape_buffer.specs.Aways.{IsCut, loose_in}
 use Rattle.tape_buffer.specs.Moves.{buffer_below}
 use Rattle.tape_buffer.specs.State.{BufferState, state_of}
-use Rattle.tape_buffer.specs.Taking.{LendsFrom, LentState}
+use Rattle.tape_buffer.specs.Taking.{LendsFrom, DisksState}
 use Rattle.tape_buffer.specs.declared.aways.Away.{Away}
 use Rattle.tape_buffer.specs.declared.budgets.Budget.{Budget}
 use Rattle.tape_buffer.specs.declared.holding.Holding.{Holding}
@@ -56,7 +56,7 @@ module _ {D : Type 0} where
 
   -- The disks of a medium were sent away, as they were except for the memory that is reserved. Hosts see just the
   -- medium (own).
-  pub record DetachesFrom (state : D → DiskState) (old : BufferState D) (lent : LentState D) (new : BufferState D)
+  pub record DetachesFrom (state : D → DiskState) (old : BufferState D) (lent : DisksState D) (new : BufferState D)
       : Type 0 where
     pub away : Away
     pub lends : LendsFrom old lent

@@ -10,7 +10,7 @@ use Rattle.tape_buffer.specs.declared.holding.Holding.TheVariants.{Open, Closed}
 use Rattle.tape_buffer.specs.State.{BufferState}
 
 -- a medium that is lent to take changes, and how many it may still take (own)
-pub record LentState (D : Type 0) : Type 0 where
+pub record DisksState (D : Type 0) : Type 0 where
   pub buffer : BufferState D
   pub left : Budget
 
@@ -43,6 +43,6 @@ module _ {D : Type 0} where
   LendsHeld _ pending _ left = ⊥
 
   -- a medium is lent, with what is pending (own)
-  pub record LendsFrom (old : BufferState D) (new : LentState D) : Type 0 where
+  pub record LendsFrom (old : BufferState D) (new : DisksState D) : Type 0 where
     pub pending : new.buffer.pending ≡ old.pending
     pub held : LendsHeld old.held old.pending new.buffer.held new.left

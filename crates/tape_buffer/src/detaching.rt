@@ -16,9 +16,9 @@ ghost use Rattle.tape_buffer.specs.declared.budgets.Budget.{Budget};
 use crate::aways::{Away, away_of};
 use crate::budgets::Budget;
 use crate::buffered::Buffered;
+use crate::disks::Disks;
 use crate::holding::{Holding, Opened, hold};
 use crate::lending::allow;
-use crate::lent::Lent;
 use cartridge::Shelved;
 use cartridge::shown::reserve_shown;
 use object_index::Index;
@@ -30,25 +30,24 @@ use vtl_base::limits::BUFFER_RECORDS;
 impl<D: Disk> Buffered<D> {
     /// Brings the disks back. They must hold the medium as hosts see it, as far as it was stored. The call allocates no
     /// memory, and calls no device.
-    pub fn attach(&mut self, disks: Lent<D>)
+    pub fn attach(&mut self, disks: Disks<D>)
         requires away { IsAway self.old.held }
         requires found { IsFoundAs (state_of D.state self.old) (state_of D.state disks.buffer) }
         ensures { self.new ≡ disks.buffer }
     {
-        let Lent { held, .. } = disks;
+        let Disks { held, .. } = disks;
         hold(&mut self.held, held);
     }
 
     /// Sends the disks away. The call allocates memory for as many changes as may be pending; where memory runs out,
     /// the medium accepts none until the disks are back.
-    pub fn detach(&mut self) -> Lent<D>
+    pub fn detach(&mut self) -> Disks<D>
         requires { IsHere self.old.held }
         ensures { DetachesFrom D.state self.old result self.new }
     {
         let (away, left) = away_from(&mut self.catalog, &mut self.held);
         let held = mem::replace(&mut self.held, Holding::Away(away));
-        let alloc = self.alloc;
-        Lent { alloc, held, left }
+        Disks { held, left }
     }
 
     /// How much may be accepted before the disks are back.

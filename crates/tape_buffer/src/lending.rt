@@ -1,4 +1,4 @@
-//! Lending a medium, which then accepts changes and stores them.
+//! Memory for as many changes as may be pending, and a change that is taken into it.
 ghost use Rattle.std.specs.Prelude.{◌≡◌, ◌≤◌, ◌++◌, [], ◌∷◌, None, false};
 ghost use Rattle.vtl_base.specs.Below.{Advances};
 ghost use Rattle.vtl_base.specs.declared.limits.TheConstants.{BUFFER_RECORDS};
@@ -7,7 +7,6 @@ ghost use Rattle.volume_core.specs.Stores.{Stores};
 ghost use Rattle.cartridge.specs.Answers.{HasReserved, KeepsReserved};
 ghost use Rattle.cartridge.specs.Contents.{volume_made};
 ghost use Rattle.tape_buffer.specs.declared.budgets.Budget.{Budget};
-ghost use Rattle.tape_buffer.specs.Catalogs.{IsCataloged};
 ghost use Rattle.tape_buffer.specs.Inner.Lending.{LendsIn, MayBeLent};
 ghost use Rattle.tape_buffer.specs.Inner.Storing.{IsRoomyFor};
 ghost use Rattle.tape_buffer.specs.Invariants.{IsHeld, buffer_of};
@@ -15,43 +14,18 @@ ghost use Rattle.tape_buffer.specs.Limits.{FitsBuffer};
 ghost use Rattle.tape_buffer.specs.Moves.{IsHere, buffer_below};
 ghost use Rattle.tape_buffer.specs.State.{IsPendingOver, open_buffer, open_state, state_of};
 ghost use Rattle.tape_buffer.specs.Budgets.{KeepsBudget, budget_after};
-ghost use Rattle.tape_buffer.specs.Taking.{LendsFrom, LendsOpen, LendsRecords, longest_body};
+ghost use Rattle.tape_buffer.specs.Taking.{LendsOpen, LendsRecords, longest_body};
 
 use crate::budgets::Budget;
-use crate::buffered::Buffered;
 use crate::holding::{Holding, Opened};
-use crate::lent::Lent;
 use crate::pending::{Pending, block_bytes};
 use cartridge::{Cartridge, Shelved};
-use object_index::Index;
 use tape_disk::Disk;
 use volume_core::Change;
 use vtl_base::limits::{BUFFER_BYTES, BUFFER_RECORDS};
 
 // The bytes of the longest body of what is pending: of all records that may be, with all their bytes.
 const LONGEST_BODY: usize = BUFFER_BYTES + 10 * BUFFER_RECORDS;
-
-impl<D: Disk> Buffered<D> {
-    /// Lends the medium, so that it accepts changes without allocating memory and without calling its device: as many
-    /// as its buffer and its side have room for. It accepts none where it is parked, where it has failed, or where
-    /// memory ran out. Returns its catalog too, which is None where the medium is parked.
-    pub fn lend(self) -> (Lent<D>, Option<Index>)
-        requires { IsHere self.held }
-        ensures lends { LendsFrom self result.0 }
-        ensures state { state_of D.state result.0.buffer ≡ state_of D.state self }
-        ensures advances { Advances (buffer_below D.state) self [] false result.0.buffer }
-        ensures catalog { IsCataloged D.state self result.1 }
-    {
-        let Buffered {
-            alloc,
-            catalog,
-            held,
-        } = self;
-        let mut held = held;
-        let left = allow(&mut held);
-        (Lent { alloc, held, left }, catalog)
-    }
-}
 
 // How much may be accepted over what is held, once memory is reserved for it.
 pub(crate) fn allow<D: Disk>(held: &mut Holding<Opened<D>, Shelved<D>>) -> Budget

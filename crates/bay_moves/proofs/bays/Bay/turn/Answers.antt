@@ -13,7 +13,6 @@ pub invariant_of-self : goal.invariant_of-self
 invariant_of-self g c =
     event_keeps g.D.Disk.state g.met.D.Disk.is_disk c.reservations_outlive_each_stop.ensures.goes_on
     c.self.inside.drive c.turn-turn.new.self FlushTurn c.self.invariant (c.turn-turn.result, c.turn-turn.ensures)
-    
     (keeps_here g.D.Disk.state (medium_in c.turn-turn.new.self.bay)
     (advanced_here g.D.Disk.state g.met.D.Disk.is_disk (medium_in c.self.inside.drive.bay) (medium_in c.turn-turn.new.self.bay)
     [] (turn_met_fault c.turn-turn.result)

@@ -1,11 +1,10 @@
-//! A medium that is lent, to accept changes without taking memory and without its device.
+//! The disks of a medium while they are away from it, behind a lock of their own.
 ghost use Rattle.std.specs.Prelude.{◌≡◌, ◌⊎◌, ◌++◌, List, [], ◌∷◌, None, Some, true, false};
 ghost use Rattle.vtl_base.specs.Below.{Advances};
 ghost use Rattle.volume_core.specs.Volume.{Part, refusal_of};
 ghost use Rattle.volume_core.specs.Medium.{Turns, turn_met_fault, volume_of};
 ghost use Rattle.volume_core.specs.Stores.{Stores};
 ghost use Rattle.accepted_changes.specs.Core.{IsCore};
-ghost use Rattle.tape_buffer.specs.Catalogs.{IsCataloged};
 ghost use Rattle.tape_buffer.specs.Frames.{IsOneFrameIn, frames_in};
 ghost use Rattle.tape_buffer.specs.Limits.{FitsBuffer};
 ghost use Rattle.tape_buffer.specs.Moves.{IsHere, IsSafeOrPending, ShowsOn, StoresBehind, buffer_below, medium_core};
@@ -13,40 +12,36 @@ ghost use Rattle.tape_buffer.specs.State.{IsSettledIn, disk_in, disks_in, state_
 ghost use Rattle.tape_buffer.specs.Budgets.{KeepsBudget, budget_after};
 
 use crate::budgets::Budget;
-use crate::buffered::Buffered;
 use crate::holding::{Holding, Opened, disk_of, is_open, known_in};
 use crate::lending::take_over;
 use crate::storing::turn_over;
 use cartridge::Shelved;
-use object_index::Index;
-use std::alloc::Global;
 use std::marker::Model;
 use tape_disk::Disk;
 use volume_core::{Change, Turn};
 
-/// A medium that is lent. Within its budget it accepts changes without allocating memory and without calling its
-/// device. A flusher's turn stores all that is pending, as one frame. Until the medium is returned (`into_buffered`),
-/// it shows nothing of its volume and reads no block.
+/// The disks of a medium, while they are away from it (`Buffered::detach`). Within a budget they accept changes without
+/// allocating memory and without a call of the device. A flusher's turn stores all that is pending, as one frame. Until
+/// they are back (`Buffered::attach`), they show nothing of the volume, and no block is read.
 #[derive(Drop)]
-pub struct Lent<D: Disk> {
-    pub(crate) alloc: Global,
+pub struct Disks<D: Disk> {
     pub(crate) held: Holding<Opened<D>, Shelved<D>>,
     pub(crate) left: Budget,
 }
 
-impl<D: Disk> Model for Lent<D> {
+impl<D: Disk> Model for Disks<D> {
     ghost use Rattle.tape_buffer.specs.Inner.Lending.{MayBeLent};
     ghost use Rattle.tape_buffer.specs.Invariants.{buffer_of};
-    ghost use Rattle.tape_buffer.specs.Taking.{LentState};
+    ghost use Rattle.tape_buffer.specs.Taking.{DisksState};
 
-    ghost Value = { LentState D };
+    ghost Value = { DisksState D };
 
     ghost view = { λ l. record { buffer = buffer_of l.held; left = l.left } };
 
     ghost invariant = { λ l. MayBeLent l.held l.left };
 }
 
-impl<D: Disk> Lent<D> {
+impl<D: Disk> Disks<D> {
     /// The budget that is left: how much the medium may still accept.
     pub fn left(&self) -> Budget
         ensures { result ≡ self.now.left }
@@ -97,21 +92,6 @@ impl<D: Disk> Lent<D> {
         match &mut self.held {
             Holding::Open(opened) => turn_over(&mut opened.cartridge, &mut opened.pending),
             Holding::Closed(_) | Holding::Away(_) => unreachable!(),
-        }
-    }
-
-    /// Returns the medium, in which all that was accepted and is not stored is pending. `catalog` must be that of the
-    /// volume that a caller sees; that of a parked medium must be None. The call allocates no memory.
-    pub fn into_buffered(self, catalog: Option<Index>) -> Buffered<D>
-        requires { IsCataloged D.state self.buffer catalog }
-        ensures same { result ≡ self.buffer }
-        ensures hand { IsHere self.buffer.held }
-    {
-        let Lent { alloc, held, .. } = self;
-        Buffered {
-            alloc,
-            catalog,
-            held,
         }
     }
 
