@@ -1,6 +1,6 @@
--- The two halves of a medium.
+-- The disks of a medium come back, and go away again.
 use Rattle.std.proofs.Common.{◌≡◌, ◌≤◌, ◌+◌, ◌++◌, List, [], length, map, true, false, not, Bool, Option, None, Some, refl, sym, ◌∙◌, ap, subst, arith, inl, inr, ◌⊎◌, ⊎_elim}
-use Rattle.std.specs.Prelude.{◌&&◌, is_some, sum_by}
+use Rattle.std.specs.Prelude.{◌&&◌, sum_by}
 use Rattle.std.proofs.lemmas.List.{append-nil}
 use Rattle.vtl_base.specs.declared.limits.TheConstants.{BUFFER_BYTES, BUFFER_RECORDS}
 use Rattle.tape_disk.specs.Disk.{DiskState, IsDisk}
@@ -9,21 +9,22 @@ use Rattle.volume_core.specs.declared.changes.Change.{Change}
 use Rattle.volume_core.specs.Volume.{AllApply}
 use Rattle.vtl_base.specs.Below.{Advances}
 use Rattle.cartridge.specs.State.{ClosedCartridge, OpenCartridge}
+use Rattle.tape_buffer.specs.declared.aways.Away.{Away}
 use Rattle.tape_buffer.specs.declared.budgets.Budget.{Budget}
 use Rattle.tape_buffer.specs.declared.holding.Holding.{Holding}
-use Rattle.tape_buffer.specs.declared.holding.Holding.TheVariants.{Open, Closed, Between}
+use Rattle.tape_buffer.specs.declared.holding.Holding.TheVariants as Holdings
 use Rattle.accepted_changes.specs.Core.{IsCore}
-use Rattle.tape_buffer.specs.Moves.{buffer_below, medium_core}
+use Rattle.tape_buffer.specs.Aways.{IsCut, IsFoundAs, IsRoomFor, loose_in, seen_as}
+use Rattle.tape_buffer.specs.Moves.{IsHere, MovesUnreported, buffer_below, medium_core, with_changes}
 use Rattle.tape_buffer.specs.State.{BufferState, awake_is_read, state_held, state_of}
-use Rattle.tape_buffer.specs.Taking.{LendsFrom, LendsHeld, DisksState}
+use Rattle.tape_buffer.specs.Taking.{DisksState, LendsFrom, LendsHeld}
 use Rattle.split_bay.specs.declared.items.Item.{Item}
 use Rattle.split_bay.specs.declared.items.Item.TheVariants.{Sent}
-use Rattle.split_bay.specs.Backs.{FollowsSpan, with_changes}
+use Rattle.split_bay.specs.Backs.{FollowsSpan}
 use Rattle.split_bay.specs.Beginnings.{Beginning}
 use Rattle.split_bay.specs.Both.{Attaches}
-use Rattle.split_bay.specs.Fronts.{Owes, span_since}
+use Rattle.split_bay.specs.Fronts.{OwesAway, span_since}
 use Rattle.split_bay.specs.Looks.{Looked}
-use Rattle.tape_buffer.specs.Detaching.{DetachesFrom, IsDetachedBy, IsFoundAs, IsRoomFor, BufferState, at_hand, seen_as, state_by, state_tape}
 use Rattle.split_bay.specs.Rings.{ReceivingState, SendingState}
 use Rattle.split_bay.specs.Spans.{KeepsLimits, Span, medium_begun, medium_seen, new_span, span_of, spans_in, volume_seen}
 use Rattle.split_bay.specs.Taken.{TakesKnown}
@@ -33,9 +34,9 @@ use Rattle.split_bay.proofs.SpanLemmas.{span_more}
 use Rattle.split_bay.proofs.UnreportedLemmas.{accepts_waiting}
 
 module _ {D : Type 0} (state : D → DiskState) where
-  module _ (near : SendingState) (old looked new : ReceivingState) (medium medium' : DisksState D)
+  module _ (near : SendingState) (old looked new : ReceivingState) (disks disks' : DisksState D)
       (same : looked.received ≡ old.received) (fifo : looked.received ++ looked.waiting ≡ near.sent)
-      (changes : spans_in looked.waiting ≡ 0) (takes : TakesKnown state looked medium new medium') where
+      (changes : spans_in looked.waiting ≡ 0) (takes : TakesKnown state looked disks new disks') where
     -- all that waits is taken
     pub all_taken : new.waiting ≡ []
     all_taken =
@@ -57,48 +58,45 @@ module _ {D : Type 0} (state : D → DiskState) where
         sym fifo ∙ ap (λ (l : List Item). looked.received ++ l) all_waits
         ∙ ap (λ (l : List Item). l ++ map Sent takes.takes.found) same
 
-    pub attaches : ((disk : D) → (state disk).honest → IsDisk (state disk)) → (tape tape' : BufferState D)
-        → seen_as tape.seen ≡ medium_seen (span_of near.sent) → tape.disks ≡ None
-        → tape' ≡ at_hand medium'.buffer
-        → FollowsSpan state medium (span_of old.received) → KeepsLimits (span_of near.sent)
-        → IsCore (medium_core state medium.buffer) → FollowsSpan state medium' (span_of new.received)
-        → Attaches state near.sent old.received medium tape tape'
-    attaches is_disk tape tape' seen away is before within core follows =
-        let at : tape' ≡ at_hand (with_changes medium.buffer takes.takes.found) =
-        is ∙ ap at_hand takes.takes.pending in
-        let was : state_of state tape ≡ medium_seen (span_of near.sent) =
-        ap (λ (d : Option (BufferState D)). state_by state d tape.seen) away ∙ seen in
+    pub attaches : ((disk : D) → (state disk).honest → IsDisk (state disk)) → (medium medium' : BufferState D)
+        → state_of state medium ≡ medium_seen (span_of near.sent) → medium' ≡ disks'.buffer
+        → FollowsSpan state disks (span_of old.received) → KeepsLimits (span_of near.sent)
+        → IsCore (medium_core state disks.buffer) → IsHere disks.buffer.held
+        → FollowsSpan state disks' (span_of new.received)
+        → Attaches state near.sent old.received disks medium medium'
+    attaches is_disk medium medium' seen is before within core here follows =
+        let at : medium' ≡ with_changes disks.buffer takes.takes.found = is ∙ takes.takes.pending in
         record {
           waiting = takes.takes.found;
           prefix = sent_so;
-          at_hand_are = at;
+          new_is = at;
           looked =
-              subst (λ (m : MediumState). Looked m (state_of state tape')) (sym was)
-              (subst (λ (t : BufferState D). Looked (medium_seen (span_of near.sent)) (state_of state t)) (sym is)
-              (subst (λ (l : List Item). Looked (medium_seen (span_of l)) (state_of state medium'.buffer))
+              subst (λ (m : MediumState). Looked m (state_of state medium')) (sym seen)
+              (subst (λ (b : BufferState D). Looked (medium_seen (span_of near.sent)) (state_of state b)) (sym is)
+              (subst (λ (l : List Item). Looked (medium_seen (span_of l)) (state_of state disks'.buffer))
               all_received follows.looked));
           advances =
-              subst (λ (b : BufferState D). (state_of state medium.buffer).failed ≡ false
-              → Advances (buffer_below state) medium.buffer takes.takes.found false b) takes.takes.pending
-              takes.takes.advances;
+              subst (λ (b : BufferState D). (state_of state disks.buffer).failed ≡ false
+              → Advances (buffer_below state) disks.buffer takes.takes.found false b) (sym is) takes.takes.advances;
           accepts =
-              accepts_waiting state is_disk (span_of old.received) medium.buffer takes.takes.found
+              subst (λ (b : BufferState D). MovesUnreported state disks.buffer takes.takes.found b) (sym at)
+              (accepts_waiting state is_disk (span_of old.received) disks.buffer takes.takes.found
               before.looked.volume before.looked.awake before.rests
-              (subst KeepsLimits (ap span_of sent_so ∙ span_more old.received takes.takes.found) within) core;
+              (subst KeepsLimits (ap span_of sent_so ∙ span_more old.received takes.takes.found) within) core here);
         }
 
     -- the disks are those of the medium that hosts see
-    pub found_so : (seen : MediumState) → seen_as seen ≡ medium_seen (span_of near.sent)
-        → FollowsSpan state medium' (span_of new.received) → IsFoundAs seen (state_of state medium'.buffer)
+    pub found_so : (seen : MediumState) → seen ≡ medium_seen (span_of near.sent)
+        → FollowsSpan state disks' (span_of new.received) → IsFoundAs seen (state_of state disks'.buffer)
     found_so seen same follows =
-        let looked = subst (λ (l : List Item). Looked (medium_seen (span_of l)) (state_of state medium'.buffer))
+        let looked = subst (λ (l : List Item). Looked (medium_seen (span_of l)) (state_of state disks'.buffer))
         all_received follows.looked in
         record {
           volume = looked.volume ∙ sym (ap volume_of same);
           awake = looked.awake ∙ sym (ap (λ (m : MediumState). m.awake) same);
         }
 
-  -- what is known of a medium that is lent
+  -- what is known of disks that go away
   pub record LendFacts (old : MediumState) (left : Budget) : Type 0 where
     pub rests : old.awake ≡ false → left.records ≡ 0
     pub failed : old.failed ≡ true → left.records ≡ 0
@@ -112,7 +110,7 @@ module _ {D : Type 0} (state : D → DiskState) where
     where
       by : (held held' : Holding (OpenCartridge D) (ClosedCartridge D)) → LendsHeld held old.pending held' new.left
           → LendFacts (state_held state held old.pending) new.left
-      by (Open c) (Open c') lent =
+      by (Holdings.Open c) (Holdings.Open c') lent =
           record {
             rests = λ asleep. absurd (cc);
             failed = λ failed. ⊎_elim (λ works. not_both c.failed works.0 failed) (λ none. none) lent.records;
@@ -120,7 +118,7 @@ module _ {D : Type 0} (state : D → DiskState) where
             bytes = λ awake. lent.bytes;
             room = λ awake. omega (arith, lent.room);
           }
-      by (Closed c) (Closed c') lent =
+      by (Holdings.Closed c) (Holdings.Closed c') lent =
           record {
             rests = λ asleep. lent.1;
             failed = λ failed. lent.1;
@@ -128,15 +126,11 @@ module _ {D : Type 0} (state : D → DiskState) where
             bytes = λ awake. absurd (cc);
             room = λ awake. absurd (cc);
           }
-      by (Open c) (Closed c') lent = absurd lent
-      by (Open c) Between lent = absurd lent
-      by (Closed c) (Open c') lent = absurd lent
-      by (Closed c) Between lent = absurd lent
-      by Between held' lent = absurd lent
-
--- what is sent of what is lent: all that it takes, or no record
-abbrev pub IsCut : Budget → Budget → Type 0
-IsCut left cut = (cut ≡ left) ⊎ (cut ≡ record left { records = 0 })
+      by (Holdings.Open c) (Holdings.Closed c') lent = absurd lent
+      by (Holdings.Open c) (Holdings.Away a) lent = absurd lent
+      by (Holdings.Closed c) (Holdings.Open c') lent = absurd lent
+      by (Holdings.Closed c) (Holdings.Away a) lent = absurd lent
+      by (Holdings.Away a) held' lent = absurd lent
 
 pub cut_less : (left cut : Budget) → IsCut left cut → cut.records ≤ left.records
 cut_less left cut (inl same) = omega (arith, ap (λ (b : Budget). b.records) same)
@@ -151,7 +145,7 @@ cut_room left cut (inl same) = ap (λ (b : Budget). b.room) same
 cut_room left cut (inr none) = ap (λ (b : Budget). b.room) none
 
 module _ {D : Type 0} (state : D → DiskState) where
-  -- what a span begins with, over a medium that is lent
+  -- what a span begins with, over disks that went away
   abbrev pub lent_begins : DisksState D → Budget → Beginning
   lent_begins lent cut = record {
     seen = Some (state_of state lent.buffer);
@@ -159,6 +153,15 @@ module _ {D : Type 0} (state : D → DiskState) where
     bytes = cut.bytes;
     room = cut.room;
   }
+
+  -- a medium that is awake was opened
+  read_so : (b : BufferState D) → seen_as (state_of state b) ≡ state_of state b
+  read_so b = λ i. record (state_of state b) { unread = by (state_of state b).awake (awake_is_read state b) i }
+    where
+      by : (awake : Bool) → (awake ≡ true → (state_of state b).unread ≡ false)
+          → not awake && (state_of state b).unread ≡ (state_of state b).unread
+      by true read = sym (read refl)
+      by false read = refl
 
   -- hosts see just the medium
   pub seen_lent : (lent : DisksState D) (cut : Budget)
@@ -203,11 +206,11 @@ module _ {D : Type 0} (state : D → DiskState) where
         }
 
     -- and the medium owes nothing
-    pub owes_lent : (tape : BufferState D) → tape.disks ≡ None → tape.loose ≡ [] → tape.left ≡ cut
-        → tape.seen ≡ state_of state old → Owes tape span
-    owes_lent tape away passed left seen =
+    pub owes_lent : (away : Away) → away.loose ≡ None → away.left ≡ cut → away.noted ≡ state_of state old
+        → OwesAway away span
+    owes_lent away loose left seen =
+        let passed : loose_in away.loose ≡ [] = ap loose_in loose in
         record {
-          away = away;
           there = refl;
           apply = subst (λ (l : List Change). AllApply (volume_seen span) l) (sym passed) tt;
           seen =
@@ -215,7 +218,8 @@ module _ {D : Type 0} (state : D → DiskState) where
               ∙ (λ i. medium_seen (span_since span (sym passed i)));
           left =
               record {
-                records = omega (arith, ap (λ (b : Budget). b.records) left, ap (λ (l : List Change). length l) passed);
+                records =
+                    omega (arith, ap (λ (b : Budget). b.records) left, ap (λ (l : List Change). length l) passed);
                 bytes =
                     omega (
                       arith,
@@ -230,18 +234,3 @@ module _ {D : Type 0} (state : D → DiskState) where
                     );
               };
         }
-      where
-        read_so : (b : BufferState D) → seen_as (state_of state b) ≡ state_of state b
-        read_so b = λ i. record (state_of state b) { unread = by (state_of state b).awake (awake_is_read state b) i }
-          where
-            by : (awake : Bool) → (awake ≡ true → (state_of state b).unread ≡ false)
-                → not awake && (state_of state b).unread ≡ (state_of state b).unread
-            by true read = sym (read refl)
-            by false read = refl
-
--- the disks that were sent away
-pub detached_parts : {D : Type 0} (state : D → DiskState) (disks : Option (BufferState D)) (lent : DisksState D)
-    (new : BufferState D) → is_some disks ≡ true → IsDetachedBy state disks lent new
-    → (old : BufferState D) × DetachesFrom state old lent new
-detached_parts state None lent new hand is = absurd is
-detached_parts state (Some old) lent new hand is = (old, is)

@@ -14,7 +14,11 @@ use Rattle.drive_commands.specs.State.{IsBayPositioned, bay_of}
 use Rattle.drive_commands.specs.Work.{Request}
 use Rattle.aptpl_store.specs.Kept.{store_below, store_kept}
 use Rattle.tape_buffer.specs.declared.budgets.Budget.{Budget}
-use Rattle.tape_buffer.specs.Detaching.{left_in, loose_of, passed}
+use Rattle.tape_buffer.specs.declared.aways.Away.{Away}
+use Rattle.tape_buffer.specs.declared.holding.Holding.{Holding}
+use Rattle.tape_buffer.specs.declared.holding.Holding.TheVariants as Holdings
+use Rattle.tape_buffer.specs.Aways.{loose_in, seen_as}
+use Rattle.tape_buffer.specs.Detaching.{loose_of, passed}
 use Rattle.tape_buffer.specs.Moves.{IsAway, alone_in, buffer_below}
 use Rattle.tape_buffer.specs.State.{BufferState, state_of}
 use Rattle.bay_moves.specs.Elements.{BayState}
@@ -42,7 +46,26 @@ span_since span changes = record { begin = span.begin; since = span.since ++ cha
 abbrev pub sending_with : SendingState → List Change → SendingState
 sending_with sending changes = record sending { sent = sending.sent ++ map Sent changes }
 
+-- A medium whose disks are away stands for the span, once what it accepted is passed on (own).
+pub record OwesAway (away : Away) (span : Span) : Type 0 where
+  pub there : is_some span.begin.seen ≡ true
+  pub apply : AllApply (volume_seen span) (loose_in away.loose)
+  pub seen : seen_as away.noted ≡ medium_seen (span_since span (loose_in away.loose))
+  pub left : LeftIn away.left (span_since span (loose_in away.loose))
+
+-- the same of what a medium holds: its disks are away (own)
+abbrev pub OwesHeld : {C S : Type 0} → Holding C S → Span → Type 0
+OwesHeld (Holdings.Open cartridge) span = ⊥
+OwesHeld (Holdings.Closed cartridge) span = ⊥
+OwesHeld (Holdings.Away away) span = OwesAway away span
+
 module _ {D : Type 0} where
+  -- the same of what is in a drive; one that is empty sends nothing (own)
+  abbrev pub OwesIn : Bay (BufferState D) → Span → Type 0
+  OwesIn Empty span = span ≡ no_span
+  OwesIn (Unloaded medium) span = OwesHeld medium.held span
+  OwesIn (Loaded medium) span = OwesHeld medium.held span
+
   -- the disks of what is in a drive are away (own)
   abbrev pub AreAway : Bay (BufferState D) → Type 0
   AreAway Empty = Unit {0}
@@ -55,6 +78,10 @@ module _ {D : Type 0} where
   loose_in_bay (Unloaded medium) = loose_of medium
   loose_in_bay (Loaded medium) = loose_of medium
 
+  -- what is in a drive stands for the span: hosts see just what was sent (own)
+  abbrev pub IsFrontOf : Bay (BufferState D) → Span → Type 0
+  IsFrontOf bay span = OwesIn bay span × (loose_in_bay bay ≡ [])
+
   -- a drive whose medium has passed on what it accepted (own)
   abbrev pub passed_on : BayState D → BayState D
   passed_on drive = record drive { bay = bay_of passed drive.bay }
@@ -64,24 +91,6 @@ module _ {D : Type 0} (state : D → DiskState) where
   abbrev pub pending_of : Option (BufferState D) → ℕ
   pending_of None = 0
   pending_of (Some medium) = length (state_of state medium).pending
-
-  -- A medium whose disks are away stands for the span, once what it accepted is passed on (own).
-  pub record Owes (medium : BufferState D) (span : Span) : Type 0 where
-    pub away : IsAway medium.held
-    pub there : is_some span.begin.seen ≡ true
-    pub apply : AllApply (volume_seen span) (loose_of medium)
-    pub seen : state_of state medium ≡ medium_seen (span_since span (loose_of medium))
-    pub left : LeftIn (left_in medium.held) (span_since span (loose_of medium))
-
-  -- the same of what is in a drive; one that is empty sends nothing (own)
-  abbrev pub OwesIn : Bay (BufferState D) → Span → Type 0
-  OwesIn Empty span = span ≡ no_span
-  OwesIn (Unloaded medium) span = Owes medium span
-  OwesIn (Loaded medium) span = Owes medium span
-
-  -- what is in a drive stands for the span: hosts see just what was sent (own)
-  abbrev pub IsFrontOf : Bay (BufferState D) → Span → Type 0
-  IsFrontOf bay span = OwesIn bay span × (loose_in_bay bay ≡ [])
 
   -- what the type of a hosts' half keeps of the reservations and their store (own)
   abbrev pub KeepsOrders : BayState D → Type 0

@@ -6,7 +6,7 @@ ghost use Rattle.tape_buffer.specs.State.{state_of};
 ghost use Rattle.drive_commands.specs.State.{IsAtHand, bay_of};
 ghost use Rattle.split_bay.specs.Backs.{FollowsIn, FollowsSpan};
 ghost use Rattle.split_bay.specs.Both.{Attaches, AttachesIn, BeginsNext, DetachesIn};
-ghost use Rattle.split_bay.specs.Fronts.{IsFrontOf, Owes};
+ghost use Rattle.split_bay.specs.Fronts.{IsFrontOf, OwesHeld};
 ghost use Rattle.split_bay.specs.Looks.{fails_anew, is_broken};
 ghost use Rattle.split_bay.specs.Rings.{AreEnds};
 ghost use Rattle.split_bay.specs.Spans.{no_span, span_of};
@@ -28,7 +28,7 @@ pub(crate) fn attach_to<D: Disk, R: Rings>(
     receiving: &mut Receiving<R>,
     disks: Disks<D>,
 ) -> bool
-    requires owes { Owes medium.old (span_of sending.old.sent) }
+    requires owes { OwesHeld medium.old.held (span_of sending.old.sent) }
     requires passed { loose_of medium.old ≡ [] }
     requires ends { AreEnds sending.old receiving.old.number receiving.old.received }
     requires follows { FollowsSpan D.state disks (span_of receiving.old.received) }
@@ -62,7 +62,7 @@ pub(crate) fn detach_from<D: Disk, R: Rings>(
     ensures begins { BeginsNext sending.old sending.new }
     ensures number { receiving.new.number ≡ sending.new.number }
     ensures level { receiving.new.received ≡ sending.new.sent }
-    ensures owes { Owes medium.new (span_of sending.new.sent) }
+    ensures owes { OwesHeld medium.new.held (span_of sending.new.sent) }
     ensures passed { loose_of medium.new ≡ [] }
     ensures there { is_some result ≡ true }
     ensures detached { IfSome result (λ lent. DetachesFrom D.state medium.old lent medium.new

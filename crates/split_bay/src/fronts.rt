@@ -41,7 +41,7 @@ impl<D: Disk, R: Rings> Model for Front<D, R> {
 
     ghost view = { λ f. record { drive = f.drive; sending = f.sending } };
 
-    ghost invariant = { λ f. IsFrontOf D.state f.drive.bay (span_of f.sending.sent) × KeepsOrders D.state f.drive };
+    ghost invariant = { λ f. IsFrontOf f.drive.bay (span_of f.sending.sent) × KeepsOrders D.state f.drive };
 }
 
 impl<D: Disk, R: Rings> Front<D, R> {
@@ -141,8 +141,8 @@ fn pass_on<D: Disk, R: Rings>(
     drive: &mut Drive<Buffered<D>, AptplStore<D>>,
     sending: &mut Sending<R>,
 )
-    requires { OwesIn D.state drive.old.bay (span_of sending.old.sent) }
-    ensures stands { IsFrontOf D.state drive.new.bay (span_of sending.new.sent) }
+    requires { OwesIn drive.old.bay (span_of sending.old.sent) }
+    ensures stands { IsFrontOf drive.new.bay (span_of sending.new.sent) }
     ensures drive { drive.new ≡ passed_on drive.old }
     ensures sending { sending.new ≡ sending_with sending.old (loose_in_bay drive.old.bay) }
 {

@@ -131,7 +131,7 @@ pub(crate) fn attach<D: Disk, R: Rings>(
     receiving: &mut Receiving<R>,
     disks: &mut Option<Disks<D>>,
 )
-    requires front { IsFrontOf D.state drive.old.bay (span_of sending.old.sent) }
+    requires front { IsFrontOf drive.old.bay (span_of sending.old.sent) }
     requires ends { AreEnds sending.old receiving.old.number receiving.old.received }
     requires follows { FollowsIn D.state disks.old (span_of receiving.old.received) }
     requires orders { KeepsOrders D.state drive.old }
@@ -171,7 +171,7 @@ pub(crate) fn detach<D: Disk, R: Rings>(
     ensures begins { BeginsNext sending.old sending.new }
     ensures number { receiving.new.number ≡ sending.new.number }
     ensures level { receiving.new.received ≡ sending.new.sent }
-    ensures front { IsFrontOf D.state drive.new.bay (span_of sending.new.sent) }
+    ensures front { IsFrontOf drive.new.bay (span_of sending.new.sent) }
     ensures follows { FollowsIn D.state disks.new (span_of receiving.new.received) }
     ensures detaches { DetachesIn D.state drive.old.bay disks.new drive.new.bay }
     ensures same { drive.new ≡ record drive.old { bay = drive.new.bay } }

@@ -1,6 +1,5 @@
 use Rattle.std.proofs.Common.{◌≡◌, ap, subst, sym, ◌∙◌}
-use Rattle.tape_buffer.specs.State.{BufferState, state_of}
-use Rattle.tape_buffer.specs.Detaching.{IsFoundAs, at_hand, seen_as}
+use Rattle.tape_buffer.specs.State.{state_of}
 use Rattle.split_bay.specs.Both.{Attaches}
 use Rattle.split_bay.specs.Rings.{ReceivingState, SendingState}
 use Rattle.split_bay.specs.Spans.{KeepsLimits, medium_seen, span_of}
@@ -10,16 +9,14 @@ use Rattle.split_bay.proofs.both.attach_to.Goals as goal
 
 pub attach-requires-clause-found : goal.attach-requires-clause-found
 attach-requires-clause-found g c =
+    let state = g.D.Disk.state in
     let look = c.look_both.ensures in
-    let tape = c.args.tape.now in
-    let taken = c.take_known.new.medium in
-    let seen = subst (λ (s : SendingState). seen_as tape.seen ≡ medium_seen (span_of s.sent)) (sym look.sending)
-    (seen_sent tape (span_of c.args.sending.now.sent) c.requires.owes c.requires.passed) in
-    subst (λ (b : BufferState g.row.D.Denot). IsFoundAs tape.seen (state_of g.D.Disk.state b))
-    (sym c.into_buffered.ensures)
-    (found_so g.D.Disk.state c.look_both.new.sending c.args.receiving.now c.look_both.new.receiving
-    c.take_known.new.receiving c.args.disks taken (ap (λ (r : ReceivingState). r.received) look.same) look.fifo
-    look.changes c.take_known.ensures.takes tape.seen seen c.take_known.ensures.follows)
+    let medium = c.args.medium.now in
+    let seen = subst (λ (s : SendingState). state_of state medium ≡ medium_seen (span_of s.sent)) (sym look.sending)
+    (seen_sent state medium (span_of c.args.sending.now.sent) c.requires.owes c.requires.passed) in
+    found_so state c.look_both.new.sending c.args.receiving.now c.look_both.new.receiving c.take_known.new.receiving
+    c.args.disks c.take_known.new.medium (ap (λ (r : ReceivingState). r.received) look.same) look.fifo look.changes
+    c.take_known.ensures.takes (state_of state medium) seen c.take_known.ensures.follows
 
 pub returns-clause-level : goal.returns-clause-level
 returns-clause-level g c =
@@ -31,16 +28,15 @@ returns-clause-level g c =
 
 pub returns-clause-attaches : goal.returns-clause-attaches
 returns-clause-attaches g c =
+    let state = g.D.Disk.state in
     let look = c.look_both.ensures in
-    let tape = c.args.tape.now in
-    let seen = subst (λ (s : SendingState). seen_as tape.seen ≡ medium_seen (span_of s.sent)) (sym look.sending)
-    (seen_sent tape (span_of c.args.sending.now.sent) c.requires.owes c.requires.passed) in
+    let medium = c.args.medium.now in
+    let seen = subst (λ (s : SendingState). state_of state medium ≡ medium_seen (span_of s.sent)) (sym look.sending)
+    (seen_sent state medium (span_of c.args.sending.now.sent) c.requires.owes c.requires.passed) in
     subst (λ (s : SendingState).
-    Attaches g.D.Disk.state s.sent c.args.receiving.now.received c.args.disks tape c.attach.new.self) look.sending
-    (attaches g.D.Disk.state c.look_both.new.sending c.args.receiving.now c.look_both.new.receiving
-    c.take_known.new.receiving c.args.disks c.take_known.new.medium
-    (ap (λ (r : ReceivingState). r.received) look.same) look.fifo look.changes c.take_known.ensures.takes
-    g.met.D.Disk.is_disk tape c.attach.new.self seen c.requires.owes.away
-    (c.attach.ensures ∙ ap at_hand c.into_buffered.ensures) c.requires.follows
+    Attaches state s.sent c.args.receiving.now.received c.args.disks medium c.attach.new.self) look.sending
+    (attaches state c.look_both.new.sending c.args.receiving.now c.look_both.new.receiving c.take_known.new.receiving
+    c.args.disks c.take_known.new.medium (ap (λ (r : ReceivingState). r.received) look.same) look.fifo look.changes
+    c.take_known.ensures.takes g.met.D.Disk.is_disk medium c.attach.new.self seen c.attach.ensures c.requires.follows
     (subst (λ (s : SendingState). KeepsLimits (span_of s.sent)) (sym look.sending) c.known.ensures)
-    c.known-2.ensures.core c.take_known.ensures.follows)
+    c.known-2.ensures.core c.known-2.ensures.hand c.take_known.ensures.follows)

@@ -5,8 +5,8 @@ use Rattle.split_bay.specs.Spans.{span_of}
 use Rattle.split_bay.proofs.FrontLemmas.{owes_after}
 use Rattle.split_bay.proofs.fronts.Front.execute_lent.Goals as goal
 
-pub returns-in-Some : goal.returns-in-Some
-returns-in-Some g c =
+pub returns-in-Some-clause-step : goal.returns-in-Some-clause-step
+returns-in-Some-clause-step g c =
     let state = g.D.Disk.state in
     let answered = c.execute_alone.new.self in
     let request = asked c.args.nexus c.args.cdb.now c.args.sent.now in
@@ -14,10 +14,9 @@ returns-in-Some g c =
     let step = c.in-Some.ensures.step in
     let taken = step.1.step.taken in
     let owes = owes_after state inside.drive.bay answered.bay taken.made.changes (is_device_fault step.1.step.answer)
-    (span_of inside.sending.sent) c.self.invariant taken.advances in
-    subst (λ (f : FrontState g.row.D.Denot g.row.K.Denot). AnswersFront state g.K.Keeper.kept g.K.Keeper.below f request
-    c.in-Some.reply (record { drive = c.pass_on.new.drive; sending = c.pass_on.new.sending })
-    c.execute_alone.new.sent)
+    (span_of inside.sending.sent) c.self.invariant.0 taken.advances in
+    subst (λ (f : FrontState g.row.D.Denot). AnswersFront state f request c.in-Some.reply
+    (record { drive = c.pass_on.new.drive; sending = c.pass_on.new.sending }) c.execute_alone.new.sent)
     c.self.view_is
     (record {
       answered = answered;
