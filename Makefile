@@ -127,8 +127,10 @@ CLUSTER = glusterfs-server glusterfs-client ceph-mon ceph-mgr ceph-osd ceph-mds 
 cluster: $(if $(PROGRAM),,vtl)
 	@dpkg-query -W $(CLUSTER) > /dev/null || { echo "make cluster wants: apt-get install $(CLUSTER)" >&2; exit 1; }
 	python3 checks/cluster.py --selftest
+	python3 checks/cluster.py gluster --planted $(if $(PROGRAM),--program $(PROGRAM))
 	for store in gluster ceph; do python3 checks/cluster.py $$store $(if $(COUNT),--rounds $(COUNT)) \
-		$(if $(PROGRAM),--program $(PROGRAM)) $(if $(RESULTS),--into $(RESULTS)) || exit 1; done
+		$(if $(BESIDE),--beside $(BESIDE)) $(if $(PROGRAM),--program $(PROGRAM)) \
+		$(if $(RESULTS),--into $(RESULTS)) || exit 1; done
 	python3 checks/cluster.py gluster --pacemaker --rounds 10 $(if $(PROGRAM),--program $(PROGRAM))
 	python3 checks/cluster.py gluster --defaults --rounds 100 $(if $(PROGRAM),--program $(PROGRAM))
 

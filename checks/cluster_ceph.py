@@ -2,11 +2,13 @@
 examples/cluster/ceph.sh makes it."""
 import json
 import os
+from subprocess import DEVNULL
 
 from cluster_machines import wait_for
 
 EXAMPLES = os.path.join(os.path.dirname(os.path.dirname(os.path.abspath(__file__))), "examples", "cluster")
 SECONDS, METADATA = 300, ("", "two", "three")
+WATCHED = 'while sleep 10; do pgrep -x ceph-osd || ceph-osd -i "$0"; done'
 # What the check adds, for files in the place of disks and for a small memory.
 SMALL = """mon_data_avail_warn = 1
 mon_data_avail_crit = 0
@@ -34,6 +36,7 @@ class Ceph:
         for at, server in enumerate(self.servers):
             self.prepare(server)
             self.script(server, "store", str(at))
+            self.watch(server, at)
         for server, name in zip(self.servers[1:], METADATA[1:]):
             self.script(server, "metadata", name)
         self.script(self.monitor, "files")
@@ -63,6 +66,11 @@ class Ceph:
     def return_server(self, at):
         self.servers[at].start()
         self.script(self.servers[at], "again", str(at), METADATA[at])
+        self.watch(self.servers[at], at)
+
+    def watch(self, server, at):
+        """Starts an object store again that ended, as its unit of systemd does: it may abort as peers come and go."""
+        server.popen("sh", "-c", WATCHED, str(at), stdin=DEVNULL, stdout=DEVNULL, stderr=DEVNULL)
 
     def is_whole(self):
         """Whether each object store is up, and every placement group has all its copies."""

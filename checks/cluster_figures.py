@@ -2,9 +2,20 @@
 import collections
 import json
 import os
+import subprocess
+import sys
 
 from marked_text import put
 
+# What the figures are measured by: the words of cluster.py. A run that goes without a term ends where one is wrong.
+MANY, SOME = ("--rounds", "200"), ("--rounds", "12")
+RUNS = (("gluster", *MANY), ("ceph", *MANY), ("gluster", "--pacemaker", *SOME), ("ceph", "--pacemaker", *SOME),
+        ("gluster", "--pacemaker", "--iscsi", "frontends/iscsi", *SOME), ("gluster", "--defaults", *MANY),
+        ("gluster", "--without", "client.strict-locks", "--kind", "cut while idle", *SOME),
+        ("gluster", "--without", "cluster.eager-lock", "--without", "cluster.post-op-delay-secs", "--kind",
+         "server back, another lost", *SOME),
+        ("ceph", "--without", "fuse_disable_pagecache", *MANY), ("gluster", "--speed"), ("ceph", "--speed"))
+SERVER = "server"
 DOCUMENT = os.path.join(os.path.dirname(os.path.dirname(os.path.abspath(__file__))), "docs", "CLUSTER.md")
 
 
@@ -28,6 +39,16 @@ def cell(found):
     return f"{len(found)}: {span} s"
 
 
+def slowest(found):
+    """The longest time that a host waited for an answer while a server was lost, in the rounds that were right."""
+    seconds = [it["slowest"] for it in found if SERVER in it["kind"] and not it["wrong"]]
+    return f"{max(seconds):.1f} s" if seconds else ""
+
+
+def counts(found):
+    return f"{len(found)}; {sum(bool(it['wrong']) for it in found)}; {sum(bool(it.get('lost')) for it in found)}"
+
+
 def rounds_table(lines):
     """Per fault and way the rounds on all terms; behind them what was lost, with and without each term."""
     groups, ways = collections.defaultdict(list), {}
@@ -41,9 +62,10 @@ def rounds_table(lines):
     yield "|---" * (len(names) + 1) + "|"
     for kind in kinds:
         yield f"| {kind} | " + " | ".join(cell(groups.get((way, kind, ()), [])) for way in names) + " |"
-    totals = [[it for (way, kind, _), found in groups.items() if way == name and kind for it in found]
+    rounds = [[it for (way, kind, _), found in groups.items() if way == name and kind for it in found]
               for name in names]
-    yield "| all; wrong | " + " | ".join(f"{len(it)}; {sum(bool(one['wrong']) for one in it)}" for it in totals) + " |"
+    yield "| slowest answer where a server was lost | " + " | ".join(map(slowest, rounds)) + " |"
+    yield "| all; wrong; something lost | " + " | ".join(map(counts, rounds)) + " |"
     yield ""
     for (way, kind, without), found in groups.items():
         if kind is None:
@@ -59,6 +81,16 @@ def speed_table(lines):
             store, disk = line["speed"]["store"], line["speed"]["disk"]
             yield (f"| {line['store']} | {store['marks']:.0f}, {disk['marks']:.0f} | "
                    f"{store['blocks']:.1f}, {disk['blocks']:.1f} MB/s |")
+
+
+def measure(path, program, beside):
+    """Runs all that the figures are measured by, and writes them."""
+    top = os.path.dirname(os.path.dirname(os.path.abspath(__file__)))
+    for words in RUNS:
+        more = ("--beside", str(beside)) if words[1:] == MANY else ()
+        subprocess.run([sys.executable, os.path.join(top, "checks", "cluster.py"), *words, *more, "--into",
+                        os.path.abspath(path), "--program", os.path.abspath(program)], cwd=top)
+    return write([path])
 
 
 def write(paths):

@@ -64,17 +64,24 @@ class Served:
             self.has_ended = True
             self.news.notify_all()
 
-    def ask(self, block, data=b"", host=WRITER, drive=1, seconds=120):
-        """The answer to a command; None where the program has ended or has not answered in time."""
+    def send(self, block, data=b"", host=WRITER, drive=1):
+        """Sends a command, and gives its tag."""
         with self.sending:
             self.tag += 1
             tag = self.tag
             frame = HEADER.pack(COMMAND, host, drive, len(block), len(data), tag) + block + data
             with contextlib.suppress(OSError):
                 self.process.stdin.write(frame)
+        return tag
+
+    def answer(self, tag, seconds=120):
+        """The answer to a command; None where the program has ended or has not answered in time."""
         with self.news:
             self.news.wait_for(lambda: tag in self.answers or self.has_ended, seconds)
             return self.answers.get(tag)
+
+    def ask(self, *words, seconds=120, **more):
+        return self.answer(self.send(*words, **more), seconds)
 
     def greeted(self, *words, **more):
         """The answer behind the unit attention conditions that a host is due."""

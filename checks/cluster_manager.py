@@ -35,6 +35,9 @@ chown hacluster:haclient blackbox cib cores pengine /var/log/pacemaker
 chmod 750 blackbox cib cores pengine
 corosync
 """
+STANDS = """grep /srv/tapes /proc/mounts; tail -n 5 /run/resource-agents/vtl-library.*
+ps -eo pid,etime,stat,wchan:20,args | grep -E 'vtl|gluster|fuse|mount'
+grep -E 'library|store|Filesystem' /var/log/pacemaker/pacemaker.log | tail -n 60"""
 QUIET = {"stdin": subprocess.DEVNULL, "stdout": subprocess.DEVNULL, "stderr": subprocess.DEVNULL,
          "env": {"PATH": "/usr/local/sbin:/usr/local/bin:/usr/sbin:/usr/bin:/sbin:/bin"}}
 
@@ -148,7 +151,9 @@ class Managed:
         session.end(seen)
 
     def evidence(self):
-        return self.ordered("crm_mon", "-1rf")
+        """What Pacemaker says, and of each machine that runs what stands and runs there."""
+        return "\n".join([self.ordered("crm_mon", "-1rf"), *(
+            f"{it.name}:\n{it.ran('sh', '-c', STANDS, check=False)}" for it in self.machines if it.first)])
 
     def strike(self, kind, machine, hosts):
         """Makes the fault while hosts write, and gives its time."""

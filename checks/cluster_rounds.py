@@ -49,13 +49,15 @@ class Rounds:
 
     def take_over(self, machine):
         """Starts on this machine until a start is not refused, as the cluster's agent does. Where two servers were lost
-        the last one may be needed."""
+        the last one may be needed, and a start may wait for it."""
         begun = time.monotonic()
         while time.monotonic() - begun < LONGEST:
-            if time.monotonic() - begun > NEEDED:
-                self.return_server()
             served = self.started(machine)
-            if sense_of(served.ask(READY, host=WATCHER, seconds=LONGEST)) == "6, 29/00":
+            tag = served.send(READY, host=WATCHER)
+            answer = served.answer(tag, max(0, begun + NEEDED - time.monotonic()))
+            if time.monotonic() - begun >= NEEDED:
+                self.return_server()
+            if sense_of(answer or served.answer(tag, LONGEST)) == "6, 29/00":
                 return served
             status = served.end(PATIENCE)
             if status != 2:
@@ -151,7 +153,7 @@ class Rounds:
             # before its mount has found the store again, and behind that
             time.sleep(self.chance.choice((0, 10, 25)))
             stop(hosts)
-            seen.late = ask_late(old)
+            seen.late = ask_late(old, self.chance.random() < 0.3)
             seen.old_end = old.end(PATIENCE)
         stop(hosts)
         self.return_server()
@@ -162,9 +164,11 @@ class Rounds:
         old.end(PATIENCE)
 
 
-def ask_late(old):
-    """What the old process answers beside the new one; a cartridge is loaded anew, since that heals a failed one."""
-    late = [(what, sense_of(old.greeted(*command, seconds=PATIENCE))) for what, command in (
-        ("a block", write_of(b"late")), ("a filemark", [MARK]), ("an unload", [UNLOAD]), ("a load", [LOAD]),
-        ("a filemark behind a load", [MARK]))]
+def ask_late(old, is_loaded=False):
+    """What the old process answers beside the new one. Where its cartridge does not stay loaded it is loaded anew, since
+    that heals a failed one."""
+    asked = [("a block", write_of(b"late")), ("a filemark", [MARK])]
+    if not is_loaded:
+        asked += [("an unload", [UNLOAD]), ("a load", [LOAD]), ("a filemark behind a load", [MARK])]
+    late = [(what, sense_of(old.greeted(*command, seconds=PATIENCE))) for what, command in asked]
     return [*late, ("a key", sense_of(old.order(REGISTER, 0, 1, KEEPER, 2, seconds=PATIENCE)))]

@@ -72,7 +72,8 @@ class Session:
     def end(self, seen):
         """What the next round begins with."""
         self.objects = seen.read[-1]
-        self.key = (seen.reservations[-1][1] or [[0]])[0][0]
+        keys = (seen.reservations[-1][1] or ([], None))[0]
+        self.key = keys[0] if keys else 0
 
 
 def stop(hosts):

@@ -1,7 +1,7 @@
 -- Blocks that are read one after another.
 use Rattle.std.proofs.Common.{◌≡◌, ◌∙◌, ◌+◌, ◌++◌, ℕ, zero, suc, List, [], ◌∷◌, flat_map, length, take, false, Option, Some, None, Result, Ok, Err, OnOk, IfErr, refl, subst, sym, ap, arith}
 use Rattle.std.specs.Prelude.{IfSome, slice_get}
-use Rattle.std.proofs.lemmas.List.{append_assoc, append-nil, take_all}
+use Rattle.std.proofs.lemmas.List.{append_assoc, append-nil}
 use Rattle.vtl_base.specs.declared.faults.DevFault.{DevFault}
 use Rattle.volume_core.specs.declared.objects.Kind.TheVariants as Kinds
 use Rattle.volume_core.specs.declared.objects.Object.{Object}
@@ -52,19 +52,6 @@ module _ {D : Type 0} (effect : DiskCall → Result Unit DevFault → D → D �
   block_read None a b is reads = absurd (cc)
   block_read (Some Mark) a b is reads = absurd (cc)
   block_read (Some (Block bytes)) a b is reads = (b, reads, refl)
-
-  -- one that is no block
-  pub mark_read : (found : Option Object) (a : TwoDisks D) → kind_in found ≡ Some Kinds.Mark
-      → ReadsEach effect which (length_in found) a a
-  mark_read None a is = absurd (cc)
-  mark_read (Some Mark) a is = refl
-  mark_read (Some (Block bytes)) a is = absurd (cc)
-
-  none_there : (found : Option Object) (a : TwoDisks D) → kind_in found ≡ None
-      → ReadsEach effect which (length_in found) a a
-  none_there None a is = refl
-  none_there (Some Mark) a is = absurd (cc)
-  none_there (Some (Block bytes)) a is = absurd (cc)
 
 keeps_on : (a b c : DiskState) → Keeps a b → Keeps b c → Keeps a c
 keeps_on a b c first second = record {

@@ -118,7 +118,7 @@ pub fn read_wanted<D: Disk, P: ReportsRead>(
 ) -> Result<(), VtlFault>
     requires { cartridge.old.failed ≡ false }
     ensures { IsRead D.state D.effect
-        (if is_some reports then lengths_in (volume_made cartridge.old.contents) else [])
+        (if is_some reports.entry then lengths_in (volume_made cartridge.old.contents) else [])
         cartridge.old cartridge.new result }
 {
     match reports {

@@ -22,10 +22,9 @@ use Rattle.tape_buffer.specs.Aways.{IsCut, IsRoomFor, IsRoomyIn, KnowsAway, loos
 use Rattle.tape_buffer.specs.Budgets.{KeepsBudget, budget_after}
 use Rattle.tape_buffer.specs.Catalogs.{IsCataloged}
 use Rattle.tape_buffer.specs.Detaching.{away_buffer}
-use Rattle.tape_buffer.specs.Inner.Lending.{LendsIn}
 use Rattle.tape_buffer.specs.Limits.{FitsBuffer}
 use Rattle.tape_buffer.specs.State.{BufferState, state_held, state_of}
-use Rattle.tape_buffer.specs.Taking.{LendsHeld}
+use Rattle.tape_buffer.specs.Taking.{LendsFrom, LendsHeld}
 use Rattle.tape_buffer.proofs.ChangeLemmas.{inside_of}
 use Rattle.tape_buffer.proofs.IndexLemmas.{as_many_parts}
 
@@ -186,7 +185,7 @@ grown_outline (p ∷ ps) [] grown = absurd grown
 
 -- what is known of a medium whose disks go away
 module _ {D : Type 0} (state : D → DiskState) (old new : BufferState D) (left cut : Budget) (away : Away)
-    (lends : LendsIn old new left) (is_cut : IsCut left cut) (left_is : away.left ≡ cut)
+    (lends : LendsFrom old (record { buffer = new; left = left })) (is_cut : IsCut left cut) (left_is : away.left ≡ cut)
     (noted : away.noted ≡ state_of state old) where
   -- the catalog in which more is reserved is one of the same volume
   pub shows_away : (catalog catalog' : Option (List PlacedPart)) → IsCataloged state old catalog

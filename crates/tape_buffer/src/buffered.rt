@@ -1,11 +1,11 @@
 //! A buffered medium.
-ghost use Rattle.std.specs.Prelude.{◌≡◌, ◌⊎◌, List, Some, false};
+ghost use Rattle.std.specs.Prelude.{◌≡◌, ◌⊎◌, IfNone, IfSome, List, Some, false};
 ghost use Rattle.volume_core.specs.Volume.{Part};
 ghost use Rattle.accepted_changes.specs.Core.{IsCore};
 ghost use Rattle.tape_buffer.specs.Limits.{FitsBuffer};
 ghost use Rattle.tape_buffer.specs.Rules.{medium_rules};
 ghost use Rattle.tape_buffer.specs.State.{IsSettledIn, closed_buffer, disk_in, disks_in, state_of};
-ghost use Rattle.tape_buffer.specs.Moves.{IsHere, IsSafeOrPending, ShowsOn, medium_core};
+ghost use Rattle.tape_buffer.specs.Moves.{IsAway, IsHere, IsSafeOrPending, ShowsOn, medium_core};
 ghost use Rattle.tape_buffer.specs.declared.holding.Holding.TheVariants as Holdings;
 
 use crate::holding::{Holding, Opened, disk_of, known_in};
@@ -107,11 +107,15 @@ impl<D: Disk> Buffered<D> {
         self.catalog.is_some()
     }
 
-    /// For reading: the disk of the side that counts, or the first disk where the medium is parked.
-    pub fn disk(&self) -> &D
-        requires { IsHere self.now.held }
-        ensures { disk_in self.now.held ≡ Some result.now }
+    /// For reading: the disk of the side that counts, or the first disk where the medium is parked; None while the disks
+    /// are away.
+    pub fn disk(&self) -> Option<&D>
+        ensures disk { IfSome result (λ disk. disk_in self.now.held ≡ Some disk.now) }
+        ensures none { IfNone result (IsAway self.now.held) }
     {
-        disk_of(&self.held)
+        match &self.held {
+            Holding::Away(_) => None,
+            Holding::Open(_) | Holding::Closed(_) => Some(disk_of(&self.held)),
+        }
     }
 }

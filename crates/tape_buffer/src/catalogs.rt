@@ -13,7 +13,7 @@ use vtl_base::{ObjNo, PartNo};
 
 impl<D: Disk> Buffered<D> {
     // The catalog of a medium that is open.
-    fn index(&self) -> &Index
+    fn shown(&self) -> &Index
         requires { (state_of D.state self.now).awake ≡ true }
         ensures { IsIndexOf result.now (volume_of (state_of D.state self.now)) }
     {
@@ -30,36 +30,36 @@ impl<D: Disk> Catalog for Buffered<D> {
     ghost state = { state_of D.state };
 
     fn parts(&self) -> PartNo {
-        self.index().parts()
+        self.shown().parts()
     }
 
     fn capacity(&self, part: PartNo) -> u64 {
         a_volume_is_seen_by_its_shape();
-        self.index().capacity(part)
+        self.shown().capacity(part)
     }
 
     fn count(&self, part: PartNo) -> u32 {
         a_volume_is_seen_by_its_shape();
-        self.index().count(part)
+        self.shown().count(part)
     }
 
     fn kind_at(&self, part: PartNo, at: ObjNo) -> Option<Kind> {
         a_volume_is_seen_by_its_shape();
-        self.index().kind_at(part, at)
+        self.shown().kind_at(part, at)
     }
 
     fn used(&self, part: PartNo, n: ObjNo) -> u64 {
         a_volume_is_seen_by_its_shape();
-        self.index().used(part, n)
+        self.shown().used(part, n)
     }
 
     fn marks_upto(&self, part: PartNo, n: ObjNo) -> u32 {
         a_volume_is_seen_by_its_shape();
-        self.index().marks_upto(part, n)
+        self.shown().marks_upto(part, n)
     }
 
     fn mark_at(&self, part: PartNo, k: u32) -> ObjNo {
         a_volume_is_seen_by_its_shape();
-        self.index().mark_at(part, k)
+        self.shown().mark_at(part, k)
     }
 }

@@ -6,11 +6,12 @@ ghost use Rattle.cartridge.specs.Shown.{HasEntriesIn, IsGrownIn};
 ghost use Rattle.tape_buffer.specs.Aways.{IsCut, IsFoundAs, KnowsAway, loose_in};
 ghost use Rattle.tape_buffer.specs.Catalogs.{IsCataloged};
 ghost use Rattle.tape_buffer.specs.Detaching.{DetachesFrom, IsAwayAs, away_buffer, left_in, loose_of, passed};
-ghost use Rattle.tape_buffer.specs.Inner.Lending.{LendsIn, MayBeLent};
+ghost use Rattle.tape_buffer.specs.Inner.Lending.{MayBeLent};
 ghost use Rattle.tape_buffer.specs.Invariants.{IsHeld, buffer_of};
 ghost use Rattle.tape_buffer.specs.Limits.{FitsBuffer};
 ghost use Rattle.tape_buffer.specs.Moves.{IsAway, IsHere, buffer_below};
 ghost use Rattle.tape_buffer.specs.State.{state_of};
+ghost use Rattle.tape_buffer.specs.Taking.{LendsFrom};
 ghost use Rattle.tape_buffer.specs.declared.budgets.Budget.{Budget};
 
 use crate::aways::{Away, away_of};
@@ -83,7 +84,7 @@ fn away_from<D: Disk>(
     requires held { IsHeld held.old }
     requires hand { IsHere held.old }
     requires shows { IsCataloged D.state (buffer_of held.old) catalog.old }
-    ensures lends { LendsIn (buffer_of held.old) (buffer_of held.new) result.1 }
+    ensures lends { LendsFrom (buffer_of held.old) (record { buffer = buffer_of held.new; left = result.1 }) }
     ensures may { MayBeLent held.new result.1 }
     ensures state { state_of D.state (buffer_of held.new) ≡ state_of D.state (buffer_of held.old) }
     ensures advances { Advances (buffer_below D.state) (buffer_of held.old) [] false (buffer_of held.new) }

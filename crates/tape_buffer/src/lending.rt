@@ -7,14 +7,14 @@ ghost use Rattle.volume_core.specs.Stores.{Stores};
 ghost use Rattle.cartridge.specs.Answers.{HasReserved, KeepsReserved};
 ghost use Rattle.cartridge.specs.Contents.{volume_made};
 ghost use Rattle.tape_buffer.specs.declared.budgets.Budget.{Budget};
-ghost use Rattle.tape_buffer.specs.Inner.Lending.{LendsIn, MayBeLent};
+ghost use Rattle.tape_buffer.specs.Inner.Lending.{MayBeLent};
 ghost use Rattle.tape_buffer.specs.Inner.Storing.{IsRoomyFor};
 ghost use Rattle.tape_buffer.specs.Invariants.{IsHeld, buffer_of};
 ghost use Rattle.tape_buffer.specs.Limits.{FitsBuffer};
 ghost use Rattle.tape_buffer.specs.Moves.{IsHere, buffer_below};
 ghost use Rattle.tape_buffer.specs.State.{IsPendingOver, open_buffer, open_state, state_of};
 ghost use Rattle.tape_buffer.specs.Budgets.{KeepsBudget, budget_after};
-ghost use Rattle.tape_buffer.specs.Taking.{LendsOpen, LendsRecords, longest_body};
+ghost use Rattle.tape_buffer.specs.Taking.{LendsFrom, LendsOpen, LendsRecords, longest_body};
 
 use crate::budgets::Budget;
 use crate::holding::{Holding, Opened};
@@ -31,7 +31,7 @@ const LONGEST_BODY: usize = BUFFER_BYTES + 10 * BUFFER_RECORDS;
 pub(crate) fn allow<D: Disk>(held: &mut Holding<Opened<D>, Shelved<D>>) -> Budget
     requires held { IsHeld held.old }
     requires hand { IsHere held.old }
-    ensures lends { LendsIn (buffer_of held.old) (buffer_of held.new) result }
+    ensures lends { LendsFrom (buffer_of held.old) (record { buffer = buffer_of held.new; left = result }) }
     ensures may { MayBeLent held.new result }
     ensures few { result.records ≤ BUFFER_RECORDS }
     ensures state { state_of D.state (buffer_of held.new) ≡ state_of D.state (buffer_of held.old) }

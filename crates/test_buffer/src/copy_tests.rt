@@ -75,7 +75,10 @@ fn appends(rt: &impl Abort, drive: &mut Tape<OnceDisk<MemDisk>>) -> Result<(), F
     let Some(medium) = drive.medium() else {
         return Err(Fail::from("no medium"));
     };
-    assert_equal!(rt; medium.disk().inner().bytes(), MORE);
+    let Some(disk) = medium.disk() else {
+        return Err(Fail::from("no disk"));
+    };
+    assert_equal!(rt; disk.inner().bytes(), MORE);
     Ok(())
 }
 

@@ -1,7 +1,7 @@
 //! A buffered medium by itself: what waits, and how many syncs that takes.
 ghost use Rattle.std.specs.Prelude.{◌≡◌, true};
 
-use crate::samples::{EMPTY, ONE};
+use crate::samples::{EMPTY, ONE, syncs_of};
 use cartridge::Shelved;
 use std::alloc::Global;
 use std::process::Abort;
@@ -41,15 +41,12 @@ fn filled(
     size: usize,
 ) -> Result<(usize, u64), Fail> {
     medium.wake()?;
-    let before = medium.disk().syncs();
+    let before = syncs_of(medium);
     for at in 0..count {
         puts(alloc, medium, at, size)?;
     }
     medium.wake()?;
-    Ok((
-        medium.pending(),
-        medium.disk().syncs().saturating_sub(before),
-    ))
+    Ok((medium.pending(), syncs_of(medium).saturating_sub(before)))
 }
 
 fn waiting(alloc: Global, count: u32, size: usize) -> Result<(usize, u64), Fail> {

@@ -28,7 +28,10 @@ fn appends(rt: &impl Abort, drive: &mut Tape<MemDisk>) -> Result<(), Fail> {
     let Some(medium) = drive.medium() else {
         return Err(Fail::from("no medium"));
     };
-    assert_equal!(rt; medium.disk().bytes(), MORE);
+    let Some(disk) = medium.disk() else {
+        return Err(Fail::from("no disk"));
+    };
+    assert_equal!(rt; disk.bytes(), MORE);
     Ok(())
 }
 

@@ -193,8 +193,11 @@ fn left(rt: &impl Abort, alloc: Global, drive: &Tape<MemDisk>, wanted: &[u8]) ->
     let Some(medium) = drive.medium() else {
         return Err(Fail::from("no medium"));
     };
+    let Some(disk) = medium.disk() else {
+        return Err(Fail::from("no disk"));
+    };
     for crash in CRASHES {
-        is_left(rt, alloc, medium.disk(), *crash, wanted)?;
+        is_left(rt, alloc, disk, *crash, wanted)?;
     }
     Ok(())
 }

@@ -5,6 +5,7 @@ use scsi_sense::{Reply, Status};
 use std::alloc::Global;
 use std::process::Abort;
 use std::test::Fail;
+use tape_buffer::Buffered;
 use tape_disk::{Disk, MemDisk};
 use test_assertions::assert_equal;
 use volume_core::{Kind, Turn};
@@ -237,10 +238,18 @@ pub fn answers<D: Disk + Drop>(rt: &impl Abort, mut drive: Tape<D>, rows: &[Row]
     reads(rt, &mut drive, objects);
 }
 
-/// The syncs of the disk with the side that counts.
+/// The syncs of the disk with the side that counts; none while the disks are away.
+pub fn syncs_of(medium: &Buffered<MemDisk>) -> u64 {
+    match medium.disk() {
+        Some(disk) => disk.syncs(),
+        None => 0,
+    }
+}
+
+/// The same of what is in a drive.
 pub fn syncs(drive: &Tape<MemDisk>) -> u64 {
     match drive.medium() {
-        Some(medium) => medium.disk().syncs(),
+        Some(medium) => syncs_of(medium),
         None => 0,
     }
 }

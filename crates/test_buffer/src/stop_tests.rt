@@ -31,12 +31,15 @@ static REWRITING: &'static [Row<'static>] = &[
 
 // The disk of a drive, unchanged. Where memory runs out, one of no bytes, which holds no cartridge.
 fn reached(alloc: Global, drive: &Tape<FuseDisk<MemDisk>>) -> MemDisk {
-    match drive.medium() {
-        Some(medium) => match medium.disk().inner().copy() {
-            Ok(disk) => disk,
-            Err(_) => MemDisk::new(alloc),
-        },
-        None => MemDisk::new(alloc),
+    let Some(medium) = drive.medium() else {
+        return MemDisk::new(alloc);
+    };
+    let Some(disk) = medium.disk() else {
+        return MemDisk::new(alloc);
+    };
+    match disk.inner().copy() {
+        Ok(disk) => disk,
+        Err(_) => MemDisk::new(alloc),
     }
 }
 

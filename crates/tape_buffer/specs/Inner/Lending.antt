@@ -6,8 +6,7 @@ use Rattle.tape_buffer.specs.declared.holding.Holding.{Holding}
 use Rattle.tape_buffer.specs.declared.holding.Holding.TheVariants.{Open, Closed, Away}
 use Rattle.tape_buffer.specs.declared.holding.Opened.{Opened}
 use Rattle.tape_buffer.specs.Inner.Storing.{IsRoomyFor}
-use Rattle.tape_buffer.specs.State.{BufferState, IsPendingOver}
-use Rattle.tape_buffer.specs.Taking.{LendsHeld}
+use Rattle.tape_buffer.specs.State.{IsPendingOver}
 
 module _ {D : Type 0} where
   -- what is pending may be, and there is room for what may still be taken; over a closed cartridge nothing is (own)
@@ -16,8 +15,3 @@ module _ {D : Type 0} where
       IsPendingOver opened.cartridge opened.pending × IsRoomyFor opened.cartridge opened.pending left
   MayBeLent (Closed cartridge) left = left.records ≡ 0
   MayBeLent (Away away) left = ⊥
-
-  -- a medium is lent, with what is pending, and with this budget (own)
-  pub record LendsIn (old new : BufferState D) (left : Budget) : Type 0 where
-    pub pending : new.pending ≡ old.pending
-    pub held : LendsHeld old.held old.pending new.held left

@@ -21,5 +21,5 @@ returns g c =
     let volume = volume_made c.args.cartridge.now.contents in
     as_long g.D.Disk.state g.D.Disk.effect _ _ (lengths_in (take c.loop-part.part volume)) (lengths_in volume) (Ok tt)
     (ap lengths_in (take_all c.loop-part.part volume
-    (omega (arith, c.loop-part-test.false, c.loop-part.auto.part-end, c.parts.ensures.parts))))
+    (omega (arith, c.loop-part-test.false, c.loop-part.auto.part-end, c.parts-part-end.ensures.parts))))
     c.loop-part.invariant.0

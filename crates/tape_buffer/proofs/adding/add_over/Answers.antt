@@ -33,3 +33,11 @@ enter_shown-requires g c =
         roomy = c.in-Ok-reserve_entry.ensures.ok;
       },
     )
+
+pub reserve_entry-requires : goal.reserve_entry-requires
+reserve_entry-requires g c =
+    (after (volume_made c.args.cartridge.now.contents) c.args.pending.now, c.requires.shows, c.requires.unrefused)
+
+pub returns-clause-shows : goal.returns-clause-shows
+returns-clause-shows g c = λ volume is.
+    c.enter_shown.ensures.shows volume (c.reserve_entry.ensures.shows volume is)

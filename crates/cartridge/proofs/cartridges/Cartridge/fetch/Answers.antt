@@ -179,9 +179,9 @@ returns-clause-reads g c = rw (← c.self.view_is) (elim c.match-read.branch [
       ReadsSide g.D.Disk.effect i.which (length block) (disks_by i.which i.journal.disk i.spare)
       (disks_by i.which now i.spare))) (sym found.1)
       (subst
-        (λ (n : ℕ).
-        ReadsSide g.D.Disk.effect i.which n (disks_by i.which i.journal.disk i.spare)
-        (disks_by i.which now i.spare)) (count ∙ found.2) read))
+      (λ (n : ℕ).
+      ReadsSide g.D.Disk.effect i.which n (disks_by i.which i.journal.disk i.spare)
+      (disks_by i.which now i.spare)) (count ∙ found.2) read))
   | in-Err-Device w ↦ rw w.result-is tt
 ])
 
