@@ -15,33 +15,43 @@ use Rattle.split_bay.specs.Backs.{BackState, KeepsDiskHalf, is_stuck_in}
 use Rattle.split_bay.specs.Both.{AttachesIn, BeginsNext, DetachesIn}
 use Rattle.split_bay.specs.Fronts.{FrontState, KeepsHostsHalf}
 use Rattle.split_bay.specs.Looks.{Looks, deferred_after, fails_anew}
+use Rattle.split_bay.specs.Rings.{SendingState}
 
 module _ {D : Type 0} (state : D → DiskState) where
   -- The disks are brought back to the drive, which is found as it then is: a fault that was not told establishes a
-  -- deferred error. The drive becomes another one; then its disks go away again. Both halves keep what their types keep
-  -- (own).
+  -- deferred error (own).
+  pub record Joins (front : FrontState D) (back : BackState D) (bay : BayState D) (ends : SendingState) : Type 0 where
+    pub ends_are : ends ≡ front.sending
+    pub attaches : AttachesIn state front.sending.sent back.received back.medium front.drive.bay bay.bay
+    pub found :
+        bay ≡ record front.drive {
+          bay = bay.bay;
+          deferred = deferred_after (fails_anew (bay_of (state_of state) front.drive.bay)
+              (bay_of (state_of state) bay.bay)) front.drive.deferred;
+        }
+    pub looks :
+        Looks (machine_of (state_of state) store_kept front.drive) (machine_of (state_of state) store_kept bay)
+
+  -- The disks of a drive go away, and a span begins: all that was sent is received. The drive is the same (own).
+  pub record Parts (bay : BayState D) (ends : SendingState) (front : FrontState D) (back : BackState D) : Type 0 where
+    pub begins : BeginsNext ends front.sending
+    pub detaches : DetachesIn state bay.bay back.medium front.drive.bay
+    pub same : front.drive ≡ record bay { bay = front.drive.bay }
+    pub number : back.number ≡ front.sending.number
+    pub level : back.received ≡ front.sending.sent
+
+  -- The disks are brought back, the drive becomes another one, and the disks go away again. Halves and drive keep what
+  -- their types keep (own).
   pub record HoldsBoth
       (front : FrontState D) (back : BackState D) (joined left : BayState D) (front' : FrontState D)
       (back' : BackState D) : Type 0 where
     pub front_keeps : KeepsHostsHalf state front
     pub back_keeps : KeepsDiskHalf state back
-    pub attaches : AttachesIn state front.sending.sent back.received back.medium front.drive.bay joined.bay
-    pub found :
-        joined ≡ record front.drive {
-          bay = joined.bay;
-          deferred = deferred_after (fails_anew (bay_of (state_of state) front.drive.bay)
-              (bay_of (state_of state) joined.bay)) front.drive.deferred;
-        }
-    pub looks :
-        Looks (machine_of (state_of state) store_kept front.drive) (machine_of (state_of state) store_kept joined)
+    pub joins : Joins front back joined front.sending
     pub joined_keeps : KeepsBoth state joined
     pub stood : IsBayPositioned (state_of state) joined.bay joined.position
     pub keeps : KeepsBoth state left
-    pub begins : BeginsNext front.sending front'.sending
-    pub detaches : DetachesIn state left.bay back'.medium front'.drive.bay
-    pub same : front'.drive ≡ record left { bay = front'.drive.bay }
-    pub level : back'.received ≡ front'.sending.sent
-    pub number : back'.number ≡ front'.sending.number
+    pub parts : Parts left front.sending front' back'
 
   -- A host is answered by both halves of a bay as by the bay that they are together. Before a synchronizing command is
   -- acknowledged all is stored, and all that was accepted is safe (own).

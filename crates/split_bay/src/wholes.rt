@@ -1,9 +1,6 @@
 //! A bay whose disks are at hand is made of its halves, and parts into them again.
 ghost use Rattle.std.specs.Prelude.{◌≡◌};
-ghost use Rattle.drive_commands.specs.State.{bay_of};
-ghost use Rattle.tape_buffer.specs.State.{state_of};
-ghost use Rattle.split_bay.specs.Both.{AttachesIn, BeginsNext, DetachesIn};
-ghost use Rattle.split_bay.specs.Looks.{deferred_after, fails_anew};
+ghost use Rattle.split_bay.specs.Halves.{Joins, Parts};
 ghost use Rattle.split_bay.specs.Rings.{AreEnds};
 
 use crate::backs::Back;
@@ -47,13 +44,7 @@ impl<R: Rings> Ends<R> {
 /// Brings both halves of a bay together, which must fit (`Front::fits`). Returns the bay, and the ends of its ring.
 pub fn join<D: Disk, R: Rings>(front: Front<D, R>, back: Back<D, R>) -> (Bay<D>, Ends<R>)
     requires { AreEnds front.sending back.number back.received }
-    ensures ends { result.1 ≡ front.sending }
-    ensures attaches { AttachesIn D.state front.sending.sent back.received back.medium front.drive.bay result.0.bay }
-    ensures found { result.0 ≡ record front.drive {
-      bay = result.0.bay;
-      deferred = deferred_after (fails_anew (bay_of (state_of D.state) front.drive.bay)
-          (bay_of (state_of D.state) result.0.bay)) front.drive.deferred;
-    } }
+    ensures { Joins D.state front back result.0 result.1 }
 {
     let Front {
         mut drive,
@@ -73,10 +64,7 @@ pub fn join<D: Disk, R: Rings>(front: Front<D, R>, back: Back<D, R>) -> (Bay<D>,
 
 /// Parts a bay into its halves again.
 pub fn part<D: Disk, R: Rings>(bay: Bay<D>, ends: Ends<R>) -> (Front<D, R>, Back<D, R>)
-    ensures begins { BeginsNext ends result.0.sending }
-    ensures detaches { DetachesIn D.state bay.bay result.1.medium result.0.drive.bay }
-    ensures same { result.0.drive ≡ record bay { bay = result.0.drive.bay } }
-    ensures level { result.1.received ≡ result.0.sending.sent }
+    ensures { Parts D.state bay ends result.0 result.1 }
 {
     let mut drive = bay.into_drive();
     let Ends {
