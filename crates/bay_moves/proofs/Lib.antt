@@ -1,5 +1,4 @@
 mod AcceptedLemmas
-mod HandLemmas
 mod BayLemmas
 mod CarriedLemmas
 mod CartridgeLemmas
@@ -9,6 +8,7 @@ mod DrivesLemmas
 mod EndLemmas
 mod EventLemmas
 mod FinishLemmas
+mod HandLemmas
 mod JourneyLemmas
 mod LentLemmas
 mod LiftedLemmas

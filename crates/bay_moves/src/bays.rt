@@ -16,7 +16,7 @@ ghost use Rattle.bay_moves.specs.Inner.Going.{IsAwakeIn};
 ghost use Rattle.drive_commands.specs.Events.{FlushTurn, Insert, Load, Unload};
 ghost use Rattle.bay_moves.specs.Reservations.{GivesHeld};
 
-use crate::answering::answer;
+use crate::answering::{answer, take_turn};
 use crate::laws::reservations::reservations_outlive_each_stop;
 use crate::parked::Parked;
 use accepted_changes::Accepting;
@@ -71,8 +71,9 @@ impl<D: Disk> Accepting for Bay<D> {
     ghost is_device = { one_is_device D.state };
 }
 
-// Establishes, for proofs, what a crash may leave of the cartridge in a drive, if there is one.
-pub(crate) fn known<D: Disk>(drive: &Drive<Buffered<D>, AptplStore<D>>)
+/// Establishes, for proofs, what a crash may leave of the cartridge in a drive, if there is one. The call does nothing
+/// else.
+pub fn known<D: Disk>(drive: &Drive<Buffered<D>, AptplStore<D>>)
     ensures { ShowsCartridgeIn D.state (medium_in drive.now.bay) }
 {
     if let Some(medium) = drive.medium() {
@@ -190,10 +191,7 @@ impl<D: Disk> Bay<D> {
         ensures moments { EveryMoment D.state self.old FlushTurn made_nothing (medium_in self.old.bay)
             (medium_in self.new.bay) self.new }
     {
-        reservations_outlive_each_stop::<Buffered<D>, D>();
-        let turn = self.drive.turn();
-        known(&self.drive);
-        turn
+        take_turn(&mut self.drive)
     }
 
     /// Opens a cartridge and loads it into this drive, which must be empty. The condition 28/00 (the medium may have

@@ -13,7 +13,7 @@ mod moves;
 pub mod parked;
 pub mod runs;
 
-pub use answering::answer;
+pub use answering::{answer, take_turn};
 pub use bays::{Bay, NotOn};
 pub use finishing::Unwritten;
 pub use held::{Held, Inventory};

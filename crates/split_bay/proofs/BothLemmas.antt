@@ -83,6 +83,7 @@ module _ {D : Type 0} (state : D → DiskState) where
               (accepts_waiting state is_disk (span_of old.received) disks.buffer takes.takes.found
               before.looked.volume before.looked.awake before.rests
               (subst KeepsLimits (ap span_of sent_so ∙ span_more old.received takes.takes.found) within) core here);
+          hand = subst (λ (b : BufferState D). IsHere b.held) (sym at) here;
         }
 
     -- the disks are those of the medium that hosts see

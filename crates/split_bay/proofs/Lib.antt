@@ -2,9 +2,9 @@ mod BothLemmas
 mod EmptyLemmas
 mod FoundLemmas
 mod FrontLemmas
+mod HalvesLemmas
 mod JoinedLemmas
 mod LookLemmas
-mod ReportLemmas
 mod RingLemmas
 mod SpanLemmas
 mod TakenLemmas

@@ -6,7 +6,7 @@ use Rattle.volume_core.specs.declared.changes.Change.{Change}
 use Rattle.drive_commands.specs.declared.bays.Bay.{Bay}
 use Rattle.drive_commands.specs.declared.bays.Bay.TheVariants.{Empty, Unloaded, Loaded}
 use Rattle.tape_buffer.specs.Detaching.{DetachesFrom}
-use Rattle.tape_buffer.specs.Moves.{MovesUnreported, buffer_below, with_changes}
+use Rattle.tape_buffer.specs.Moves.{IsHere, MovesUnreported, buffer_below, with_changes}
 use Rattle.tape_buffer.specs.State.{BufferState, state_of}
 use Rattle.tape_buffer.specs.Taking.{DisksState}
 use Rattle.split_bay.specs.declared.items.Item.{Item}
@@ -22,7 +22,7 @@ pub record BeginsNext (old new : SendingState) : Type 0 where
   pub sent : new.sent ≡ old.sent ++ Begins noted ∷ []
 
 module _ {D : Type 0} (state : D → DiskState) where
-  -- The disks of a medium are back. What was received is a first part of what was sent, and the rest is pending now. As
+  -- The disks of a medium are back, at hand. What was received is a first part of what was sent, and the rest is pending now. As
   -- far as it is stored, hosts see the medium as it is. A medium that works, and one whose fault was not told, accepts
   -- exactly these changes (own).
   pub record Attaches (sent received : List Item) (disks : DisksState D) (old new : BufferState D) : Type 0 where
@@ -33,6 +33,7 @@ module _ {D : Type 0} (state : D → DiskState) where
     pub advances :
         (state_of state disks.buffer).failed ≡ false → Advances (buffer_below state) disks.buffer waiting false new
     pub accepts : MovesUnreported state disks.buffer waiting new
+    pub hand : IsHere new.held
 
   -- the same of what is in a drive: it is there still, loaded or not as before; from an empty one nothing waits (own)
   abbrev pub AttachesIn :

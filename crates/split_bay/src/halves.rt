@@ -21,7 +21,8 @@ use crate::both::{attach_bay, detach_bay};
 use crate::ends::{Receiving, Rings, Sending};
 use crate::fronts::Front;
 use aptpl_store::AptplStore;
-use bay_moves::answer;
+use bay_moves::bays::known;
+use bay_moves::{answer, take_turn};
 use drive_commands::Drive;
 use scsi_sense::Reply;
 use std::mem;
@@ -78,7 +79,7 @@ pub fn settle_both<D: Disk, R: Rings>(front: &mut Front<D, R>, back: &mut Back<D
         &mut back.receiving,
         &mut back.disks,
     );
-    let turn = front.drive.turn();
+    let turn = take_turn(&mut front.drive);
     detach(
         &mut front.drive,
         &mut front.sending,
@@ -154,6 +155,8 @@ pub(crate) fn attach<D: Disk, R: Rings>(
     if fails {
         drive.defer();
     }
+    // What the cartridge's type keeps, for the proof alone.
+    known(drive);
 }
 
 // Sends the disks of what is in a drive away. The call allocates memory for as many changes as may be pending; where

@@ -1,42 +1,43 @@
-use Rattle.std.proofs.Common.{subst}
+use Rattle.std.proofs.Common.{ap, ◌∙◌}
 use Rattle.drive_commands.specs.Execute.{asked}
 use Rattle.split_bay.specs.Backs.{BackState}
-use Rattle.split_bay.specs.Both.{BeginsNext, ExecutesBoth}
 use Rattle.split_bay.specs.Fronts.{FrontState}
-use Rattle.split_bay.specs.Rings.{SendingState}
+use Rattle.split_bay.proofs.HalvesLemmas.{holds_both, joins_found, parts_left}
 use Rattle.split_bay.proofs.halves.execute_both.Goals as goal
 
 pub returns : goal.returns
 returns g c =
     let state = g.D.Disk.state in
-    let request = asked c.args.nexus c.args.cdb.now c.args.sent.now in
-    let reply = c.execute_lent-reply.result in
-    let left = c.execute_lent-reply.new.sent in
-    let front' : FrontState g.row.D.Denot g.row.K.Denot = record { drive = c.detach.new.drive; sending = c.detach.new.sending } in
+    let front' : FrontState g.row.D.Denot = record { drive = c.detach.new.drive; sending = c.detach.new.sending } in
     let back' : BackState g.row.D.Denot = record {
       number = c.detach.new.receiving.number;
       received = c.detach.new.receiving.received;
       waiting = c.detach.new.receiving.waiting;
       medium = c.detach.new.disks;
     } in
-    subst (λ (f : FrontState g.row.D.Denot g.row.K.Denot).
-    ExecutesBoth state g.K.Keeper.kept g.K.Keeper.below f c.args.back.now request reply left front' back')
-    c.front.view_is
-    (subst (λ (b : BackState g.row.D.Denot).
-    ExecutesBoth state g.K.Keeper.kept g.K.Keeper.below
-    (record { drive = c.front.inside.drive; sending = c.front.inside.sending }) b request reply left front' back')
-    c.back.view_is
-    (record {
-      joined = c.attach.new.drive;
-      answered = c.execute_lent-reply.new.self;
-      attaches = c.attach.ensures.attaches;
-      found = c.attach.ensures.found;
-      answers = c.execute_lent-reply.ensures.step;
-      settled = c.execute_lent-reply.ensures.settled;
-      begins =
-          subst (λ (s : SendingState). BeginsNext s c.detach.new.sending) c.attach.ensures.sending
-          c.detach.ensures.begins;
-      detaches = c.detach.ensures.detaches;
-      same = c.detach.ensures.same;
-      level = c.detach.ensures.level;
-    }))
+    let seen : FrontState g.row.D.Denot = record { drive = c.front.inside.drive; sending = c.front.inside.sending } in
+    let seen_back : BackState g.row.D.Denot = record {
+      number = c.back.inside.receiving.number;
+      received = c.back.inside.receiving.received;
+      waiting = c.back.inside.receiving.waiting;
+      medium = c.back.inside.disks;
+    } in
+    let joined = c.attach.new.drive in
+    let left = c.answer-reply.new.drive in
+    let back = c.known-2.ensures in
+    let holds = holds_both state seen c.args.front.now seen_back c.args.back.now joined left front' back'
+    c.front.view_is c.back.view_is c.known.ensures.keeps
+    (record { cartridge = back.cartridge; follows = back.follows; within = back.within })
+    (joins_found state seen seen_back joined c.attach.ensures.attaches c.attach.ensures.found)
+    c.attach.ensures.keeps c.answer-reply.ensures.keeps
+    (parts_left state left seen.sending c.attach.new.sending front' back' c.attach.ensures.sending
+    c.detach.ensures.begins c.detach.ensures.detaches c.detach.ensures.same c.detach.ensures.number
+    c.detach.ensures.level) in
+    record {
+      joined = joined;
+      answered = left;
+      holds = holds;
+      answers = c.answer-reply.ensures.moments;
+      settled = c.answer-reply.ensures.settled;
+      safe = c.answer-reply.ensures.safe;
+    }
