@@ -20,7 +20,7 @@ use Rattle.split_bay.specs.declared.items.Item.{Item}
 use Rattle.split_bay.specs.Backs.{BackState, KeepsDiskHalf, is_stuck_in}
 use Rattle.split_bay.specs.Both.{Attaches, AttachesIn, BeginsNext, DetachesIn}
 use Rattle.split_bay.specs.Fronts.{FrontState, KeepsHostsHalf, KeepsOrders}
-use Rattle.split_bay.specs.Halves.{HoldsBoth, Joins, Parts, ReportsBoth, ReportsFault, is_unreported}
+use Rattle.split_bay.specs.Halves.{HoldsHalves, Joins, Parts, ReportsBoth, ReportsFault, is_unreported}
 use Rattle.split_bay.specs.Looks.{LookedIn, Looks, deferred_after, fails_anew, is_broken}
 use Rattle.split_bay.specs.Rings.{SendingState}
 use Rattle.split_bay.proofs.TakenLemmas.{awake_still, failed_still}
@@ -183,7 +183,7 @@ module _ {D : Type 0} (state : D → DiskState) where
       (front' : FrontState D) (back' : BackState D) → seen ≡ front → seen_back ≡ back → KeepsHostsHalf state front
       → KeepsDiskHalf state back → Joins state seen seen_back joined seen.sending → KeepsBoth state joined
       → KeepsBoth state left → Parts state left seen.sending front' back'
-      → HoldsBoth state front back joined left front' back'
+      → HoldsHalves state front back joined left front' back'
   holds_both seen front seen_back back joined left front' back' is back_is front_keeps back_keeps joins joined_keeps
       keeps parts =
       let joins_so = subst (λ (f : FrontState D). Joins state f back joined f.sending) is
@@ -244,7 +244,7 @@ module _ {D : Type 0} (state : D → DiskState) where
 
   -- a fault that was not told is told
   reports_fault : (front front' : FrontState D) (back back' : BackState D) (joined : BayState D)
-      → HoldsBoth state front back joined joined front' back' → is_stuck_in state back.medium ≡ true
+      → HoldsHalves state front back joined joined front' back' → is_stuck_in state back.medium ≡ true
       → has_failed_in (state_of state) front.drive.bay ≡ false → ReportsFault state front back front' back'
   reports_fault front front' back back' joined holds stuck not_seen =
       let found = found_in front.sending.sent back.received back.medium front.drive.bay joined.bay
@@ -269,7 +269,7 @@ module _ {D : Type 0} (state : D → DiskState) where
 
   -- else it is told
   pub reports_both : (front front' : FrontState D) (back back' : BackState D) (joined : BayState D)
-      → HoldsBoth state front back joined joined front' back' → is_stuck_in state back.medium ≡ true
+      → HoldsHalves state front back joined joined front' back' → is_stuck_in state back.medium ≡ true
       → has_failed_in (state_of state) front.drive.bay ≡ false
       → ReportsBoth state (is_unreported state front back) front back front' back'
   reports_both front front' back back' joined holds stuck not_seen =

@@ -19,7 +19,7 @@ use Rattle.tape_buffer.specs.declared.holding.Holding.{Holding}
 use Rattle.tape_buffer.specs.declared.holding.Holding.TheVariants as Holdings
 use Rattle.tape_buffer.specs.Aways.{loose_in, seen_as}
 use Rattle.tape_buffer.specs.Detaching.{loose_of, passed}
-use Rattle.tape_buffer.specs.Moves.{IsAway, alone_in, buffer_below}
+use Rattle.tape_buffer.specs.Moves.{IsAway, takes_alone_in, buffer_below}
 use Rattle.tape_buffer.specs.State.{BufferState, state_of}
 use Rattle.bay_moves.specs.Elements.{BayState}
 use Rattle.bay_moves.specs.Reservations.{GivesHeld, IsHolding, LeavesHeld, disk_of}
@@ -126,11 +126,11 @@ module _ {D : Type 0} (state : D → DiskState) where
 
   -- A host is answered as by a drive whose disks are away; the change that it accepted, if any, goes into the ring
   -- (own).
-  pub record AnswersFront
+  pub record AnswersHalf
       (old : FrontState D) (request : Request) (reply : Reply) (new : FrontState D) (left : List ℕ) : Type 0 where
     pub answered : BayState D
     pub step :
-        AnswersAlone (state_of state) store_kept alone_in (buffer_below state) (store_below state) old.drive request
+        AnswersAlone (state_of state) store_kept takes_alone_in (buffer_below state) (store_below state) old.drive request
         (Some reply) answered left
     pub made : loose_in_bay answered.bay ≡ step.1.step.taken.made.changes
     pub drive : new.drive ≡ passed_on answered
@@ -138,8 +138,8 @@ module _ {D : Type 0} (state : D → DiskState) where
 
   -- the same; or both halves are needed, and nothing has changed (own)
   abbrev pub AnswersOrWaits : FrontState D → Request → Option Reply → FrontState D → List ℕ → Type 0
-  AnswersOrWaits old request (Some reply) new left = AnswersFront old request reply new left
+  AnswersOrWaits old request (Some reply) new left = AnswersHalf old request reply new left
   AnswersOrWaits old request None new left =
-      AnswersAlone (state_of state) store_kept alone_in (buffer_below state) (store_below state) old.drive request
+      AnswersAlone (state_of state) store_kept takes_alone_in (buffer_below state) (store_below state) old.drive request
       None old.drive left
       × (new ≡ old)

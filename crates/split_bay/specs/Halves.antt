@@ -42,7 +42,7 @@ module _ {D : Type 0} (state : D → DiskState) where
 
   -- The disks are brought back, the drive becomes another one, and the disks go away again. Halves and drive keep what
   -- their types keep (own).
-  pub record HoldsBoth
+  pub record HoldsHalves
       (front : FrontState D) (back : BackState D) (joined left : BayState D) (front' : FrontState D)
       (back' : BackState D) : Type 0 where
     pub front_keeps : KeepsHostsHalf state front
@@ -60,7 +60,7 @@ module _ {D : Type 0} (state : D → DiskState) where
       (front' : FrontState D) (back' : BackState D) : Type 0 where
     pub joined : BayState D
     pub answered : BayState D
-    pub holds : HoldsBoth front back joined answered front' back'
+    pub holds : HoldsHalves front back joined answered front' back'
     pub answers : AnswersLentInEvent state joined request reply answered left
     pub settled :
         IsSynchronizing (machine_of (state_of state) store_kept joined) request.cdb → Acknowledges reply
@@ -79,7 +79,7 @@ module _ {D : Type 0} (state : D → DiskState) where
   pub record ReportsFault (front : FrontState D) (back : BackState D) (front' : FrontState D) (back' : BackState D)
       : Type 0 where
     pub joined : BayState D
-    pub holds : HoldsBoth front back joined joined front' back'
+    pub holds : HoldsHalves front back joined joined front' back'
     pub deferred : front'.drive.deferred ≡ true
     pub failed : has_failed_in (state_of state) front'.drive.bay ≡ true
 

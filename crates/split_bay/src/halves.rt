@@ -11,7 +11,7 @@ ghost use Rattle.bay_moves.specs.Elements.{BayState};
 ghost use Rattle.split_bay.specs.Backs.{FollowsIn};
 ghost use Rattle.split_bay.specs.Both.{AttachesIn, BeginsNext, DetachesIn};
 ghost use Rattle.split_bay.specs.Fronts.{IsFrontOf, KeepsOrders};
-ghost use Rattle.split_bay.specs.Halves.{ExecutesBoth, HoldsBoth, ReportsBoth, is_unreported};
+ghost use Rattle.split_bay.specs.Halves.{ExecutesBoth, HoldsHalves, ReportsBoth, is_unreported};
 ghost use Rattle.split_bay.specs.Looks.{deferred_after, fails_anew};
 ghost use Rattle.split_bay.specs.Rings.{AreEnds};
 ghost use Rattle.split_bay.specs.Spans.{span_of};
@@ -68,7 +68,7 @@ pub fn execute_both<D: Disk, R: Rings>(
 pub fn settle_both<D: Disk, R: Rings>(front: &mut Front<D, R>, back: &mut Back<D, R>) -> Turn
     requires { AreEnds front.old.sending back.old.number back.old.received }
     ensures { (joined : BayState D) × (left : BayState D)
-        × HoldsBoth D.state front.old back.old joined left front.new back.new
+        × HoldsHalves D.state front.old back.old joined left front.new back.new
         × TakesTurn (state_of D.state) (buffer_below D.state) store_kept joined result left }
 {
     front.known();
@@ -93,7 +93,7 @@ pub fn settle_both<D: Disk, R: Rings>(front: &mut Front<D, R>, back: &mut Back<D
 /// as may be pending; if memory runs out, it may send none. The halves must fit (`Front::fits`).
 pub fn make_room<D: Disk, R: Rings>(front: &mut Front<D, R>, back: &mut Back<D, R>)
     requires { AreEnds front.old.sending back.old.number back.old.received }
-    ensures { (joined : BayState D) × HoldsBoth D.state front.old back.old joined joined front.new back.new }
+    ensures { (joined : BayState D) × HoldsHalves D.state front.old back.old joined joined front.new back.new }
 {
     front.known();
     back.known();

@@ -1,6 +1,6 @@
 use Rattle.std.proofs.Common.{subst}
 use Rattle.drive_commands.specs.Execute.{asked, is_device_fault}
-use Rattle.split_bay.specs.Fronts.{AnswersFront, FrontState}
+use Rattle.split_bay.specs.Fronts.{AnswersHalf, FrontState}
 use Rattle.split_bay.specs.Spans.{span_of}
 use Rattle.split_bay.proofs.FrontLemmas.{owes_after}
 use Rattle.split_bay.proofs.fronts.Front.execute_lent.Goals as goal
@@ -15,7 +15,7 @@ returns-in-Some-clause-step g c =
     let taken = step.1.step.taken in
     let owes = owes_after state inside.drive.bay answered.bay taken.made.changes (is_device_fault step.1.step.answer)
     (span_of inside.sending.sent) c.self.invariant.0 taken.advances in
-    subst (λ (f : FrontState g.row.D.Denot). AnswersFront state f request c.in-Some.reply
+    subst (λ (f : FrontState g.row.D.Denot). AnswersHalf state f request c.in-Some.reply
     (record { drive = c.pass_on.new.drive; sending = c.pass_on.new.sending }) c.execute_alone.new.sent)
     c.self.view_is
     (record {
