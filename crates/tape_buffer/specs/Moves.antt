@@ -61,8 +61,8 @@ alone_held (Holdings.Closed cartridge) bytes = false
 alone_held (Holdings.Away away) bytes = takes_loose away.left (loose_in away.loose) bytes
 
 -- the same of a medium (own)
-abbrev pub alone_in : {D : Type 0} → BufferState D → ℕ → Bool
-alone_in medium bytes = alone_held medium.held bytes
+abbrev pub takes_alone_in : {D : Type 0} → BufferState D → ℕ → Bool
+takes_alone_in medium bytes = alone_held medium.held bytes
 
 module _ {D : Type 0} (state : D → DiskState) where
   -- what a medium has accepted, and how much of it is stored and safe (own)

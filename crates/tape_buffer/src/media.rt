@@ -6,7 +6,7 @@ ghost use Rattle.volume_core.specs.Medium.{Accepts, Parks, Settles, Turns, Wakes
 ghost use Rattle.volume_core.specs.Stores.{Stores};
 ghost use Rattle.tape_buffer.specs.State.{IsSettledIn, disks_in, state_of};
 ghost use Rattle.tape_buffer.specs.Frames.{AcceptsInFrames, IsOneFrame, IsOneFrameIn, ParksInFrames, frames_in};
-ghost use Rattle.tape_buffer.specs.Moves.{HonestOn, IsHere, LeavesAlone, LeavesEachAlone, StoresBehind, alone_in, buffer_below};
+ghost use Rattle.tape_buffer.specs.Moves.{HonestOn, IsHere, LeavesAlone, LeavesEachAlone, StoresBehind, takes_alone_in, buffer_below};
 
 use crate::adding::{accept_over, has_room_over};
 use crate::aways::{accept_away, nothing_away};
@@ -25,17 +25,17 @@ impl<D: Disk> Medium for Buffered<D> {
     ghost use Rattle.vtl_base.specs.Below.{advances_nowhere};
     ghost use Rattle.volume_core.specs.Stores.{stores_nowhere};
     ghost use Rattle.tape_buffer.specs.State.{awake_is_read, state_of};
-    ghost use Rattle.tape_buffer.specs.Moves.{alone_in, buffer_below, medium_moves_nowhere, medium_moves_on};
+    ghost use Rattle.tape_buffer.specs.Moves.{takes_alone_in, buffer_below, medium_moves_nowhere, medium_moves_on};
 
     ghost below = { buffer_below D.state };
 
-    ghost alone = { alone_in };
+    ghost alone = { takes_alone_in };
 
     // The trait's clauses, and which frames are stored on the way: none while the change may wait beside what is
     // pending, else one.
     fn accept(&mut self, change: Change) -> Result<(), NotAccepted>
         requires awake { (state_of D.state self.old).awake ≡ true }
-        requires hand { alone_in self.old (block_bytes change) ≡ false → IsHere self.old.held }
+        requires hand { takes_alone_in self.old (block_bytes change) ≡ false → IsHere self.old.held }
         ensures answer { Accepts (state_of D.state self.old) change (accept_answer result)
             (state_of D.state self.new) }
         ensures returned { IfErr result (λ refused. refused.change ≡ change) }
@@ -45,7 +45,7 @@ impl<D: Disk> Medium for Buffered<D> {
             (state_of D.state self.new) }
         ensures advances { Advances (buffer_below D.state) self.old (accepted_by (accept_answer result) change)
             (met_fault (accept_answer result)) self.new }
-        ensures device { alone_in self.old (block_bytes change) ≡ true → met_fault (accept_answer result) ≡ false }
+        ensures device { takes_alone_in self.old (block_bytes change) ≡ true → met_fault (accept_answer result) ≡ false }
     {
         let Some(index) = &mut self.catalog else {
             unreachable!()
