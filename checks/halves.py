@@ -1,6 +1,6 @@
 #!/usr/bin/env python3
-"""Counts what makes the halves of a drive hard to read: the types for one medium, the functions that only carry parts of
-a drive across, `unreachable!()`, and lines of proofs that are not blank. `--check` compares with the limits."""
+"""Counts what makes the halves of a drive hard to read: the types for one medium, the functions that only carry parts
+of a drive across, `unreachable!()`, and lines of proofs that are not blank. `--check` compares with the limits."""
 import pathlib
 import re
 import sys
@@ -17,7 +17,11 @@ NOT_OF_A_MEDIUM = {"Front", "Back", "Bay", "Parked", "NotOn", "Held", "Inventory
 BY_NAME = {"Hosts", "Rest", "Holding"}
 
 # What is a part of a drive, where a function takes it by value.
-PART = r"(?:Front|Back|Near|Lent|Disks|Buffered|Cataloged|Sending|Receiving|Ends|Rest|Place|Joined\w*|PartedBay|Loose)\b"
+PART = (r"(?:Front|Back|Near|Lent|Disks|Buffered|Cataloged|Sending|Receiving|Ends|Rest|Place|Joined\w*|PartedBay"
+        r"|Loose)\b")
+
+SIGNATURE = (r"\bfn (\w+)(?:<[^(]*>)?\(([^{]*?)\)\s*->\s*(.*?)\n"
+             r"(?=\s*(?:requires|ensures|\{))")
 
 LIMITS = {"types of one medium": 5, "functions that carry parts": 2, "unreachable!()": 45, "lines of proofs": 5600}
 
@@ -57,7 +61,7 @@ def carrying():
     """The functions that take a part of a drive by value, and return one."""
     found = []
     for crate, text in sources(["split_bay", "drive_commands"]):
-        for one in re.finditer(r"\bfn (\w+)(?:<[^(]*>)?\(([^{]*?)\)\s*->\s*(.*?)\n(?=\s*(?:requires|ensures|\{))", text, re.S):
+        for one in re.finditer(SIGNATURE, text, re.S):
             name, given, back = one.groups()
             takes = re.search(rf"(?:^|[\s(])(?:mut )?self\s*[,)]?|:\s*(?:Option<)?{PART}", given)
             by_value = re.search(rf":\s*(?:Option<)?{PART}", given) or (

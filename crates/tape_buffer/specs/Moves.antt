@@ -225,7 +225,8 @@ module _ {D : Type 0} (state : D → DiskState) where
       → MovesOn (disks_in old.held) (disks_in new.held) (medium_core old) (medium_core new) made × IsHere new.held
   moves_here old new made here moves = by old.held new.held here moves
     where
-      by : (x y : Holding (OpenCartridge D) (ClosedCartridge D)) → IsHere x → MovesIn (away_in x) (away_in y) old made new
+      by : (x y : Holding (OpenCartridge D) (ClosedCartridge D)) → IsHere x
+          → MovesIn (away_in x) (away_in y) old made new
           → MovesOn (disks_in old.held) (disks_in new.held) (medium_core old) (medium_core new) made × IsHere y
       by (Holdings.Open c) (Holdings.Open c') here moves = (moves, tt)
       by (Holdings.Open c) (Holdings.Closed c') here moves = (moves, tt)

@@ -146,7 +146,8 @@ module _ {D : Type 0} where
           unread = not cartridge.known;
         }
 
-    -- a cartridge that is held, and what is pending, to a drive; while the disks are away, the medium as it is seen (own)
+    -- a cartridge that is held, and what is pending, to a drive; while its disks are away, the medium as it is seen
+    -- (own)
     abbrev pub state_held : Holding (OpenCartridge D) (ClosedCartridge D) → List Change → MediumState
     state_held (Open cartridge) pending = open_state cartridge pending
     state_held (Closed cartridge) pending = closed_state cartridge

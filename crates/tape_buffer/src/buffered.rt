@@ -107,7 +107,7 @@ impl<D: Disk> Buffered<D> {
         self.catalog.is_some()
     }
 
-    /// For reading: the disk of the side that counts, or the first disk where the medium is parked; None while the disks
+    /// For reading: the disk of the side that counts, or the first disk where the medium is parked; None while they
     /// are away.
     pub fn disk(&self) -> Option<&D>
         ensures disk { IfSome result (λ disk. disk_in self.now.held ≡ Some disk.now) }

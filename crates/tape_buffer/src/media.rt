@@ -45,7 +45,8 @@ impl<D: Disk> Medium for Buffered<D> {
             (state_of D.state self.new) }
         ensures advances { Advances (buffer_below D.state) self.old (accepted_by (accept_answer result) change)
             (met_fault (accept_answer result)) self.new }
-        ensures device { takes_alone_in self.old (block_bytes change) ≡ true → met_fault (accept_answer result) ≡ false }
+        ensures device { takes_alone_in self.old (block_bytes change) ≡ true
+            → met_fault (accept_answer result) ≡ false }
     {
         let Some(index) = &mut self.catalog else {
             unreachable!()

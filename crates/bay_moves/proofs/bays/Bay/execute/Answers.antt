@@ -15,9 +15,11 @@ invariant_of-self g c =
     (Execute (asked c.args.nexus c.args.cdb.now c.args.sent.now)) c.self.invariant
     (c.execute-reply.result, c.execute-reply.ensures.step)
     (keeps_here g.D.Disk.state (medium_in c.execute-reply.new.self.bay)
-    (advanced_here g.D.Disk.state g.met.D.Disk.is_disk (medium_in c.self.inside.drive.bay) (medium_in c.execute-reply.new.self.bay)
+    (advanced_here g.D.Disk.state g.met.D.Disk.is_disk (medium_in c.self.inside.drive.bay)
+    (medium_in c.execute-reply.new.self.bay)
     c.execute-reply.ensures.step.taken.made.changes (is_device_fault c.execute-reply.ensures.step.answer)
-    (kept_here g.D.Disk.state (medium_in c.self.inside.drive.bay) c.self.invariant.cartridge) c.execute-reply.ensures.step.taken.advances) c.known.ensures)
+    (kept_here g.D.Disk.state (medium_in c.self.inside.drive.bay) c.self.invariant.cartridge)
+    c.execute-reply.ensures.step.taken.advances) c.known.ensures)
 
 pub returns-clause-moments : goal.returns-clause-moments
 returns-clause-moments g c =

@@ -18,7 +18,8 @@ invariant_of-self g c =
     c.self.invariant
     (c.into_medium-medium.result, refl, c.load-loaded.result, c.load-loaded.ensures.taken)
     (keeps_here g.D.Disk.state (medium_in c.load-loaded.new.self.bay)
-    (loaded_here g.D.Disk.state g.met.D.Disk.is_disk c.self.inside.drive c.into_medium-medium.result c.load-loaded.result
+    (loaded_here g.D.Disk.state g.met.D.Disk.is_disk c.self.inside.drive c.into_medium-medium.result
+    c.load-loaded.result
     c.load-loaded.new.self
     (kept_here g.D.Disk.state (medium_in c.self.inside.drive.bay) c.self.invariant.cartridge)
     c.into_medium-medium.ensures.keeps.hand c.load-loaded.ensures.taken) c.known.ensures)

@@ -19,7 +19,8 @@ invariant_of-self g c =
     (keeps_here g.D.Disk.state (medium_in c.unload-out.new.self.bay)
     (left_here g.D.Disk.state g.met.D.Disk.is_disk c.self.inside.drive.bay c.self.inside.drive c.unload-out.result
     c.unload-out.new.self refl
-    (kept_here g.D.Disk.state (medium_in c.self.inside.drive.bay) c.self.invariant.cartridge) c.unload-out.ensures.out) c.known.ensures)
+    (kept_here g.D.Disk.state (medium_in c.self.inside.drive.bay) c.self.invariant.cartridge)
+    c.unload-out.ensures.out) c.known.ensures)
 
 pub returns-clause-moments : goal.returns-clause-moments
 returns-clause-moments g c =
