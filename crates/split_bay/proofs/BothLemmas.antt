@@ -156,7 +156,7 @@ module _ {D : Type 0} (state : D → DiskState) where
   }
 
   -- a medium that is awake was opened
-  read_so : (b : BufferState D) → seen_as (state_of state b) ≡ state_of state b
+  pub read_so : (b : BufferState D) → seen_as (state_of state b) ≡ state_of state b
   read_so b = λ i. record (state_of state b) { unread = by (state_of state b).awake (awake_is_read state b) i }
     where
       by : (awake : Bool) → (awake ≡ true → (state_of state b).unread ≡ false)

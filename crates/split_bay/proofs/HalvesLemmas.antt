@@ -8,8 +8,10 @@ use Rattle.volume_core.specs.Medium.{MediumState}
 use Rattle.volume_core.specs.Volume.{Part}
 use Rattle.drive_commands.specs.declared.bays.Bay.{Bay}
 use Rattle.drive_commands.specs.declared.bays.Bay.TheVariants.{Empty, Unloaded, Loaded}
-use Rattle.drive_commands.specs.State.{IsAtHand, IsBayPositioned, bay_of, has_failed_in, machine_of, medium_in}
+use Rattle.drive_commands.specs.State.{IsAtHand, IsBayPositioned, IsPositioned, bay_of, has_failed_in, machine_of, medium_in}
 use Rattle.aptpl_store.specs.Kept.{store_kept}
+use Rattle.tape_buffer.specs.Aways.{seen_as}
+use Rattle.tape_buffer.specs.Detaching.{DetachesFrom}
 use Rattle.tape_buffer.specs.Moves.{IsHere, buffer_below}
 use Rattle.tape_buffer.specs.State.{BufferState, state_of}
 use Rattle.tape_buffer.specs.Taking.{DisksState}
@@ -23,6 +25,7 @@ use Rattle.split_bay.specs.Fronts.{FrontState, KeepsHostsHalf, KeepsOrders}
 use Rattle.split_bay.specs.Halves.{HoldsHalves, Joins, Parts, ReportsBoth, ReportsFault, is_unreported}
 use Rattle.split_bay.specs.Looks.{LookedIn, Looks, deferred_after, fails_anew, is_broken}
 use Rattle.split_bay.specs.Rings.{SendingState}
+use Rattle.split_bay.proofs.BothLemmas.{read_so}
 use Rattle.split_bay.proofs.TakenLemmas.{awake_still, failed_still}
 
 both_true : (a b : Bool) → a && b ≡ true → b ≡ true
@@ -224,21 +227,57 @@ module _ {D : Type 0} (state : D → DiskState) where
   anew (Loaded m) Empty position looked on broken not_seen = absurd looked
   anew (Loaded m) (Unloaded n) position looked on broken not_seen = absurd looked
 
-  -- hosts see a fault also once the disks are away
+  -- hosts see just the medium once its disks are away
+  seen_away : (old : BufferState D) (disks : DisksState D) (new : BufferState D) → DetachesFrom state old disks new
+      → state_of state new ≡ state_of state old
+  seen_away old disks new went =
+      ap (state_of state) went.new_is ∙ ap seen_as went.away_is.noted ∙ read_so state old
+
+  -- the position is on it still
+  pub positioned_away : (old : Bay (BufferState D)) (disks : Option (DisksState D)) (new : Bay (BufferState D))
+      (position : Pos) → DetachesIn state old disks new → IsBayPositioned (state_of state) old position
+      → IsBayPositioned (state_of state) new position
+  positioned_away Empty None Empty position went on = tt
+  positioned_away (Unloaded m) (Some d) (Unloaded n) position went on =
+      ap (λ (s : MediumState). s.awake) (seen_away m d n went) ∙ on
+  positioned_away (Loaded m) (Some d) (Loaded n) position went on =
+      subst (λ (s : MediumState). IsPositioned s position) (sym (seen_away m d n went)) on
+  positioned_away Empty None (Unloaded n) position went on = absurd went
+  positioned_away Empty None (Loaded n) position went on = absurd went
+  positioned_away Empty (Some d) Empty position went on = absurd went
+  positioned_away Empty (Some d) (Unloaded n) position went on = absurd went
+  positioned_away Empty (Some d) (Loaded n) position went on = absurd went
+  positioned_away (Unloaded m) None Empty position went on = absurd went
+  positioned_away (Unloaded m) None (Unloaded n) position went on = absurd went
+  positioned_away (Unloaded m) None (Loaded n) position went on = absurd went
+  positioned_away (Unloaded m) (Some d) Empty position went on = absurd went
+  positioned_away (Unloaded m) (Some d) (Loaded n) position went on = absurd went
+  positioned_away (Loaded m) None Empty position went on = absurd went
+  positioned_away (Loaded m) None (Unloaded n) position went on = absurd went
+  positioned_away (Loaded m) None (Loaded n) position went on = absurd went
+  positioned_away (Loaded m) (Some d) Empty position went on = absurd went
+  positioned_away (Loaded m) (Some d) (Unloaded n) position went on = absurd went
+
+  -- and a fault is seen still
   failed_away : (old : Bay (BufferState D)) (disks : Option (DisksState D)) (new : Bay (BufferState D))
       → DetachesIn state old disks new → has_failed_in (state_of state) new ≡ has_failed_in (state_of state) old
   failed_away Empty None Empty went = refl
   failed_away (Unloaded m) (Some d) (Unloaded n) went = refl
   failed_away (Loaded m) (Some d) (Loaded n) went =
-      ap (λ (b : BufferState D). (state_of state b).failed) went.new_is
-      ∙ ap (λ (s : MediumState). s.failed) went.away_is.noted
+      ap (λ (s : MediumState). s.failed) (seen_away m d n went)
   failed_away Empty None (Unloaded n) went = absurd went
   failed_away Empty None (Loaded n) went = absurd went
-  failed_away Empty (Some d) new went = absurd went
-  failed_away (Unloaded m) None new went = absurd went
+  failed_away Empty (Some d) Empty went = absurd went
+  failed_away Empty (Some d) (Unloaded n) went = absurd went
+  failed_away Empty (Some d) (Loaded n) went = absurd went
+  failed_away (Unloaded m) None Empty went = absurd went
+  failed_away (Unloaded m) None (Unloaded n) went = absurd went
+  failed_away (Unloaded m) None (Loaded n) went = absurd went
   failed_away (Unloaded m) (Some d) Empty went = absurd went
   failed_away (Unloaded m) (Some d) (Loaded n) went = absurd went
-  failed_away (Loaded m) None new went = absurd went
+  failed_away (Loaded m) None Empty went = absurd went
+  failed_away (Loaded m) None (Unloaded n) went = absurd went
+  failed_away (Loaded m) None (Loaded n) went = absurd went
   failed_away (Loaded m) (Some d) Empty went = absurd went
   failed_away (Loaded m) (Some d) (Unloaded n) went = absurd went
 

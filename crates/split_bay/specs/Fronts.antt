@@ -130,8 +130,8 @@ module _ {D : Type 0} (state : D → DiskState) where
       (old : FrontState D) (request : Request) (reply : Reply) (new : FrontState D) (left : List ℕ) : Type 0 where
     pub answered : BayState D
     pub step :
-        AnswersAlone (state_of state) store_kept takes_alone_in (buffer_below state) (store_below state) old.drive request
-        (Some reply) answered left
+        AnswersAlone (state_of state) store_kept takes_alone_in (buffer_below state) (store_below state) old.drive
+        request (Some reply) answered left
     pub made : loose_in_bay answered.bay ≡ step.1.step.taken.made.changes
     pub drive : new.drive ≡ passed_on answered
     pub sending : new.sending ≡ sending_with old.sending (loose_in_bay answered.bay)

@@ -12,9 +12,9 @@ use tape_buffer::Disks;
 use tape_disk::Disk;
 use volume_core::Turn;
 
-/// The disk's half of a bay: the disks of what is in the drive, if there is something, with the pending changes; and the receiving end
-/// of the ring, which brings the changes that the hosts' half accepted. After a device fault the half is stuck, and
-/// stores nothing more.
+/// The disk's half of a bay: the disks of what is in the drive, if there is something, with the pending changes; and
+/// the receiving end of the ring, which brings the changes that the hosts' half accepted. After a device fault the half
+/// is stuck, and stores nothing more.
 #[derive(Drop)]
 pub struct Back<D: Disk, R: Rings> {
     pub(crate) receiving: Receiving<R>,

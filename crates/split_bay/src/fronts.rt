@@ -25,8 +25,8 @@ use tape_disk::Disk;
 use volume_core::{Change, Medium};
 use vtl_base::{Bytes, Nexus};
 
-/// The hosts' half of a bay: the drive, whose disks are away, with its store of reservations; and the sending end of the
-/// ring.
+/// The hosts' half of a bay: the drive, whose disks are away, with its store of reservations; and the sending end of
+/// the ring.
 #[derive(Drop)]
 pub struct Front<D: Disk, R: Rings> {
     pub(crate) drive: Drive<Buffered<D>, AptplStore<D>>,

@@ -31,8 +31,8 @@ use tape_disk::Disk;
 use volume_core::Turn;
 use vtl_base::{Bytes, Nexus};
 
-/// Answers a command of the host `nexus` with both halves, which must fit (`Front::fits`). The disks are brought back to
-/// the drive for the command, and then go away again. `cdb` is the command block, and `sent` holds the data that are
+/// Answers a command of the host `nexus` with both halves, which must fit (`Front::fits`). The disks are brought back
+/// to the drive for the command, and then go away again. `cdb` is the command block, and `sent` holds the data that are
 /// lent with it.
 pub fn execute_both<D: Disk, R: Rings>(
     front: &mut Front<D, R>,
@@ -178,6 +178,7 @@ pub(crate) fn detach<D: Disk, R: Rings>(
     ensures follows { FollowsIn D.state disks.new (span_of receiving.new.received) }
     ensures detaches { DetachesIn D.state drive.old.bay disks.new drive.new.bay }
     ensures same { drive.new ≡ record drive.old { bay = drive.new.bay } }
+    ensures orders { KeepsOrders D.state drive.old → KeepsOrders D.state drive.new }
 {
     let mut bay = drive.lift();
     let lent = detach_bay(&mut bay, sending, receiving);

@@ -1,9 +1,11 @@
-use Rattle.std.proofs.Common.{ap, ◌∙◌}
-use Rattle.drive_commands.specs.Execute.{asked}
 use Rattle.split_bay.specs.Backs.{BackState}
 use Rattle.split_bay.specs.Fronts.{FrontState}
-use Rattle.split_bay.proofs.HalvesLemmas.{holds_both, joins_found, parts_left}
+use Rattle.split_bay.proofs.HalvesLemmas.{holds_both, joins_found, kept_bay, parts_left}
 use Rattle.split_bay.proofs.halves.execute_both.Goals as goal
+
+pub detach-requires-clause-hand : goal.detach-requires-clause-hand
+detach-requires-clause-hand g c =
+    kept_bay g.D.Disk.state c.answer-reply.new.drive.bay c.answer-reply.ensures.keeps.cartridge
 
 pub returns : goal.returns
 returns g c =
