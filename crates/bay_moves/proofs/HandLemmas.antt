@@ -33,7 +33,7 @@ here_bay Empty here = tt
 here_bay (Unloaded m) here = here
 here_bay (Loaded m) here = here
 
-module _ {D : Type 0} (state : D → DiskState) (is_disk : (disk : D) → (state disk).honest → IsDisk (state disk)) where
+module _ {D : Type 0} (state : D → DiskState) where
   -- the invariant says so
   pub kept_here : (found : Option (BufferState D)) → KeepsCartridgeIn state found → HereIn found
   kept_here None keeps = tt
@@ -46,6 +46,7 @@ module _ {D : Type 0} (state : D → DiskState) (is_disk : (disk : D) → (state
   keeps_here (Some medium) here shows =
       record { hand = here; core = shows.core; whole = shows.whole; shows = shows.shows }
 
+module _ {D : Type 0} (state : D → DiskState) (is_disk : (disk : D) → (state disk).honest → IsDisk (state disk)) where
   -- no call of a medium takes them away
   pub moved_here : (old new : Option (BufferState D)) (made : List Change) → HereIn old
       → Moved state is_disk old new made → HereIn new
