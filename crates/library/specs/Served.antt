@@ -11,7 +11,7 @@ use Rattle.drive_commands.specs.Synchronize.{Acknowledges, IsSynchronizing}
 use Rattle.drive_commands.specs.ShownChanges.{IsChanging, ShowsWriteError}
 use Rattle.drive_commands.specs.Work.{Request}
 use Rattle.split_bay.specs.Backs.{BackState}
-use Rattle.split_bay.specs.Fronts.{AnswersFront as HalfAnswers, AnswersOrWaits as HalfAnswersOrWaits, FrontState, KeepsHostsHalf, LeavesOrders}
+use Rattle.split_bay.specs.Fronts.{AnswersHalf, AnswersOrWaits, FrontState, KeepsHostsHalf, LeavesOrders}
 use Rattle.split_bay.specs.Halves.{ExecutesBoth}
 use Rattle.tape_buffer.specs.State.{state_of}
 
@@ -41,7 +41,7 @@ module _ {D : Type 0} (state : D → DiskState) where
   pub record AnswersFront
       (old : FrontState D) (request : Request) (reply : Reply) (made : List Change) (new : FrontState D) (left : List ℕ)
       : Type 0 where
-    pub answers : HalfAnswers state old request reply new left
+    pub answers : AnswersHalf state old request reply new left
     pub made_is : made ≡ answers.step.1.step.taken.made.changes
     pub waits :
         IsSynchronizing (machine_of (state_of state) store_kept old.drive) request.cdb → Acknowledges reply → ⊥
@@ -89,7 +89,7 @@ module _ {D : Type 0} (state : D → DiskState) where
   ServesFront old request before (Some reply) new left after =
       (made : List Change) × AnswersFront old request reply made new left × SeatGrows request before reply made after
   ServesFront old request before None new left after =
-      HalfAnswersOrWaits state old request None new left × (after ≡ before)
+      AnswersOrWaits state old request None new left × (after ≡ before)
 
   -- both halves of a drive answer the host of a seat (own)
   pub record ServesHalves
