@@ -1,6 +1,6 @@
 -- The disks of what is in a drive stay at hand.
-use Rattle.std.proofs.Common.{◌≡◌, List, [], Bool, Option, None, Some, Result, Ok, Err, sym, subst}
-use Rattle.tape_disk.specs.Disk.{DiskState, IsDisk}
+use Rattle.std.proofs.Common.{◌≡◌, List, Bool, Option, None, Some, Result, Ok, Err, sym, subst}
+use Rattle.tape_disk.specs.Disk.{DiskState}
 use Rattle.scsi_sense.specs.declared.replies.Reply.{Reply}
 use Rattle.volume_core.specs.declared.changes.Change.{Change}
 use Rattle.drive_commands.specs.declared.bays.Bay.{Bay}
@@ -8,12 +8,10 @@ use Rattle.drive_commands.specs.declared.bays.Bay.TheVariants.{Empty, Unloaded, 
 use Rattle.drive_commands.specs.Execute.{AdvancesIn}
 use Rattle.drive_commands.specs.Media.{GoesOutOf, TakesIn}
 use Rattle.drive_commands.specs.State.{IsAtHand, medium_in}
-use Rattle.tape_buffer.specs.Moves.{IsHere, buffer_below, moves_here}
+use Rattle.tape_buffer.specs.Moves.{IsHere, buffer_below}
 use Rattle.tape_buffer.specs.State.{BufferState, state_of}
 use Rattle.bay_moves.specs.Bays.{KeepsCartridgeIn, ShowsCartridgeIn}
 use Rattle.bay_moves.specs.Elements.{BayState}
-use Rattle.bay_moves.proofs.CartridgeLemmas.{Moved, moved_by}
-use Rattle.bay_moves.proofs.MomentLemmas.{out_moved, taken_moved}
 
 -- of the medium that may be in a drive
 abbrev pub HereIn : {D : Type 0} → Option (BufferState D) → Type 0
@@ -39,6 +37,9 @@ module _ {D : Type 0} (state : D → DiskState) where
   kept_here None keeps = tt
   kept_here (Some medium) keeps = keeps.hand
 
+  pub kept_bay : (bay : Bay (BufferState D)) → KeepsCartridgeIn state (medium_in bay) → HereBay bay
+  kept_bay bay keeps = bay_here bay (kept_here (medium_in bay) keeps)
+
   -- and holds where they are
   pub keeps_here : (found : Option (BufferState D)) → HereIn found → ShowsCartridgeIn state found
       → KeepsCartridgeIn state found
@@ -46,35 +47,27 @@ module _ {D : Type 0} (state : D → DiskState) where
   keeps_here (Some medium) here shows =
       record { hand = here; core = shows.core; whole = shows.whole; shows = shows.shows }
 
-module _ {D : Type 0} (state : D → DiskState) (is_disk : (disk : D) → (state disk).honest → IsDisk (state disk)) where
   -- no call of a medium takes them away
-  pub moved_here : (old new : Option (BufferState D)) (made : List Change) → HereIn old
-      → Moved state is_disk old new made → HereIn new
-  moved_here None None made here moved = tt
-  moved_here (Some a) (Some b) made here moved = (moves_here state a b made here moved).1
-  moved_here None (Some b) made here moved = absurd moved
-  moved_here (Some a) None made here moved = absurd moved
-
   pub advanced_here : (old new : Option (BufferState D)) (made : List Change) (fault : Bool) → HereIn old
       → AdvancesIn (buffer_below state) old made fault new → HereIn new
-  advanced_here old new made fault here advances =
-      moved_here old new made here (moved_by state is_disk old new made fault advances)
+  advanced_here None None made fault here advances = tt
+  advanced_here (Some a) (Some b) made fault here advances = advances.hand.0 here
+  advanced_here None (Some b) made fault here advances = absurd advances
+  advanced_here (Some a) None made fault here advances = absurd advances
 
   -- a medium is loaded, or returned
   pub loaded_here : (old : BayState D) (given : BufferState D) (result : Result Unit (BufferState D × Reply))
       (new : BayState D) → HereIn (medium_in old.bay) → IsHere given.held
       → TakesIn (state_of state) (buffer_below state) old given result new → HereIn (medium_in new.bay)
   loaded_here old given (Ok done) new here given_here takes =
-      moved_here (Some given) (medium_in new.bay) [] given_here
-      (taken_moved state is_disk old given (Ok done) new takes)
+      subst (λ (d : BayState D). HereIn (medium_in d.bay)) (sym takes.2) (takes.1.advances.hand.0 given_here)
   loaded_here old given (Err back) new here given_here takes =
       subst (λ (d : BayState D). HereIn (medium_in d.bay)) (sym takes.3) here
 
   pub back_here : (old : BayState D) (given : BufferState D) (back : BufferState D × Reply) (new : BayState D)
       → IsHere given.held → TakesIn (state_of state) (buffer_below state) old given (Err back) new
       → IsHere back.0.held
-  back_here old given back new given_here takes =
-      moved_here (Some given) (Some back.0) [] given_here (taken_moved state is_disk old given (Err back) new takes)
+  back_here old given back new given_here takes = takes.1.advances.hand.0 given_here
 
   -- a medium is unloaded, or stays
   pub left_here : (bay : Bay (BufferState D)) (old : BayState D) (result : Result (BufferState D) Reply)
@@ -82,20 +75,19 @@ module _ {D : Type 0} (state : D → DiskState) (is_disk : (disk : D) → (state
       → GoesOutOf (state_of state) (buffer_below state) bay old result new → HereIn (medium_in new.bay)
   left_here Empty old (Ok out) new is here goes = absurd goes
   left_here Empty old (Err reply) new is here goes =
-      moved_here None (medium_in new.bay) [] here (out_moved state is_disk Empty old (Err reply) new is goes)
+      subst (λ (d : BayState D). HereIn (medium_in d.bay)) (sym goes.1)
+      (subst (λ (b : Bay (BufferState D)). HereIn (medium_in b)) (sym is) tt)
   left_here (Unloaded m) old (Ok out) new is here goes =
       subst (λ (d : BayState D). HereIn (medium_in d.bay)) (sym goes.1) tt
   left_here (Unloaded m) old (Err reply) new is here goes = absurd goes
   left_here (Loaded m) old (Ok out) new is here goes =
       subst (λ (d : BayState D). HereIn (medium_in d.bay)) (sym goes.1) tt
   left_here (Loaded m) old (Err reply) new is here goes =
-      moved_here (Some m) (medium_in new.bay) [] here (out_moved state is_disk (Loaded m) old (Err reply) new is goes)
+      subst (λ (d : BayState D). HereIn (medium_in d.bay)) (sym goes.3) (goes.1.2.hand.0 here)
 
   pub out_here : (bay : Bay (BufferState D)) (old : BayState D) (out : BufferState D) (new : BayState D)
       → old.bay ≡ bay → HereIn (medium_in bay)
       → GoesOutOf (state_of state) (buffer_below state) bay old (Ok out) new → IsHere out.held
   out_here Empty old out new is here goes = absurd goes
-  out_here (Unloaded m) old out new is here goes =
-      moved_here (Some m) (Some out) [] here (out_moved state is_disk (Unloaded m) old (Ok out) new is goes)
-  out_here (Loaded m) old out new is here goes =
-      moved_here (Some m) (Some out) [] here (out_moved state is_disk (Loaded m) old (Ok out) new is goes)
+  out_here (Unloaded m) old out new is here goes = subst (λ (x : BufferState D). IsHere x.held) (sym goes.0) here
+  out_here (Loaded m) old out new is here goes = goes.0.1.hand.0 here
