@@ -1,13 +1,20 @@
 -- The disks of what is in a drive stay at hand.
-use Rattle.std.proofs.Common.{◌≡◌, List, Bool, Option, None, Some, Result, Ok, Err, sym, subst}
+use Rattle.std.proofs.Common.{◌≡◌, List, Bool, Option, None, Some, Result, Ok, Err, ap, sym, subst}
+use Rattle.std.specs.Prelude.{IfSome}
+use Rattle.vtl_base.specs.declared.faults.NoMemory.{NoMemory}
 use Rattle.tape_disk.specs.Disk.{DiskState}
 use Rattle.scsi_sense.specs.declared.replies.Reply.{Reply}
+use Rattle.pr_core.specs.declared.states.PrState.{PrState}
 use Rattle.volume_core.specs.declared.changes.Change.{Change}
+use Rattle.volume_core.specs.declared.media.MediumError.{MediumError}
+use Rattle.volume_core.specs.declared.media.MediumError.TheVariants as errors
 use Rattle.drive_commands.specs.declared.bays.Bay.{Bay}
 use Rattle.drive_commands.specs.declared.bays.Bay.TheVariants.{Empty, Unloaded, Loaded}
 use Rattle.drive_commands.specs.Execute.{AdvancesIn}
-use Rattle.drive_commands.specs.Media.{GoesOutOf, TakesIn}
+use Rattle.drive_commands.specs.Load.{bay_when_on}
+use Rattle.drive_commands.specs.Media.{GoesOutOf, SwitchesOn, TakesIn}
 use Rattle.drive_commands.specs.State.{IsAtHand, medium_in}
+use Rattle.aptpl_store.specs.State.{OpenStore}
 use Rattle.tape_buffer.specs.Moves.{IsHere, buffer_below}
 use Rattle.tape_buffer.specs.State.{BufferState, state_of}
 use Rattle.bay_moves.specs.Bays.{KeepsCartridgeIn, ShowsCartridgeIn}
@@ -31,6 +38,21 @@ here_bay Empty here = tt
 here_bay (Unloaded m) here = here
 here_bay (Loaded m) here = here
 
+-- the medium of a drive that was just switched on is the one that was opened
+abbrev in_some : {D : Type 0} → Option (Bay (BufferState D)) → Option (BufferState D)
+in_some None = None
+in_some (Some bay) = medium_in bay
+
+pub opened_in : {D : Type 0} (woke : Result Unit MediumError) (opened : BufferState D) (bay : Bay (BufferState D))
+    → bay_when_on woke opened ≡ Some bay → medium_in bay ≡ Some opened
+opened_in (Ok done) opened bay is = ap in_some (sym is)
+opened_in (Err errors.Failed) opened bay is = ap in_some (sym is)
+opened_in (Err errors.Unreadable) opened bay is = ap in_some (sym is)
+opened_in (Err errors.Device) opened bay is = ap in_some (sym is)
+opened_in (Err errors.NoMemory) opened bay is = absurd (cc)
+opened_in (Err errors.SideFull) opened bay is = absurd (cc)
+opened_in (Err (errors.Refused refusal)) opened bay is = absurd (cc)
+
 module _ {D : Type 0} (state : D → DiskState) where
   -- the invariant says so
   pub kept_here : (found : Option (BufferState D)) → KeepsCartridgeIn state found → HereIn found
@@ -39,6 +61,11 @@ module _ {D : Type 0} (state : D → DiskState) where
 
   pub kept_bay : (bay : Bay (BufferState D)) → KeepsCartridgeIn state (medium_in bay) → HereBay bay
   kept_bay bay keeps = bay_here bay (kept_here (medium_in bay) keeps)
+
+  pub some_here : (found : Option (BufferState D)) → KeepsCartridgeIn state found
+      → IfSome found (λ m. IsHere m.held)
+  some_here None keeps = tt
+  some_here (Some medium) keeps = keeps.hand
 
   -- and holds where they are
   pub keeps_here : (found : Option (BufferState D)) → HereIn found → ShowsCartridgeIn state found
@@ -91,3 +118,20 @@ module _ {D : Type 0} (state : D → DiskState) where
   out_here Empty old out new is here goes = absurd goes
   out_here (Unloaded m) old out new is here goes = subst (λ (x : BufferState D). IsHere x.held) (sym goes.0) here
   out_here (Loaded m) old out new is here goes = goes.0.1.hand.0 here
+
+  -- a drive is switched on over a medium, or it is returned
+  pub on_here : (given : Option (BufferState D)) (reservations : PrState) (store : OpenStore D) (new : BayState D)
+      → HereIn given → SwitchesOn (state_of state) (buffer_below state) given reservations store (Ok new)
+      → HereIn (medium_in new.bay)
+  on_here None reservations store new here on = subst (λ (d : BayState D). HereIn (medium_in d.bay)) (sym on) tt
+  on_here (Some given) reservations store new here on =
+      subst (λ (d : BayState D). HereIn (medium_in d.bay)) (sym on.5)
+      (subst (λ (m : Option (BufferState D)). HereIn m) (sym (opened_in on.0 on.1 on.2 on.4))
+      (on.3.advances.hand.0 here))
+
+  pub off_here : (given : Option (BufferState D)) (reservations : PrState) (store : OpenStore D)
+      (back : Option (BufferState D) × OpenStore D × NoMemory) → HereIn given
+      → SwitchesOn (state_of state) (buffer_below state) given reservations store (Err back) → HereIn back.0
+  off_here None reservations store back here off = absurd off
+  off_here (Some given) reservations store back here off =
+      subst (λ (m : Option (BufferState D)). HereIn m) (sym off.2) (off.1.advances.hand.0 here)

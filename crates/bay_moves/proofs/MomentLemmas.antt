@@ -6,8 +6,6 @@ use Rattle.tape_disk.specs.TwoDisks.{TwoDisks}
 use Rattle.scsi_sense.specs.declared.replies.Reply.{Reply}
 use Rattle.pr_core.specs.declared.states.PrState.{PrState}
 use Rattle.volume_core.specs.declared.changes.Change.{Change}
-use Rattle.volume_core.specs.declared.media.MediumError.{MediumError}
-use Rattle.volume_core.specs.declared.media.MediumError.TheVariants as errors
 use Rattle.volume_core.specs.declared.media.Turn.{Turn}
 use Rattle.volume_core.specs.Medium.{turn_met_fault}
 use Rattle.vtl_base.specs.declared.faults.NoMemory.{NoMemory}
@@ -24,7 +22,6 @@ use Rattle.drive_commands.specs.declared.bays.Bay.{Bay}
 use Rattle.drive_commands.specs.declared.bays.Bay.TheVariants.{Empty, Unloaded, Loaded}
 use Rattle.drive_commands.specs.Data.{AnswersLent}
 use Rattle.drive_commands.specs.Execute.{Answers, is_device_fault}
-use Rattle.drive_commands.specs.Load.{bay_when_on}
 use Rattle.drive_commands.specs.Media.{GoesOutOf, SwitchesOn, TakesIn, TakesTurn}
 use Rattle.drive_commands.specs.Relations.{Made, made_nothing}
 use Rattle.drive_commands.specs.State.{medium_in}
@@ -36,6 +33,7 @@ use Rattle.bay_moves.specs.Reservations.{GivesHeld, GoesBy, HoldingGives, Holdin
 use Rattle.bay_moves.specs.Reservations as call
 use Rattle.bay_moves.proofs.EventLemmas.{ChangesBay, bay_stays}
 use Rattle.bay_moves.proofs.CartridgeLemmas.{Moved, moved_by, moved_nowhere}
+use Rattle.bay_moves.proofs.HandLemmas.{opened_in}
 use Rattle.bay_moves.proofs.StoreCoreLemmas.{to_core}
 
 module _ {D : Type 0} (state : D → DiskState) (is_disk : (disk : D) → (state disk).honest → IsDisk (state disk)) where
@@ -96,21 +94,6 @@ module _ {D : Type 0} (state : D → DiskState) (is_disk : (disk : D) → (state
   out_moved (Loaded m) old (Ok out) new is goes = goes.0.1.moved
   out_moved (Loaded m) old (Err reply) new is goes =
       subst (λ (d : BayState D). Moved state is_disk (Some m) (medium_in d.bay) []) (sym goes.3) goes.1.2.moved
-
-  -- the medium of a drive that was just switched on is the one that was opened
-  abbrev in_some : Option (Bay (BufferState D)) → Option (BufferState D)
-  in_some None = None
-  in_some (Some bay) = medium_in bay
-
-  opened_in : (woke : Result Unit MediumError) (opened : BufferState D) (bay : Bay (BufferState D))
-      → bay_when_on woke opened ≡ Some bay → medium_in bay ≡ Some opened
-  opened_in (Ok done) opened bay is = ap in_some (sym is)
-  opened_in (Err errors.Failed) opened bay is = ap in_some (sym is)
-  opened_in (Err errors.Unreadable) opened bay is = ap in_some (sym is)
-  opened_in (Err errors.Device) opened bay is = ap in_some (sym is)
-  opened_in (Err errors.NoMemory) opened bay is = absurd (cc)
-  opened_in (Err errors.SideFull) opened bay is = absurd (cc)
-  opened_in (Err (errors.Refused refusal)) opened bay is = absurd (cc)
 
   pub on_moved : (given : Option (BufferState D)) (reservations : PrState) (store : OpenStore D) (new : BayState D)
       → SwitchesOn (state_of state) (buffer_below state) given reservations store (Ok new)
