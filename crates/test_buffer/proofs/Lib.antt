@@ -1,1 +1,2 @@
+mod HandLemmas
 mod TestLemmas

@@ -4,6 +4,8 @@
 #[cfg(test)]
 mod asserted;
 #[cfg(test)]
+mod carts;
+#[cfg(test)]
 mod copy_tests;
 #[cfg(test)]
 mod drives;

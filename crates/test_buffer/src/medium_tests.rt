@@ -1,34 +1,34 @@
 //! A buffered medium by itself: what waits, and how many syncs that takes.
 ghost use Rattle.std.specs.Prelude.{◌≡◌, true};
 
+use crate::carts::Cart;
 use crate::samples::{EMPTY, ONE, syncs_of};
 use cartridge::Shelved;
 use std::alloc::Global;
 use std::process::Abort;
 use std::test::Fail;
-use tape_buffer::Buffered;
 use tape_disk::{Disk, MemDisk};
 use test_assertions::assert_equal;
 use volume_core::{Catalog, Kind, Medium};
 use vtl_base::Bytes;
 
 /// A parked medium over the cartridge of these bytes.
-pub fn parked(alloc: Global, side: &[u8]) -> Result<Buffered<MemDisk>, Fail> {
+pub fn parked(alloc: Global, side: &[u8]) -> Result<Cart<MemDisk>, Fail> {
     let disk = MemDisk::from_bytes(alloc, side)?;
-    Ok(Buffered::parked(alloc, Shelved::of(disk, MemDisk::new(alloc))))
+    Ok(Cart::parked(alloc, Shelved::of(disk, MemDisk::new(alloc))))
 }
 
 /// A block of this size after the first objects. A medium that is awake stays awake.
 #[tactic(auto, using(crate::proofs::TestLemmas::opened_is_awake))]
 pub fn puts<D: Disk + Drop>(
     alloc: Global,
-    medium: &mut Buffered<D>,
+    medium: &mut Cart<D>,
     at: u32,
     size: usize,
 ) -> Result<(), Fail> {
     let block = Bytes::from_vec(vec![in alloc; 0x5a; size]?);
     medium.wake()?;
-    medium.put(0, at, block)?;
+    medium.put(at, block)?;
     Ok(())
 }
 
@@ -36,17 +36,20 @@ pub fn puts<D: Disk + Drop>(
 #[tactic(auto, using(crate::proofs::TestLemmas::opened_is_awake))]
 fn filled(
     alloc: Global,
-    medium: &mut Buffered<MemDisk>,
+    medium: &mut Cart<MemDisk>,
     count: u32,
     size: usize,
 ) -> Result<(usize, u64), Fail> {
     medium.wake()?;
-    let before = syncs_of(medium);
+    let before = syncs_of(medium.medium());
     for at in 0..count {
         puts(alloc, medium, at, size)?;
     }
     medium.wake()?;
-    Ok((medium.pending(), syncs_of(medium).saturating_sub(before)))
+    Ok((
+        medium.medium().pending(),
+        syncs_of(medium.medium()).saturating_sub(before),
+    ))
 }
 
 fn waiting(alloc: Global, count: u32, size: usize) -> Result<(usize, u64), Fail> {
@@ -86,15 +89,15 @@ fn what_waits_is_counted(rt: HostRuntime) -> Result<(), Fail> {
 // stays awake.
 #[tactic(auto, using(crate::proofs::TestLemmas::opened_is_awake))]
 fn see<D: Disk + Drop>(
-    medium: &mut Buffered<D>,
+    medium: &mut Cart<D>,
     at: u32,
     block: &mut Vec<u8>,
     text: &mut Vec<u8>,
 ) -> Result<(), Fail> {
     medium.wake()?;
-    match medium.kind_at(0, at) {
+    match medium.medium().kind_at(0, at) {
         Some(Kind::Block) => {
-            medium.fetch(0, at, block)?;
+            medium.fetch(at, block)?;
             text.extend_from_slice(block)?;
         }
         Some(Kind::Mark) => text.push(b'|')?,
@@ -138,9 +141,9 @@ struct Contents {
 
 /// The objects of a medium: the byte of a block, or `|` for a filemark.
 #[tactic(auto, using(crate::proofs::TestLemmas::opened_is_awake))]
-pub fn texts<D: Disk + Drop>(alloc: Global, medium: &mut Buffered<D>) -> Result<Vec<u8>, Fail> {
+pub fn texts<D: Disk + Drop>(alloc: Global, medium: &mut Cart<D>) -> Result<Vec<u8>, Fail> {
     medium.wake()?;
-    let count = medium.count(0);
+    let count = medium.medium().count(0);
     let mut text = Vec::new(alloc);
     let mut block = Vec::new(alloc);
     for at in 0..count {
@@ -150,14 +153,14 @@ pub fn texts<D: Disk + Drop>(alloc: Global, medium: &mut Buffered<D>) -> Result<
 }
 
 #[tactic(auto, using(crate::proofs::TestLemmas::opened_is_awake))]
-fn seen<D: Disk + Drop>(alloc: Global, medium: &mut Buffered<D>) -> Result<Contents, Fail> {
+fn seen<D: Disk + Drop>(alloc: Global, medium: &mut Cart<D>) -> Result<Contents, Fail> {
     let text = texts(alloc, medium)?;
     medium.wake()?;
     Ok(Contents {
         text,
-        used: medium.used(0, medium.count(0)),
-        marks_before: count_marks(alloc, medium)?,
-        marks: find_marks(alloc, medium)?,
+        used: medium.medium().used(0, medium.medium().count(0)),
+        marks_before: count_marks(alloc, medium.medium())?,
+        marks: find_marks(alloc, medium.medium())?,
     })
 }
 
@@ -179,23 +182,23 @@ static CHANGES: &'static [(Option<u8>, u32, u32, View<'static>)] = &[
 #[tactic(auto, using(crate::proofs::TestLemmas::opened_is_awake))]
 fn takes<D: Disk + Drop>(
     alloc: Global,
-    medium: &mut Buffered<D>,
+    medium: &mut Cart<D>,
     block: Option<u8>,
     at: u32,
     count: u32,
 ) -> Result<(), Fail> {
     medium.wake()?;
     match block {
-        Some(byte) => medium.put(0, at, Bytes::from_slice(alloc, &[byte])?)?,
-        None if count == 0 => medium.erase(0, at)?,
-        None => medium.marks(0, at, count)?,
+        Some(byte) => medium.put(at, Bytes::from_slice(alloc, &[byte])?)?,
+        None if count == 0 => medium.erase(at)?,
+        None => medium.marks(at, count)?,
     }
     Ok(())
 }
 
 // Has a medium store, or park and open again.
 #[tactic(auto, using(crate::proofs::TestLemmas::opened_is_awake))]
-fn stores<D: Disk + Drop>(medium: &mut Buffered<D>, parks: bool) -> Result<(), Fail> {
+fn stores<D: Disk + Drop>(medium: &mut Cart<D>, parks: bool) -> Result<(), Fail> {
     medium.wake()?;
     if parks {
         medium.park()?;
@@ -208,7 +211,7 @@ fn stores<D: Disk + Drop>(medium: &mut Buffered<D>, parks: bool) -> Result<(), F
 fn is_seen<D: Disk + Drop>(
     rt: &impl Abort,
     alloc: Global,
-    medium: &mut Buffered<D>,
+    medium: &mut Cart<D>,
     wanted: View,
     at: usize,
 ) -> Result<(), Fail> {
@@ -227,7 +230,7 @@ fn is_seen<D: Disk + Drop>(
 fn sees<D: Disk + Drop>(
     rt: &impl Abort,
     alloc: Global,
-    medium: &mut Buffered<D>,
+    medium: &mut Cart<D>,
     behind: usize,
     parks: bool,
 ) -> Result<(), Fail> {
