@@ -8,5 +8,6 @@ execute-requires g c = λ needs. c.self.invariant
 
 pub invariant_of-self : goal.invariant_of-self
 invariant_of-self g c =
-    here_still (buffer_below g.D.Disk.state) c.self.inside.drive.bay c.execute.new.self.bay c.execute.ensures.step.taken.made.changes
+    here_still (buffer_below g.D.Disk.state) c.self.inside.drive.bay c.execute.new.self.bay
+    c.execute.ensures.step.taken.made.changes
     (is_device_fault c.execute.ensures.step.answer) c.self.invariant c.execute.ensures.step.taken.advances

@@ -8,5 +8,6 @@ execute_lent-requires g c = λ needs. c.self.invariant
 
 pub invariant_of-self : goal.invariant_of-self
 invariant_of-self g c =
-    here_still (buffer_below g.D.Disk.state) c.self.inside.drive.bay c.execute_lent.new.self.bay c.execute_lent.ensures.step.step.taken.made.changes
-    (is_device_fault c.execute_lent.ensures.step.step.answer) c.self.invariant c.execute_lent.ensures.step.step.taken.advances
+    here_still (buffer_below g.D.Disk.state) c.self.inside.drive.bay c.execute_lent.new.self.bay
+    c.execute_lent.ensures.step.step.taken.made.changes (is_device_fault c.execute_lent.ensures.step.step.answer)
+    c.self.invariant c.execute_lent.ensures.step.step.taken.advances
