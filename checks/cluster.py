@@ -14,6 +14,7 @@
 Root only. The machines are namespaces of this one, which are made and taken down; their packages are Debian's. With
 --defaults the store is GlusterFS on its default options, and a loss has to be found. Each round is a line of FILE."""
 import argparse
+import contextlib
 import json
 import os
 import shutil
@@ -60,7 +61,8 @@ def run(rounds, words):
         wrong = wrong_in(seen)
         keep(line_of(seen, rounds, wrong), words.into)
         if wrong:
-            print(rounds.evidence(), flush=True)
+            with contextlib.suppress(OSError):
+                print(rounds.evidence(), flush=True)
             return at + 1, True, bool(losses_in(seen))
     return words.rounds, False, False
 

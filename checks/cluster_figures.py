@@ -51,21 +51,20 @@ def counts(found):
 
 def rounds_table(lines):
     """Per fault and way the rounds on all terms; behind them what was lost, with and without each term."""
-    groups, ways = collections.defaultdict(list), {}
+    groups = collections.defaultdict(list)
     for line in lines:
         if "kind" in line:
-            ways.setdefault(way_of(line), None)
             groups[way_of(line), line["kind"] if not line["without"] else None, tuple(line["without"])].append(line)
     kinds = dict.fromkeys(kind for _, kind, _ in groups if kind)
-    names = [way for way in ways if any(way == it and kind for it, kind, _ in groups)]
+    names = sorted({way for way, kind, _ in groups if kind}, key=lambda way: (way.count(","), way))
     yield "| Rounds: take-over | " + " | ".join(names) + " |"
     yield "|---" * (len(names) + 1) + "|"
     for kind in kinds:
         yield f"| {kind} | " + " | ".join(cell(groups.get((way, kind, ()), [])) for way in names) + " |"
     rounds = [[it for (way, kind, _), found in groups.items() if way == name and kind for it in found]
               for name in names]
-    yield "| slowest answer where a server was lost | " + " | ".join(map(slowest, rounds)) + " |"
-    yield "| all; wrong; something lost | " + " | ".join(map(counts, rounds)) + " |"
+    yield "| slowest answer, server lost | " + " | ".join(map(slowest, rounds)) + " |"
+    yield "| all; wrong; lost | " + " | ".join(map(counts, rounds)) + " |"
     yield ""
     for (way, kind, without), found in groups.items():
         if kind is None:

@@ -15,9 +15,12 @@ FIRST = ("mount -t proc proc /proc; mount -t tmpfs tmpfs /dev/shm; echo up; "
          "exec env --ignore-signal=CHLD sleep infinity")
 
 
-def ran(*words, check=True):
-    """The output of a command of this machine; an error where it fails."""
-    done = subprocess.run(words, stdin=subprocess.DEVNULL, capture_output=True, text=True)
+def ran(*words, check=True, seconds=None):
+    """The output of a command of this machine; an error where it fails, or takes longer."""
+    try:
+        done = subprocess.run(words, stdin=subprocess.DEVNULL, capture_output=True, text=True, timeout=seconds)
+    except subprocess.TimeoutExpired as error:
+        raise OSError(str(error)) from error
     if check and done.returncode:
         raise OSError(f"{' '.join(words)}: status {done.returncode}: {(done.stdout + done.stderr).strip()}")
     return done.stdout
@@ -109,8 +112,8 @@ class Machine:
         """A command of this machine as one of the machine that runs the check."""
         return ["nsenter", "-t", str(self.first), "-m", "-p", "-n", "-u", "-i", "--", *words]
 
-    def ran(self, *words, check=True):
-        return ran(*self.words(*words), check=check)
+    def ran(self, *words, **more):
+        return ran(*self.words(*words), **more)
 
     def popen(self, *words, folder="/", **given):
         """A process of this machine; its own number is that of `child_of`."""

@@ -16,7 +16,7 @@ from cluster_session import Session, make_library, stop
 TOP = os.path.dirname(os.path.dirname(os.path.abspath(__file__)))
 EXAMPLES = os.path.join(TOP, "examples", "cluster")
 AGENTS, ADDRESS, PORT, FOLDER = "/usr/lib/ocf/resource.d", "10.77.0.100", "3000", "/srv/tapes/daily"
-SECONDS, SHARES = 300, {KILLED: 2, LOST: 1, CUT: 1}
+SECONDS, SHARES = 600, {KILLED: 2, LOST: 1, CUT: 1}
 # Milliseconds after which corosync misses a machine: more than its 3,000, for one whose processors others take.
 TOKEN = 10_000
 # What each machine of the cluster has in mounts of its own: the programs, the agent, an empty /srv. Then corosync.

@@ -101,9 +101,11 @@ class Rounds:
 
     def evidence(self):
         """What `vtl check` says of the library's files on each machine, once it is not served, and what these are."""
-        self.served.end()
+        if self.served:
+            self.served.end()
         words = ("sh", "-c", 'cd "$0"; ls -l; for it in t1.tape d1.pr d2.pr; do "$1" check "$it"; done; md5sum *')
-        return "\n".join(it.ran(*words, self.folder(it), self.program, check=False) for it in self.machines if it.first)
+        return "\n".join(it.ran(*words, self.folder(it), self.program, check=False, seconds=PATIENCE)
+                         for it in self.machines if it.first)
 
     def strike(self, kind, old, hosts):
         """Makes the fault while hosts write, or have just written, and gives its time."""
@@ -165,8 +167,8 @@ class Rounds:
 
 
 def ask_late(old, is_loaded=False):
-    """What the old process answers beside the new one. Where its cartridge does not stay loaded it is loaded anew, since
-    that heals a failed one."""
+    """What the old process answers beside the new one. Where its cartridge does not stay loaded it is loaded anew,
+    since that heals a failed one."""
     asked = [("a block", write_of(b"late")), ("a filemark", [MARK])]
     if not is_loaded:
         asked += [("an unload", [UNLOAD]), ("a load", [LOAD]), ("a filemark behind a load", [MARK])]

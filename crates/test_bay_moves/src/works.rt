@@ -178,15 +178,15 @@ fn each_call_of_the_disk_of_a_cartridge_fails(rt: HostRuntime) -> Result<(), Fai
     for &(before, first, end, failed, passed, most) in WORKS {
         for fails in (5..most).chain([NEVER]) {
             let mut held = library(rt.alloc(), fails)?;
-            let mut met = does_all(&rt, rt.alloc(), &mut held, before, fails);
-            let is_there = matches!(met, Ok(true));
-            if is_there {
-                let steps = if fails < end { failed } else { passed };
-                met = does_all(&rt, rt.alloc(), &mut held, steps, fails);
-            }
+            let met = match does_all(&rt, rt.alloc(), &mut held, before, fails) {
+                Ok(true) => {
+                    let steps = if fails < end { failed } else { passed };
+                    does_all(&rt, rt.alloc(), &mut held, steps, fails)
+                }
+                other => other,
+            };
             drop(held);
-            let _ = met?;
-            assert_equal!(rt; is_there, fails >= first; fails);
+            assert_equal!(rt; met?, fails >= first; fails);
         }
     }
     Ok(())

@@ -1,2 +1,1 @@
 mod HandLemmas
-mod TestLemmas

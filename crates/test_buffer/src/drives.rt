@@ -45,9 +45,12 @@ impl<D: Disk + Drop> Tape<D> {
         self.drive.turn()
     }
 
-    /// See `Drive::medium`.
-    pub fn medium(&self) -> Option<&Buffered<D>> {
-        self.drive.medium()
+    /// The disk of the side that counts, where a medium is in the drive.
+    pub fn disk(&self) -> Option<&D> {
+        match self.drive.medium() {
+            Some(medium) => medium.disk(),
+            None => None,
+        }
     }
 }
 

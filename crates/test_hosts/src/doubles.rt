@@ -173,9 +173,8 @@ impl<R: Wait + Clock> Read for Sender<'_, R> {
             return Err(io::Error::from(ErrorKind::Other));
         }
         if self.left == 0 {
-            self.most = self
-                .most
-                .max(self.begun.saturating_sub(self.meeting.done()));
+            let done = self.meeting.done.load(Ordering::SeqCst);
+            self.most = self.most.max(self.begun.saturating_sub(done));
             match self.sent {
                 Sent::Answered => wait(self.rt, &self.meeting.answered, self.begun),
                 Sent::Done => {

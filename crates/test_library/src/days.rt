@@ -7,7 +7,7 @@ ghost use Rattle.library.specs.Counts.{AcceptedNone, places_filled, which_are_th
 ghost use Rattle.library.specs.RingRows.{AreRings};
 
 use crate::acts::{Act, plays};
-use crate::samples::{First, Sample, TestDisk, sample};
+use crate::samples::{First, Sample, TestDisk, make_sample};
 use crate::stages::{LATE, Stage};
 use bay_moves::{Bay, Parked};
 use element_slots::Slots;
@@ -121,7 +121,7 @@ pub fn spend<R: Threads + Wait + Abort + Clock + Sync>(
 ) -> Result<(), Fail> {
     let stage = Stage::new(freed, false);
     let stage = Arc::new(alloc, stage)?;
-    let Sample { bays, slots } = sample(rt, alloc, &stage, loaded, First::Fails(fails))?;
+    let Sample { bays, slots } = make_sample(rt, alloc, &stage, loaded, First::Fails(fails))?;
     let drives = count_fresh(bays.as_slice())?;
     let rings = RingRow::of_drives(alloc, bays.as_slice())?;
     let hosts = hosts(alloc, day.hosts.len().min(64) as u8)?;

@@ -156,7 +156,7 @@ fn shelve<D: Disk + Drop>(
 
 /// So many drives, in each a new cartridge with its number; or, with no drive that is loaded, two empty drives, and
 /// cartridges 1 to 3 in slots 1001 to 1003.
-pub fn sample(
+pub fn make_sample(
     rt: &impl Abort,
     alloc: Global,
     stage: &Arc<Stage, Global>,

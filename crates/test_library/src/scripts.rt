@@ -1,7 +1,7 @@
 //! Scripts over a library: the hosts of a phase run side by side, and flushers beside them, from the first phase to the
 //! last; and where a script ends.
 use crate::days::{are_all_there, has_ended};
-use crate::samples::{First, NEVER, Sample, TestDisk, sample};
+use crate::samples::{First, NEVER, Sample, TestDisk, make_sample};
 use crate::stages::{ARMED, FREED, HELD, LATE, Stage, StageGate, Stands};
 use library::{Finished, Gate, RingRow};
 use library_scripts::{Ran, run_library};
@@ -104,7 +104,7 @@ fn meet<R: Threads + Wait + Abort + Clock + Sync>(
     first: First,
 ) -> Result<(), Fail> {
     let stage = Arc::new(alloc, Stage::new(u64::from(lines), hosts == 16))?;
-    let sample = sample(rt, alloc, &stage, 16, first)?;
+    let sample = make_sample(rt, alloc, &stage, 16, first)?;
     let mut script = String::new(alloc);
     add_all(alloc, &mut script, hosts, "000000000000")?;
     script.push_str("--\n")?;
@@ -154,7 +154,7 @@ const ANSWERS: &str = "CHECK 700006000000000a00000000290000000000\n\
 #[test]
 fn a_flusher_stores_between_two_phases(rt: HostRuntime) -> Result<(), Fail> {
     let stage = Arc::new(rt.alloc(), Stage::new(1, false))?;
-    let sample = sample(&rt, rt.alloc(), &stage, 2, First::Fails(NEVER))?;
+    let sample = make_sample(&rt, rt.alloc(), &stage, 2, First::Fails(NEVER))?;
     stage.add(ARMED, 1);
     writes(
         &rt,
@@ -181,8 +181,8 @@ static LINES: &'static [(&'static str, &'static str, u64, u64)] = &[
     ("1 1 000000000000\n", CHANGED, 2, 1),
     ("2 2 000000000000\n--\n", CHANGED, 2, 1),
     ("1 1 080000000100\n", "GOOD 79\n", 2, 1),
-    ("2 2 080000000100\n", "GOOD 78\n", 2, 1),
     ("1 1 0a0000000100 7a\n", GOOD, 3, 1),
+    ("2 2 080000000100\n", "GOOD 78\n", 3, 1),
     ("2 2 100000000100\n", GOOD, 3, 2),
     ("move 2 1002\n", GOOD, 3, 2),
     ("move 1 2\n", GOOD, 3, 2),
@@ -197,7 +197,7 @@ fn a_script_ends_behind_any_line(rt: HostRuntime) -> Result<(), Fail> {
         script.push_str(line)?;
         wanted.push_str(answer)?;
         let stage = Arc::new(rt.alloc(), Stage::new(0, false))?;
-        let sample = sample(&rt, rt.alloc(), &stage, 2, First::Fails(NEVER))?;
+        let sample = make_sample(&rt, rt.alloc(), &stage, 2, First::Fails(NEVER))?;
         let (text, answers) = (script.as_str(), wanted.as_str());
         let ran = writes(
             &rt,

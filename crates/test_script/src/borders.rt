@@ -1,8 +1,9 @@
 //! The longest command, whole.
-use crate::outcomes::{BAD_1, DONE, answered, assert_ends, joined};
+use crate::outcomes::{BAD_1, DONE, answered, joined};
 use crate::wires::Plan;
 use std::alloc::{AllocError, Global};
 use std::test::Fail;
+use test_assertions::{assert_equal, assert_holds};
 
 // A command with 1,099,996 bytes, whose line has `spaces` bytes more than `HOST DRIVE CDB DATA` needs.
 fn longest_command(alloc: Global, spaces: usize) -> Result<Vec<u8>, AllocError> {
@@ -23,10 +24,12 @@ fn the_longest_command(rt: HostRuntime) -> Result<(), Fail> {
     let script = longest_command(rt.alloc(), 1)?;
     assert_eq!(rt; script.len(), 2_200_001);
     let outcome = answered(rt.alloc(), script.as_slice(), Plan::whole());
-    assert_eq!(rt; outcome.end, DONE);
+    assert_equal!(rt; outcome.end, DONE);
     let mut wanted = joined(rt.alloc(), &["GOOD 010100"])?;
     wanted.extend_from_slice(&script.as_slice()[8..])?;
-    assert!(rt; outcome.text.as_slice() == wanted.as_slice());
+    assert_holds!(rt; outcome.text.as_slice() == wanted.as_slice());
     let script = longest_command(rt.alloc(), 2)?;
-    assert_ends(&rt, rt.alloc(), script.as_slice(), (&[], BAD_1), 0)
+    let outcome = answered(rt.alloc(), script.as_slice(), Plan::whole());
+    assert_equal!(rt; (outcome.end, outcome.text.len()), (BAD_1, 0));
+    Ok(())
 }

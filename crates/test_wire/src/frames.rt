@@ -125,7 +125,6 @@ pub struct Outcome {
     pub has_failed: bool,
 }
 
-// Reads requests up to the end.
 fn add_requests(
     alloc: Global,
     text: &mut Vec<u8>,
@@ -141,7 +140,7 @@ fn add_requests(
     Ok(())
 }
 
-// Reads answers up to the end, and writes each.
+// Reads answers up to the end, and writes each; of requests it says what they are.
 fn add_answers(
     text: &mut Vec<u8>,
     frames: &mut AnswerReader,

@@ -1,6 +1,8 @@
 //! Frames that are refused.
 use crate::frames::{Kind, bytes, reading};
 use crate::pipes::Plan;
+use std::alloc::Global;
+use std::process::Abort;
 use std::test::Fail;
 use test_assertions::assert_equal;
 use vtl_wire::WireFault;
@@ -44,21 +46,23 @@ static ANSWERS: &'static [&'static str] = &[
         000003e9 5430303030314c36 2020202020202020 | 1420",
 ];
 
+const FIRST: &'static [u8] = b"03 00 00 00 00000000 00000005 00000000";
+
 // A frame that is taken stands before each, and 40 bytes behind it, which are not read: none is waited for.
 fn are_refused(
-    rt: &HostRuntime,
+    rt: &impl Abort,
+    alloc: Global,
     kind: Kind,
-    first: &str,
     text: &[u8],
     lines: &[&str],
 ) -> Result<(), Fail> {
     for line in lines {
         let line = line.as_bytes();
         let bar = line.iter().position(|byte| *byte == b'|').unwrap_or(0);
-        let frame = bytes(rt.alloc(), line.get(..bar).unwrap_or(&[]))?;
-        let changes = bytes(rt.alloc(), line.get(bar.saturating_add(1)..).unwrap_or(&[]))?;
+        let frame = bytes(alloc, line.get(..bar).unwrap_or(&[]))?;
+        let changes = bytes(alloc, line.get(bar.saturating_add(1)..).unwrap_or(&[]))?;
         for change in changes.as_slice().chunks(2) {
-            let mut input = bytes(rt.alloc(), first.as_bytes())?;
+            let mut input = bytes(alloc, FIRST)?;
             for (place, byte) in frame.as_slice().iter().enumerate() {
                 match change {
                     [at, other] if usize::from(*at) == place => input.push(*other)?,
@@ -66,7 +70,7 @@ fn are_refused(
                 }
             }
             input.extend_from_slice(&[0; 40])?;
-            let outcome = reading(rt.alloc(), kind, input.as_slice(), Plan::pieces(7));
+            let outcome = reading(alloc, kind, input.as_slice(), Plan::pieces(7));
             assert_equal!(rt; outcome.end, Err(WireFault::BadFrame { frame: 2 }); (line, change));
             assert_equal!(rt; outcome.text.as_slice(), text; (line, change));
             assert_equal!(rt; (outcome.left, outcome.frames), (40, 1); (line, change));
@@ -77,8 +81,7 @@ fn are_refused(
 
 #[test]
 fn refused_frames(rt: HostRuntime) -> Result<(), Fail> {
-    let first = "03 00 00 00 00000000 00000005 00000000";
-    let read = b"\x03\0\0\0\0\0\0\0\0\0\0\x05\0\0\0\0";
-    are_refused(&rt, Kind::Requests, first, b"inventory 5\n", REQUESTS)?;
-    are_refused(&rt, Kind::Answers, first, read, ANSWERS)
+    let written = bytes(rt.alloc(), FIRST)?;
+    are_refused(&rt, rt.alloc(), Kind::Requests, b"inventory 5\n", REQUESTS)?;
+    are_refused(&rt, rt.alloc(), Kind::Answers, written.as_slice(), ANSWERS)
 }
