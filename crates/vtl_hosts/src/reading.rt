@@ -3,8 +3,7 @@ ghost use Rattle.std.specs.Prelude.{◌≡◌, ◌<◌, ◌+◌, IfOk, IfErr, If
 ghost use Rattle.vtl_base.specs.declared.limits.TheConstants.{NEXUSES};
 ghost use Rattle.vtl_wire.specs.Reads.{NotesFault};
 ghost use Rattle.vtl_hosts.specs.Rounds.{host_in};
-ghost use Rattle.vtl_base.specs.Steps.{ticked};
-ghost use Rattle.vtl_hosts.specs.Inner.Reading.{EndsRound, ReadsNext, ReadsRound};
+ghost use Rattle.vtl_hosts.specs.Inner.Reading.{CountsNext, EndsRound, ReadsNext, ReadsRound, StopsNext};
 
 use crate::bells::Bells;
 use crate::pushing::push_waiting;
@@ -52,8 +51,8 @@ fn read_next<G: Desk, I: Read, R: Wait>(
     ensures reads { ReadsNext (G.is_taken desk.now) frames.old.frames rings.old (I.remaining reader.old)
         frames.new.frames rings.new (I.remaining reader.new) result }
     ensures late { seen.new.late ≡ seen.old.late }
-    ensures stops { IfOk result (λ found. found ≡ Some Break.Again → seen.new.stopped ≡ true) }
-    ensures one { IfOk result (λ found. found ≡ None → frames.new.frames ≡ ticked frames.old.frames) }
+    ensures stops { StopsNext seen.new.stopped result }
+    ensures counts { CountsNext frames.old.frames frames.new.frames result }
     ensures same { IfOk result (λ _. frames.new.failed ≡ frames.old.failed) }
     ensures noted { IfErr result (NotesFault frames.old.failed frames.new.failed) }
 {
@@ -77,9 +76,9 @@ fn read_next<G: Desk, I: Read, R: Wait>(
 }
 
 /// Reads commands, and sends each to its host. It ends at a move, an inventory or the end of the input, after a failed
-/// write, or with an error. Where not all threads have begun, it reads one command, for which the rings have room. So
-/// no thread waits for work that begins only after that thread has ended. It ends for no other reason: at an end of a
-/// round all hosts wait for the slowest one.
+/// write, or with an error. Where not all threads have begun, it reads one command at most, for which the rings have
+/// room. So no thread waits for work that begins only after that thread has ended. It ends for no other reason: at an
+/// end of a round all hosts wait for the slowest one.
 pub(crate) fn read_round<G: Desk, I: Read, R: Wait>(
     rt: &R,
     desk: &G,

@@ -1,5 +1,5 @@
 -- The thread that reads.
-use Rattle.std.specs.Prelude.{◌≡◌, ◌⊎◌, ℕ, Bool, true, List, Option, None, Some, Result, Ok, Err}
+use Rattle.std.specs.Prelude.{◌≡◌, ◌⊎◌, ℕ, Bool, true, false, List, Option, None, Some, Result, Ok, Err}
 use Rattle.std.specs.List.{All}
 use Rattle.std.specs.Io.KnownBytes.{Consumes}
 use Rattle.vtl_base.specs.Steps.{ticked}
@@ -60,10 +60,40 @@ pub record ReadsRound (takes : Request → Bool)
   pub read : ReadsCommands takes count rings left counted rings' behind
   pub ended : ReadingEnds takes counted behind count' left' result
 
--- A round ends at a move, an inventory, the end of the input or an error. It ends before that only where a write has
--- failed, or behind one command where not all threads had begun (own).
+-- What ends the reading is the first frame behind `count`, or no frame is read any more (own).
+abbrev pub EndsAtOnce : ℕ → ℕ → Result Break WireFault → Type 0
+EndsAtOnce count count' (Ok Again) = count' ≡ count
+EndsAtOnce count count' (Ok Ended) = count' ≡ count
+EndsAtOnce count count' (Ok (Next request)) = count' ≡ ticked count
+EndsAtOnce count count' (Err (BadFrame number)) = number ≡ ticked count
+EndsAtOnce count count' (Err ReadFault) = count' ≡ count
+EndsAtOnce count count' (Err WriteFault) = count' ≡ count
+EndsAtOnce count count' (Err NoMemory) = count' ≡ count
+
+-- one command was read, or the reading ends with the next frame (own)
+abbrev pub CountsNext : ℕ → ℕ → Result (Option Break) WireFault → Type 0
+CountsNext count count' (Ok None) = count' ≡ ticked count
+CountsNext count count' (Ok (Some found)) = EndsAtOnce count count' (Ok found)
+CountsNext count count' (Err fault) = EndsAtOnce count count' (Err fault)
+
+-- no more is read in this round exactly where it was seen that a write has failed (own)
+abbrev pub StopsNext : Bool → Result (Option Break) WireFault → Type 0
+StopsNext stopped (Ok None) = stopped ≡ false
+StopsNext stopped (Ok (Some Again)) = stopped ≡ true
+StopsNext stopped (Ok (Some Ended)) = stopped ≡ false
+StopsNext stopped (Ok (Some (Next request))) = stopped ≡ false
+StopsNext stopped (Err fault) = stopped ≡ false
+
+-- A round ends at a move, an inventory, the end of the input or an error, where no write was seen to have failed. It
+-- ends before that only where one was, or behind one command where not all threads had begun. Where these had not, no
+-- command stands before any other end (own).
 abbrev pub EndsRound : Bool → Bool → ℕ → ℕ → Result Break WireFault → Type 0
-EndsRound late stopped count count' (Ok Again) = (stopped ≡ true) ⊎ ((late ≡ true) × (count' ≡ ticked count))
-EndsRound late stopped count count' (Ok Ended) = Unit {0}
-EndsRound late stopped count count' (Ok (Next request)) = Unit {0}
-EndsRound late stopped count count' (Err fault) = Unit {0}
+EndsRound late stopped count count' (Ok Again) =
+    ((stopped ≡ true) × (late ≡ true → EndsAtOnce count count' (Ok Again)))
+    ⊎ ((stopped ≡ false) × (late ≡ true) × (count' ≡ ticked count))
+EndsRound late stopped count count' (Ok Ended) =
+    (stopped ≡ false) × (late ≡ true → EndsAtOnce count count' (Ok Ended))
+EndsRound late stopped count count' (Ok (Next request)) =
+    (stopped ≡ false) × (late ≡ true → EndsAtOnce count count' (Ok (Next request)))
+EndsRound late stopped count count' (Err fault) =
+    (stopped ≡ false) × (late ≡ true → EndsAtOnce count count' (Err fault))
