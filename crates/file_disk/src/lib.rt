@@ -3,7 +3,6 @@
 
 mod again;
 mod begins;
-mod behind;
 pub mod disk;
 mod doubt;
 pub mod error;

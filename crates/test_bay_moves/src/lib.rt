@@ -4,8 +4,14 @@
 #[cfg(test)]
 mod asserted;
 #[cfg(test)]
+mod drives;
+#[cfg(test)]
 mod holding;
+#[cfg(test)]
+mod moving;
 #[cfg(test)]
 mod samples;
 #[cfg(test)]
-mod works;
+mod taking;
+#[cfg(test)]
+mod writing;

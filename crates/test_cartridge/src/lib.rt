@@ -6,9 +6,21 @@ mod asserted;
 #[cfg(test)]
 mod behind_tests;
 #[cfg(test)]
-mod fault_tests;
+mod block_tests;
 #[cfg(test)]
-mod journals;
+mod journal_frames;
+#[cfg(test)]
+mod journal_layouts;
+#[cfg(test)]
+mod journal_samples;
+#[cfg(test)]
+mod journal_stops;
+#[cfg(test)]
+mod liar;
+#[cfg(test)]
+mod liar_tests;
+#[cfg(test)]
+mod long_tests;
 #[cfg(test)]
 mod pair_tests;
 #[cfg(test)]
@@ -18,8 +30,6 @@ mod samples;
 #[cfg(test)]
 mod side_tests;
 #[cfg(test)]
-mod stop_cases;
-#[cfg(test)]
 mod stop_tests;
 #[cfg(test)]
-mod works;
+mod tail_tests;

@@ -12,6 +12,10 @@ mod echoes;
 #[cfg(test)]
 mod failing;
 #[cfg(test)]
+mod long_answers;
+#[cfg(test)]
+mod moves;
+#[cfg(test)]
 mod outcomes;
 #[cfg(test)]
 mod waiting;

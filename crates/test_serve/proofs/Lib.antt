@@ -1,1 +1,2 @@
+mod FreshLemmas
 mod HostLemmas

@@ -61,3 +61,58 @@ fn each_nexus_is_reported_its_own(rt: HostRuntime) {
     assert_holds!(rt; reports(&mut attentions, first, ORDER));
     assert_holds!(rt; reports(&mut attentions, first, &[]));
 }
+
+const MEDIUM: Attention = Attention::MediumChanged;
+
+const RELEASED: Attention = Attention::ReservationsReleased;
+
+const PREEMPTED: Attention = Attention::RegistrationsPreempted;
+
+#[test]
+fn every_nexus_but_one_gets_it(rt: HostRuntime) {
+    let (Some(first), Some(other), Some(last)) = (Nexus::new(1), Nexus::new(2), Nexus::new(64))
+    else {
+        assert_holds!(rt; false, "a nexus");
+        return;
+    };
+    let mut attentions = Attentions::all(set_of(&[RELEASED]));
+    attentions.establish_for_others(first, MEDIUM);
+    assert_holds!(rt; reports(&mut attentions, first, &[RELEASED]));
+    assert_holds!(rt; reports(&mut attentions, other, &[MEDIUM, RELEASED]));
+    attentions.establish_for_others(last, PREEMPTED);
+    assert_holds!(rt; reports(&mut attentions, first, &[PREEMPTED]));
+    assert_holds!(rt; reports(&mut attentions, other, &[PREEMPTED]));
+    assert_holds!(rt; reports(&mut attentions, last, &[MEDIUM, RELEASED]));
+}
+
+#[test]
+fn two_sets_are_joined(rt: HostRuntime) {
+    for one in ORDER.iter() {
+        for other in ORDER.iter() {
+            let joined = set_of(&[*one, MEDIUM]).join(set_of(&[*other]));
+            assert_equal!(rt; joined, set_of(&[*other, MEDIUM, *one]));
+        }
+        assert_equal!(rt; set_of(&[*one]).join(AttnSet::empty()), set_of(&[*one]));
+        assert_equal!(rt; AttnSet::empty().join(set_of(&[*one])), set_of(&[*one]));
+    }
+}
+
+#[test]
+fn each_nexus_gets_its_own(rt: HostRuntime) {
+    let (Some(first), Some(second), Some(last)) = (Nexus::new(1), Nexus::new(2), Nexus::new(64))
+    else {
+        assert_holds!(rt; false, "a nexus");
+        return;
+    };
+    let mut established = [AttnSet::empty(); 64];
+    established[0] = set_of(&[PREEMPTED]);
+    established[63] = set_of(&[MEDIUM, RELEASED]);
+    let mut attentions = Attentions::all(set_of(&[MEDIUM]));
+    attentions.establish_each(&established);
+    assert_holds!(rt; reports(&mut attentions, first, &[MEDIUM, PREEMPTED]));
+    assert_holds!(rt; reports(&mut attentions, second, &[MEDIUM]));
+    assert_holds!(rt; reports(&mut attentions, last, &[MEDIUM, RELEASED]));
+    attentions.establish_each(&established[..1]);
+    assert_holds!(rt; reports(&mut attentions, first, &[PREEMPTED]));
+    assert_holds!(rt; reports(&mut attentions, last, &[]));
+}

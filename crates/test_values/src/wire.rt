@@ -1,4 +1,5 @@
-//! What command blocks are decoded to.
+//! What command blocks are decoded to, and the data of a drive.
+mod answers;
 mod blocks;
 mod fields;
 

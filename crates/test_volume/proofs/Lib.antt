@@ -1,2 +1,1 @@
 mod AwakeLemmas
-mod MarkLemmas

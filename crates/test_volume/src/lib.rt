@@ -12,7 +12,11 @@ mod media;
 #[cfg(test)]
 mod records;
 #[cfg(test)]
+mod runs;
+#[cfg(test)]
 mod searches;
+#[cfg(test)]
+mod spaces;
 #[cfg(test)]
 mod staged;
 #[cfg(test)]

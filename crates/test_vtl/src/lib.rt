@@ -4,6 +4,8 @@
 #[cfg(test)]
 mod asserted;
 #[cfg(test)]
+mod plain_sides;
+#[cfg(test)]
 mod sides;
 #[cfg(test)]
 mod tests;

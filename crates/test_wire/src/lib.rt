@@ -2,16 +2,28 @@
 #![tactic(auto)]
 
 #[cfg(test)]
+mod answer_faults;
+#[cfg(test)]
+mod answer_readings;
+#[cfg(test)]
+mod answer_refusals;
+#[cfg(test)]
+mod answers;
+#[cfg(test)]
 mod asserted;
 #[cfg(test)]
-mod frames;
+mod cuttings;
+#[cfg(test)]
+mod failing;
+#[cfg(test)]
+mod lengths;
 #[cfg(test)]
 mod pipes;
 #[cfg(test)]
-mod readings;
-#[cfg(test)]
 mod refusals;
 #[cfg(test)]
-mod served;
+mod requests;
 #[cfg(test)]
-mod writings;
+mod sensed;
+#[cfg(test)]
+mod served;

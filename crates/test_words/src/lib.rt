@@ -4,6 +4,14 @@
 #[cfg(test)]
 mod asserted;
 #[cfg(test)]
+mod cartridges;
+#[cfg(test)]
+mod configs;
+#[cfg(test)]
+mod explained;
+#[cfg(test)]
+mod files;
+#[cfg(test)]
 mod orders;
 #[cfg(test)]
 mod unread;

@@ -1,2 +1,0 @@
-mod FreshLemmas
-mod HostLemmas
