@@ -3,9 +3,11 @@
 compares what stands behind the one line: where the program ends with a device fault, the call that failed, what it was
 for, and the answer. Without --explain there is the one line alone. Where memory is refused in turn, a line says what it
 was wanted for, or none does. Of `vtl create` the calls that fail have their names and files in the order in which they
-are made. A closed standard error changes neither the status nor the output.
+are made. A closed standard error changes neither the status nor the output. Where no file has locks, lines say so once
+for the files of a folder.
 
---program PATH another program than the proved one; --no-memory: memory is not refused; --selftest: of each call another
+--program PATH another program than the proved one; --no-memory: memory is not refused; --locks: of all this the last
+alone; --selftest: of each call another
 name is asked for, and another order of the calls of `vtl create`, and ends are invented, which must be found wrong."""
 import argparse
 import os
@@ -140,6 +142,34 @@ def plain(tools, pristine):
     return wrong
 
 
+def lockless(name):
+    """The lines for a folder without locks, of which this file is opened first."""
+    return (f"no lock: the folder of the file {name} has no locks\n"
+            "to do: let no other program use its files while this one runs, or move them to a folder that has locks\n")
+
+
+def without_locks(tools, new):
+    """Where no file has locks, each folder has its lines once, if an explanation is wanted; nothing else changes."""
+    room, wrong = Room(tools, new), []
+    first, store = FILES[FIRST], os.path.join("other", FILES[STORE])
+    with room.room:
+        os.mkdir(os.path.join(room.path, "other"))
+        with open(os.path.join(room.path, "lib.toml"), encoding="utf-8") as lib, \
+                open(os.path.join(room.path, "two.toml"), "w", encoding="utf-8") as two:
+            two.write(lib.read().replace(FILES[STORE], store))
+        room.run(["create", "--config", "two.toml"])
+        for words, said in ((["run", "--config", "lib.toml"], lockless(first)),
+                            (["run", "--config", "two.toml"], lockless(first) + lockless(store)),
+                            (["check", first], lockless(first)), (["run", "--memory", "--config", "lib.toml"], "")):
+            locked = room.run(words)
+            for more, wanted in (([], ""), (["--explain"], said)):
+                run = room.run([*words, *more], "", "unlocked")
+                if run[:3] != (0, locked.out, wanted) or locked.status:
+                    wrong.append(f"{words + more} without locks: {run}")
+    print(f"without locks: {len(wrong)} wrong", flush=True)
+    return wrong
+
+
 def selftest(tools, bare, used):
     """Each name in turn is no more that of its calls."""
     blind = []
@@ -164,6 +194,7 @@ def main():
     parser = argparse.ArgumentParser()
     parser.add_argument("--program", default=PROVED)
     parser.add_argument("--no-memory", action="store_true")
+    parser.add_argument("--locks", action="store_true")
     parser.add_argument("--selftest", action="store_true")
     said = parser.parse_args()
     kinds = [("fault", misexplained)] + [("memory", misremembered)] * (not said.no_memory)
@@ -177,9 +208,11 @@ def main():
         bare, new, used = made(tools, folder)
         if said.selftest:
             return selftest(tools, bare, used)
-        wrong = plain(tools, bare)
-        wrong += tried(tools, bare, "vtl create", ["create", "--config", "lib.toml"], "", kinds, in_order())
-        for what, room, words, script in (
+        wrong = without_locks(tools, new)
+        wrong += [] if said.locks else plain(tools, bare)
+        wrong += [] if said.locks else tried(tools, bare, "vtl create", ["create", "--config", "lib.toml"], "", kinds,
+                                             in_order())
+        for what, room, words, script in () if said.locks else (
                 ("vtl check of a cartridge", used, ["check", FILES[FIRST]], ""),
                 ("vtl run", new, ["run", "--config", "lib.toml"], whole),
                 ("vtl reclaim", used, ["reclaim", "--config", "lib.toml", FIRST], "")):

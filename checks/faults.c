@@ -3,7 +3,7 @@
 // "fault": a call for a file or a stream fails (EIO). "interrupted": it fails once (EINTR). "short": of several bytes
 // one is read or written. "lost": a write at a place is said to be done, and is not. "thread": a thread is not started
 // (EAGAIN). "threads": nor is any behind it. Without FAULTS_AT none does. With FAULTS_BEHIND only the calls count
-// between that read of standard input and the next one; 0 is the start.
+// between that read of standard input and the next one; 0 is the start. "unlocked": no file has locks (EOPNOTSUPP).
 // The file that FAULTS_TOLD names gets how many calls of the kind there were, the name of the one, and how many threads
 // were started. The file that FAULTS_ASKED names gets a line for each call of malloc and realloc: how many bytes were
 // asked for. To the file that FAULTS_NOTES names each call is added that did something to a file or to standard output,
@@ -183,7 +183,13 @@ static int synced(int done, int file) {
 int fsync(int file) { return synced(CALL(fsync, file), file); }
 int fdatasync(int file) { return synced(CALL(fdatasync, file), file); }
 int ftruncate(int file, off_t size) { return noted(CALL(ftruncate, file, size), 'T', file, NULL, size); }
-int flock(int file, int order) { return CALL(flock, file, order); }
+int flock(int file, int order) {
+    if (kind == 'u') {
+        errno = EOPNOTSUPP;
+        return -1;
+    }
+    return CALL(flock, file, order);
+}
 int fchmod(int file, mode_t mode) { return BRIEF(fchmod, file, mode); }
 int unlink(const char *path) { return BRIEF(unlink, path); }
 off_t lseek(int file, off_t place, int from) { return BRIEF(lseek, file, place, from); }

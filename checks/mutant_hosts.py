@@ -9,12 +9,12 @@ EDITS = [
       "                bay.serve(rt, &self.tally, seat, cdb, sent)\n            }",
       "            let (turn, count) = {\n                let _all = self.row.lock(rt);\n"
       "                bay.take_turn(rt, gate)\n            };"),
-     ["a_drive_works_while_another_stands_in_its_turn", "a_change_is_entered_while_another_drive_stores"]),
+     ["a_drive_works_while_another_stands_in_its_turn"]),
     ("each command waits for the lock of its disk's half", "library", "src/shared.rt",
      "        let mut front = self.front.lock(rt);\n        match front.execute_alone(",
      "        let mut front = self.front.lock(rt);\n        drop(self.back.lock(rt));\n"
      "        match front.execute_alone(",
-     ["hosts_do_not_wait_for_a_turn", "a_full_buffer_is_written_beside_a_turn",
+     ["hosts_do_not_wait_for_a_turn", "a_host_that_waits_for_room_holds_up_no_other",
       "a_fault_is_reported_before_a_filemark_is_stored"]),
     ("a host waits for room with the hosts' half locked", "library", "src/shared.rt",
      "        if sent.is_empty() || turns % 2 == 0 {\n", "        if sent.is_empty() || turns % 2 < 2 {\n",
@@ -24,7 +24,7 @@ EDITS = [
      ["a_host_that_waits_for_room_holds_up_no_other"]),
     ("the hosts' half has no more room behind a turn", "library", "src/shared.rt",
      "            Turn::Stored(_) => self.renew(rt),\n", "            Turn::Stored(_) => {}\n",
-     ["a_full_buffer_is_written_beside_a_turn"]),
+     ["a_host_that_waits_for_room_holds_up_no_other"]),
     ("a turn stands before its disk's half is locked", "library", "src/shared.rt",
      "        let mut back = self.back.lock(rt);\n        gate.in_turn();\n",
      "        gate.in_turn();\n        let mut back = self.back.lock(rt);\n",
@@ -32,11 +32,11 @@ EDITS = [
     ("the gate is informed of a turn before its fault is reported", "library", ("src/shared.rt", "src/flushers.rt"),
      ("        let turn = self.turn(rt, gate);\n", "            gate.after_turn(turn);\n"),
      ("        let turn = self.turn(rt, gate);\n        gate.after_turn(turn);\n", ""),
-     ["a_fault_is_reported_before_the_gate_is_informed"]),
+     ["a_turn_in_which_the_device_fails"]),
     ("hosts' halves never have room", "split_bay", "src/halving.rt", "        Ok(()) => (catalog, left),\n",
      "        Ok(()) => (\n            catalog,\n            Budget {\n                records: 0,\n"
      "                bytes: left.bytes,\n                room: left.room,\n            },\n        ),\n",
-     ["hosts_do_not_wait_for_a_turn", "a_full_buffer_is_written_beside_a_turn"]),
+     ["hosts_do_not_wait_for_a_turn", "a_host_that_waits_for_room_holds_up_no_other"]),
     ("a turn does not look into the ring", "split_bay", "src/backs.rt", "        self.receiving.look();\n", "",
      ["a_flusher_rests_until_a_change_is_accepted"]),
     ("a fault of a turn is reported once a command needs the disk", "library", "src/shared.rt",
@@ -48,12 +48,12 @@ EDITS = [
      ["hosts_wait_for_each_other", "a_drive_answers_while_another_stands_in_its_turn"]),
     ("each round has one command", "vtl_hosts", "src/seen.rt",
      "            late: !bells.have_begun(rt),\n", "            late: !bells.have_begun(rt) || true,\n",
-     ["hosts_wait_for_each_other", "hosts_wait_for_each_other_behind_a_move"]),
+     ["hosts_wait_for_each_other"]),
     ("a host has the bells of another", "vtl_hosts", "src/rounds.rt",
      "    { answer_all(rt, bells, place, host) };\n", "    { answer_all(rt, bells, place ^ 1, host) };\n",
      ["each_is_answered_before_the_next_is_sent"]),
     ("the reader is stopped by an answer of host 64", "vtl_hosts", "src/writing.rt",
-     "    if *failed {\n", "    if *failed || place == 63 {\n", ["each_of_64_hosts_is_answered_in_order"]),
+     "    if *failed {\n", "    if *failed || place == 63 {\n", ["each_is_answered_before_the_next_is_sent"]),
     ("answers are written once nothing more is read", "vtl_hosts", "src/writing.rt", "    bells.begin(rt);\n",
      "    bells.begin(rt);\n    for _ in rt.forever() {\n        let seen = bells.writer.count(rt);\n"
      "        if bells.writer.wait_for_more(rt, seen) {\n            break;\n        }\n    }\n",
@@ -84,7 +84,7 @@ EDITS = [
      "    let (_, failed) = thread::join_mut(rt, &mut answer, &mut write);\n", ["checks/no_threads.py"]),
     ("the answer that was made last is written first", "vtl_hosts", "src/bells.rt",
      "        self.made.lock(rt).pop_front()\n", "        self.made.lock(rt).pop_back()\n",
-     ["answers_come_in_the_order_in_which_they_were_made"]),
+     ["each_is_answered_before_the_next_is_sent"]),
     ("hosts end once a write failed", "vtl_hosts", "src/hosts.rt", "        let count = own.commands.count(rt);\n",
      "        if bells.is_stopped() {\n            return;\n        }\n        let count = own.commands.count(rt);\n",
      ["nothing_more_is_read_once_a_write_failed"]),
@@ -96,7 +96,7 @@ EDITS = [
      "    write_whole(writer, answer)?;\n    let _ = flush(writer);\n    Ok(())\n", ["test_wire::writes_that_fail"]),
     ("a request is not flushed", "vtl_wire", "src/request_writers.rt",
      "    write_request_whole(writer, request)?;\n    flush(writer)\n",
-     "    write_request_whole(writer, request)\n", ["each_request_written"]),
+     "    write_request_whole(writer, request)\n", ["each_frame_written"]),
     ("data that are cut off are a read fault", "vtl_wire", "src/parts.rt",
      "        None => Ok(None),\n", "        None => Err(WireFault::ReadFault),\n", ["each_frame_cut_off"]),
     ("a command of a served host goes to drive 1 where there is one", "vtl_serve", "src/one_host.rt",
@@ -118,10 +118,10 @@ EDITS = [
      ["what_stands_before_a_refused_frame_is_answered"]),
     ("drive 1 of a served library has no flusher", "vtl_serve", "src/libraries.rt",
      "    beside_flushers(rt, library, gate, 1, &mut work)\n",
-     "    beside_flushers(rt, library, gate, 2, &mut work)\n", ["each_drive_has_a_flusher"]),
+     "    beside_flushers(rt, library, gate, 2, &mut work)\n", ["a_drive_answers_while_another_stands_in_its_turn"]),
     ("drive 16 has no flusher", "library", "src/beside.rt",
      "    if !library.configured(drive) {\n", "    if !library.configured(drive) || number == 16 {\n",
-     ["each_of_16_drives_has_a_flusher"]),
+     ["a_drive_answers_while_another_stands_in_its_turn"]),
     ("the flushers of a served library end before its hosts are served", "vtl_serve", "src/libraries.rt",
      "    let served = serve_hosts(rt, alloc, servers, desk, reader, writer);\n    library.close(rt);\n",
      "    library.close(rt);\n    let served = serve_hosts(rt, alloc, servers, desk, reader, writer);\n",
@@ -164,7 +164,7 @@ EDITS = [
      "        let reply = self.serve_quietly(rt, tally, seat, cdb, sent);\n",
      "        let reply = self.serve_quietly(rt, tally, seat, cdb, sent);\n"
      "        let _ = self.back.lock(rt).turn();\n",
-     ["a_block_is_answered_before_a_turn_stores_it", "a_flusher_rests_until_a_change_is_accepted"]),
+     ["a_flusher_rests_until_a_change_is_accepted"]),
     ("no change wakes a flusher", "library", "src/shared.rt", "        if before != after {\n",
      "        if before > after {\n", ["a_flusher_rests_until_a_change_is_accepted"]),
     ("a flusher takes turn after turn", "library", "src/shared.rt",
@@ -183,7 +183,7 @@ EDITS = [
      "    let (reply, front, back) = execute_both(front, back, seat.nexus(), cdb, sent);\n"
      "    let after = front.accepted();\n    wait_at_limit(rt, before, cdb, &reply);\n    seat.count_answer(rt);\n"
      "    if before != after {\n        seat.enter(rt, &mut held, share);\n    }\n",
-     ["a_change_is_entered_while_another_drive_stores", "sixteen_hosts_of_a_phase_meet"]),
+     ["sixteen_hosts_of_a_phase_meet"]),
     ("the bytes that a host is given are changed", "library", "src/libraries.rt",
      "            Some(bay) => bay.serve(rt, &self.tally, seat, cdb, sent),\n",
      "            Some(bay) => {\n                let mut reply = bay.serve(rt, &self.tally, seat, cdb, sent);\n"
@@ -191,12 +191,12 @@ EDITS = [
      "                for byte in reply.bytes.as_slice() {\n"
      "                    let _ = other.push(*byte ^ 1);\n                }\n"
      "                reply.bytes = Bytes::from_vec(other);\n                reply\n            }\n",
-     ["two_hosts_at_two_drives", "a_block_and_a_filemark", "long_sessions_of_two_hosts"]),
+     ["a_block_and_a_filemark"]),
     ("each command goes to drive 1 where there is one", "library", "src/libraries.rt",
      "        match &self.bays[drive.place()] {\n            Some(bay) => bay.serve(rt",
      "        let place = if self.bays[0].is_some() { 0 } else { drive.place() };\n"
      "        match &self.bays[place] {\n            Some(bay) => bay.serve(rt",
-     ["two_hosts_at_two_drives", "a_block_and_a_filemark", "long_sessions_of_two_hosts"]),
+     ["a_block_and_a_filemark"]),
     ("a move goes to the drive beside the one that it names, where both are there", "library", "src/libraries.rt",
      "            Some(drive) => self.bays[drive.place()].as_ref(),\n",
      "            Some(drive) => {\n                let there = self.bays[drive.place()].as_ref();\n"
@@ -216,7 +216,7 @@ EDITS = [
      "    if row.count(0).is_some() && row.count(1).is_some() {\n"
      "        let (first, second) = (row.take(0), row.take(1));\n"
      "        row.put(0, second);\n        row.put(1, first);\n    }\n",
-     ["all_hosts_come_to_one_drive_at_once"]),
+     ["a_block_and_a_filemark"]),
     ("the slots are others at the end", "library", "src/finishing.rt",
      ("            alloc: _,\n", "        let slots = slots.into_inner().into_slots();\n"),
      ("            alloc,\n",

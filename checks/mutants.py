@@ -48,11 +48,11 @@ def runs_failed(room, names):
                            capture_output=True, text=True)
     if built.returncode:
         sys.exit(f"the program was not built\n{built.stderr}")
-    missing = [name for name in names if not os.path.isfile(os.path.join(TOP, name))]
+    missing = [name for name in names if not os.path.isfile(os.path.join(TOP, name.split()[0]))]
     if missing:
         sys.exit(f"there is no row {missing[0]}")
     program = os.path.join(room, ".unproved", "vtl")
-    run = {name: [os.path.join(TOP, name)] if name.startswith("checks/")
+    run = {name: [os.path.join(TOP, name.split()[0]), *name.split()[1:]] if name.startswith("checks/")
            else [os.path.join(TOP, "checks", "rows.py"), "--first", os.path.join(TOP, name)] for name in names}
     return {name for name, words in run.items()
             if subprocess.run([sys.executable, *words, "--program", program], capture_output=True).returncode}
@@ -108,7 +108,7 @@ def lint():
         turned_by(TOP, edit)
     for name in names:
         if name.startswith(("rows/", "checks/")):
-            if not os.path.isfile(os.path.join(TOP, name)):
+            if not os.path.isfile(os.path.join(TOP, name.split()[0])):
                 sys.exit(f"there is no row or check {name}")
         else:
             crate_of(TOP, name)

@@ -78,7 +78,7 @@ def false_claims(rows, edits):
         if len(edits_of(row)) > 1:
             yield f"docs/CLAIMS.md names {edits_of(row)[1][1]} beside another edit: docs/EDITS.md has them all"
         for name in names_in(tests):
-            if name not in texts and not re.search(rf"\bfn {name}\b", every):
+            if name not in texts and not re.search(rf"#\[test\]\n(?:#.*\n)*fn {name}\b", every):
                 yield f"docs/CLAIMS.md names {name}, which is no test"
 
 
@@ -101,6 +101,9 @@ def lint():
     rows = claims()
     claimed = {(crate, name) for row in rows for named, name in edits_of(row) for crate in named}
     said += [f"docs/CLAIMS.md names no claim for the edit {crate}/{name}" for crate, name in sorted(guarded - claimed)]
+    said += [f"docs/CLAIMS.md has {name} in bold, or not, and the gate does otherwise" for row in rows
+             for named, name in edits_of(row)
+             if (f"**`{name}`**" in row[1]) != any((crate, name) in guarded for crate in named)]
     said += false_claims(rows, every)
     said += [f"rows/wrong.txt: there is no edit {name}" for name in rows_wrong.listed()
              if tuple(name.split("/")) not in every]

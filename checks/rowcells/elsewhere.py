@@ -10,7 +10,7 @@ UNLOADS = "an_unloading_meets_a_fault"
 OPENS = "a_fault_at_each_call_of_a_loading"
 SAVES = "a_fault_at_each_call_of_a_save"
 SERVED = "served_endings.py"
-FRAMES = ["each_request", "each_request_written", "each_answer", "refused_headers"]
+FRAMES = ["in_any_pieces", "each_frame_written", "refused_frames"]
 # by cell: the tests
 CELLS = {
     # a block of no byte has no line
@@ -19,16 +19,16 @@ CELLS = {
     "attentions | 2A/03 is reported before 2A/05": ["a_set_has_its_conditions"],
     # a cartridge's file is full at 1,099,511,627,776 bytes
     "does | ERASE | the file is full": [DRIVES, "a_side_fills_and_a_device_fails"],
-    "full file | WRITE": [DRIVES, "what_a_file_has_room_for"],
-    "full file | WRITE FILEMARKS": [DRIVES, "what_a_file_has_room_for"],
+    "full file | WRITE": [DRIVES],
+    "full file | WRITE FILEMARKS": [DRIVES],
     # the device fails
     "does | LOAD UNLOAD, LOAD 1 | a loaded cartridge, its medium failed": [UNLOADS, DRIVES],
     "does | LOAD UNLOAD, LOAD 0 | a loaded cartridge, and a device fault": [UNLOADS],
     "does | LOAD UNLOAD, LOAD 0 | a loaded cartridge, its medium failed already": [UNLOADS],
-    "out | drive | a device fault in that": ["what_is_not_written_stays_in_its_drive", FAULTS],
-    "out | drive | its medium failed already": ["what_is_not_written_stays_in_its_drive", FAULTS],
-    "back | out of memory": ["what_is_not_loaded_goes_back", FAULTS],
-    "exit | run, serve: a buffer could not be written out": ["a_line_that_can_not_be_written", FAULTS],
+    "out | drive | a device fault in that": ["each_call_of_the_disk_of_a_cartridge_fails", FAULTS],
+    "out | drive | its medium failed already": ["each_call_of_the_disk_of_a_cartridge_fails", FAULTS],
+    "back | out of memory": ["each_call_of_the_disk_of_a_cartridge_fails", FAULTS],
+    "exit | run, serve: a buffer could not be written out": ["the_first_fault_is_reported", FAULTS],
     "exit | a read or write of the streams failed": [ENDINGS],
     "exit | out of memory": [ENDINGS, FAULTS],
     "said at once | a call that failed": ["explained_faults.py"],
@@ -51,13 +51,12 @@ CELLS = {
     "flush | SPACE, except over 0 blocks or 0 filemarks": [STORES], "flush | READ POSITION": [STORES],
     "flush | WRITE FILEMARKS with IMMED 0, of any count, 0 too": [STORES, DRIVES],
     "flush | LOAD UNLOAD of a loaded cartridge whose medium has not failed": [STORES, UNLOADS],
-    "flush | in unbuffered mode also WRITE of at least one byte, and ERASE": ["an_unbuffered_write_is_stored_at_once"],
-    "buffer | 256 changes, 4,194,304 bytes of blocks": ["a_change_too_many_is_preceded_by_a_settle",
-                                                       "a_turn_reports_how_many_waited", "what_waits_is_counted"],
+    "flush | in unbuffered mode also WRITE of at least one byte, and ERASE": ["writes_wait_for_one_frame"],
+    "buffer | 256 changes, 4,194,304 bytes of blocks": ["a_change_too_many_is_preceded_by_a_settle"],
     # the streams
-    "stream | an interrupted read": ["reads_that_are_interrupted_many_times"],
+    "stream | an interrupted read": ["reads_that_fail"],
     "stream | any other error of the reader, or a script that is too long": ["reads_that_fail", ENDINGS],
-    "stream | an interrupted write": ["writes_that_are_interrupted_many_times"],
+    "stream | an interrupted write": ["writes_that_fail"],
     "stream | any other error of the writer, and an interrupted flush": ["writes_that_fail", ENDINGS],
     "stream | after a fault, and where memory runs out": ["writes_that_fail", ENDINGS],
     # frames, which are no lines of a row
@@ -70,10 +69,10 @@ CELLS = {
         "nomemory_rows.py"],
     **{f"frame, byte | {at}": FRAMES for at in ("0", "1", "2", "3", "4 to 7", "8 to 11", "12 to 15", "16 on")},
     **{f"frame | {what}": [test] for test, those in (
-        ("each_request", ["TEST UNIT READY of host 1 to drive 2, tag 7",
+        ("in_any_pieces", ["TEST UNIT READY of host 1 to drive 2, tag 7",
                           "WRITE(6) of the three bytes 61h 62h 63h, host 3, drive 1, tag FFFFFFFEh",
                           "a move from slot 1001 to drive 1, tag 9", "an inventory, tag 01000000h"]),
-        ("each_answer", ["its answer from an empty drive", "an answer with these three bytes",
+        ("each_frame_written", ["its answer from an empty drive", "an answer with these three bytes",
                          "CONFLICT for host 64, tag 0", "its answer, GOOD",
                          "an answer with drive 1, in which nothing is, and slot 1001 with T00001L6"]))
        for what in those},
@@ -85,8 +84,7 @@ CELLS = {
             "0, 00/00", "2, 3A/00", "5, 20/00", "5, 24/00", "5, 1A/00", "5, 26/00", "5, 26/04",
             "5, 21/01", "5, 3B/0D", "5, 3B/0E", "5, 55/04"]),
         ("each_fault_in_words", [
-            "3, 0C/00", "3, 11/00", "4, 44/00", "Bh, 55/03", "any other"]),
-        ("each_attention_in_words", [
+            "3, 0C/00", "3, 11/00", "4, 44/00", "Bh, 55/03", "any other",
             "6, 29/00", "6, 28/00", "6, 2A/03", "6, 2A/05", "6, 2A/04", "6, 2A/01"]))
        for what in those},
     "words where | deferred": ["each_fault_in_words"],
@@ -98,12 +96,10 @@ CELLS = {
     "limits | a script of 4,294,967,296 reads, and one more": ["limits_of_bytes_and_reads", "reads_are_counted"],
     "limits | PRGENERATION wraps at 2^32": ["the_generation_wraps"],
     "run | a file that is open in another process": [ENDINGS],
-    "reclaim | each step of it, stopped": ["a_reclaim_is_stopped_at_each_call", "reclaim_stops.py"],
-    "reclaim | a device fault": ["a_fault_at_each_call", FAULTS],
+    "reclaim | each step of it, stopped": ["a_stop_at_each_call_of_both", "reclaim_stops.py"],
+    "reclaim | a device fault": ["a_fault_at_each_call_of_either", FAULTS],
     "create | a file that could not be completed is taken away": [ENDINGS, "a_creation_takes_away_what_is_not_whole"],
-    "opening | what the first sync writes again": [
-        "an_opening_of_a_store_writes_one_byte", "what_stands_behind_the_end", "a_file_that_is_no_side",
-        "a_gate_is_written_again"],
+    "opening | what the first sync writes again": ["what_an_opening_writes_again", "a_gate_is_written_again"],
     "opening | what the next sync writes after one that failed": ["a_sync_behind_one_that_failed"],
 }
 

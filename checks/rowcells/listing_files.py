@@ -148,7 +148,8 @@ def of_sides():
         "a file that is whole", "a file that is not read", "another name in the header", "another kind of side",
         "the first that is not whole decides")]
     cells += [f"said at once | {what}" for what in (
-        "a cartridge at a start", "a store at a start", "frames behind the end at a start", "a call that failed")]
+        "a cartridge at a start", "a store at a start", "frames behind the end at a start",
+        "frames behind the end behind a move", "a call that failed")]
     cells += ["damaged | run | a store's header", "damaged | run | a damaged store of reservations",
               "power | the cartridge in the drive is damaged: the drive is on, the medium unloaded",
               "sense | 11/00 | LOAD UNLOAD"]

@@ -205,10 +205,13 @@ class Walk(Folder):
         elif asked.kind == "check":
             self.check_all(run, config)
         else:
+            slots = [entry["file"].encode() for entry in config["cartridge"] if entry["home"] > 16]
             for said in run.says:
-                what = f"a {'store' if b', for reservations ' in said else 'cartridge'}"
-                what = "frames behind the end" if said.startswith(b"found: frames behind the end at ") else what
-                self.see(f"said at once | {what} at a start")
+                what = f"a {'store' if b', for reservations ' in said else 'cartridge'} at a start"
+                if said.startswith(b"found: frames behind the end at "):
+                    is_moved = said.rpartition(b", in the file ")[2] in slots
+                    what = f"frames behind the end {'behind a move' if is_moved else 'at a start'}"
+                self.see(f"said at once | {what}")
             self.opened(run, config, raw, asked.memory or raw is None)
 
     def create(self, run, config, raw):

@@ -1,12 +1,13 @@
 -- The side that counts was found, and then it was opened.
 use Rattle.std.proofs.Common.{◌≡◌, inl, inr, ℕ, List, sym, ◌∙◌, subst, arith}
-use Rattle.std.specs.Prelude.{Option, None, Some, Ok}
+use Rattle.std.specs.Prelude.{Option, None, Some, Result, Ok}
 use Rattle.vtl_base.specs.declared.faults.DevFault.{DevFault}
-use Rattle.tape_disk.specs.Disk.{DiskState, IsDisk, Keeps}
+use Rattle.tape_disk.specs.Disk.{DiskCall, DiskState, IsDisk, Keeps}
 use Rattle.tape_disk.specs.Moments.{LeavesOnly, weakened}
 use Rattle.tape_disk.specs.Moments as Moments
 use Rattle.tape_disk.specs.TwoDisks.{AreHonest, Images, KeepsDisks, MayLeave, TwoDisks, TwoLeave, two_in_sequence, one_leg, seen_of_two}
 use Rattle.tape_disk.specs.TwoDisks as Two
+use Rattle.gate_journal.specs.Reads.{opens_then}
 use Rattle.cartridge_sides.specs.declared.choosing.Counted.{Counted}
 use Rattle.cartridge_sides.specs.Choosing.{FindsCounted}
 use Rattle.cartridge_sides.specs.Pairs.{SideCounts}
@@ -14,7 +15,7 @@ use Rattle.cartridge.specs.declared.error.CartridgeError.{CartridgeError}
 use Rattle.cartridge.specs.declared.error.CartridgeError.TheVariants.{NotOurs, Damaged, BadRecord, SideFull, Device, Failed, NoMemory}
 use Rattle.cartridge.specs.Answers.{IsNotOpened, ReadsSure}
 use Rattle.cartridge.specs.Contents.{Contents, GivesContents, IsBadFrameAt, IsDamagedPairAt, IsNoCartridge}
-use Rattle.cartridge.specs.Disks.{EachStays, IsFaultOfTwo, NoneOfTwo, OnlyOfTwo}
+use Rattle.cartridge.specs.Disks.{EachStays, IsFaultOfTwo, NoneOfTwo, OnlyOfTwo, OpensEach}
 use Rattle.cartridge.specs.Inner.Opening.{HasSide}
 
 module _ {D : Type 0} (state : D → DiskState) where
@@ -184,3 +185,11 @@ module _ {D : Type 0} (state : D → DiskState) where
       first = still_stays old.first mid.first new.first keeps.0 one.first two.first;
       second = still_stays old.second mid.second new.second keeps.1 one.second two.second;
     }
+
+-- two runs in a row in which each disk was only opened
+pub opens_on : {D : Type 0} (effect : DiskCall → Result Unit DevFault → D → D → Type 0) (old mid new : TwoDisks D)
+    → OpensEach effect old mid → OpensEach effect mid new → OpensEach effect old new
+opens_on effect old mid new one two = record {
+  first = opens_then effect old.first mid.first new.first one.first two.first;
+  second = opens_then effect old.second mid.second new.second one.second two.second;
+}

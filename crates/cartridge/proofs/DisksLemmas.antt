@@ -1,15 +1,16 @@
 -- Calls of one of two disks, by which it is.
-use Rattle.std.proofs.Common.{◌≡◌, inl, inr, ℕ, List, refl, arith}
+use Rattle.std.proofs.Common.{◌≡◌, inl, inr, ℕ, List, Result, refl, arith}
 use Rattle.vtl_base.specs.declared.faults.DevFault.{DevFault}
-use Rattle.tape_disk.specs.Disk.{DiskState, IsDisk, Keeps, Only}
+use Rattle.tape_disk.specs.Disk.{DiskCall, DiskState, IsDisk, Keeps, Only}
 use Rattle.tape_disk.specs.Moments.{LeavesOnly, weakened}
 use Rattle.tape_disk.specs.Moments as Moments
 use Rattle.tape_disk.specs.TwoDisks.{AreHonest, EachOfTwo, Images, KeepsDisks, MayLeave, TwoLeave, one_leg, seen_of_two}
 use Rattle.gate_journal.specs.Answers.{IsFault, NoneFailed}
 use Rattle.gate_journal.specs.Crash.{Unwritten}
+use Rattle.gate_journal.specs.Reads.{OnlyOpenings, ReadsOnce, opens_none}
 use Rattle.cartridge_sides.specs.declared.which.Which.{Which}
 use Rattle.cartridge_sides.specs.declared.which.Which.TheVariants.{First, Second}
-use Rattle.cartridge.specs.Disks.{CallsOne, EachStays, IsFaultOfTwo, NoneOfTwo, OnlyOfTwo, UnwrittenTwo, disks_by, images_by}
+use Rattle.cartridge.specs.Disks.{CallsOne, EachStays, IsFaultOfTwo, NoneOfTwo, OnlyOfTwo, OpensEach, ReadsSide, UnwrittenTwo, disks_by, images_by}
 
 module _ {D : Type 0} (state : D → DiskState) where
   -- a disk that was not called
@@ -159,3 +160,17 @@ module _ {D : Type 0} (state : D → DiskState) where
         → EachStays state (disks_by which this spare) (disks_by which now spare)
     stays_by First this spare now run = record { first = run; second = stays_here spare }
     stays_by Second this spare now run = record { first = stays_here spare; second = run }
+
+-- where one of the two was opened, and the other rests, each was only opened
+pub opens_by : {D : Type 0} (effect : DiskCall → Result Unit DevFault → D → D → Type 0) (which : Which)
+    (this spare now : D) → OnlyOpenings effect this now
+    → OpensEach effect (disks_by which this spare) (disks_by which now spare)
+opens_by effect First this spare now run = record { first = run; second = opens_none effect spare }
+opens_by effect Second this spare now run = record { first = opens_none effect spare; second = run }
+
+-- one read of this disk
+pub reads_by : {D : Type 0} (effect : DiskCall → Result Unit DevFault → D → D → Type 0) (which : Which)
+    (this spare now : D) (place count : ℕ) → ReadsOnce effect place count this now
+    → ReadsSide effect which count (disks_by which this spare) (disks_by which now spare)
+reads_by effect First this spare now place count read = (place, read)
+reads_by effect Second this spare now place count read = (place, read)

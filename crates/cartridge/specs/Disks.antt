@@ -1,10 +1,11 @@
 -- What calls do to the two disks of a cartridge.
-use Rattle.std.specs.Prelude.{◌≡◌, ℕ, List}
+use Rattle.std.specs.Prelude.{◌≡◌, ℕ, List, Result}
 use Rattle.vtl_base.specs.declared.faults.DevFault.{DevFault}
-use Rattle.tape_disk.specs.Disk.{DiskState}
+use Rattle.tape_disk.specs.Disk.{DiskCall, DiskState}
 use Rattle.tape_disk.specs.Moments.{LeavesOnly}
 use Rattle.tape_disk.specs.TwoDisks.{Images, KeepsDisks, MayLeave, TwoDisks, TwoLeave, seen_of_two}
 use Rattle.gate_journal.specs.Answers.{NoneFailed}
+use Rattle.gate_journal.specs.Reads.{OnlyOpenings, ReadsOnce}
 use Rattle.cartridge_sides.specs.declared.which.Which.{Which}
 use Rattle.cartridge_sides.specs.declared.which.Which.TheVariants.{First, Second}
 use Rattle.cartridge_sides.specs.Choosing.{IsFaultOfOne}
@@ -58,3 +59,22 @@ module _ {D : Type 0} (state : D → DiskState) where
         LeavesOnly (state old.first) (state new.first) (state old.first).may_leave
     pub second : (state old.second).honest →
         LeavesOnly (state old.second) (state new.second) (state old.second).may_leave
+
+-- Of each of the two disks only syncs were called, and reads of at most 65,536 bytes (own).
+pub record OpensEach {D : Type 0} (effect : DiskCall → Result Unit DevFault → D → D → Type 0)
+    (old new : TwoDisks D) : Type 0 where
+  pub first : OnlyOpenings effect old.first new.first
+  pub second : OnlyOpenings effect old.second new.second
+
+-- The two disks of an opening: of each only syncs and such reads were called, and each that is honest is left as it was
+-- (own).
+pub record EachOpened {D : Type 0} (state : D → DiskState) (effect : DiskCall → Result Unit DevFault → D → D → Type 0)
+    (old new : TwoDisks D) : Type 0 where
+  pub stays : EachStays state old new
+  pub reads : OpensEach effect old new
+
+module _ {D : Type 0} (effect : DiskCall → Result Unit DevFault → D → D → Type 0) where
+  -- the disk of that side was read once, of so many bytes (own)
+  abbrev pub ReadsSide : Which → ℕ → TwoDisks D → TwoDisks D → Type 0
+  ReadsSide First count old new = (place : ℕ) × ReadsOnce effect place count old.first new.first
+  ReadsSide Second count old new = (place : ℕ) × ReadsOnce effect place count old.second new.second

@@ -6,7 +6,7 @@ ghost use Rattle.volume_core.specs.declared.objects.Kind.TheVariants as Kinds;
 ghost use Rattle.volume_core.specs.Volume.{block_at, kind_at};
 ghost use Rattle.cartridge.specs.Answers.{MatchCall};
 ghost use Rattle.cartridge.specs.Contents.{volume_made};
-ghost use Rattle.cartridge.specs.Disks.{CallsOne, IsFaultOfTwo, NoneOfTwo, UnwrittenTwo};
+ghost use Rattle.cartridge.specs.Disks.{CallsOne, IsFaultOfTwo, NoneOfTwo, ReadsSide, UnwrittenTwo};
 
 use crate::cartridges::Cartridge;
 use crate::error::CartridgeError;
@@ -47,6 +47,8 @@ impl<D: Disk> Cartridge<D> {
         ensures bytes { AreHonest D.state self.old.disks → OnOk result
             (block_at (volume_made self.old.contents) part at ≡ Some into.new.items) }
         ensures bound { OnOk result (length into.new.items ≤ MAX_BLOCK) }
+        ensures reads { OnOk result (IfSome (block_at (volume_made self.old.contents) part at)
+            (λ block. ReadsSide D.effect self.old.contents.which (length block) self.old.disks self.new.disks)) }
         ensures unwritten { AreHonest D.state self.old.disks →
             UnwrittenTwo D.state self.old.disks self.new.disks }
     {

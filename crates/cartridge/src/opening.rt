@@ -4,7 +4,7 @@ ghost use Rattle.std.specs.Prelude.{◌≡◌, [], IfOk, IfErr, false};
 ghost use Rattle.tape_disk.specs.TwoDisks.{AreHonest, KeepsDisks, MayLeave, TwoLeave, seen_of_two};
 ghost use Rattle.cartridge.specs.Answers.{IsNotOpened, disks_begun, disks_opened};
 ghost use Rattle.cartridge.specs.Contents.{GivesContents};
-ghost use Rattle.cartridge.specs.Disks.{EachStays, NoneOfTwo, OnlyOfTwo};
+ghost use Rattle.cartridge.specs.Disks.{EachOpened, EachStays, NoneOfTwo, OnlyOfTwo, OpensEach};
 ghost use Rattle.cartridge.specs.Inner.Opening.{HasSide, disks_found};
 
 use crate::cartridges::Cartridge;
@@ -28,10 +28,11 @@ struct Unopened<D> {
 
 impl<D: Disk> Cartridge<D> {
     /// Opens a closed cartridge, from the side that counts. The call begins with a sync of both disks, and writes
-    /// nothing. At every moment of the call, and after every error, a crash leaves only what it might have left before;
-    /// this holds for an honest disk (one that keeps the promises of a disk) beside a dishonest one too. Where both are
-    /// honest, a crash after any result but `Device` leaves just what a read would have returned before the call. With
-    /// an error the cartridge is returned closed, as it was.
+    /// nothing: it makes no call but syncs, and reads of at most 65,536 bytes. At every moment of the call, and after
+    /// every error, a crash leaves only what it might have left before; this holds for an honest disk (one that keeps
+    /// the promises of a disk) beside a dishonest one too. Where both are honest, a crash after any result but `Device`
+    /// leaves just what a read would have returned before the call. With an error the cartridge is returned closed, as
+    /// it was.
     pub fn open(alloc: Global, shelved: Shelved<D>) -> Result<Cartridge<D>, NotOpened<D>>
         ensures disks { KeepsDisks D.state shelved.disks (disks_opened result) }
         ensures ok { IfOk result (λ cartridge. (cartridge.failed ≡ false) × (cartridge.torn ≡ [])
@@ -45,7 +46,7 @@ impl<D: Disk> Cartridge<D> {
             refused.shelved ≡ record shelved { disks = refused.shelved.disks }) }
         ensures any_moment { AreHonest D.state shelved.disks →
             TwoLeave D.state shelved.disks (disks_opened result) (MayLeave D.state shelved.disks) }
-        ensures each { EachStays D.state shelved.disks (disks_opened result) }
+        ensures each { EachOpened D.state D.effect shelved.disks (disks_opened result) }
     {
         match Opening::of(alloc, shelved) {
             Ok(opening) => Ok(opening.keep()),
@@ -70,7 +71,7 @@ impl<D: Disk> Opening<D> {
             refused.shelved ≡ record shelved { disks = refused.shelved.disks }) }
         ensures any_moment { AreHonest D.state shelved.disks →
             TwoLeave D.state shelved.disks (disks_begun result) (MayLeave D.state shelved.disks) }
-        ensures each { EachStays D.state shelved.disks (disks_begun result) }
+        ensures each { EachOpened D.state D.effect shelved.disks (disks_begun result) }
     {
         let Shelved {
             first,
@@ -124,6 +125,7 @@ fn open_disks<D: Disk>(alloc: Global, first: D, second: D) -> Result<Cartridge<D
         TwoLeave D.state (record { first = first; second = second }) (disks_found result)
         (MayLeave D.state (record { first = first; second = second })) }
     ensures each { EachStays D.state (record { first = first; second = second }) (disks_found result) }
+    ensures reads { OpensEach D.effect (record { first = first; second = second }) (disks_found result) }
 {
     let mut first = first;
     let mut second = second;
@@ -167,6 +169,7 @@ fn open_side<D: Disk>(
         TwoLeave D.state (record { first = first; second = second }) (disks_found result)
         (MayLeave D.state (record { first = first; second = second })) }
     ensures each { EachStays D.state (record { first = first; second = second }) (disks_found result) }
+    ensures reads { OpensEach D.effect (record { first = first; second = second }) (disks_found result) }
 {
     let (counts, spare) = apart(which, first, second);
     match Journal::open_decoded::<Recovered>(alloc, counts, 0) {

@@ -4,6 +4,7 @@ ghost use Rattle.tape_disk.specs.Disk.{Keeps, Only, Passes};
 ghost use Rattle.tape_disk.specs.Moments.{LeavesOnly};
 ghost use Rattle.gate_journal.specs.Side.{OPEN};
 ghost use Rattle.gate_journal.specs.Crash.{Unwritten};
+ghost use Rattle.gate_journal.specs.Reads.{OnlyOpenings, OnlyReads};
 ghost use Rattle.cartridge_sides.specs.Choosing.{Chooses, FindsCounted};
 ghost use Rattle.cartridge_sides.specs.Passes.{HasStart};
 ghost use Rattle.cartridge_sides.specs.Inner.{FindsRead, HasOpenPair, IsGreater, OpensImage};
@@ -41,7 +42,8 @@ enum Begins {
     Headless,
 }
 
-/// Returns the side that counts, or None if neither does. Both disks are synced first, and nothing is written.
+/// Returns the side that counts, or None if neither does. Both disks are synced first, and then read, at most 65,536
+/// bytes at a time; no other call is made.
 pub fn choose<D: Disk>(first: &mut D, second: &mut D) -> Result<Option<Counted>, DevFault>
     ensures disks { Keeps (D.state first.old) (D.state first.new)
         × Keeps (D.state second.old) (D.state second.new) }
@@ -51,6 +53,7 @@ pub fn choose<D: Disk>(first: &mut D, second: &mut D) -> Result<Option<Counted>,
         LeavesOnly (D.state first.old) (D.state first.new) (D.state first.old).may_leave }
     ensures second { (D.state second.old).honest →
         LeavesOnly (D.state second.old) (D.state second.new) (D.state second.old).may_leave }
+    ensures reads { OnlyOpenings D.effect first.old first.new × OnlyOpenings D.effect second.old second.new }
 {
     make_sure(first)?;
     make_sure(second)?;
@@ -65,6 +68,7 @@ fn make_sure<D: Disk>(disk: &mut D) -> Result<(), DevFault>
     ensures sure { (D.state disk.old).honest → OnOk result
         (((D.state disk.new).seen ≡ (D.state disk.old).seen)
         × Only (D.state disk.old).seen (D.state disk.new).may_leave) }
+    ensures reads { OnlyOpenings D.effect disk.old disk.new }
 {
     disk.sync()
 }
@@ -76,6 +80,7 @@ fn choose_read<D: Disk>(first: &mut D, second: &mut D) -> Result<Option<Counted>
         × Keeps (D.state second.old) (D.state second.new) }
     ensures unwritten { ((D.state first.old).honest → Unwritten (D.state first.old) (D.state first.new))
         × ((D.state second.old).honest → Unwritten (D.state second.old) (D.state second.new)) }
+    ensures reads { OnlyReads D.effect first.old first.new × OnlyReads D.effect second.old second.new }
     ensures answer { FindsRead result (D.state first.old) (D.state first.new)
         (D.state second.old) (D.state second.new) }
 {

@@ -2,6 +2,7 @@
 ghost use Rattle.std.specs.Prelude.{◌≡◌, ◌<◌, ◌≤◌, length, take, IfOk};
 ghost use Rattle.tape_disk.specs.Disk.{Passes};
 ghost use Rattle.gate_journal.specs.Crash.{Unwritten};
+ghost use Rattle.gate_journal.specs.Reads.{OnlyReads};
 
 use tape_disk::Disk;
 use vtl_base::DevFault;
@@ -14,6 +15,7 @@ pub(crate) fn read_front<D: Disk>(disk: &mut D, bytes: &mut [u8]) -> Result<usiz
     requires { length bytes.old ≡ 71 }
     ensures passes { Passes (D.state disk.old) (D.state disk.new) result }
     ensures unwritten { (D.state disk.old).honest → Unwritten (D.state disk.old) (D.state disk.new) }
+    ensures reads { OnlyReads D.effect disk.old disk.new }
     ensures inside { IfOk result (λ len. len ≤ 71) }
     ensures front { (D.state disk.old).honest →
         IfOk result (λ len. take len bytes.new ≡ take 71 (D.state disk.old).seen) }

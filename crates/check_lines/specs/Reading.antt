@@ -1,11 +1,46 @@
 -- What the reading of a cartridge's blocks leaves (own).
-use Rattle.std.specs.Prelude.{◌≡◌, ◌<◌, false, Result, OnOk, IfErr}
-use Rattle.tape_disk.specs.Disk.{DiskState}
+use Rattle.std.specs.Prelude.{◌≡◌, ◌<◌, ℕ, List, [], ◌∷◌, flat_map, length, false, Option, None, Some, Result, OnOk, IfErr, slice_get}
+use Rattle.vtl_base.specs.declared.faults.DevFault.{DevFault}
+use Rattle.volume_core.specs.declared.objects.Object.{Object}
+use Rattle.volume_core.specs.declared.objects.Object.TheVariants.{Block, Mark}
+use Rattle.volume_core.specs.Volume.{Part, objects_of}
+use Rattle.tape_disk.specs.Disk.{DiskCall, DiskState}
 use Rattle.tape_disk.specs.TwoDisks.{AreHonest, KeepsDisks, TwoDisks, failures_of}
-use Rattle.cartridge.specs.Disks.{NoneOfTwo, UnwrittenTwo}
+use Rattle.cartridge_sides.specs.declared.which.Which.{Which}
+use Rattle.cartridge.specs.Disks.{NoneOfTwo, ReadsSide, UnwrittenTwo}
 use Rattle.cartridge.specs.State.{OpenCartridge}
 use Rattle.vtl_faults.specs.declared.faults.VtlFault.{VtlFault}
 use Rattle.vtl_faults.specs.declared.faults.VtlFault.TheVariants.{Words, Config, Script, Frame, Device, NoMemory}
+
+-- the length of an object, if it is a block (own)
+abbrev pub length_if_block : Object → List ℕ
+length_if_block (Block bytes) = length bytes ∷ []
+length_if_block Mark = []
+
+-- the length of an object that may be there, if it is a block (own)
+abbrev pub length_in : Option Object → List ℕ
+length_in None = []
+length_in (Some object) = length_if_block object
+
+-- the length of object number `at` of a partition, if it is a block (own)
+abbrev pub block_length_at : List Part → ℕ → ℕ → List ℕ
+block_length_at volume part at = length_in (slice_get (objects_of volume part) at)
+
+-- the lengths of the blocks among these objects, in their order (own)
+abbrev pub block_lengths : List Object → List ℕ
+block_lengths objects = flat_map length_if_block objects
+
+-- the lengths of the blocks of these partitions, one partition after another (own)
+abbrev pub lengths_in : List Part → List ℕ
+lengths_in volume = flat_map (λ (part : Part). block_lengths part.objects) volume
+
+module _ {D : Type 0} (effect : DiskCall → Result Unit DevFault → D → D → Type 0) (which : Which) where
+  -- the disk of that side was read once for each of these lengths, in their order, each time so many bytes; nothing
+  -- else was called (own)
+  abbrev pub ReadsEach : List ℕ → TwoDisks D → TwoDisks D → Type 0
+  ReadsEach [] old new = new ≡ old
+  ReadsEach (count ∷ more) old new =
+      (mid : TwoDisks D) × ReadsSide effect which count old mid × ReadsEach more mid new
 
 module _ {D : Type 0} (state : D → DiskState) where
   -- why blocks were not read: a call of a disk failed; or memory ran out, and none did (own)
@@ -17,12 +52,15 @@ module _ {D : Type 0} (state : D → DiskState) where
   IsNotRead (Script line) old new = ⊥
   IsNotRead (Frame number) old new = ⊥
 
-  -- Blocks of a cartridge were read: it holds what it held, and nothing was written. No call failed, or the fault says
-  -- why blocks were not read (own).
-  pub record IsRead (old new : OpenCartridge D) (result : Result (Unit {0}) VtlFault) : Type 0 where
-    pub disks : KeepsDisks state old.disks new.disks
-    pub contents : new.contents ≡ old.contents
-    pub awake : OnOk result (new.failed ≡ false)
-    pub none_failed : OnOk result (NoneOfTwo state old.disks new.disks)
-    pub cause : IfErr result (λ fault. IsNotRead fault old.disks new.disks)
-    pub unwritten : AreHonest state old.disks → UnwrittenTwo state old.disks new.disks
+  module _ (effect : DiskCall → Result Unit DevFault → D → D → Type 0) where
+    -- Blocks of a cartridge were to be read that have these lengths: it holds what it held, and nothing was written.
+    -- Each was read to its end and no call failed, or the fault says why not all were read (own).
+    pub record IsRead (lengths : List ℕ) (old new : OpenCartridge D) (result : Result (Unit {0}) VtlFault) :
+        Type 0 where
+      pub disks : KeepsDisks state old.disks new.disks
+      pub contents : new.contents ≡ old.contents
+      pub awake : OnOk result (new.failed ≡ false)
+      pub none_failed : OnOk result (NoneOfTwo state old.disks new.disks)
+      pub each : OnOk result (ReadsEach effect old.contents.which lengths old.disks new.disks)
+      pub cause : IfErr result (λ fault. IsNotRead fault old.disks new.disks)
+      pub unwritten : AreHonest state old.disks → UnwrittenTwo state old.disks new.disks

@@ -1,6 +1,8 @@
 //! Reads the blocks of a cartridge to their end.
-ghost use Rattle.std.specs.Prelude.{◌≡◌, false};
-ghost use Rattle.check_lines.specs.Reading.{IsRead};
+ghost use Rattle.std.specs.Prelude.{◌≡◌, [], false, if◌then◌else◌, is_some};
+ghost use Rattle.volume_core.specs.Volume.{objects_of};
+ghost use Rattle.cartridge.specs.Contents.{volume_made};
+ghost use Rattle.check_lines.specs.Reading.{IsRead, block_lengths, block_length_at, lengths_in};
 
 use cartridge::{Cartridge, CartridgeError};
 use std::alloc::Global;
@@ -32,7 +34,8 @@ fn read_object<D: Disk>(
     room: &mut Vec<u8>,
 ) -> Result<(), VtlFault>
     requires { cartridge.old.failed ≡ false }
-    ensures { IsRead D.state cartridge.old cartridge.new result }
+    ensures { IsRead D.state D.effect (block_length_at (volume_made cartridge.old.contents) part at)
+        cartridge.old cartridge.new result }
 {
     match cartridge.kind_at(part, at) {
         Some(Kind::Block) => match cartridge.fetch(part, at, room) {
@@ -60,7 +63,8 @@ fn read_partition<D: Disk, P: ReportsRead>(
     reports: &P,
 ) -> Result<(), VtlFault>
     requires { cartridge.old.failed ≡ false }
-    ensures { IsRead D.state cartridge.old cartridge.new result }
+    ensures { IsRead D.state D.effect (block_lengths (objects_of (volume_made cartridge.old.contents) part))
+        cartridge.old cartridge.new result }
 {
     let count = cartridge.count(part);
     for at in 0..count {
@@ -89,7 +93,8 @@ fn read_blocks<D: Disk, P: ReportsRead>(
     reports: &P,
 ) -> Result<(), VtlFault>
     requires { cartridge.old.failed ≡ false }
-    ensures { IsRead D.state cartridge.old cartridge.new result }
+    ensures { IsRead D.state D.effect (lengths_in (volume_made cartridge.old.contents))
+        cartridge.old cartridge.new result }
 {
     let all = used_by_all(cartridge);
     let mut room = Vec::new(alloc);
@@ -112,7 +117,9 @@ pub fn read_wanted<D: Disk, P: ReportsRead>(
     reports: Option<&P>,
 ) -> Result<(), VtlFault>
     requires { cartridge.old.failed ≡ false }
-    ensures { IsRead D.state cartridge.old cartridge.new result }
+    ensures { IsRead D.state D.effect
+        (if is_some reports.entry then lengths_in (volume_made cartridge.old.contents) else [])
+        cartridge.old cartridge.new result }
 {
     match reports {
         Some(reports) => read_blocks(alloc, cartridge, reports),

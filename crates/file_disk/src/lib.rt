@@ -3,6 +3,7 @@
 
 mod again;
 mod begins;
+mod behind;
 pub mod disk;
 mod doubt;
 pub mod error;

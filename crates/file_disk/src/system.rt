@@ -1,5 +1,5 @@
 //! A file of the operating system, and the calls of the system for it.
-ghost use Rattle.std.specs.Prelude.{◌≡◌, ◌≢◌, ◌<◌, None, Some, not};
+ghost use Rattle.std.specs.Prelude.{◌≡◌, ◌≢◌, ◌<◌, ◌≤◌, None, Some, IfOk, length, not};
 ghost use Rattle.std.specs.IoError.{error_kind};
 ghost use Rattle.file_disk.specs.FailedCall.{failed_by, none_moved};
 ghost use Rattle.file_disk.specs.FileDisk.{lacks_locks, system_failed, system_file};
@@ -111,6 +111,19 @@ impl SystemFile {
     {
         if count == 0 && asked > 0 {
             self.failed = Some(FailedCall::none_moved(call));
+        }
+    }
+
+    // Reads as `read_some` does, and records nothing of the call.
+    pub(crate) fn read_unrecorded(&self, at: u64, buffer: &mut [u8]) -> Result<usize, Stop>
+        ensures { IfOk result (λ count. count ≤ length buffer.new) }
+    {
+        let Some(file) = &self.file else {
+            return Ok(0);
+        };
+        match file.read_at(buffer, at) {
+            Ok(count) => Ok(count),
+            Err(error) => Err(stop_of(error.kind())),
         }
     }
 

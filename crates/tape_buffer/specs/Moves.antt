@@ -64,7 +64,8 @@ module _ {D : Type 0} (state : D → DiskState) where
       (as_told false (medium_core new)) made
 
   -- Steps that accept nothing lead from one medium to the other, whatever more was accepted behind what is pending: of
-  -- that nothing is dropped, and nothing stored (own).
+  -- that nothing is dropped, and nothing stored. So where `more` is not empty, no stop is among the steps: a stop drops
+  -- what is not stored, and nothing is accepted again (own).
   abbrev pub StoresBehind : BufferState D → BufferState D → Type 0
   StoresBehind old new = (more : List Change) → MovesUnreported (with_changes old more) [] (with_changes new more)
 

@@ -1,44 +1,41 @@
-//! The contents of the slots and the drives of a library.
-use crate::samples::{Answer, GOOD, NEVER, Once, library, moves, place};
-use bay_moves::{Held, Parked};
+//! The contents of the slots and drives of a library, and a cartridge that is taken out.
+use crate::samples::{
+    Answer, CHANGED, GOOD, NEVER, Once, POWERED_ON, READY, cartridge, drive, is_answer, library,
+    place,
+};
+use bay_moves::{Bay, Held, Parked};
 use scsi_sense::Status;
 use std::alloc::Global;
 use std::process::Abort;
 use std::test::Fail;
+use tape_disk::Disk;
 use test_assertions::{assert_equal, assert_holds};
+use vtl_base::Nexus;
 
 const FIRST: &'static [u8] = b"T00001L6        ";
 
 const SECOND: &'static [u8] = b"T00002L6        ";
 
-const NO_ROOM: Answer = (Status::Check, 5, 0x3b, 0x0d);
+// Two cartridges are moved, out of their slots, into others, and into both drives: each move, its answer, and the
+// places and barcodes of the cartridges in slots afterwards.
+static MOVES: &'static [(u32, u32, Answer, &'static [(usize, &'static [u8])])] = &[
+    (1001, 1, GOOD, &[(255, SECOND)]),
+    (1256, 1001, GOOD, &[(0, SECOND)]),
+    (1, 1001, (Status::Check, 5, 0x3b, 0x0d), &[(0, SECOND)]),
+    (1, 1100, GOOD, &[(0, SECOND), (99, FIRST)]),
+    (1001, 1002, GOOD, &[(1, SECOND), (99, FIRST)]),
+    (1002, 2, GOOD, &[(99, FIRST)]),
+];
 
-// The barcode that a cartridge's side has on its disk: bytes 11 to 26.
-fn barcode(parked: &Parked<Once>) -> &[u8] {
-    match parked.medium().disk().inner().bytes().get(11..27) {
-        Some(name) => name,
-        None => &[],
-    }
-}
-
-// A place holds the expected cartridge, by its place and its barcode.
-fn is_wanted(rt: &impl Abort, parked: &Parked<Once>, at: usize, wanted: Option<&(usize, &[u8])>) {
-    match wanted {
-        Some((place, name)) => {
-            assert_equal!(rt; at, *place);
-            assert_equal!(rt; barcode(parked), *name; at);
-        }
-        None => assert_holds!(rt; false; at),
-    }
-}
-
-// Exactly these places hold a cartridge, with these barcodes.
-fn are_held(rt: &impl Abort, row: &[Option<Parked<Once>>], wanted: &[(usize, &[u8])]) {
-    assert_equal!(rt; row.len(), 256);
+// Exactly these slots hold a cartridge, with these barcodes, which are bytes 11 to 26 of their disks.
+fn are_held(rt: &impl Abort, slots: &[Option<Parked<Once>>], wanted: &[(usize, &[u8])]) {
+    assert_equal!(rt; slots.len(), 256);
     let mut found = 0usize;
-    for (at, place) in row.iter().enumerate() {
+    for (at, place) in slots.iter().enumerate() {
         if let Some(parked) = place {
-            is_wanted(rt, parked, at, wanted.get(found));
+            let bytes = parked.medium().disk().inner().bytes();
+            let barcode = bytes.get(11..27).unwrap_or(&[]);
+            assert_equal!(rt; wanted.get(found), Some(&(at, barcode)));
             found = found.saturating_add(1);
         }
     }
@@ -46,53 +43,75 @@ fn are_held(rt: &impl Abort, row: &[Option<Parked<Once>>], wanted: &[(usize, &[u
 }
 
 // Of 16 places for drives exactly the first two have one, with a cartridge where this says so.
-fn assert_drives(rt: &impl Abort, held: &Held<Once>, wanted: &[bool]) {
-    let row = held.inventory().drives;
-    assert_equal!(rt; row.len(), 16);
-    for (at, place) in row.iter().enumerate() {
+fn are_drives(rt: &impl Abort, drives: &[Option<Bay<Once>>], wanted: [bool; 2]) {
+    assert_equal!(rt; drives.len(), 16);
+    for (at, place) in drives.iter().enumerate() {
         let found = place.as_ref().map(|bay| !bay.is_empty());
         assert_equal!(rt; found, wanted.get(at).copied(); at);
     }
 }
 
-// A move, its answer, and the contents of the slots afterwards.
-type Row = (u32, u32, Answer, &'static [(usize, &'static [u8])]);
-
-// Two cartridges are moved: out of their slots, into others, and into both drives.
-static MOVES: &'static [Row] = &[
-    (1001, 1, GOOD, &[(255, SECOND)]),
-    (1256, 1001, GOOD, &[(0, SECOND)]),
-    (1, 1001, NO_ROOM, &[(0, SECOND)]),
-    (1, 1100, GOOD, &[(0, SECOND), (99, FIRST)]),
-    (1001, 1002, GOOD, &[(1, SECOND), (99, FIRST)]),
-    (1002, 2, GOOD, &[(99, FIRST)]),
-];
-
-static FIRST_ALONE: &'static [(usize, &'static [u8])] = &[(0, FIRST)];
-
-static BOTH: &'static [(usize, &'static [u8])] = &[(0, FIRST), (255, SECOND)];
-
-static NONE_IN_DRIVES: &'static [bool] = &[false, false];
-
-static ONE_IN_DRIVE_2: &'static [bool] = &[false, true];
-
 fn is_shown(rt: &impl Abort, alloc: Global, held: &mut Held<Once>) -> Result<(), Fail> {
-    are_held(rt, held.inventory().slots, FIRST_ALONE);
-    assert_drives(rt, held, NONE_IN_DRIVES);
-    place(alloc, held, 1256, b"T00002L6", NEVER)?;
-    are_held(rt, held.inventory().slots, BOTH);
+    are_held(rt, held.inventory().slots, &[(0, FIRST)]);
+    assert_holds!(rt; held.slot(1001).is_some() && held.slot(1002).is_none());
+    are_drives(rt, held.inventory().drives, [false, false]);
+    place(held, 1256, cartridge(alloc, b"T00002L6", NEVER)?)?;
+    are_held(rt, held.inventory().slots, &[(0, FIRST), (255, SECOND)]);
     for (at, &(from, to, answer, wanted)) in MOVES.iter().enumerate() {
-        moves(rt, held, (from, to, answer), at);
+        is_answer(rt, &held.move_medium(from, to), answer, b"", (at, 0));
         are_held(rt, held.inventory().slots, wanted);
     }
-    assert_drives(rt, held, ONE_IN_DRIVE_2);
+    are_drives(rt, held.inventory().drives, [false, true]);
     Ok(())
 }
 
+fn may_go_to_another_thread<H: Send>() {}
+
 #[test]
 fn each_slot_and_each_drive_is_shown(rt: HostRuntime) -> Result<(), Fail> {
+    may_go_to_another_thread::<Held<Once>>();
     let mut held = library(rt.alloc(), NEVER)?;
     let shown = is_shown(&rt, rt.alloc(), &mut held);
     drop(held);
     shown
+}
+
+// The cartridge is unloaded, closed, and loaded again.
+fn is_taken_back<D: Disk + Drop>(alloc: Global, bay: &mut Bay<D>) -> bool {
+    match bay.unload() {
+        Ok(parked) if bay.is_empty() => bay.load(Parked::of(alloc, parked.into_shelved())).is_ok(),
+        _ => false,
+    }
+}
+
+// A command of host 1, the data sent with it, its answer and the bytes: a block is written before, and read afterwards.
+type Row = (&'static [u8], &'static [u8], Answer, &'static [u8]);
+
+static WRITTEN: &'static [Row] = &[
+    (READY, b"", POWERED_ON, b""),
+    (&[0x0a, 0, 0, 0, 5, 0], b"hello", GOOD, b""),
+];
+
+static READ: &'static [Row] = &[
+    (READY, b"", CHANGED, b""),
+    (&[0x08, 0, 0, 0, 5, 0], b"", GOOD, b"hello"),
+];
+
+fn keeps<D: Disk + Drop>(rt: &impl Abort, bay: &mut Bay<D>, rows: &[Row]) {
+    for (at, &(cdb, sent, wanted, bytes)) in rows.iter().enumerate() {
+        let reply = bay.execute(Nexus::new(1).expect(rt, "a nexus"), cdb, sent);
+        is_answer(rt, &reply, wanted, bytes, (at, 0));
+    }
+    assert_equal!(rt; bay.accepted(), 1);
+}
+
+#[test]
+fn a_cartridge_is_closed_and_taken_back(rt: HostRuntime) -> Result<(), Fail> {
+    let cartridge = cartridge(rt.alloc(), b"T00001L6", NEVER)?;
+    let (_, mut bay) = drive(rt.alloc(), 1, Some(cartridge))?;
+    keeps(&rt, &mut bay, WRITTEN);
+    assert_holds!(rt; is_taken_back(rt.alloc(), &mut bay));
+    keeps(&rt, &mut bay, READ);
+    drop(bay);
+    Ok(())
 }

@@ -4,20 +4,10 @@
 #[cfg(test)]
 mod asserted;
 #[cfg(test)]
-mod copy_tests;
-#[cfg(test)]
-mod drives;
-#[cfg(test)]
 mod fault_tests;
-#[cfg(test)]
-mod loading_tests;
-#[cfg(test)]
-mod medium_tests;
 #[cfg(test)]
 mod reclaim_tests;
 #[cfg(test)]
 mod row_tests;
 #[cfg(test)]
 mod samples;
-#[cfg(test)]
-mod stop_tests;

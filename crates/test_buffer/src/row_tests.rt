@@ -1,9 +1,8 @@
 //! Which commands cost a sync, step by step, with each reply to the byte, whether their data are borrowed or
 //! lent.
-use crate::drives::{Tape, switch_off};
 use crate::samples::{
-    EMPTY, ERASE, GOOD, LOCATE_1, MARK_AT_ONCE, MODE_0, MODE_1, NONE, Row, SELECT_4, Sending,
-    WRITE_1, WRITE_OUT, ask_by, assert_turn, found, greeted, syncs, write,
+    EMPTY, ERASE, GOOD, LOCATE_1, MARK_AT_ONCE, MODE_0, MODE_1, NONE, Row, SELECT_4, Tape, WRITE_1,
+    WRITE_OUT, ask_by, found, greeted, switch_off, syncs,
 };
 use std::alloc::Global;
 use std::process::Abort;
@@ -28,7 +27,7 @@ const MARKED: Row<'static> = (1, MARK_AT_ONCE, NONE, GOOD);
 const OUT: Row<'static> = (1, WRITE_OUT, NONE, GOOD);
 
 // Ten writes wait, and become one frame; then nothing waits.
-static TEN: &'static [Step<'static>] = &[
+const TEN: &'static [Step<'static>] = &[
     Step::Asks(10, BYTE, 0),
     Step::Asks(1, OUT, 2),
     Step::Turns(Turn::Idle, 0),
@@ -36,7 +35,7 @@ static TEN: &'static [Step<'static>] = &[
 ];
 
 // A turn returns how many changes waited.
-static TURNS: &'static [Step<'static>] = &[
+const TURNS: &'static [Step<'static>] = &[
     Step::Asks(1, BYTE, 0),
     Step::Turns(Turn::Stored(1), 2),
     Step::Asks(10, BYTE, 0),
@@ -47,7 +46,7 @@ static TURNS: &'static [Step<'static>] = &[
 ];
 
 // The 257th change finds the others stored, and waits alone.
-static CHANGES: &'static [Step<'static>] = &[
+const CHANGES: &'static [Step<'static>] = &[
     Step::Asks(256, BYTE, 0),
     Step::Asks(1, BYTE, 2),
     Step::Turns(Turn::Stored(1), 2),
@@ -60,7 +59,7 @@ static CHANGES: &'static [Step<'static>] = &[
 ];
 
 // The same for the byte past 4,194,304; filemarks have none.
-static BYTES: &'static [Step<'static>] = &[
+const BYTES: &'static [Step<'static>] = &[
     Step::Writes(4, 1_048_576, 0),
     Step::Asks(1, BYTE, 2),
     Step::Turns(Turn::Stored(1), 2),
@@ -80,7 +79,7 @@ static BYTES: &'static [Step<'static>] = &[
 
 // Unbuffered, each write and each erase is stored at once; the mode alone stores nothing. Buffered again, an
 // erase stores what waits, and waits itself.
-static UNBUFFERED: &'static [Step<'static>] = &[
+const UNBUFFERED: &'static [Step<'static>] = &[
     Step::Asks(1, (1, WRITE_1, b"a", GOOD), 0),
     Step::Asks(1, (1, SELECT_4, MODE_0, GOOD), 0),
     Step::Asks(1, (1, WRITE_1, b"b", GOOD), 2),
@@ -93,183 +92,115 @@ static UNBUFFERED: &'static [Step<'static>] = &[
     Step::Turns(Turn::Stored(1), 2),
 ];
 
-// With a turn after each write, each costs two syncs. The ten above cost none, so they fail for a medium that
-// stores each write at once.
-static AT_ONCE: &'static [Step<'static>] = &[
-    Step::Asks(1, BYTE, 0),
-    Step::Turns(Turn::Stored(1), 2),
-    Step::Asks(1, BYTE, 0),
-    Step::Turns(Turn::Stored(1), 2),
-];
-
-// How the data of each course are sent.
-static WAYS: &'static [Sending] = &[Sending::Shown, Sending::Lent];
-
+// Host 1 writes blocks of this size, which is GOOD.
 fn writes(
     rt: &impl Abort,
     alloc: Global,
     drive: &mut Tape<MemDisk>,
-    way: Sending,
-    count: u32,
-    size: u32,
-) {
-    for _ in 0..count {
-        write(rt, alloc, drive, way, size);
-    }
-}
-
-fn repeats(
-    rt: &impl Abort,
-    alloc: Global,
-    drive: &mut Tape<MemDisk>,
-    way: Sending,
-    row: Row,
-    count: u32,
-) {
-    for _ in 0..count {
-        ask_by(rt, alloc, drive, way, row, 0);
-    }
-}
-
-// Does a step; returns how many syncs it takes.
-fn steps_on(
-    rt: &impl Abort,
-    alloc: Global,
-    drive: &mut Tape<MemDisk>,
-    way: Sending,
-    step: Step,
-) -> u64 {
-    match step {
-        Step::Asks(count, row, wanted) => {
-            repeats(rt, alloc, drive, way, row, count);
-            wanted
-        }
-        Step::Writes(count, size, wanted) => {
-            writes(rt, alloc, drive, way, count, size);
-            wanted
-        }
-        Step::Turns(turn, wanted) => {
-            assert_turn(rt, drive, turn);
-            wanted
-        }
-    }
-}
-
-// Each step takes as many syncs as it says.
-fn goes(rt: &impl Abort, alloc: Global, drive: &mut Tape<MemDisk>, way: Sending, steps: &[Step]) {
-    for (at, step) in steps.iter().enumerate() {
-        let before = syncs(drive);
-        let wanted = steps_on(rt, alloc, drive, way, *step);
-        let taken = syncs(drive).saturating_sub(before);
-        assert_equal!(rt; taken, wanted; (way, at));
-    }
-}
-
-// How many of the bytes that are not sure a crash leaves, and what the others become.
-static CRASHES: &'static [(u64, u8)] = &[
-    (0, 0x00),
-    (0, 0xa5),
-    (0, 0xff),
-    (1, 0xa5),
-    (u64::MAX, 0x00),
-];
-
-// A crash leaves this of the tape.
-fn is_left(
-    rt: &impl Abort,
-    alloc: Global,
-    disk: &MemDisk,
-    crash: (u64, u8),
-    wanted: &[u8],
+    is_lent: bool,
+    blocks: (u32, u32),
 ) -> Result<(), Fail> {
-    let (keep, fill) = crash;
-    let text = found(alloc, disk.copy()?.crash(keep, fill)?)?;
-    assert_equal!(rt; text.as_slice(), wanted; crash);
-    Ok(())
-}
-
-// The same for each crash, whatever becomes of the bytes that are not sure.
-fn left(rt: &impl Abort, alloc: Global, drive: &Tape<MemDisk>, wanted: &[u8]) -> Result<(), Fail> {
-    let Some(medium) = drive.medium() else {
-        return Err(Fail::from("no medium"));
-    };
-    for crash in CRASHES {
-        is_left(rt, alloc, medium.disk(), *crash, wanted)?;
+    let (count, size) = blocks;
+    let [_, high, middle, low] = size.to_be_bytes();
+    let block = vec![in alloc; 0x5a; size as usize]?;
+    let cdb = [0x0a, 0, high, middle, low, 0];
+    for _ in 0..count {
+        ask_by(rt, alloc, drive, is_lent, (1, &cdb, &block, GOOD));
     }
     Ok(())
 }
 
-// A drive with an empty tape.
-fn fresh(rt: &impl Abort, alloc: Global) -> Result<Tape<MemDisk>, Fail> {
-    let disk = MemDisk::from_bytes(alloc, EMPTY)?;
-    greeted(rt, alloc, disk, MemDisk::new(alloc))
+// Whatever becomes of the bytes that are not sure, a crash leaves this of the tape.
+fn is_left(rt: &impl Abort, alloc: Global, disk: &MemDisk, wanted: &[u8]) -> Result<(), Fail> {
+    for keep in [0, 1, u64::MAX] {
+        for fill in [0x00, 0xa5, 0xff] {
+            let text = found(alloc, disk.copy()?.crash(keep, fill)?)?;
+            assert_equal!(rt; text.as_slice(), wanted; (keep, fill));
+        }
+    }
+    Ok(())
 }
 
-// Steps from an empty tape, and what a crash leaves after them.
-fn course_by(
+// Each step takes as many syncs as it says. Behind them a crash leaves this of the tape, if that is said.
+fn goes(
     rt: &impl Abort,
     alloc: Global,
-    way: Sending,
+    drive: &mut Tape<MemDisk>,
+    is_lent: bool,
     steps: &[Step],
-    wanted: &[u8],
+    wanted: Option<&[u8]>,
 ) -> Result<(), Fail> {
-    let mut drive = fresh(rt, alloc)?;
-    goes(rt, alloc, &mut drive, way, steps);
-    let done = left(rt, alloc, &drive, wanted);
+    for (at, &step) in steps.iter().enumerate() {
+        let before = syncs(drive);
+        let wanted = match step {
+            Step::Asks(count, row, wanted) => {
+                for _ in 0..count {
+                    ask_by(rt, alloc, drive, is_lent, row);
+                }
+                wanted
+            }
+            Step::Writes(count, size, wanted) => {
+                writes(rt, alloc, drive, is_lent, (count, size))?;
+                wanted
+            }
+            Step::Turns(turn, wanted) => {
+                assert_equal!(rt; drive.turn(), turn; at);
+                wanted
+            }
+        };
+        assert_equal!(rt; syncs(drive).saturating_sub(before), wanted; (is_lent, at));
+    }
+    match (wanted, drive.medium()) {
+        (None, _) => Ok(()),
+        (Some(wanted), Some(medium)) => is_left(rt, alloc, medium.disk(), wanted),
+        (Some(_), None) => Err(Fail::from("no medium")),
+    }
+}
+
+// The steps from an empty tape.
+fn is_done(
+    rt: &impl Abort,
+    alloc: Global,
+    is_lent: bool,
+    steps: &[Step],
+    wanted: Option<&[u8]>,
+) -> Result<(), Fail> {
+    let disk = MemDisk::from_bytes(alloc, EMPTY)?;
+    let mut drive = greeted(rt, alloc, disk, MemDisk::new(alloc))?;
+    let done = goes(rt, alloc, &mut drive, is_lent, steps, wanted);
     switch_off(drive);
     done
 }
 
-// The same for each way to send the data.
-fn course(rt: &impl Abort, alloc: Global, steps: &[Step], wanted: &[u8]) -> Result<(), Fail> {
-    for way in WAYS {
-        course_by(rt, alloc, *way, steps, wanted)?;
+// How many steps of a course are done, and what is left.
+static COURSES: &'static [(&'static [Step<'static>], usize, &'static [u8])] = &[
+    (TEN, 1, b""),
+    (TEN, 4, b"xxxxxxxxxx"),
+    (TURNS, 5, b"xxxxxxxxxxx"),
+    (TURNS, 7, &[b'x'; 267]),
+    (UNBUFFERED, 2, b""),
+    (UNBUFFERED, 3, b"ab"),
+    (UNBUFFERED, 6, b"a"),
+    (UNBUFFERED, 10, b"ad"),
+];
+
+#[test]
+fn writes_wait_for_one_frame(rt: HostRuntime) -> Result<(), Fail> {
+    let alloc = rt.alloc();
+    for is_lent in [false, true] {
+        for &(steps, count, wanted) in COURSES {
+            let steps = &steps[..steps.len().min(count)];
+            is_done(&rt, alloc, is_lent, steps, Some(wanted))?;
+        }
     }
     Ok(())
 }
 
 #[test]
-fn writes_wait_for_one_frame(rt: HostRuntime) -> Result<(), Fail> {
-    let alloc = rt.alloc();
-    course(&rt, alloc, &TEN[..1], b"")?;
-    course(&rt, alloc, TEN, b"xxxxxxxxxx")?;
-    course(&rt, alloc, &TURNS[..5], b"xxxxxxxxxxx")?;
-    course(&rt, alloc, AT_ONCE, b"xx")
-}
-
-#[test]
-fn a_turn_reports_how_many_waited(rt: HostRuntime) -> Result<(), Fail> {
-    course(&rt, rt.alloc(), TURNS, &[b'x'; 267])
-}
-
-#[test]
 fn a_change_too_many_is_preceded_by_a_settle(rt: HostRuntime) -> Result<(), Fail> {
-    let alloc = rt.alloc();
-    goes_alone(&rt, alloc, CHANGES)?;
-    goes_alone(&rt, alloc, BYTES)
-}
-
-#[test]
-fn an_unbuffered_write_is_stored_at_once(rt: HostRuntime) -> Result<(), Fail> {
-    let alloc = rt.alloc();
-    course(&rt, alloc, &UNBUFFERED[..2], b"")?;
-    course(&rt, alloc, &UNBUFFERED[..3], b"ab")?;
-    course(&rt, alloc, &UNBUFFERED[..6], b"a")?;
-    course(&rt, alloc, UNBUFFERED, b"ad")
-}
-
-// Steps from an empty tape.
-fn goes_by(rt: &impl Abort, alloc: Global, way: Sending, steps: &[Step]) -> Result<(), Fail> {
-    let mut drive = fresh(rt, alloc)?;
-    goes(rt, alloc, &mut drive, way, steps);
-    switch_off(drive);
-    Ok(())
-}
-
-// The same for each way to send the data.
-fn goes_alone(rt: &impl Abort, alloc: Global, steps: &[Step]) -> Result<(), Fail> {
-    for way in WAYS {
-        goes_by(rt, alloc, *way, steps)?;
+    for is_lent in [false, true] {
+        is_done(&rt, rt.alloc(), is_lent, CHANGES, None)?;
+        is_done(&rt, rt.alloc(), is_lent, BYTES, None)?;
     }
     Ok(())
 }

@@ -1,14 +1,22 @@
 //! A drive over a cartridge on two disks, and the commands of the tests.
-use crate::drives::{Tape, switched_on};
 use cartridge::{Cartridge, Shelved};
+use drive_commands::Drive;
+use pr_core::{NoKeeper, Reservations};
 use scsi_sense::{Reply, Status};
 use std::alloc::Global;
 use std::process::Abort;
 use std::test::Fail;
+use tape_buffer::Buffered;
 use tape_disk::{Disk, MemDisk};
 use test_assertions::assert_equal;
-use volume_core::{Kind, Turn};
+use volume_core::Kind;
 use vtl_base::{Bytes, Nexus};
+
+/// A drive over a cartridge on two disks, which saves no reservations.
+pub type Tape<D> = Drive<Buffered<D>, NoKeeper>;
+
+/// Switches a drive off, which drops it. It is proved once, for every disk.
+pub fn switch_off<D: Disk + Drop>(_drive: Tape<D>) {}
 
 // The expected reply: its sense data, if any, by bytes 0 and 2, INFORMATION, additional code and qualifier;
 // and its bytes.
@@ -42,8 +50,6 @@ pub const MARK_AT_ONCE: &'static [u8] = &[0x10, 1, 0, 0, 1, 0];
 
 pub const INQUIRY: &'static [u8] = &[0x12, 0, 0, 0, 36, 0];
 
-pub const REQUEST_SENSE: &'static [u8] = &[0x03, 0, 0, 0, 18, 0];
-
 pub const SELECT_4: &'static [u8] = &[0x15, 0, 0, 0, 4, 0];
 
 pub const ERASE: &'static [u8] = &[0x19, 0, 0, 0, 0, 0];
@@ -52,11 +58,7 @@ pub const LOAD: &'static [u8] = &[0x1b, 0, 0, 0, 1, 0];
 
 pub const UNLOAD: &'static [u8] = &[0x1b, 0, 0, 0, 0, 0];
 
-pub const LOCATE_0: &'static [u8] = &[0x2b, 0, 0, 0, 0, 0, 0, 0, 0, 0];
-
 pub const LOCATE_1: &'static [u8] = &[0x2b, 0, 0, 0, 0, 0, 1, 0, 0, 0];
-
-pub const READ_POSITION: &'static [u8] = &[0x34, 0, 0, 0, 0, 0, 0, 0, 0, 0];
 
 pub const MODE_0: &'static [u8] = &[0, 0, 0, 0];
 
@@ -88,13 +90,6 @@ pub const INQUIRED: Wanted<'static> = (
     None,
     b"\x01\x80\x06\x02\x1f\0\0\0VTLIB   TAPE DRIVE      0001",
 );
-
-/// How a drive gets the data of a host: borrowed, and copied where they are written; or lent, and taken.
-#[derive(Clone, Copy, Debug)]
-pub enum Sending {
-    Shown,
-    Lent,
-}
 
 // The expected status, 18 bytes of sense data and bytes.
 type Heard<'a> = (Status, Option<[u8; 18]>, &'a [u8]);
@@ -128,34 +123,22 @@ pub fn ask<D: Disk + Drop>(rt: &impl Abort, drive: &mut Tape<D>, row: Row, at: u
     assert_equal!(rt; heard(&reply), wanted_of(wanted); at);
 }
 
-// The same for a command with lent data.
-fn ask_lent<D: Disk + Drop>(
-    rt: &impl Abort,
-    alloc: Global,
-    drive: &mut Tape<D>,
-    row: Row,
-    at: usize,
-) {
-    let (host, cdb, sent, wanted) = row;
-    let nexus = Nexus::new(host).expect(rt, "a nexus");
-    let mut lent = Bytes::from_slice(alloc, sent).expect(rt, "memory");
-    let reply = drive.execute_lent(nexus, cdb, &mut lent);
-    assert_equal!(rt; heard(&reply), wanted_of(wanted); at);
-}
-
-/// The same for a command whose data are sent in this way.
+/// The same for a command whose data are borrowed, or lent.
 pub fn ask_by<D: Disk + Drop>(
     rt: &impl Abort,
     alloc: Global,
     drive: &mut Tape<D>,
-    way: Sending,
+    is_lent: bool,
     row: Row,
-    at: usize,
 ) {
-    match way {
-        Sending::Shown => ask(rt, drive, row, at),
-        Sending::Lent => ask_lent(rt, alloc, drive, row, at),
+    if !is_lent {
+        return ask(rt, drive, row, 0);
     }
+    let (host, cdb, sent, wanted) = row;
+    let nexus = Nexus::new(host).expect(rt, "a nexus");
+    let mut lent = Bytes::from_slice(alloc, sent).expect(rt, "memory");
+    let reply = drive.execute_lent(nexus, cdb, &mut lent);
+    assert_equal!(rt; heard(&reply), wanted_of(wanted), "the reply to lent data");
 }
 
 pub fn asks<D: Disk + Drop>(rt: &impl Abort, drive: &mut Tape<D>, rows: &[Row]) {
@@ -164,58 +147,25 @@ pub fn asks<D: Disk + Drop>(rt: &impl Abort, drive: &mut Tape<D>, rows: &[Row]) 
     }
 }
 
-/// Whether each command has the expected reply; it ends at the first that has not.
-pub fn answered<D: Disk + Drop>(drive: &mut Tape<D>, rows: &[Row]) -> bool {
-    for &(host, cdb, sent, wanted) in rows {
-        let Some(nexus) = Nexus::new(host) else {
-            return false;
-        };
-        let reply = drive.execute(nexus, cdb, sent);
-        if heard(&reply) != wanted_of(wanted) {
-            return false;
-        }
-    }
-    true
-}
-
 // The power on is reported to hosts 1 and 2.
 static GREETINGS: &'static [Row<'static>] = &[
     (1, TEST_UNIT_READY, NONE, POWERED_ON),
     (2, TEST_UNIT_READY, NONE, POWERED_ON),
 ];
 
-/// A drive with the cartridge on two disks. Its power on was reported to hosts 1 and 2.
+/// A drive that was switched on with the cartridge on two disks, which was reported to hosts 1 and 2.
 pub fn greeted<D: Disk + Drop>(
     rt: &impl Abort,
     alloc: Global,
     first: D,
     second: D,
 ) -> Result<Tape<D>, Fail> {
-    let Some(mut drive) = switched_on(alloc, first, second) else {
+    let medium = Buffered::parked(alloc, Shelved::of(first, second));
+    let Ok(mut drive) = Drive::power_on(alloc, NoKeeper, Reservations::empty(), Some(medium)) else {
         return Err(Fail::from("not switched on"));
     };
     asks(rt, &mut drive, GREETINGS);
     Ok(drive)
-}
-
-/// A flusher's turn has this result.
-pub fn assert_turn<D: Disk + Drop>(rt: &impl Abort, drive: &mut Tape<D>, wanted: Turn) {
-    let turn = drive.turn();
-    assert_equal!(rt; turn, wanted);
-}
-
-/// Host 1 writes a block of this size, which is GOOD.
-pub fn write<D: Disk + Drop>(
-    rt: &impl Abort,
-    alloc: Global,
-    drive: &mut Tape<D>,
-    way: Sending,
-    size: u32,
-) {
-    let [_, high, middle, low] = size.to_be_bytes();
-    let block = vec![in alloc; 0x5a; size as usize].expect(rt, "memory");
-    let cdb = [0x0a, 0, high, middle, low, 0];
-    ask_by(rt, alloc, drive, way, (1, &cdb, &block, GOOD), 0);
 }
 
 /// The tape has these objects from the position on, blocks of one byte and `|` for a filemark, and then the
@@ -231,12 +181,6 @@ pub fn reads<D: Disk + Drop>(rt: &impl Abort, drive: &mut Tape<D>, objects: &[u8
     ask(rt, drive, (1, READ_1, NONE, END), objects.len());
 }
 
-/// A drive, which is not used afterwards, has these answers, and its tape then has these objects.
-pub fn answers<D: Disk + Drop>(rt: &impl Abort, mut drive: Tape<D>, rows: &[Row], objects: &[u8]) {
-    asks(rt, &mut drive, rows);
-    reads(rt, &mut drive, objects);
-}
-
 /// The syncs of the disk with the side that counts.
 pub fn syncs(drive: &Tape<MemDisk>) -> u64 {
     match drive.medium() {
@@ -245,36 +189,21 @@ pub fn syncs(drive: &Tape<MemDisk>) -> u64 {
     }
 }
 
-// Appends an object to what was found: the bytes of a block, or `|` for a filemark.
-fn find<D: Disk>(
-    cartridge: &mut Cartridge<D>,
-    at: u32,
-    block: &mut Vec<u8>,
-    text: &mut Vec<u8>,
-) -> Result<(), Fail> {
-    match cartridge.kind_at(0, at) {
-        Some(Kind::Block) => {
-            cartridge.fetch(0, at, block)?;
-            text.extend_from_slice(block)?;
-        }
-        _ => text.push(b'|')?,
-    }
-    Ok(())
-}
-
-fn found_in<D: Disk>(alloc: Global, cartridge: &mut Cartridge<D>) -> Result<Vec<u8>, Fail> {
+/// The contents of the cartridge on a disk, with an empty second one: the bytes of blocks, and `|` for a filemark.
+pub fn found(alloc: Global, disk: MemDisk) -> Result<Vec<u8>, Fail> {
+    let Ok(mut cartridge) = Cartridge::open(alloc, Shelved::of(disk, MemDisk::new(alloc))) else {
+        return Err(Fail::from("no cartridge"));
+    };
     let mut text = Vec::new(alloc);
     let mut block = Vec::new(alloc);
     for at in 0..cartridge.count(0) {
-        find(cartridge, at, &mut block, &mut text)?;
+        match cartridge.kind_at(0, at) {
+            Some(Kind::Block) => {
+                cartridge.fetch(0, at, &mut block)?;
+                text.extend_from_slice(&block)?;
+            }
+            _ => text.push(b'|')?,
+        }
     }
     Ok(text)
-}
-
-/// The contents of the cartridge on a disk, with an empty second one.
-pub fn found(alloc: Global, disk: MemDisk) -> Result<Vec<u8>, Fail> {
-    match Cartridge::open(alloc, Shelved::of(disk, MemDisk::new(alloc))) {
-        Ok(mut cartridge) => found_in(alloc, &mut cartridge),
-        Err(_) => Err(Fail::from("no cartridge")),
-    }
 }

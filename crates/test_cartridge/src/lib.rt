@@ -6,21 +6,9 @@ mod asserted;
 #[cfg(test)]
 mod behind_tests;
 #[cfg(test)]
-mod block_tests;
+mod fault_tests;
 #[cfg(test)]
-mod journal_frames;
-#[cfg(test)]
-mod journal_layouts;
-#[cfg(test)]
-mod journal_samples;
-#[cfg(test)]
-mod journal_stops;
-#[cfg(test)]
-mod liar;
-#[cfg(test)]
-mod liar_tests;
-#[cfg(test)]
-mod long_tests;
+mod journals;
 #[cfg(test)]
 mod pair_tests;
 #[cfg(test)]
@@ -30,6 +18,8 @@ mod samples;
 #[cfg(test)]
 mod side_tests;
 #[cfg(test)]
+mod stop_cases;
+#[cfg(test)]
 mod stop_tests;
 #[cfg(test)]
-mod tail_tests;
+mod works;

@@ -1,20 +1,25 @@
 //! Which side of a pair of images counts.
-use crate::reclaims::{Choice, choice_of_bytes};
+use crate::reclaims::{Choice, choice_of};
 use crate::rows::{BEFORE, ONCE, PREPARED, TWICE};
 use cartridge_sides::Which;
 use std::alloc::{AllocError, Global};
-use std::process::Abort;
 use std::test::Fail;
+use tape_disk::MemDisk;
 use test_assertions::assert_equal;
 
-// An image, and bytes that are set in it.
-type Image = (&'static [u8], &'static [(usize, u8)]);
+/// An image, and bytes that are set in it.
+pub type Image = (&'static [u8], &'static [(usize, u8)]);
 
 const PLAIN: Choice = Some((Which::First, 0, 0, 25));
 
 const FIRST_COPY: Choice = Some((Which::First, 2, 1, 37));
 
 const SECOND_COPY: Choice = Some((Which::Second, 1, 1, 37));
+
+const LATE_COPY: Choice = Some((Which::Second, 0x0100_0000_0000_0001, 1, 37));
+
+// An open pair gate.
+const PAIR: &'static [(usize, u8)] = &[(9, 0xa5)];
 
 // Pairs of images, and which side of each counts.
 static PAIRS: &'static [(Image, Image, Choice)] = &[
@@ -23,69 +28,34 @@ static PAIRS: &'static [(Image, Image, Choice)] = &[
     ((BEFORE, &[]), (ONCE, &[]), PLAIN),
     ((BEFORE, &[(9, 7)]), (TWICE, &[]), PLAIN),
     // Both are read.
-    ((BEFORE, &[(9, 0xa5)]), (PREPARED, &[]), PLAIN),
-    ((BEFORE, &[(9, 0xa5)]), (ONCE, &[(0, 0)]), PLAIN),
-    ((BEFORE, &[(9, 0xa5)]), (ONCE, &[]), SECOND_COPY),
-    ((BEFORE, &[(9, 0xa5), (0, 0)]), (ONCE, &[]), SECOND_COPY),
+    ((BEFORE, PAIR), (PREPARED, &[]), PLAIN),
+    ((BEFORE, PAIR), (ONCE, &[(0, 0)]), PLAIN),
+    ((BEFORE, PAIR), (ONCE, &[]), SECOND_COPY),
     ((TWICE, &[]), (ONCE, &[]), FIRST_COPY),
-    ((TWICE, &[]), (ONCE, &[(0, 1)]), FIRST_COPY),
     ((TWICE, &[(0, 0xa4)]), (ONCE, &[]), SECOND_COPY),
     // A closed side needs no head.
     ((TWICE, &[]), (ONCE, &[(0, 0), (10, 9)]), FIRST_COPY),
-    // A copy of epoch 0 counts beside a closed side.
-    (
-        (TWICE, &[(42, 0)]),
-        (PREPARED, &[]),
-        Some((Which::First, 0, 1, 37)),
-    ),
-    // Its first bytes are the most significant ones of the epoch.
-    (
-        (TWICE, &[(35, 0x80)]),
-        (ONCE, &[]),
-        Some((Which::First, 0x8000_0000_0000_0002, 1, 37)),
-    ),
-    (
-        (TWICE, &[]),
-        (ONCE, &[(35, 1)]),
-        Some((Which::Second, 0x0100_0000_0000_0001, 1, 37)),
-    ),
-];
-
-// Pairs of which no side counts.
-static NOT_OURS: &'static [(Image, Image)] = &[
+    // The first bytes of an epoch are the most significant ones.
+    ((TWICE, &[]), (ONCE, &[(35, 1)]), LATE_COPY),
     // The first disk has no ten bytes of a cartridge, or its single side is closed, has no head or is a copy.
-    ((&[], &[]), (ONCE, &[])),
-    ((PREPARED, &[]), (ONCE, &[])),
-    ((b"\xa5VTLCART1", &[]), (ONCE, &[])),
-    ((BEFORE, &[(8, b'2')]), (&[], &[])),
-    ((BEFORE, &[(4, b'R'), (9, 0xa5)]), (ONCE, &[])),
-    ((BEFORE, &[(0, 0)]), (&[], &[])),
-    ((BEFORE, &[(10, 0)]), (&[], &[])),
-    ((BEFORE, &[(10, 5)]), (&[], &[])),
-    ((BEFORE, &[(11, b' ')]), (&[], &[])),
-    ((BEFORE, &[(33, 0x0f)]), (&[], &[])),
-    ((TWICE, &[(9, 0)]), (ONCE, &[])),
+    ((&[], &[]), (ONCE, &[]), None),
+    ((BEFORE, &[(8, b'2')]), (&[], &[]), None),
+    ((BEFORE, &[(0, 0)]), (&[], &[]), None),
+    ((BEFORE, &[(11, b' ')]), (&[], &[]), None),
+    ((BEFORE, &[(33, 0x0f)]), (&[], &[]), None),
+    ((TWICE, &[(9, 0)]), (ONCE, &[]), None),
     // The second disk has no ten bytes, or its pair gate is open.
-    ((BEFORE, &[(9, 0xa5)]), (&[], &[])),
-    ((TWICE, &[]), (b"\0VTLCART1", &[])),
-    ((TWICE, &[]), (ONCE, &[(1, b'v')])),
-    ((TWICE, &[]), (ONCE, &[(9, 0xa5)])),
-    // Both are closed.
-    ((TWICE, &[(0, 0)]), (PREPARED, &[])),
-    ((TWICE, &[(0, 0)]), (ONCE, &[(0, 0)])),
-    // One of them is open and has no head.
-    ((TWICE, &[(10, 0x85)]), (ONCE, &[])),
-    ((TWICE, &[(10, 0x80)]), (PREPARED, &[])),
-    ((TWICE, &[]), (ONCE, &[(10, 0x85)])),
-    ((TWICE, &[(0, 0)]), (ONCE, &[(33, 0)])),
-    // Both have the same epoch.
-    ((TWICE, &[(42, 1)]), (ONCE, &[])),
-    ((BEFORE, &[(9, 0xa5)]), (ONCE, &[(42, 0)])),
-    ((BEFORE, &[(9, 0xa5)]), (BEFORE, &[])),
+    ((BEFORE, PAIR), (&[], &[]), None),
+    ((TWICE, &[]), (ONCE, &[(1, b'v')]), None),
+    ((TWICE, &[]), (ONCE, PAIR), None),
+    // Both are closed; one of them is open and has no head; both have the same epoch.
+    ((TWICE, &[(0, 0)]), (PREPARED, &[]), None),
+    ((TWICE, &[(10, 0x85)]), (ONCE, &[]), None),
+    ((TWICE, &[(42, 1)]), (ONCE, &[]), None),
 ];
 
-// The image.
-fn made(alloc: Global, image: Image) -> Result<Vec<u8>, AllocError> {
+/// The image.
+pub fn made(alloc: Global, image: Image) -> Result<Vec<u8>, AllocError> {
     let (bytes, set) = image;
     let mut bytes = bytes.to_vec(alloc)?;
     for &(at, byte) in set {
@@ -96,80 +66,12 @@ fn made(alloc: Global, image: Image) -> Result<Vec<u8>, AllocError> {
     Ok(bytes)
 }
 
-fn is_reported(
-    rt: &impl Abort,
-    alloc: Global,
-    pair: (Image, Image),
-    expected: Choice,
-) -> Result<(), Fail> {
-    let first = made(alloc, pair.0)?;
-    let second = made(alloc, pair.1)?;
-    let found = choice_of_bytes(alloc, &first, &second)?;
-    assert_equal!(rt; found, Ok(expected); pair);
-    Ok(())
-}
-
 #[test]
 fn pairs_of_images(rt: HostRuntime) -> Result<(), Fail> {
     for &(first, second, expected) in PAIRS {
-        is_reported(&rt, rt.alloc(), (first, second), expected)?;
-    }
-    for &(first, second) in NOT_OURS {
-        is_reported(&rt, rt.alloc(), (first, second), None)?;
-    }
-    Ok(())
-}
-
-// One of the four gates of a pair, and which side counts where it is open and where it is closed.
-static GATES: &'static [(usize, usize, Image, Image, Choice, Choice)] = &[
-    (0, 0, (TWICE, &[]), (ONCE, &[]), FIRST_COPY, SECOND_COPY),
-    (1, 0, (TWICE, &[(0, 0)]), (ONCE, &[]), SECOND_COPY, None),
-    (0, 9, (BEFORE, &[]), (ONCE, &[]), SECOND_COPY, PLAIN),
-    (1, 9, (BEFORE, &[(9, 0xa5)]), (ONCE, &[]), None, SECOND_COPY),
-];
-
-// The image, with that value at that place if the gate is one of its own.
-fn gate_set(
-    alloc: Global,
-    image: Image,
-    at: usize,
-    value: u8,
-    own: bool,
-) -> Result<Vec<u8>, AllocError> {
-    let mut bytes = made(alloc, image)?;
-    if own && at < bytes.len() {
-        bytes[at] = value;
-    }
-    Ok(bytes)
-}
-
-#[test]
-fn every_value_of_each_gate(rt: HostRuntime) -> Result<(), Fail> {
-    let alloc = rt.alloc();
-    for &(disk, at, first, second, open, closed) in GATES {
-        for value in 0..256u32 {
-            let one = gate_set(alloc, first, at, value as u8, disk == 0)?;
-            let two = gate_set(alloc, second, at, value as u8, disk == 1)?;
-            let found = choice_of_bytes(alloc, &one, &two)?;
-            let expected = if value == 0xa5 { open } else { closed };
-            assert_equal!(rt; found, Ok(expected); (disk, at, value));
-        }
-    }
-    Ok(())
-}
-
-// The first bytes of the row's sides; a head has at most 71: the choice needs no more.
-#[test]
-fn every_cut_of_a_side(rt: HostRuntime) -> Result<(), Fail> {
-    for len in 0..64 {
-        let found = choice_of_bytes(rt.alloc(), TWICE, &ONCE[..len])?;
-        let expected = if len < 47 { None } else { FIRST_COPY };
-        assert_equal!(rt; found, Ok(expected); len);
-    }
-    for len in 0..87 {
-        let found = choice_of_bytes(rt.alloc(), &BEFORE[..len], &[])?;
-        let expected = if len < 35 { None } else { PLAIN };
-        assert_equal!(rt; found, Ok(expected); len);
+        let mut one = MemDisk::from_bytes(rt.alloc(), &made(rt.alloc(), first)?)?;
+        let mut two = MemDisk::from_bytes(rt.alloc(), &made(rt.alloc(), second)?)?;
+        assert_equal!(rt; choice_of(&mut one, &mut two), Ok(expected); (first, second));
     }
     Ok(())
 }

@@ -8,8 +8,8 @@ mod choice_tests;
 #[cfg(test)]
 mod opening_tests;
 #[cfg(test)]
+mod pass_tests;
+#[cfg(test)]
 mod reclaims;
 #[cfg(test)]
 mod rows;
-#[cfg(test)]
-mod stop_tests;

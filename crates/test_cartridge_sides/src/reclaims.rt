@@ -7,8 +7,8 @@ use cartridge_sides::{
 };
 use gate_journal::{Copied, Header, SideKind};
 use std::alloc::Global;
-use tape_disk::{Disk, MemDisk};
-use vtl_base::{DevFault, NoMemory};
+use tape_disk::Disk;
+use vtl_base::DevFault;
 
 /// The fault of a source that has no body left.
 pub const NONE_LEFT: DevFault = DevFault { failures: 9 };
@@ -39,18 +39,6 @@ impl GivesBodies for Bodies {
     }
 }
 
-// The header of the cartridge.
-fn header(alloc: Global) -> Result<Header, DevFault> {
-    match vec![in alloc; 4096; 1] {
-        Ok(capacities) => Ok(Header {
-            kind: SideKind::Cartridge,
-            name: *b"T00001L6        ",
-            capacities,
-        }),
-        Err(_) => Err(OUT_OF_MEMORY),
-    }
-}
-
 // Writes a copy of one frame on the side that does not count, from a source with this many bodies, and opens
 // it.
 fn copy_to<D: Disk>(
@@ -60,7 +48,14 @@ fn copy_to<D: Disk>(
     given: usize,
 ) -> Result<(), DevFault> {
     close_spare(spare)?;
-    let header = header(alloc)?;
+    let Ok(capacities) = vec![in alloc; 4096; 1] else {
+        return Err(OUT_OF_MEMORY);
+    };
+    let header = Header {
+        kind: SideKind::Cartridge,
+        name: *b"T00001L6        ",
+        capacities,
+    };
     let Ok(mut buffer) = Vec::with_capacity(alloc, COPY_BODY + 5) else {
         return Err(OUT_OF_MEMORY);
     };
@@ -113,15 +108,4 @@ pub fn choice_of<D: Disk>(first: &mut D, second: &mut D) -> Result<Choice, DevFa
         }
         None => Ok(None),
     }
-}
-
-/// What is found of the side that counts of two images.
-pub fn choice_of_bytes(
-    alloc: Global,
-    first: &[u8],
-    second: &[u8],
-) -> Result<Result<Choice, DevFault>, NoMemory> {
-    let mut first = MemDisk::from_bytes(alloc, first)?;
-    let mut second = MemDisk::from_bytes(alloc, second)?;
-    Ok(choice_of(&mut first, &mut second))
 }

@@ -1,58 +1,44 @@
-//! What the first sync after an opening writes again.
-use crate::doubles::Noted;
-use crate::staged::staged;
+//! What a sync writes again: the first after an opening, and one behind a sync that failed.
+use crate::staged::{Noted, counting};
 use crate::steps::{Step, act, failures};
-use file_disk::DiskOver;
-use gate_journal::{Header, Journal, SideKind};
-use std::alloc::Global;
+use file_disk::{CallFailed, DiskOver, RawFile};
 use std::process::Abort;
 use std::test::Fail;
 use tape_disk::{Disk, MemDisk};
-use test_assertions::assert_equal;
-use test_files::{StagedFile, Turn};
+use test_assertions::{assert_equal, assert_holds};
+use test_files::{ForgetfulFile, StagedFile, Turn};
 
-/// A store of drive 1 with these bodies. Its gates are at 0, at 27 and after each body.
-pub fn side_of(alloc: Global, bodies: &[&[u8]]) -> Result<MemDisk, Fail> {
-    let header = Header {
-        kind: SideKind::Store,
-        name: *b"DRIVE1          ",
-        capacities: Vec::new(alloc),
-    };
-    side_with(alloc, header, bodies)
-}
+// Stores of drive 1 with no body, with one and with two. Their gates are at 0, at 27 and after each body.
+const EMPTY: &'static [u8] = b"\xa5VTLRESV1\0\0DRIVE1          \0";
 
-fn side_with(alloc: Global, header: Header, bodies: &[&[u8]]) -> Result<MemDisk, Fail> {
-    if !header.can_be_spelled() {
-        return Err(Fail::from("no header of these tests"));
-    }
-    let mut journal = Journal::create(alloc, MemDisk::new(alloc), header).map_err(
-        |refused| refused.error,
-    )?;
-    for body in bodies {
-        add(&mut journal, body)?;
-    }
-    Ok(journal.close())
-}
+const BODY: &'static [u8] = b"\xa5VTLRESV1\0\0DRIVE1          \xa5\0\0\0\x04body\0";
 
-fn add(journal: &mut Journal<MemDisk>, body: &[u8]) -> Result<(), Fail> {
-    if body.len() < 1 || body.len() > 8 {
-        return Err(Fail::from("no body of these tests"));
-    }
-    journal.append(body)?;
-    Ok(())
-}
+const TWO: &'static [u8] = b"\xa5VTLRESV1\0\0DRIVE1          \xa5\0\0\0\x04body\xa5\0\0\0\x01b\0";
 
-/// A file in memory that holds these bytes, and counts what is written to it.
-pub fn noted(alloc: Global, bytes: &[u8], turns: &[Turn]) -> Result<Noted<StagedFile>, Fail> {
-    Ok(Noted::new(staged(alloc, bytes, turns)?))
-}
+const TAIL: &'static [u8] = b"\xa5VTLRESV1\0\0DRIVE1          \xa5\0\0\0\x04body\x000123456789";
 
-/// A call, the failures that it reports, and the totals of all calls then: the bytes that were written, the
-/// place of the last write, and the good syncs.
-pub type Row = (Step, u64, u64, u64, u64);
+// Cartridges with one partition and one body of four bytes. Their gates are at 0, 9, 35 and 44: all but the last are
+// open, that at 9 is closed, or that at 0 is.
+const PAIR_IS_OPEN: &'static [u8] = b"\xa5VTLCART1\xa5\x01T00001L6        \0\0\0\0\0\0\x10\0\
+    \xa5\0\0\0\x04body\0";
 
-/// The calls are made one after another, with the results of their rows.
-pub fn are_written(rt: &impl Abort, disk: &mut DiskOver<Noted<StagedFile>>, rows: &[Row]) {
+const CARTRIDGE: &'static [u8] = b"\xa5VTLCART1\0\x01T00001L6        \0\0\0\0\0\0\x10\0\
+    \xa5\0\0\0\x04body\0";
+
+const CLOSED: &'static [u8] = b"\0VTLCART1\0\x01T00001L6        \0\0\0\0\0\0\x10\0\
+    \xa5\0\0\0\x04body\0";
+
+// One with four partitions.
+const FOUR_PARTS: &'static [u8] = b"\xa5VTLCART1\0\x04T00001L6        \0\0\0\0\0\0\x10\0\
+    \0\0\0\0\0\0\x10\0\0\0\0\0\0\0\x10\0\0\0\0\0\0\0\x10\0\
+    \xa5\0\0\0\x04body\0";
+
+// A call, the failures that it reports, and the totals of all calls then: the bytes that were written, the
+// place of the last write, and the good syncs.
+type Row = (Step, u64, u64, u64, u64);
+
+// The calls are made one after another, with the results of their rows.
+fn are_written(rt: &impl Abort, disk: &mut DiskOver<Noted<StagedFile>>, rows: &[Row]) {
     for &(step, failed, bytes, last, syncs) in rows {
         assert_equal!(rt; failures(act(disk, step)), failed);
         let file = disk.file();
@@ -60,209 +46,230 @@ pub fn are_written(rt: &impl Abort, disk: &mut DiskOver<Noted<StagedFile>>, rows
     }
 }
 
-fn opened(
-    rt: &impl Abort,
-    alloc: Global,
-    bytes: &[u8],
-    turns: &[Turn],
-    rows: &[Row],
-) -> Result<(), Fail> {
-    let mut disk = DiskOver::opened(noted(alloc, bytes, turns)?);
+fn opened(rt: &impl Abort, file: Noted<StagedFile>, rows: &[Row]) {
+    let mut disk = DiskOver::opened(file);
+    let len = disk.len();
     are_written(rt, &mut disk, rows);
-    assert_equal!(rt; disk.file().file().disk().len(), bytes.len() as u64);
-    Ok(())
+    assert_equal!(rt; disk.file().file().disk().len(), len);
 }
 
-// Of a store the last open gate alone, and only before the first good sync, or before a write that comes
-// first. A later sync that fails leaves the gate alone.
-static OF_A_SIDE: &'static [(&'static [&'static [u8]], &'static [Turn], &'static [Row])] = &[
-    (
-        &[],
-        &[],
-        &[
-            (Step::Read(0), 0, 0, 0, 0),
-            (Step::Sync, 0, 1, 0, 1),
-            (Step::Sync, 0, 1, 0, 2),
-        ],
-    ),
-    (
-        &[b"body"],
-        &[],
-        &[(Step::Sync, 0, 1, 27, 1), (Step::Sync, 0, 1, 27, 2)],
-    ),
-    (
-        &[b"body"],
-        &[],
-        &[
-            (Step::Put(36, b"\0"), 0, 2, 36, 0),
-            (Step::Sync, 0, 2, 36, 1),
-        ],
-    ),
-    (
-        &[b"body", b"b"],
-        &[],
-        &[
-            (Step::Sync, 0, 1, 36, 1),
-            (Step::Put(41, b"xy"), 0, 3, 41, 1),
-            (Step::Sync, 0, 3, 41, 2),
-        ],
-    ),
-    // The eight calls of the first sync, a write, and the sync that fails.
-    (
-        &[b"body"],
-        &[
-            Turn::Whole,
-            Turn::Whole,
-            Turn::Whole,
-            Turn::Whole,
-            Turn::Whole,
-            Turn::Whole,
-            Turn::Whole,
-            Turn::Whole,
-            Turn::Whole,
-            Turn::Failed,
-        ],
-        &[
-            (Step::Sync, 0, 1, 27, 1),
-            (Step::Put(32, b"y"), 0, 2, 32, 1),
-            (Step::Sync, 1, 2, 32, 1),
-            (Step::Sync, 0, 3, 32, 2),
-        ],
-    ),
+// A side; how many bytes the first sync after an opening writes again, and the place of the last write.
+static OPENINGS: &'static [(&'static [u8], u64, u64)] = &[
+    // Of a store the last open gate alone.
+    (EMPTY, 1, 0),
+    (BODY, 1, 27),
+    (TWO, 1, 36),
+    // What a stop in an append left after the end gate, too.
+    (TAIL, 11, 37),
+    // Of a cartridge the last open gate, and its first ten bytes, with the gates of the side and of the pair. The gate
+    // of the pair may be open.
+    (CARTRIDGE, 11, 0),
+    (PAIR_IS_OPEN, 11, 0),
+    (FOUR_PARTS, 11, 0),
+    // All of a side whose own gate is closed, and of one that is shorter than the start of a side.
+    (b"\0VTLCART1\0", 10, 0),
+    (b"\0VTLCART1\xa5", 10, 0),
+    (b"\x07VTLCART1\0", 10, 0),
+    (b"\0VTLCART1\0\xa5\xa5\xa5", 13, 0),
+    (b"\0VTLCART1\0\x81T00001L6", 19, 0),
+    (CLOSED, 45, 0),
+    (b"", 0, 0),
+    (b"\0", 1, 0),
+    (b"\0V", 2, 0),
+    (b"\0VT", 3, 0),
+    (b"\0VTL", 4, 0),
+    (b"\0VTLC", 5, 0),
+    (b"\0VTLCA", 6, 0),
+    (b"\0VTLCAR", 7, 0),
+    (b"\0VTLCART", 8, 0),
+    (b"\0VTLCART1", 9, 0),
+    // Nothing of files of other programs, and of a side that is damaged.
+    (b"something else", 0, 0),
+    (b"\0VTLRESV1\0", 0, 0),
+    (b"\0VTLCART2\0", 0, 0),
+    (b"\xa5VTLCART1\0", 0, 0),
+    (b"\xa5VTLRESV1\0\0DRIVE1          \xa5\0\0\0\x04b", 0, 0),
 ];
 
 #[test]
-fn an_opening_of_a_store_writes_one_byte(rt: HostRuntime) -> Result<(), Fail> {
-    for &(bodies, turns, rows) in OF_A_SIDE {
-        let side = side_of(rt.alloc(), bodies)?;
-        opened(&rt, rt.alloc(), side.bytes(), turns, rows)?;
+fn what_an_opening_writes_again(rt: HostRuntime) -> Result<(), Fail> {
+    for &(side, bytes, last) in OPENINGS {
+        let rows = [
+            (Step::Sync, 0, bytes, last, 1),
+            (Step::Sync, 0, bytes, last, 2),
+        ];
+        opened(&rt, counting(rt.alloc(), side, &[])?, &rows);
     }
     Ok(())
 }
 
-/// A cartridge with this many partitions, with one body of four bytes: its last open gate is after the
-/// capacities.
-pub fn cartridge_of(alloc: Global, partitions: usize) -> Result<MemDisk, Fail> {
-    let header = Header {
-        kind: SideKind::Cartridge,
-        name: *b"T00001L6        ",
-        capacities: vec![in alloc; 4_096; partitions]?,
-    };
-    side_with(alloc, header, &[b"body"])
-}
-
-// Of a cartridge the last open gate, and its first ten bytes, with the gates of the side and of the pair. The
-// gate of the pair may be open.
+// A write that comes first writes the gate before, and a read does not.
 #[test]
-fn an_opening_of_a_cartridge_writes_eleven_bytes(rt: HostRuntime) -> Result<(), Fail> {
-    for partitions in 1..5 {
-        let mut side = cartridge_of(rt.alloc(), partitions)?;
-        let rows = [(Step::Sync, 0, 11, 0, 1), (Step::Sync, 0, 11, 0, 2)];
-        opened(&rt, rt.alloc(), side.bytes(), &[], &rows)?;
-        act(&mut side, Step::Put(9, b"\xa5"))?;
-        opened(&rt, rt.alloc(), side.bytes(), &[], &rows)?;
-    }
+fn a_write_comes_before_a_sync(rt: HostRuntime) -> Result<(), Fail> {
+    let rows = [
+        (Step::Read(0), 0, 0, 0, 0),
+        (Step::Put(36, b"\0"), 0, 2, 36, 0),
+        (Step::Sync, 0, 2, 36, 1),
+    ];
+    opened(&rt, counting(rt.alloc(), BODY, &[])?, &rows);
     Ok(())
-}
-
-// The first bytes of a cartridge's side whose own gate is closed, and the bytes after them.
-static CLOSED: &'static [&'static [u8]] = &[
-    b"\0VTLCART1\0",
-    b"\0VTLCART1\xa5",
-    b"\x07VTLCART1\0",
-    b"\0VTLCART1\0\x81T00001L6",
-    b"\0VTLCART1\0\xa5\xa5\xa5",
-];
-
-// All of a side whose own gate is closed, and of one that is shorter than the start of a side.
-#[test]
-fn an_unfinished_side_is_written_again_whole(rt: HostRuntime) -> Result<(), Fail> {
-    for &bytes in CLOSED {
-        let rows = [(Step::Sync, 0, bytes.len() as u64, 0, 1)];
-        opened(&rt, rt.alloc(), bytes, &[], &rows)?;
-    }
-    for length in 0..10 {
-        let rows = [(Step::Sync, 0, length as u64, 0, 1)];
-        opened(&rt, rt.alloc(), &b"\0VTLCART1"[..length], &[], &rows)?;
-    }
-    let mut side = cartridge_of(rt.alloc(), 1)?;
-    act(&mut side, Step::Put(0, b"\0"))?;
-    let rows = [(Step::Sync, 0, side.len(), 0, 1)];
-    opened(&rt, rt.alloc(), side.bytes(), &[], &rows)
-}
-
-// What a stop in an append left after the end gate is written again, too.
-#[test]
-fn what_stands_behind_the_end(rt: HostRuntime) -> Result<(), Fail> {
-    let mut side = side_of(rt.alloc(), &[b"body"])?;
-    act(&mut side, Step::Put(37, b"0123456789"))?;
-    opened(
-        &rt,
-        rt.alloc(),
-        side.bytes(),
-        &[],
-        &[(Step::Sync, 0, 11, 37, 1)],
-    )
 }
 
 // An append writes 8,388,613 bytes behind the end gate at most: of a longer hole as many are written again, in pages
 // of 4,096 bytes.
 #[test]
 fn a_long_hole_behind_the_end(rt: HostRuntime) -> Result<(), Fail> {
-    let mut bytes = Vec::from_slice(rt.alloc(), side_of(rt.alloc(), &[b"body"])?.bytes())?;
+    let mut bytes = Vec::from_slice(rt.alloc(), BODY)?;
     bytes.resize(37 + 8_388_700, 0)?;
     let rows = [(Step::Sync, 0, 8_388_614, 37 + 8_388_608, 1)];
-    opened(&rt, rt.alloc(), &bytes, &[], &rows)
+    opened(&rt, counting(rt.alloc(), &bytes, &[])?, &rows);
+    Ok(())
 }
 
-// Files of other programs: nothing is written to them.
-static NO_SIDES: &'static [&'static [u8]] = &[
-    b"something else",
-    b"\0VTLRESV1\0",
-    b"\0VTLCART2\0",
-    b"\xa5VTLCART1\0",
-];
+const W: Turn = Turn::Whole;
 
-// No side, and one that is damaged.
-#[test]
-fn a_file_that_is_no_side(rt: HostRuntime) -> Result<(), Fail> {
-    for &bytes in NO_SIDES {
-        opened(&rt, rt.alloc(), bytes, &[], &[(Step::Sync, 0, 0, 0, 1)])?;
-    }
-    let mut side = side_of(rt.alloc(), &[b"body"])?;
-    act(&mut side, Step::Cut(33))?;
-    opened(
-        &rt,
-        rt.alloc(),
-        side.bytes(),
-        &[],
-        &[(Step::Sync, 0, 0, 0, 1)],
-    )
-}
+const F: Turn = Turn::Failed;
 
 // The calls of a first sync over a store with one body: five reads for beginning, header and gates, the byte
 // that is read and written again, and the sync.
-static CALLS: &'static [Turn] = &[
-    Turn::Whole,
-    Turn::Whole,
-    Turn::Whole,
-    Turn::Whole,
-    Turn::Whole,
-    Turn::Whole,
-    Turn::Whole,
-    Turn::Failed,
-];
+static CALLS: &'static [Turn] = &[W, W, W, W, W, W, W, F];
 
 // Each call of the first sync fails, one after another. The second sync does what the first did not.
 #[test]
 fn a_first_sync_that_fails(rt: HostRuntime) -> Result<(), Fail> {
-    let side = side_of(rt.alloc(), &[b"body"])?;
     for first in 0..8 {
         let rows: [Row; 2] = match first {
             0 => [(Step::Sync, 1, 1, 27, 0), (Step::Sync, 0, 2, 27, 1)],
             _ => [(Step::Sync, 1, 0, 0, 0), (Step::Sync, 0, 1, 27, 1)],
         };
-        opened(&rt, rt.alloc(), side.bytes(), &CALLS[first..], &rows)?;
+        opened(&rt, counting(rt.alloc(), BODY, &CALLS[first..])?, &rows);
+    }
+    Ok(())
+}
+
+// A sync that fails after writes into sixteen bytes. The next good one writes exactly what was written since
+// the last good one again.
+static HEALED: &'static [(&'static [Turn], &'static [Row])] = &[
+    // Two writes that touch or overlap are one range, and two others two.
+    (
+        &[W, W, W, W, F],
+        &[
+            (Step::Put(3, b"abc"), 0, 3, 3, 0),
+            (Step::Put(5, b"def"), 0, 6, 5, 0),
+            (Step::Put(8, b"g"), 0, 7, 8, 0),
+            (Step::Put(0, b"xyz"), 0, 10, 0, 0),
+            (Step::Sync, 1, 10, 0, 0),
+            (Step::Sync, 0, 19, 0, 1),
+        ],
+    ),
+    // What a good sync made sure is not written again, before or behind.
+    (
+        &[W, W, W, W, F],
+        &[
+            (Step::Put(3, b"abc"), 0, 3, 3, 0),
+            (Step::Sync, 0, 3, 3, 1),
+            (Step::Put(8, b"b"), 0, 4, 8, 1),
+            (Step::Put(0, b"a"), 0, 5, 0, 1),
+            (Step::Sync, 1, 5, 0, 1),
+            (Step::Sync, 0, 7, 0, 2),
+            (Step::Sync, 0, 7, 0, 3),
+        ],
+    ),
+    // Bytes that were cut away are not written again.
+    (
+        &[W, W, F],
+        &[
+            (Step::Put(3, b"abc"), 0, 3, 3, 0),
+            (Step::Cut(4), 0, 3, 3, 0),
+            (Step::Sync, 1, 3, 3, 0),
+            (Step::Sync, 0, 4, 3, 1),
+        ],
+    ),
+    // A second fault is a fault again; then the file is asked for no bytes.
+    (
+        &[W, F, W, F, W, W, W, F],
+        &[
+            (Step::Put(3, b"abc"), 0, 3, 3, 0),
+            (Step::Sync, 1, 3, 3, 0),
+            (Step::Sync, 2, 3, 3, 0),
+            (Step::Sync, 3, 6, 3, 0),
+            (Step::Sync, 0, 9, 3, 1),
+        ],
+    ),
+    // More ranges are not stored: each later sync fails, and asks the file for no bytes.
+    (
+        &[W, W, W, F],
+        &[
+            (Step::Put(0, b"a"), 0, 1, 0, 0),
+            (Step::Put(8, b"b"), 0, 2, 8, 0),
+            (Step::Put(14, b"c"), 0, 3, 14, 0),
+            (Step::Sync, 1, 3, 14, 0),
+            (Step::Sync, 2, 3, 14, 0),
+            (Step::Put(0, b"a"), 0, 4, 0, 0),
+            (Step::Sync, 3, 4, 0, 0),
+        ],
+    ),
+];
+
+#[test]
+fn a_sync_behind_one_that_failed(rt: HostRuntime) -> Result<(), Fail> {
+    for &(turns, rows) in HEALED {
+        let file = counting(rt.alloc(), b"0123456789abcdef", turns)?;
+        are_written(&rt, &mut DiskOver::new(file), rows);
+    }
+    // The same of an opened file, whose first sync, of eight calls, wrote the gate again: that is left alone.
+    let turns = [W, W, W, W, W, W, W, W, W, F];
+    let rows = [
+        (Step::Sync, 0, 1, 27, 1),
+        (Step::Put(32, b"y"), 0, 2, 32, 1),
+        (Step::Sync, 1, 2, 32, 1),
+        (Step::Sync, 0, 3, 32, 2),
+    ];
+    opened(&rt, counting(rt.alloc(), BODY, &turns)?, &rows);
+    Ok(())
+}
+
+// A side, the place of a byte, what it was before, and how many bytes were written in all: the last gate of a store; of
+// a cartridge that a reclaim opens the gates of the side, of the pair and of the last frame; the gate of one that it
+// closes.
+static DOUBTS: &'static [(&'static [u8], u64, &'static [u8], u64)] = &[
+    (BODY, 27, b"\0", 2),
+    (CARTRIDGE, 0, b"\0", 12),
+    (PAIR_IS_OPEN, 9, b"\0", 12),
+    (CARTRIDGE, 35, b"\0", 12),
+    (CLOSED, 0, b"\xa5", 46),
+];
+
+// An earlier process overwrote a byte, and its sync failed. The next sync succeeds, but leaves the byte in doubt.
+fn in_doubt(
+    rt: &impl Abort,
+    mut before: MemDisk,
+    place: u64,
+    old: &'static [u8],
+    new: u8,
+) -> Result<Noted<ForgetfulFile>, Fail> {
+    act(&mut before, Step::Put(place, old))?;
+    act(&mut before, Step::Sync)?;
+    let mut file = Noted::new(ForgetfulFile::new(before));
+    assert_equal!(rt; file.write_some(place, &[new]), Ok(1));
+    assert_equal!(rt; file.sync(), Err(CallFailed));
+    assert_equal!(rt; file.sync(), Ok(()));
+    let left = file.file().disk().copy()?.crash(0, b'.')?;
+    assert_holds!(rt; left.bytes().get(place as usize) == Some(&b'.'));
+    Ok(file)
+}
+
+// The next opening makes the byte sure.
+#[test]
+fn a_byte_in_doubt_is_made_sure(rt: HostRuntime) -> Result<(), Fail> {
+    for &(side, place, old, written) in DOUBTS {
+        let before = MemDisk::from_bytes(rt.alloc(), side)?;
+        let new = side.get(place as usize).copied().unwrap_or(0);
+        let mut disk = DiskOver::opened(in_doubt(&rt, before, place, old, new)?);
+        assert_equal!(rt; failures(disk.sync()), 0);
+        assert_equal!(rt; disk.file().bytes, written);
+        let left = disk.file().file().disk().copy()?.crash(0, b'.')?;
+        assert_equal!(rt; left.bytes(), side);
     }
     Ok(())
 }

@@ -1,82 +1,65 @@
-//! Commands of hosts to a drive, as rows, and orders to its reservations.
-use crate::samples::{assert_established, sense_bytes};
-use crate::tables::{NONE, SOUND, TEST_UNIT_READY};
+//! Drives for the tests, and rows of commands to them.
+use crate::asked::{Answer, NONE, POWERED_ON, Row, TEST_UNIT_READY};
 use drive_commands::Drive;
-use pr_core::Keeper;
+use pr_core::{Keeper, NoKeeper, Reservations};
 use scsi_sense::{Reply, Status};
 use std::alloc::Global;
 use std::process::Abort;
-use test_media::StagedMedium;
+use test_assertions::{assert_equal, assert_holds};
+use test_media::{FaultPlan, StagedMedium};
 use vtl_base::{Nexus, NoMemory};
 
-// The expected answer to a host: GOOD with these bytes, sense data with only key, code and qualifier, or
-// RESERVATION CONFLICT.
-#[derive(Clone, Copy)]
-pub enum Answer<'a> {
-    Good(&'a [u8]),
-    Check(u8, u8, u8),
-    Conflict,
+/// A drive that saves no reservations.
+pub type Plain = Drive<StagedMedium, NoKeeper>;
+
+pub const SOUND: FaultPlan = FaultPlan {
+    store: None,
+    fetch: None,
+    tears: false,
+    keeps_torn: false,
+};
+
+/// The first storing fails.
+pub const AT_ONCE: FaultPlan = FaultPlan {
+    store: Some(0),
+    ..SOUND
+};
+
+// Sense data, byte for byte.
+fn sense_bytes(response: u8, key: u8, information: u32, code: u8, qualifier: u8) -> [u8; 18] {
+    let [a, b, c, d] = information.to_be_bytes();
+    [
+        response, 0, key, a, b, c, d, 0x0a, 0, 0, 0, 0, code, qualifier, 0, 0, 0, 0,
+    ]
 }
 
-// A host, its command and the bytes that it sends, and the answer.
-pub type Row<'a> = (u8, &'a [u8], &'a [u8], Answer<'a>);
+fn sense_of(reply: &Reply) -> Option<[u8; 18]> {
+    Some(reply.sense?.bytes())
+}
 
-pub const GOOD: Answer<'static> = Answer::Good(&[]);
-
-pub const CONFLICT: Answer<'static> = Answer::Conflict;
-
-pub const POWERED_ON: Answer<'static> = Answer::Check(6, 0x29, 0);
-
-pub const CLEARED: Answer<'static> = Answer::Check(6, 0x2a, 3);
-
-pub const BAD_FIELD: Answer<'static> = Answer::Check(5, 0x24, 0);
-
-pub const BAD_LENGTH: Answer<'static> = Answer::Check(5, 0x1a, 0);
-
-pub const NO_MEDIUM: Answer<'static> = Answer::Check(2, 0x3a, 0);
-
-pub const FAILED: Answer<'static> = Answer::Check(4, 0x44, 0);
-
-pub const STORE_FULL: Answer<'static> = Answer::Check(5, 0x55, 4);
-
-pub const OUT_OF_MEMORY: Answer<'static> = Answer::Check(0x0b, 0x55, 3);
-
-pub const REGISTER: &'static [u8] = &[0x5f, 0, 0, 0, 0, 0, 0, 0, 24, 0];
-
-pub const RESERVE_5: &'static [u8] = &[0x5f, 1, 5, 0, 0, 0, 0, 0, 24, 0];
-
-pub const RELEASE_5: &'static [u8] = &[0x5f, 2, 5, 0, 0, 0, 0, 0, 24, 0];
-
-pub const CLEAR: &'static [u8] = &[0x5f, 3, 0, 0, 0, 0, 0, 0, 24, 0];
-
-pub const READ_KEYS: &'static [u8] = &[0x5e, 0, 0, 0, 0, 0, 0, 0, 24, 0];
-
-pub const READ_RESERVATION: &'static [u8] = &[0x5e, 1, 0, 0, 0, 0, 0, 0, 24, 0];
-
-// Parameter lists: the reservation key, then the key of the service action; the last row has APTPL.
-pub const NO_KEYS: &'static [u8] = &[0; 24];
-
-pub const A_NEW: &'static [u8] = b"\0\0\0\0\0\0\0\0\0\0\0\0\0\0\0\xa1\0\0\0\0\0\0\0\0";
-
-pub const B_NEW: &'static [u8] = b"\0\0\0\0\0\0\0\0\0\0\0\0\0\0\0\xb2\0\0\0\0\0\0\0\0";
-
-pub const BY_A: &'static [u8] = b"\0\0\0\0\0\0\0\xa1\0\0\0\0\0\0\0\0\0\0\0\0\0\0\0\0";
-
-pub const BY_B: &'static [u8] = b"\0\0\0\0\0\0\0\xb2\0\0\0\0\0\0\0\0\0\0\0\0\0\0\0\0";
-
-pub const A_OVER_A: &'static [u8] = b"\0\0\0\0\0\0\0\xa1\0\0\0\0\0\0\0\xa1\0\0\0\0\0\0\0\0";
-
-pub const A_WITH_APTPL: &'static [u8] = b"\0\0\0\0\0\0\0\0\0\0\0\0\0\0\0\xa1\0\0\0\0\x01\0\0\0";
+fn established(wanted: Answer) -> (Status, Option<[u8; 18]>, &[u8]) {
+    match wanted {
+        Answer::Good(bytes) => (Status::Good, None, bytes),
+        Answer::Check(key, code, qualifier) => {
+            (
+                Status::Check,
+                Some(sense_bytes(0x70, key, 0, code, qualifier)),
+                NONE,
+            )
+        }
+        Answer::Sense(response, key, information, code, qualifier) => {
+            let sense = sense_bytes(response, key, information, code, qualifier);
+            (Status::Check, Some(sense), NONE)
+        }
+        Answer::Conflict => (Status::Conflict, None, NONE),
+    }
+}
 
 pub fn assert_answer(rt: &impl Abort, reply: &Reply, wanted: Answer, at: usize) {
-    match wanted {
-        Answer::Good(bytes) => assert_established(rt, reply, Status::Good, None, bytes, at),
-        Answer::Check(key, code, qualifier) => {
-            let sense = Some(sense_bytes(0x70, key, 0, code, qualifier));
-            assert_established(rt, reply, Status::Check, sense, NONE, at);
-        }
-        Answer::Conflict => assert_established(rt, reply, Status::Conflict, None, NONE, at),
-    }
+    let (status, sense, bytes) = established(wanted);
+    assert_equal!(rt; reply.status, status; at);
+    assert_equal!(rt; sense_of(reply), sense; at);
+    assert_equal!(rt; reply.bytes.as_slice(), bytes; at);
 }
 
 pub fn asks<K: Keeper>(rt: &impl Abort, drive: &mut Drive<StagedMedium, K>, row: Row, at: usize) {
@@ -91,14 +74,31 @@ pub fn ask_all<K: Keeper>(rt: &impl Abort, drive: &mut Drive<StagedMedium, K>, r
     }
 }
 
-// The power on condition is reported to these hosts.
+/// The power on condition is reported to these hosts.
 pub fn greet<K: Keeper>(rt: &impl Abort, drive: &mut Drive<StagedMedium, K>, hosts: &[u8]) {
     for host in hosts {
         asks(rt, drive, (*host, TEST_UNIT_READY, NONE, POWERED_ON), 0);
     }
 }
 
-// An empty medium.
-pub fn tape(alloc: Global) -> Result<StagedMedium, NoMemory> {
-    StagedMedium::new(alloc, &[4_096], 4_096, SOUND)
+/// A drive that was switched on with this medium in it, if any.
+pub fn switched_on(alloc: Global, medium: Option<StagedMedium>) -> Result<Plain, NoMemory> {
+    Drive::power_on(alloc, NoKeeper, Reservations::empty(), medium).map_err(|_| NoMemory)
+}
+
+/// One with a cartridge of one partition, whose side has this room and whose device fails by this plan.
+pub fn with_side(alloc: Global, room: u64, plan: FaultPlan) -> Result<Plain, NoMemory> {
+    switched_on(alloc, Some(StagedMedium::new(alloc, &[4_096], room, plan)?))
+}
+
+/// The empty drive is loaded with this medium; the reply where it is refused.
+pub fn load(rt: &impl Abort, drive: &mut Plain, medium: StagedMedium) -> Option<Reply> {
+    if !drive.is_empty() {
+        assert_holds!(rt; false, "not empty");
+        return None;
+    }
+    match drive.load(medium) {
+        Ok(()) => None,
+        Err((_, reply)) => Some(reply),
+    }
 }

@@ -1,288 +1,295 @@
 //! Each public call once, over a medium whose side is limited and whose device fails.
-use crate::motions::{
-    AFTER_A_FAULT, AFTER_A_LATE_FAULT, AFTER_A_MOVE, AFTER_AN_UNLOADING, AFTER_ANOTHER,
-    BEFORE_A_FAULT, MANY_MARKS, MOVES, NO_ERASURE, STORED_FIRST,
+use crate::asked::{
+    Answer, BLOCK_LIMITS, CHANGED, END, ERASE, FAILED, FULL, FULL_BY_1, FULL_BY_3, FULL_BY_5, GOOD,
+    HELLO, INQUIRY, IS, LATE_ERROR, LIMITS, LOAD, LOCATE_0, MARK, MARK_AT_ONCE, MARK_FORWARD,
+    NO_MARKS, NO_MEMORY, NONE, NOTHING_PENDING, POSITION, POWERED_ON, READ_5, READ_ERROR,
+    REQUEST_SENSE, REWIND, Row, SELECT, SENSE_MODE, TEST_UNIT_READY, THREE_MARKS, UNBUFFERED,
+    UNKNOWN, UNLOAD, WRITE_5, WRITE_ERROR, WRITE_MARK,
 };
-use crate::samples::{assert_reply, assert_row, assert_rows, load, switched_on, with_side};
-use crate::tables;
-use crate::tables::{
-    ARRIVALS, Arrival, BEFORE_A_TURN, FAULTS, FILLING, FULL_SIDE, HAS_FAILED, LOADED, MARKS_FAIL,
-    NO_BYTE, NO_MARKS_FAIL, NO_MEMORY, NONE, NOTHING_LOADED, POWERED_ON, READ_5, READ_FAILS,
-    READ_FAILS_TO_STORE, REWIND_FAILS, Row, SOUND, WRITE_ERROR, Wanted,
-};
-use drive_commands::{Drive, Fault};
+use crate::asking::{AT_ONCE, Plain, SOUND, ask_all, asks, assert_answer, load, with_side};
+use drive_commands::Fault;
 use drive_theorems::{
-    answers_are_determined, events_run, honest_steps, runs_append, served_hosts_run,
+    answers_are_determined, counts_are_held, events_run, honest_steps, replies_show_changes,
+    runs_append, served_hosts_run,
 };
 use pr_core::NoKeeper;
-use std::alloc::Global;
 use std::process::Abort;
 use std::test::Fail;
 use test_assertions::{assert_equal, assert_holds};
-use test_media::{FaultPlan, StagedMedium};
-use volume_core::{Medium, PlainMedium, Turn};
-use vtl_base::{Bytes, NoMemory};
+use test_media::FaultPlan;
+use volume_core::{PlainMedium, Turn};
+use vtl_base::NoMemory;
 
-// Which storing fails, which reading, and the room of the side.
-type Side = (Option<u32>, Option<u32>, u64);
+// A side of 50 bytes: a block of five bytes takes 20 of it, one of one byte 16, marks 15.
+const FILLING: &'static [Row<'static>] = &[
+    // a command block of no byte, before anything else
+    (1, NONE, NONE, UNKNOWN),
+    (1, TEST_UNIT_READY, NONE, POWERED_ON),
+    (1, WRITE_5, b"hello", GOOD),
+    (1, MARK_AT_ONCE, NONE, GOOD),
+    (1, WRITE_5, b"hello", FULL_BY_5),
+    (1, &[0x0a, 0, 0, 0, 1, 0], b"x", FULL_BY_1),
+    (1, &[0x10, 1, 0, 0, 2, 0], NONE, GOOD),
+    (1, &[0x10, 1, 0, 0, 3, 0], NONE, FULL_BY_3),
+    (1, THREE_MARKS, NONE, FULL_BY_3),
+];
 
-// The answers of a drive to commands, to a turn, and to commands.
-fn goes_on(
-    rt: &impl Abort,
-    drive: &mut Drive<StagedMedium, NoKeeper>,
-    rows: &[Row],
-    turn: Turn,
-    then: &[Row],
-) {
-    assert_rows(rt, drive, rows);
+const FULL_SIDE: &'static [Row<'static>] = &[
+    (1, WRITE_5, b"hello", FULL_BY_5),
+    (1, REWIND, NONE, GOOD),
+    (1, READ_5, NONE, HELLO),
+    (1, READ_5, NONE, MARK),
+    (1, READ_5, NONE, MARK),
+    (1, READ_5, NONE, MARK),
+    (1, READ_5, NONE, END),
+];
+
+// A side of 20 bytes: a block of five bytes takes it all, and an erase would take 15.
+const NO_ERASURE: &'static [Row<'static>] = &[
+    (1, TEST_UNIT_READY, NONE, POWERED_ON),
+    (1, WRITE_5, b"block", GOOD),
+    (1, REWIND, NONE, GOOD),
+    (1, ERASE, NONE, FULL),
+    (1, READ_5, NONE, Answer::Good(b"block")),
+    (1, READ_5, NONE, END),
+];
+
+const REWIND_FAILS: &'static [Row<'static>] = &[
+    (1, TEST_UNIT_READY, NONE, POWERED_ON),
+    (1, WRITE_5, b"hello", GOOD),
+    (1, REWIND, NONE, WRITE_ERROR),
+    (1, TEST_UNIT_READY, NONE, FAILED),
+    (1, REWIND, b"x", FAILED),
+    (1, READ_5, NONE, FAILED),
+    (1, &[0xa5; 12], NONE, UNKNOWN),
+    (64, REWIND, NONE, POWERED_ON),
+];
+
+const MARKS_FAIL: &'static [Row<'static>] = &[
+    (1, TEST_UNIT_READY, NONE, POWERED_ON),
+    (1, WRITE_5, b"hello", GOOD),
+    (1, WRITE_MARK, NONE, GOOD),
+    (1, WRITE_MARK, NONE, WRITE_ERROR),
+];
+
+const READ_FAILS: &'static [Row<'static>] = &[
+    (1, TEST_UNIT_READY, NONE, POWERED_ON),
+    (1, WRITE_5, b"hello", GOOD),
+    (1, REWIND, NONE, GOOD),
+    (1, READ_5, NONE, HELLO),
+    (1, REWIND, NONE, GOOD),
+    (1, READ_5, NONE, READ_ERROR),
+];
+
+// In unbuffered mode a write is stored before its answer.
+const WRITE_FAILS: &'static [Row<'static>] = &[
+    (1, TEST_UNIT_READY, NONE, POWERED_ON),
+    (1, SELECT, UNBUFFERED, GOOD),
+    (1, WRITE_5, b"hello", WRITE_ERROR),
+    (1, SENSE_MODE, NONE, Answer::Good(b"\x03\0\0\0")),
+];
+
+const HAS_FAILED: &'static [Row<'static>] = &[
+    (1, TEST_UNIT_READY, NONE, FAILED),
+    (1, REWIND, NONE, FAILED),
+];
+
+const BEFORE_A_TURN: &'static [Row<'static>] = &[
+    (1, TEST_UNIT_READY, NONE, POWERED_ON),
+    (1, WRITE_5, b"hello", GOOD),
+    (1, REWIND, NONE, GOOD),
+    (1, WRITE_5, b"world", GOOD),
+];
+
+// The deferred error is reported at the first command with a known code, whichever host sends it.
+const REPORTED_ONCE: &'static [Row<'static>] = &[
+    (1, &[0xa5; 12], NONE, UNKNOWN),
+    (2, TEST_UNIT_READY, NONE, LATE_ERROR),
+    (2, TEST_UNIT_READY, NONE, POWERED_ON),
+    (2, TEST_UNIT_READY, NONE, FAILED),
+    (1, REWIND, NONE, FAILED),
+];
+
+// Which storing fails, which reading, and the room of the side; commands, what a turn does then, and commands after it.
+type Course = (
+    (Option<u32>, Option<u32>, u64),
+    &'static [Row<'static>],
+    Turn,
+    &'static [Row<'static>],
+);
+
+static COURSES: &'static [Course] = &[
+    ((None, None, 50), FILLING, Turn::Stored(3), FULL_SIDE),
+    ((None, None, 20), NO_ERASURE, Turn::Idle, &[]),
+    ((Some(0), None, 1_000), REWIND_FAILS, Turn::Idle, HAS_FAILED),
+    ((Some(1), None, 1_000), MARKS_FAIL, Turn::Idle, HAS_FAILED),
+    ((Some(0), None, 1_000), WRITE_FAILS, Turn::Idle, HAS_FAILED),
+    ((None, Some(1), 1_000), READ_FAILS, Turn::Idle, HAS_FAILED),
+    (
+        (Some(1), None, 1_000),
+        BEFORE_A_TURN,
+        Turn::Device,
+        REPORTED_ONCE,
+    ),
+];
+
+fn goes_on(rt: &impl Abort, drive: &mut Plain, rows: &[Row], turn: Turn, then: &[Row]) {
+    ask_all(rt, drive, rows);
     assert_equal!(rt; drive.turn(), turn);
-    assert_rows(rt, drive, then);
-}
-
-// The same over such a side.
-fn assert_course(
-    rt: &impl Abort,
-    alloc: Global,
-    side: Side,
-    rows: &[Row],
-    turn: Turn,
-    then: &[Row],
-) -> Result<(), Fail> {
-    let (store, fetch, room) = side;
-    let plan = FaultPlan {
-        store,
-        fetch,
-        ..SOUND
-    };
-    let mut drive = with_side(alloc, room, plan)?;
-    goes_on(rt, &mut drive, rows, turn, then);
-    Ok(())
+    ask_all(rt, drive, then);
 }
 
 #[test]
 fn a_drive_answers(rt: HostRuntime) -> Result<(), Fail> {
-    let alloc = rt.alloc();
-    let sound = (None, None, 1_000);
-    assert_course(&rt, alloc, sound, NO_BYTE, Turn::Idle, &[])?;
-    let small = (None, None, 50);
-    assert_course(&rt, alloc, small, FILLING, Turn::Stored(3), FULL_SIDE)?;
-    let first = (Some(0), None, 1_000);
-    assert_course(&rt, alloc, first, REWIND_FAILS, Turn::Idle, HAS_FAILED)?;
-    assert_course(
-        &rt,
-        alloc,
-        first,
-        READ_FAILS_TO_STORE,
-        Turn::Idle,
-        HAS_FAILED,
-    )?;
-    assert_course(&rt, alloc, first, NO_MARKS_FAIL, Turn::Idle, HAS_FAILED)?;
-    let second = (Some(1), None, 1_000);
-    assert_course(&rt, alloc, second, MARKS_FAIL, Turn::Idle, HAS_FAILED)?;
-    let reading = (None, Some(1), 1_000);
-    assert_course(&rt, alloc, reading, READ_FAILS, Turn::Idle, HAS_FAILED)?;
-    let late = tables::AFTER_A_LATE_FAULT;
-    assert_course(&rt, alloc, second, BEFORE_A_TURN, Turn::Device, late)
-}
-
-// A medium with a block on it, which was stored and the medium then parked, where this says so.
-#[tactic(auto, using(crate::proofs::TestLemmas::accepted_is_awake, crate::proofs::TestLemmas::settles_awake))]
-fn written(
-    alloc: Global,
-    plan: FaultPlan,
-    settles: bool,
-    parks: bool,
-) -> Result<StagedMedium, Fail> {
-    let mut medium = StagedMedium::new(alloc, &[4_096], 1_000, plan)?;
-    medium.put(0, 0, Bytes::from_slice(alloc, b"hello")?)?;
-    if settles {
-        let _ = medium.settle();
-    }
-    if parks {
-        medium.park()?;
-    }
-    Ok(medium)
-}
-
-// A drive that was just loaded holds a medium, and one that was not holds none.
-fn is_loaded(rt: &impl Abort, drive: &mut Drive<StagedMedium, NoKeeper>, wanted: Wanted) {
-    assert_holds!(rt; wanted.0.is_none() && !drive.is_empty());
-    assert_holds!(rt; drive.medium().is_some());
-    assert_rows(rt, drive, LOADED);
-}
-
-fn assert_loads(
-    rt: &impl Abort,
-    drive: &mut Drive<StagedMedium, NoKeeper>,
-    medium: StagedMedium,
-    wanted: Wanted,
-) {
-    match load(rt, drive, medium) {
-        None => is_loaded(rt, drive, wanted),
-        Some(reply) => {
-            assert_reply(rt, &reply, wanted, 0);
-            assert_holds!(rt; drive.is_empty());
-        }
-    }
-}
-
-// A drive is empty, which is reported to host 1.
-fn has_nothing(rt: &impl Abort, drive: &mut Drive<StagedMedium, NoKeeper>) {
-    goes_on(rt, drive, NOTHING_LOADED, Turn::Idle, &[]);
-    assert_holds!(rt; drive.medium().is_none());
-}
-
-// The answers of a drive that is loaded with this medium.
-fn assert_arrival(
-    rt: &impl Abort,
-    drive: &mut Drive<StagedMedium, NoKeeper>,
-    medium: StagedMedium,
-    arrival: &Arrival,
-) {
-    let (_, _, _, loading, loaded, _) = *arrival;
-    has_nothing(rt, drive);
-    assert_loads(rt, drive, medium, loading);
-    assert_row(rt, drive, (1, READ_5, NONE, loaded), 0);
-}
-
-// The answers of one that is switched on with it.
-fn assert_power_on(rt: &impl Abort, drive: &mut Drive<StagedMedium, NoKeeper>, arrival: &Arrival) {
-    assert_row(rt, drive, (1, READ_5, NONE, POWERED_ON), 0);
-    assert_row(rt, drive, (1, READ_5, NONE, arrival.5), 1);
-}
-
-fn made_ready(alloc: Global, arrival: &Arrival) -> Result<StagedMedium, Fail> {
-    let (plan, settles, parks, _, _, _) = *arrival;
-    written(alloc, plan, settles, parks)
-}
-
-fn comes_in(rt: &impl Abort, alloc: Global, arrival: &Arrival) -> Result<(), Fail> {
-    let mut drive = switched_on(alloc, None)?;
-    assert_arrival(rt, &mut drive, made_ready(alloc, arrival)?, arrival);
-    Ok(())
-}
-
-fn is_there(rt: &impl Abort, alloc: Global, arrival: &Arrival) -> Result<(), Fail> {
-    let mut drive = switched_on(alloc, Some(made_ready(alloc, arrival)?))?;
-    assert_power_on(rt, &mut drive, arrival);
-    Ok(())
-}
-
-#[test]
-fn a_medium_comes_into_a_drive(rt: HostRuntime) -> Result<(), Fail> {
-    for arrival in ARRIVALS {
-        comes_in(&rt, rt.alloc(), arrival)?;
-        is_there(&rt, rt.alloc(), arrival)?;
+    for &((store, fetch, room), rows, turn, then) in COURSES {
+        let plan = FaultPlan {
+            store,
+            fetch,
+            ..SOUND
+        };
+        let mut drive = with_side(rt.alloc(), room, plan)?;
+        goes_on(&rt, &mut drive, rows, turn, then);
     }
     Ok(())
 }
 
-// A drive with two partitions, whose side has this room, and whose device fails in the storing with this
-// number.
-fn powered(
-    alloc: Global,
-    room: u64,
-    store: Option<u32>,
-) -> Result<Drive<StagedMedium, NoKeeper>, Fail> {
-    let plan = FaultPlan { store, ..SOUND };
-    let medium = StagedMedium::new(alloc, &[4_096, 4_111], room, plan)?;
-    Ok(switched_on(alloc, Some(medium))?)
-}
+// A block is pending, and the device fails while it is stored: each command ends in this way, before its work.
+static STORED_FIRST: &'static [&'static [u8]] = &[
+    MARK_FORWARD,
+    &[0x11, 3, 0, 0, 0, 0],
+    LOCATE_0,
+    &[0x2b, 0, 0, 0, 0, 0, 9, 0, 0, 0],
+    POSITION,
+    ERASE,
+    READ_5,
+    NO_MARKS,
+];
 
-// The answers of a drive with such a side to these commands.
-fn assert_moves(rt: &impl Abort, alloc: Global, room: u64, rows: &[Row]) -> Result<(), Fail> {
-    let mut drive = powered(alloc, room, None)?;
-    assert_rows(rt, &mut drive, rows);
-    Ok(())
-}
+static BEFORE_A_FAULT: &'static [Row<'static>] = &[
+    (1, TEST_UNIT_READY, NONE, POWERED_ON),
+    (1, WRITE_5, b"block", GOOD),
+];
 
-#[test]
-fn a_drive_moves_and_reports(rt: HostRuntime) -> Result<(), Fail> {
-    let alloc = rt.alloc();
-    assert_moves(&rt, alloc, 1_000, MOVES)?;
-    assert_moves(&rt, alloc, 20, NO_ERASURE)
-}
+// Answers after the medium has failed: commands that need no medium are carried out.
+static AFTER_A_FAULT: &'static [Row<'static>] = &[
+    (1, POSITION, NONE, FAILED),
+    (1, ERASE, NONE, FAILED),
+    (1, LOCATE_0, NONE, FAILED),
+    (1, INQUIRY, NONE, IS),
+    (1, BLOCK_LIMITS, NONE, LIMITS),
+    (1, REQUEST_SENSE, NONE, NOTHING_PENDING),
+];
 
-#[test]
-fn a_drive_passes_a_thousand_filemarks(rt: HostRuntime) -> Result<(), Fail> {
-    let alloc = rt.alloc();
-    let medium = StagedMedium::new(alloc, &[65_536], 1_000, SOUND)?;
-    let mut drive = switched_on(alloc, Some(medium))?;
-    assert_rows(&rt, &mut drive, MANY_MARKS);
-    Ok(())
-}
-
-// A drive whose device fails in the first storing.
-fn with_a_fault_to_come(alloc: Global) -> Result<Drive<StagedMedium, NoKeeper>, Fail> {
-    powered(alloc, 1_000, Some(0))
-}
-
-// This command ends while what is pending is stored.
-fn stores_first(rt: &impl Abort, drive: &mut Drive<StagedMedium, NoKeeper>, cdb: &[u8]) {
-    assert_rows(rt, drive, BEFORE_A_FAULT);
-    assert_row(rt, drive, (1, cdb, NONE, WRITE_ERROR), 0);
-    assert_rows(rt, drive, AFTER_A_FAULT);
-}
-
-fn assert_stored_first(rt: &impl Abort, alloc: Global, cdb: &[u8]) -> Result<(), Fail> {
-    let mut drive = with_a_fault_to_come(alloc)?;
-    stores_first(rt, &mut drive, cdb);
-    Ok(())
+fn stores_first(rt: &impl Abort, drive: &mut Plain, cdb: &[u8]) {
+    ask_all(rt, drive, BEFORE_A_FAULT);
+    asks(rt, drive, (1, cdb, NONE, WRITE_ERROR), 0);
+    ask_all(rt, drive, AFTER_A_FAULT);
 }
 
 #[test]
 fn what_is_pending_is_stored_first(rt: HostRuntime) -> Result<(), Fail> {
-    let alloc = rt.alloc();
     for cdb in STORED_FIRST {
-        assert_stored_first(&rt, alloc, cdb)?;
+        let mut drive = with_side(rt.alloc(), 1_000, AT_ONCE)?;
+        stores_first(&rt, &mut drive, cdb);
     }
-    assert_late(&rt, alloc, false, AFTER_A_LATE_FAULT)?;
-    assert_late(&rt, alloc, false, AFTER_ANOTHER)
+    Ok(())
 }
 
-// The cartridge is moved out of the drive, and back.
-fn move_out_and_in(rt: &impl Abort, drive: &mut Drive<StagedMedium, NoKeeper>) {
+// A deferred error is reported before an attention, once.
+const BY_REQUEST_SENSE: &'static [Row<'static>] = &[
+    (2, INQUIRY, NONE, IS),
+    (2, &[0xa5; 12], NONE, UNKNOWN),
+    (
+        2,
+        REQUEST_SENSE,
+        NONE,
+        Answer::Good(b"\x71\0\x03\0\0\0\0\x0a\0\0\0\0\x0c\0\0\0\0\0"),
+    ),
+    (
+        2,
+        REQUEST_SENSE,
+        NONE,
+        Answer::Good(b"\x70\0\x06\0\0\0\0\x0a\0\0\0\0\x29\0\0\0\0\0"),
+    ),
+    (2, POSITION, NONE, FAILED),
+    (1, TEST_UNIT_READY, NONE, FAILED),
+];
+
+// UNLOAD reports it and does nothing else; then LOAD opens what is on the side, without what was pending.
+const AFTER_AN_UNLOADING: &'static [Row<'static>] = &[
+    (1, UNLOAD, NONE, LATE_ERROR),
+    (1, TEST_UNIT_READY, NONE, FAILED),
+    (1, UNLOAD, NONE, GOOD),
+    (1, LOAD, NONE, GOOD),
+    (1, TEST_UNIT_READY, NONE, GOOD),
+    (1, READ_5, NONE, END),
+    (2, TEST_UNIT_READY, NONE, POWERED_ON),
+    (2, TEST_UNIT_READY, NONE, CHANGED),
+];
+
+// Where the cartridge was moved out of the drive and back before any command.
+const AFTER_A_MOVE: &'static [Row<'static>] = &[
+    (1, TEST_UNIT_READY, NONE, LATE_ERROR),
+    (1, TEST_UNIT_READY, NONE, CHANGED),
+    (1, READ_5, NONE, END),
+    (2, TEST_UNIT_READY, NONE, POWERED_ON),
+    (2, TEST_UNIT_READY, NONE, CHANGED),
+];
+
+// Whether the cartridge is moved after a turn that met a fault, and the answers then.
+static LATE: &'static [(bool, &'static [Row<'static>])] = &[
+    (false, BY_REQUEST_SENSE),
+    (false, AFTER_AN_UNLOADING),
+    (true, AFTER_A_MOVE),
+];
+
+fn move_out_and_in(rt: &impl Abort, drive: &mut Plain) {
     match drive.unload() {
         Ok(medium) => assert_holds!(rt; load(rt, drive, medium).is_none()),
         Err(_) => assert_holds!(rt; false, "nothing came out"),
     }
 }
 
-// A turn meets a fault, and the cartridge is moved out and back or stays; the conditions that are reported.
-fn is_late(rt: &impl Abort, drive: &mut Drive<StagedMedium, NoKeeper>, moves: bool, rows: &[Row]) {
+fn is_late(rt: &impl Abort, drive: &mut Plain, moves: bool, rows: &[Row]) {
     goes_on(rt, drive, BEFORE_A_FAULT, Turn::Device, &[]);
     if moves {
         move_out_and_in(rt, drive);
     }
     assert_holds!(rt; drive.has_deferred_error());
-    assert_rows(rt, drive, rows);
+    ask_all(rt, drive, rows);
     assert_holds!(rt; !drive.has_deferred_error());
-}
-
-fn assert_late(rt: &impl Abort, alloc: Global, moves: bool, rows: &[Row]) -> Result<(), Fail> {
-    let mut drive = with_a_fault_to_come(alloc)?;
-    is_late(rt, &mut drive, moves, rows);
-    Ok(())
 }
 
 // A deferred error belongs to the drive: it stays while the cartridge is moved.
 #[test]
 fn a_deferred_error_outlives_a_cartridge(rt: HostRuntime) -> Result<(), Fail> {
-    let alloc = rt.alloc();
-    assert_late(&rt, alloc, false, AFTER_AN_UNLOADING)?;
-    assert_late(&rt, alloc, true, AFTER_A_MOVE)
+    for &(moves, rows) in LATE {
+        let mut drive = with_side(rt.alloc(), 1_000, AT_ONCE)?;
+        is_late(&rt, &mut drive, moves, rows);
+    }
+    Ok(())
 }
+
+// Faults, and the report of each.
+static FAULTS: &'static [(Fault, Answer<'static>)] = &[
+    (Fault::Writing, WRITE_ERROR),
+    (Fault::Reading, READ_ERROR),
+    (Fault::SideFull { residue: None }, FULL),
+    (Fault::SideFull { residue: Some(1) }, FULL_BY_1),
+];
 
 #[test]
 fn faults_are_reported(rt: HostRuntime) {
     let alloc = rt.alloc();
-    assert_reply(&rt, &Fault::from(NoMemory).reply(alloc), NO_MEMORY, 0);
+    assert_answer(&rt, &Fault::from(NoMemory).reply(alloc), NO_MEMORY, 0);
     for (at, &(fault, wanted)) in FAULTS.iter().enumerate() {
-        assert_reply(&rt, &fault.reply(alloc), wanted, at);
+        assert_answer(&rt, &fault.reply(alloc), wanted, at);
     }
     honest_steps::<PlainMedium>();
     served_hosts_run::<PlainMedium, NoKeeper>();
     events_run::<PlainMedium, NoKeeper>();
+    replies_show_changes::<PlainMedium, NoKeeper>();
+    counts_are_held();
     answers_are_determined();
     runs_append();
 }

@@ -1,43 +1,26 @@
 //! The saves of a drive's reservations, and the answers to hosts where the keeper refuses.
-use crate::asking::{
-    A_NEW, A_OVER_A, A_WITH_APTPL, Answer, B_NEW, BAD_FIELD, BAD_LENGTH, BY_A, BY_B, CLEAR,
-    CLEARED, CONFLICT, FAILED, GOOD, NO_KEYS, OUT_OF_MEMORY, READ_KEYS, READ_RESERVATION, REGISTER,
-    RELEASE_5, RESERVE_5, Row, STORE_FULL, ask_all, asks, greet, tape,
+use crate::asked::{
+    A_NEW, Answer, B_NEW, BAD_FIELD, BAD_LENGTH, BY_A, BY_B, CLEAR, CLEARED, CONFLICT, FAILED,
+    GOOD, NO_KEYS, NO_MEMORY, NONE, READ_KEYS, READ_RESERVATION, REGISTER, RELEASE_5, RESERVE_5,
+    REWIND, Row, STORE_FULL, TEST_UNIT_READY,
 };
-use crate::tables::{NONE, REWIND, TEST_UNIT_READY};
+use crate::asking::{SOUND, ask_all, asks, greet};
 use drive_commands::Drive;
 use pr_core::Reservations;
-use scsi_lists::{PrOut, PrType};
 use std::alloc::Global;
 use std::process::Abort;
 use std::test::Fail;
 use test_media::{SaveFault, SavePlan, StagedKeeper, StagedMedium};
-use vtl_base::{Nexus, NoMemory};
+use vtl_base::NoMemory;
 
-// A drive with a tape, whose keeper has saved this state and has this room, and a save of which fails.
-fn with_keeper(
-    alloc: Global,
-    saved: Reservations,
-    room: u64,
-    plan: Option<SavePlan>,
-) -> Result<Drive<StagedMedium, StagedKeeper>, NoMemory> {
-    let keeper = StagedKeeper::new(saved, room, plan);
-    let left = saved.power_loss();
-    Drive::power_on(alloc, keeper, left, Some(tape(alloc)?)).map_err(|_| NoMemory)
-}
+type Kept = Drive<StagedMedium, StagedKeeper>;
 
-// The save after this many fails in this way.
-fn failing(
-    alloc: Global,
-    after: u32,
-    by: SaveFault,
-) -> Result<Drive<StagedMedium, StagedKeeper>, NoMemory> {
-    with_keeper(
-        alloc,
-        Reservations::empty(),
-        4_096,
-        Some(SavePlan { after, by }),
-    )
+// A drive with a tape, whose keeper has this room, and a save of which fails.
+fn with_keeper(alloc: Global, room: u64, plan: Option<SavePlan>) -> Result<Kept, NoMemory> {
+    let keeper = StagedKeeper::new(Reservations::empty(), room, plan);
+    let left = Reservations::empty().power_loss();
+    let medium = StagedMedium::new(alloc, &[4_096], 4_096, SOUND)?;
+    Drive::power_on(alloc, keeper, left, Some(medium)).map_err(|_| NoMemory)
 }
 
 // Two keys, and the first one's reservation.
@@ -62,19 +45,13 @@ static SAVED_ORDERS: &'static [(Row<'static>, &'static [u8], &'static [u8])] = &
 ];
 
 // The old reservations stay.
-fn assert_stands(
-    rt: &impl Abort,
-    drive: &mut Drive<StagedMedium, StagedKeeper>,
-    keys: &'static [u8],
-    reservation: &'static [u8],
-    at: usize,
-) {
-    asks(rt, drive, (1, READ_KEYS, NONE, Answer::Good(keys)), at);
+fn stand(rt: &impl Abort, drive: &mut Kept, keys: &'static [u8], held: &'static [u8]) {
+    asks(rt, drive, (1, READ_KEYS, NONE, Answer::Good(keys)), 0);
     asks(
         rt,
         drive,
-        (2, READ_RESERVATION, NONE, Answer::Good(reservation)),
-        at,
+        (2, READ_RESERVATION, NONE, Answer::Good(held)),
+        1,
     );
 }
 
@@ -84,30 +61,31 @@ static AFTER_A_CLEARING: &'static [Row<'static>] = &[
     (2, TEST_UNIT_READY, NONE, GOOD),
 ];
 
-// Memory runs out in the save of this order, which succeeds when the order is sent again.
-fn runs_out(rt: &impl Abort, drive: &mut Drive<StagedMedium, StagedKeeper>, at: u32) {
-    greet(rt, drive, &[1, 2]);
-    for (turn, &(row, keys, reservation)) in SAVED_ORDERS.iter().enumerate() {
-        if turn == at as usize {
-            let (host, cdb, sent, _) = row;
-            asks(rt, drive, (host, cdb, sent, OUT_OF_MEMORY), 0);
+// The save of this order is refused, and from then on each one where the device failed; else the order succeeds when it
+// is sent again.
+fn is_refused(rt: &impl Abort, drive: &mut Kept, at: usize, refusal: Answer, stays: bool) {
+    greet(rt, drive, &[1, 2, 3]);
+    for (turn, &(row, keys, held)) in SAVED_ORDERS.iter().enumerate() {
+        let fails = turn == at || stays && turn > at;
+        if fails {
+            asks(rt, drive, (row.0, row.1, row.2, refusal), turn);
         }
-        assert_stands(rt, drive, keys, reservation, turn);
-        asks(rt, drive, row, turn);
+        if turn <= at || !stays {
+            stand(rt, drive, keys, held);
+        }
+        if !fails || !stays {
+            asks(rt, drive, row, turn);
+        }
     }
-    ask_all(rt, drive, AFTER_A_CLEARING);
-}
-
-fn runs_out_at(rt: &impl Abort, alloc: Global, at: u32) -> Result<(), NoMemory> {
-    let mut drive = failing(alloc, at, SaveFault::NoMemory)?;
-    runs_out(rt, &mut drive, at);
-    Ok(())
 }
 
 #[test]
 fn memory_runs_out_in_a_save(rt: HostRuntime) -> Result<(), Fail> {
-    for at in 0..4u32 {
-        runs_out_at(&rt, rt.alloc(), at)?;
+    for after in 0..4u32 {
+        let by = SaveFault::NoMemory;
+        let mut drive = with_keeper(rt.alloc(), 4_096, Some(SavePlan { after, by }))?;
+        is_refused(&rt, &mut drive, after as usize, NO_MEMORY, false);
+        ask_all(&rt, &mut drive, AFTER_A_CLEARING);
     }
     Ok(())
 }
@@ -122,32 +100,15 @@ static AFTER_A_FAULT: &'static [Row<'static>] = &[
     (2, TEST_UNIT_READY, NONE, GOOD),
 ];
 
-// The save of this order meets a device fault.
-fn fails(rt: &impl Abort, drive: &mut Drive<StagedMedium, StagedKeeper>, at: u32) {
-    greet(rt, drive, &[1, 2, 3]);
-    for (turn, &(row, keys, reservation)) in SAVED_ORDERS.iter().enumerate() {
-        let (host, cdb, sent, wanted) = row;
-        let wanted = if turn < at as usize { wanted } else { FAILED };
-        asks(rt, drive, (host, cdb, sent, wanted), turn);
-        if turn == at as usize {
-            assert_stands(rt, drive, keys, reservation, turn);
-        }
-    }
-    ask_all(rt, drive, AFTER_A_FAULT);
-}
-
-fn fails_at(rt: &impl Abort, alloc: Global, at: u32) -> Result<(), NoMemory> {
-    let mut drive = failing(alloc, at, SaveFault::Device)?;
-    fails(rt, &mut drive, at);
-    Ok(())
-}
-
 // After a device fault each order that passes its checks has the answer of the one whose save failed, before
 // the machine is called. No condition is established, and reads and the medium go on.
 #[test]
 fn the_device_fails_in_a_save(rt: HostRuntime) -> Result<(), Fail> {
-    for at in 0..4u32 {
-        fails_at(&rt, rt.alloc(), at)?;
+    for after in 0..4u32 {
+        let by = SaveFault::Device;
+        let mut drive = with_keeper(rt.alloc(), 4_096, Some(SavePlan { after, by }))?;
+        is_refused(&rt, &mut drive, after as usize, FAILED, true);
+        ask_all(&rt, &mut drive, AFTER_A_FAULT);
     }
     Ok(())
 }
@@ -171,82 +132,8 @@ static FULL_STORE: &'static [Row<'static>] = &[
 
 #[test]
 fn a_store_is_full(rt: HostRuntime) -> Result<(), Fail> {
-    let mut drive = with_keeper(rt.alloc(), Reservations::empty(), 27, None)?;
+    let mut drive = with_keeper(rt.alloc(), 27, None)?;
     greet(&rt, &mut drive, &[1, 2]);
     ask_all(&rt, &mut drive, FULL_STORE);
-    Ok(())
-}
-
-// Orders that need a save, and orders that need none.
-static COUNTED: &'static [Row<'static>] = &[
-    (2, REGISTER, NO_KEYS, GOOD),
-    (1, REGISTER, A_WITH_APTPL, GOOD),
-    (1, RESERVE_5, BY_B, CONFLICT),
-    (1, RELEASE_5, BY_A, GOOD),
-    (2, CLEAR, BY_B, CONFLICT),
-    (1, &[0x5f, 4, 0, 0, 0, 0, 0, 0, 24, 0], A_OVER_A, GOOD),
-    (
-        1,
-        READ_KEYS,
-        NONE,
-        Answer::Good(b"\0\0\0\x02\0\0\0\x08\0\0\0\0\0\0\0\xa1"),
-    ),
-    (1, REGISTER, A_OVER_A, OUT_OF_MEMORY),
-    (1, REGISTER, A_OVER_A, GOOD),
-];
-
-// The second save is the first that fails: an order that changes only the generation needs none, and one that
-// changes only APTPL needs one.
-#[test]
-fn saves_are_counted(rt: HostRuntime) -> Result<(), Fail> {
-    let mut drive = failing(rt.alloc(), 1, SaveFault::NoMemory)?;
-    greet(&rt, &mut drive, &[1, 2]);
-    ask_all(&rt, &mut drive, COUNTED);
-    Ok(())
-}
-
-// Whether APTPL is saved; the keys with which a drive begins then, and the answer to a REWIND of another
-// host.
-static BEGINNINGS: &'static [(bool, &'static [u8], Answer<'static>)] = &[
-    (true, b"\0\0\0\0\0\0\0\x08\0\0\0\0\0\0\0\xa1", CONFLICT),
-    (false, &[0; 8], GOOD),
-];
-
-// A host has registered, with APTPL or not, and reserved.
-fn reserved(rt: &impl Abort, aptpl: bool) -> Reservations {
-    let host = Nexus::new(1).expect(rt, "a nexus");
-    let mut saved = Reservations::empty();
-    let register = PrOut::Register {
-        key: 0,
-        new_key: 0xa1,
-        aptpl,
-    };
-    let _ = saved.pr_out(host, &register);
-    let reserve = PrOut::Reserve {
-        key: 0xa1,
-        kind: PrType::ExclusiveAccess,
-    };
-    let _ = saved.pr_out(host, &reserve);
-    saved
-}
-
-fn begins(
-    rt: &impl Abort,
-    drive: &mut Drive<StagedMedium, StagedKeeper>,
-    keys: &'static [u8],
-    stopped: Answer,
-) {
-    greet(rt, drive, &[1, 2]);
-    asks(rt, drive, (1, READ_KEYS, NONE, Answer::Good(keys)), 0);
-    asks(rt, drive, (2, REWIND, NONE, stopped), 1);
-    asks(rt, drive, (1, REWIND, NONE, GOOD), 2);
-}
-
-#[test]
-fn a_drive_begins_with_what_was_saved(rt: HostRuntime) -> Result<(), Fail> {
-    for &(aptpl, keys, stopped) in BEGINNINGS {
-        let mut drive = with_keeper(rt.alloc(), reserved(&rt, aptpl), 4_096, None)?;
-        begins(&rt, &mut drive, keys, stopped);
-    }
     Ok(())
 }

@@ -1,7 +1,10 @@
-//! A gate of a flusher for tests.
+//! What tests open a library with: a gate of a flusher, and what is required of drives and hosts.
 #![tactic(auto)]
 
+mod opening;
+
 use library::Gate;
+pub use opening::{Unfit, count_fresh, hosts};
 use volume_core::Turn;
 
 /// A gate that is always open, and does nothing.

@@ -1,85 +1,38 @@
 //! A disk that stores written bytes, and has zeros elsewhere.
-use std::process::Abort;
 use tape_disk::{Disk, SparseDisk};
 use test_assertions::assert_equal;
 use vtl_base::DevFault;
 
-// A call of the disk.
-#[derive(Clone, Copy)]
-enum Step {
-    Put(u64, &'static [u8]),
-    Cut(u64),
-    Sync,
-    // It reads four bytes, which are these.
-    Get(u64, [u8; 4]),
-}
-
 const FAR: u64 = 1_099_511_627_776;
 
-// Each call, the length of the disk after it, and the failures that it reports; none at Ok.
-static STEPS: &'static [(Step, u64, u64)] = &[
-    (Step::Sync, 0, 0),
-    (Step::Put(0, b"abcdef"), 6, 0),
-    (Step::Get(1, *b"bcde"), 6, 0),
-    // in the middle, and over the end
-    (Step::Put(2, b"XY"), 6, 0),
-    (Step::Put(5, b"Z12"), 8, 0),
-    (Step::Get(0, *b"abXY"), 8, 0),
-    (Step::Get(4, *b"eZ12"), 8, 0),
-    // far after the end: zeros between
-    (Step::Put(FAR, b"\xa5\x01"), FAR + 2, 0),
-    (Step::Get(6, *b"12\0\0"), FAR + 2, 0),
-    (Step::Get(8, [0; 4]), FAR + 2, 0),
-    (Step::Get(FAR - 2, *b"\0\0\xa5\x01"), FAR + 2, 0),
-    // zeros over other bytes
-    (Step::Put(FAR, b"\0"), FAR + 2, 0),
-    (Step::Get(FAR - 2, *b"\0\0\0\x01"), FAR + 2, 0),
-    // reads that pass the end, and a write that passes the last place
-    (Step::Get(FAR - 1, [9; 4]), FAR + 2, 1),
-    (Step::Get(u64::MAX - 3, [9; 4]), FAR + 2, 2),
-    (Step::Put(u64::MAX - 1, b"ab"), FAR + 2, 3),
-    (Step::Sync, FAR + 2, 0),
-    // a cut after the end, one in the middle, and bytes written after it
-    (Step::Cut(FAR + 9), FAR + 2, 0),
-    (Step::Cut(3), 3, 0),
-    (Step::Get(0, [9; 4]), 3, 4),
-    (Step::Put(6, b"q"), 7, 0),
-    (Step::Get(3, *b"\0\0\0q"), 7, 0),
-    (Step::Get(2, *b"X\0\0\0"), 7, 0),
-    (Step::Cut(0), 0, 0),
-    (Step::Put(3, b"\0"), 4, 0),
-    (Step::Get(0, [0; 4]), 4, 0),
+// A place and what is written there, or a cut; the length then; a place and the bytes that are read there.
+type Step = (u64, &'static [u8], u64, u64, [u8; 4]);
+
+static STEPS: &'static [Step] = &[
+    (0, b"abcdef", 6, 1, *b"bcde"),
+    (5, b"Z12", 8, 4, *b"eZ12"),
+    (FAR, b"\xa5\x01", FAR + 2, FAR - 2, *b"\0\0\xa5\x01"),
+    (FAR, b"\0", FAR + 2, FAR - 2, *b"\0\0\0\x01"),
+    (FAR + 9, b"", FAR + 2, 6, *b"12\0\0"),
+    (3, b"", 3, 0, [9; 4]),
+    (6, b"q", 7, 2, *b"c\0\0\0"),
+    (u64::MAX - 1, b"ab", 7, 3, *b"\0\0\0q"),
 ];
-
-// How many failures a result reports.
-fn failures(answer: Result<(), DevFault>) -> u64 {
-    match answer {
-        Ok(()) => 0,
-        Err(fault) => fault.failures,
-    }
-}
-
-// The result of a call.
-fn act(rt: &impl Abort, disk: &mut SparseDisk, step: Step) -> Result<(), DevFault> {
-    match step {
-        Step::Put(at, bytes) => disk.write_at(at, bytes),
-        Step::Cut(len) => disk.cut(len),
-        Step::Sync => disk.sync(),
-        Step::Get(at, wanted) => {
-            let mut found = [9; 4];
-            let answer = disk.read_at(at, &mut found);
-            assert_equal!(rt; found, wanted; at);
-            answer
-        }
-    }
-}
 
 #[test]
 fn what_was_written_is_kept_and_zeros_stand_elsewhere(rt: HostRuntime) {
     let mut disk = SparseDisk::new(rt.alloc());
-    for &(step, len, failed) in STEPS {
-        assert_equal!(rt; failures(act(&rt, &mut disk, step)), failed; len);
-        assert_equal!(rt; disk.len(), len; failed);
+    for &(at, bytes, len, place, wanted) in STEPS {
+        let done = match bytes.len() {
+            0 => disk.cut(at).is_ok(),
+            _ => disk.write_at(at, bytes).is_ok(),
+        };
+        assert_equal!(rt; (done, disk.len()), (at < u64::MAX - 1, len); at);
+        let mut found = [9; 4];
+        let read = disk.read_at(place, &mut found).is_ok();
+        assert_equal!(rt; (read, found), (place.saturating_add(4) <= len, wanted); at);
     }
+    assert_equal!(rt; disk.sync(), Ok(()));
+    assert_equal!(rt; disk.read_at(u64::MAX - 3, &mut [9; 4]), Err(DevFault { failures: 3 }));
     assert_equal!(rt; (disk.byte_at(3), disk.byte_at(FAR)), (0, 0));
 }

@@ -1,12 +1,12 @@
-//! Hosts and a desk of a test's own, a meeting of hosts, and a writer that fails.
+//! Hosts and a desk of a test's own, what they count, and a front end that sends and takes as a test wants it.
 ghost use Rattle.std.specs.Prelude.{◌≡◌, ◌+◌, IfOk, length};
 ghost use Rattle.vtl_base.specs.declared.limits.TheConstants.{NEXUSES};
 
 use scsi_sense::Reply;
 use std::alloc::Global;
-use std::io::{ErrorKind, Write};
+use std::io::{ErrorKind, Read, Write};
+use std::sync::Wait;
 use std::sync::atomic::{AtomicU32, Ordering};
-use std::sync::{Condvar, Mutex, Wait};
 use std::test::Fail;
 use std::time::{Clock, Duration};
 use std::{io, thread};
@@ -18,47 +18,21 @@ use vtl_wire::{Answer, Entries, Request};
 // How long a slow command takes, in milliseconds.
 const SLOW: u64 = 20;
 
-/// A place where commands wait until a given number has come. It counts how many were carried out.
+/// What is counted: commands that wait here for another, commands that were carried out, and answers that were flushed.
 #[derive(Drop)]
 pub struct Meeting {
-    came: Mutex<u32>,
-    all: Condvar,
-    wanted: u32,
-    done: AtomicU32,
+    pub came: AtomicU32,
+    pub done: AtomicU32,
+    pub answered: AtomicU32,
 }
 
-impl Meeting {
-    pub fn new(wanted: u32) -> Meeting {
-        Meeting {
-            came: Mutex::new(0),
-            all: Condvar::new(),
-            wanted,
-            done: AtomicU32::new(0),
+// Waits until a count has come so far.
+fn wait<R: Wait + Clock>(rt: &R, count: &AtomicU32, wanted: u32) {
+    for _ in rt.forever() {
+        if count.load(Ordering::SeqCst) >= wanted {
+            break;
         }
-    }
-
-    /// How many commands were carried out.
-    pub fn done(&self) -> u32 {
-        self.done.load(Ordering::SeqCst)
-    }
-
-    /// Waits until so many commands were carried out, and some time more.
-    pub fn wait_done<R: Wait + Clock>(&self, rt: &R, wanted: u32) {
-        for _ in rt.forever() {
-            if self.done() >= wanted {
-                break;
-            }
-            thread::sleep(rt, Duration::from_millis(1));
-        }
-        thread::sleep(rt, Duration::from_millis(SLOW));
-    }
-
-    // Comes, and waits for the others.
-    fn meet<R: Wait>(&self, rt: &R) {
-        let mut came = self.came.lock(rt);
-        *came = came.saturating_add(1);
-        self.all.notify_all();
-        let _ = self.all.wait_while(rt, came, |came| *came < self.wanted);
+        thread::sleep(rt, Duration::from_millis(1));
     }
 }
 
@@ -92,7 +66,10 @@ impl<'a, R: Wait + Clock> Host for Echo<'a, R> {
                 ..
             } => {
                 match cdb.as_slice().first() {
-                    Some(&0xff) => self.meeting.meet(self.rt),
+                    Some(&0xff) => {
+                        self.meeting.came.fetch_add(1, Ordering::SeqCst);
+                        wait(self.rt, &self.meeting.came, 2);
+                    }
                     Some(&0xfe) => thread::sleep(self.rt, Duration::from_millis(SLOW)),
                     _ => {}
                 }
@@ -103,11 +80,7 @@ impl<'a, R: Wait + Clock> Host for Echo<'a, R> {
                     tag,
                 }
             }
-            Request::Move { tag, .. } => Answer::Move {
-                reply: Reply::good(Bytes::new(self.alloc)),
-                tag,
-            },
-            Request::Inventory { tag } => Answer::Inventory {
+            Request::Move { tag, .. } | Request::Inventory { tag } => Answer::Inventory {
                 entries: Entries::from_vec(Vec::new(self.alloc)),
                 tag,
             },
@@ -130,11 +103,9 @@ pub fn all_hosts<'a, R: Wait + Clock>(
     Ok(hosts)
 }
 
-/// A desk that takes commands to drives 1 and 2, and counts the requests of no host. It answers to a move how many
-/// commands were carried out before.
+/// A desk that takes commands to drives 1 and 2. It answers to a move how many commands were carried out before.
 #[derive(Drop)]
 pub struct Counter<'a> {
-    pub served: u32,
     pub meeting: &'a Meeting,
 }
 
@@ -157,48 +128,105 @@ impl Desk for Counter<'_> {
     }
 
     fn serve(&mut self, alloc: Global, request: Request) -> Result<Answer, NoMemory> {
-        let done = self.meeting.done();
-        let answer = match request {
-            Request::Command { host, tag, .. } => Answer::Command {
-                host,
-                reply: Reply::conflict(alloc),
-                tag,
-            },
+        let done = self.meeting.done.load(Ordering::SeqCst);
+        Ok(match request {
             Request::Move { tag, .. } => Answer::Move {
                 reply: Reply::good(Bytes::from_slice(alloc, &done.to_be_bytes())?),
                 tag,
             },
-            Request::Inventory { tag } => Answer::Inventory {
+            Request::Command { tag, .. } | Request::Inventory { tag } => Answer::Inventory {
                 entries: Entries::from_vec(Vec::new(alloc)),
                 tag,
             },
-        };
-        self.served = self.served.saturating_add(1);
-        Ok(answer)
+        })
     }
 }
 
-/// A writer that takes a given number of bytes, and then fails.
+/// When a request is sent: at once; once those before it are answered; some time after they were carried out, and then
+/// no answer is taken before all 64 were; or at once, and a read fails at the end.
+#[derive(Clone, Copy, Debug, PartialEq)]
+pub enum Sent {
+    AtOnce,
+    Answered,
+    Done,
+    Fails,
+}
+
+/// A front end that sends requests frame by frame.
 #[derive(Drop)]
-pub struct Short {
+pub struct Sender<'a, R> {
+    pub rt: &'a R,
+    pub meeting: &'a Meeting,
+    pub rest: &'a [u8],
+    pub sent: Sent,
+    /// What is left of a frame that was begun.
+    pub left: usize,
+    /// How many frames were begun.
+    pub begun: u32,
+    /// The most requests that were read and not carried out, as another was asked for.
+    pub most: u32,
+}
+
+impl<R: Wait + Clock> Read for Sender<'_, R> {
+    fn read(&mut self, buf: &mut [u8]) -> io::Result<usize> {
+        if self.rest.is_empty() && self.sent == Sent::Fails {
+            return Err(io::Error::from(ErrorKind::Other));
+        }
+        if self.left == 0 {
+            let done = self.meeting.done.load(Ordering::SeqCst);
+            self.most = self.most.max(self.begun.saturating_sub(done));
+            match self.sent {
+                Sent::Answered => wait(self.rt, &self.meeting.answered, self.begun),
+                Sent::Done => {
+                    wait(self.rt, &self.meeting.done, self.begun);
+                    thread::sleep(self.rt, Duration::from_millis(SLOW));
+                }
+                Sent::AtOnce | Sent::Fails => {}
+            }
+            self.left = match self.rest {
+                [_, _, _, block, _, _, 0, data, ..] => 16
+                    + usize::from(*block)
+                    + usize::from(*data),
+                _ => self.rest.len(),
+            };
+            if self.left > 0 {
+                self.begun = self.begun.saturating_add(1);
+            }
+        }
+        let count = self.left.min(buf.len()).min(self.rest.len());
+        buf[..count].copy_from_slice(&self.rest[..count]);
+        self.rest = &self.rest[count..];
+        self.left = self.left.saturating_sub(count);
+        Ok(count)
+    }
+}
+
+/// Takes a given number of bytes, and then fails; and counts the flushes.
+#[derive(Drop)]
+pub struct Taker<'a, R> {
+    pub rt: &'a R,
+    pub meeting: &'a Meeting,
     pub written: Vec<u8>,
+    pub sent: Sent,
     pub left: usize,
 }
 
-impl Write for Short {
+impl<R: Wait + Clock> Write for Taker<'_, R> {
     fn write(&mut self, buf: &[u8]) -> io::Result<usize> {
+        if self.sent == Sent::Done {
+            wait(self.rt, &self.meeting.done, 64);
+        }
         let count = self.left.min(buf.len());
         if count == 0 {
             return Err(io::Error::from(ErrorKind::BrokenPipe));
         }
-        if self.written.extend_from_slice(&buf[..count]).is_err() {
-            return Err(io::Error::from(ErrorKind::OutOfMemory));
-        }
+        self.written.extend_from_slice(&buf[..count])?;
         self.left -= count;
         Ok(count)
     }
 
     fn flush(&mut self) -> io::Result<()> {
+        let _ = self.meeting.answered.fetch_add(1, Ordering::SeqCst);
         Ok(())
     }
 }

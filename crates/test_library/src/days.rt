@@ -7,11 +7,8 @@ ghost use Rattle.library.specs.Counts.{AcceptedNone, places_filled, which_are_th
 ghost use Rattle.library.specs.RingRows.{AreRings};
 
 use crate::acts::{Act, plays};
-use crate::ends::{are_back, are_counts};
-use crate::moving::counts_moves;
-use crate::opening::{count_fresh, hosts};
-use crate::samples::{Sample, loaded};
-use crate::stages::Stage;
+use crate::samples::{First, Sample, TestDisk, make_sample};
+use crate::stages::{LATE, Stage};
 use bay_moves::{Bay, Parked};
 use element_slots::Slots;
 use library::{FinishError, Finished, Library, Parties, RingRow, Rings, Seat};
@@ -24,36 +21,21 @@ use std::test::Fail;
 use std::thread;
 use std::thread::Threads;
 use std::time::Clock;
+use tape_buffer::Cataloged;
 use tape_disk::Disk;
-use test_assertions::assert_equal;
+use test_assertions::{assert_equal, assert_holds};
+use test_gates::{count_fresh, hosts};
 use vtl_base::Nexus;
 
 /// The acts of a library's hosts, and how the library ends.
 #[derive(Clone, Copy)]
 pub struct Day {
     /// The acts of each host, from number 1 on, each in a thread of its own.
-    pub hosts: &'static [&'static [Act]],
+    pub hosts: &'static [&'static [&'static [Act]]],
     /// How many changes their seats have afterwards.
     pub amounts: &'static [u64],
-    /// The place of the seat that is not returned at the end, if there is one.
-    pub left_out: Option<usize>,
-    /// The counts of drives 1 and 2, or why the library did not end well.
-    pub end: Result<(u64, u64), FinishError>,
-}
-
-// A host plays its part, if it has one.
-fn plays_at<D: Disk + Drop, B: Parties + Rings, H: Parties, R: Wait + Abort + Clock>(
-    rt: &R,
-    alloc: Global,
-    library: &Library<D, B, H>,
-    stage: &Stage,
-    parts: &[&[Act]],
-    place: usize,
-    seat: &mut Seat<H>,
-) {
-    if let Some(acts) = parts.get(place) {
-        plays(rt, alloc, library, stage, seat, *acts);
-    }
+    /// The counts of drives 1 and 2, or why the library did not end well; if it is None, the counts are not known.
+    pub end: Option<Result<(u64, u64), FinishError>>,
 }
 
 // All hosts play their parts, each in a thread of its own.
@@ -67,14 +49,18 @@ fn all_play<
     alloc: Global,
     library: &Library<D, B, H>,
     stage: &Stage,
-    parts: &[&[Act]],
+    hosts: &[&[&[Act]]],
     seats: &mut [Seat<H>],
 ) {
     thread::for_each_mut(
         rt,
         seats,
         64,
-        &|place, seat| { plays_at(rt, alloc, library, stage, parts, place, seat) },
+        &|place, seat| {
+            if let Some(parts) = hosts.get(place) {
+                plays(rt, alloc, library, stage, seat, *parts);
+            }
+        },
     );
 }
 
@@ -84,17 +70,6 @@ fn have_amounts<H: Parties>(rt: &impl Abort, seats: &[Seat<H>], amounts: &[u64])
         assert_equal!(rt; usize::from(seat.nexus().number()), place.saturating_add(1));
         assert_equal!(rt; seat.amount(), *amount; place);
     }
-}
-
-// All seats but the one that is not returned.
-fn handed_in<H: Parties>(seats: Vec<Seat<H>>, left_out: Option<usize>) -> Vec<Seat<H>> {
-    let mut seats = seats;
-    if let Some(place) = left_out {
-        if place < seats.len() {
-            let _ = seats.remove(place);
-        }
-    }
-    seats
 }
 
 // The same over ledgers that the call picks.
@@ -123,30 +98,34 @@ fn spend_over<
     requires host_ledger { IsBlankOf host_ledger H.name H.parts H.all × (H.all ≡ length hosts.now) }
 {
     match Library::<D, B, H>::new(alloc, bays, rings, slots, hosts, bay_ledger, host_ledger) {
-        Ok((library, seats, operator)) => {
+        Ok((library, seats, _)) => {
             let mut seats = seats;
             all_play(rt, alloc, &library, stage, day.hosts, seats.as_mut_slice());
-            counts_moves(rt, &library, operator);
             have_amounts(rt, seats.as_slice(), day.amounts);
-            Ok(library.finish(rt, handed_in(seats, day.left_out)))
+            Ok(library.finish(rt, seats))
         }
         Err(_) => Err(Fail::from("no library")),
     }
 }
 
-/// Opens a library of a sample and of a day's hosts, which act, and finishes it.
-pub fn spend<D: Disk + Drop + Send, R: Threads + Wait + Abort + Clock + Sync>(
+/// Opens a library of a day's hosts and of so many cartridges that are loaded, or of three in slots; the hosts act, and
+/// it is finished. Call number `fails` of the first disk of cartridge 1 fails, and a sync of it that is to last waits
+/// until this much is freed.
+pub fn spend<R: Threads + Wait + Abort + Clock + Sync>(
     rt: &R,
     alloc: Global,
-    sample: Sample<D>,
-    stage: &Stage,
+    fails: u64,
+    freed: u64,
+    loaded: u8,
     day: &Day,
-) -> Result<Finished<D>, Fail> {
-    let Sample { bays, slots } = sample;
+) -> Result<(), Fail> {
+    let stage = Stage::new(freed, false);
+    let stage = Arc::new(alloc, stage)?;
+    let Sample { bays, slots } = make_sample(rt, alloc, &stage, loaded, First::Fails(fails))?;
     let drives = count_fresh(bays.as_slice())?;
     let rings = RingRow::of_drives(alloc, bays.as_slice())?;
-    let hosts = hosts(rt, alloc, day.hosts.len().min(64) as u8)?;
-    spend_over::<D, Brand, Brand, R>(
+    let hosts = hosts(alloc, day.hosts.len().min(64) as u8)?;
+    let finished = spend_over::<TestDisk, Brand, Brand, R>(
         rt,
         alloc,
         bays,
@@ -155,48 +134,87 @@ pub fn spend<D: Disk + Drop + Send, R: Threads + Wait + Abort + Clock + Sync>(
         hosts.as_slice(),
         Blank::new(drives),
         Blank::new(hosts.len() as u64),
-        stage,
+        &stage,
         day,
-    )
+    )?;
+    assert_equal!(rt; stage.value(LATE), 0);
+    match day.end {
+        Some(end) => has_ended(rt, &finished, end),
+        None => assert_holds!(rt; finished.counts.is_ok()),
+    }
+    are_all_there(rt, &finished, if loaded == 0 { 3 } else { 2 });
+    Ok(())
 }
 
-// The library has ended as the day says.
-fn has_ended<D: Disk + Drop>(rt: &impl Abort, finished: &Finished<D>, day: &Day) {
-    are_back(rt, finished, 2);
-    match day.end {
+/// The library has ended so, with two drives.
+pub fn has_ended<D: Disk + Drop>(
+    rt: &impl Abort,
+    finished: &Finished<D>,
+    end: Result<(u64, u64), FinishError>,
+) {
+    let wanted = match end {
         Ok((one, two)) => {
             let mut counts = [None; 16];
             counts[0] = Some(one);
             counts[1] = Some(two);
-            are_counts(rt, finished, counts);
+            Ok(counts)
         }
-        Err(error) => assert_equal!(rt; finished.counts, Err(error)),
+        Err(error) => Err(error),
+    };
+    assert_equal!(rt; finished.counts, wanted);
+}
+
+// The number in the barcode of a cartridge, whose two digits are in its file after place 14.
+fn number_of(medium: &Cataloged<TestDisk>) -> usize {
+    match medium.disk().inner().inner().bytes().get(15..17) {
+        Some([tens, ones]) => usize::from(*tens % 16) * 10 + usize::from(*ones % 16),
+        _ => 0,
     }
 }
 
-/// Does the same, and the library ends as the day says.
-pub fn spend_well<D: Disk + Drop + Send, R: Threads + Wait + Abort + Clock + Sync>(
-    rt: &R,
-    alloc: Global,
-    sample: Sample<D>,
-    stage: &Stage,
-    day: &Day,
-) -> Result<(), Fail> {
-    let finished = spend(rt, alloc, sample, stage, day)?;
-    has_ended(rt, &finished, day);
-    Ok(())
+// One more cartridge with this number.
+fn add_one(counts: &mut [u8; 17], number: usize) {
+    if number < 17 {
+        counts[number] = counts[number].saturating_add(1);
+    }
 }
 
-/// The same with cartridges 1 and 2 in drives 1 and 2. This call of the first disk of cartridge 1 fails, and
-/// a sync of it that is to last waits until this much is freed.
-pub fn spend_loaded<R: Threads + Wait + Abort + Clock + Sync>(
-    rt: &R,
-    alloc: Global,
-    fails: u64,
-    freed: u64,
-    day: &Day,
-) -> Result<(), Fail> {
-    let stage = Arc::new(alloc, Stage::new(freed))?;
-    let sample = loaded(rt, alloc, &stage, fails, 2)?;
-    spend_well(rt, alloc, sample, &stage, day)
+// How often there is a cartridge with each number up to 16.
+fn count_numbers(finished: &Finished<TestDisk>) -> [u8; 17] {
+    let mut counts = [0u8; 17];
+    for parked in finished.slots.inventory().iter().flatten() {
+        add_one(&mut counts, number_of(parked.medium()));
+    }
+    for bay in finished.bays.iter().flatten() {
+        if let Some(medium) = bay.drive().medium() {
+            add_one(&mut counts, number_of(medium));
+        }
+    }
+    counts
+}
+
+/// Two drives and the slots are returned, and the cartridges from number 1 up to this one, each once.
+pub fn are_all_there(rt: &impl Abort, finished: &Finished<TestDisk>, most: usize) {
+    for (number, count) in count_numbers(finished).iter().enumerate() {
+        assert_equal!(rt; *count == 1, number >= 1 && number <= most; number);
+    }
+    assert_equal!(rt; finished.bays.len(), 16);
+    for (place, bay) in finished.bays.iter().enumerate() {
+        assert_equal!(rt; bay.is_some(), place < 2; place);
+    }
+    assert_equal!(rt; finished.slots.inventory().len(), 256);
+}
+
+/// Sixteen drives are returned, each with the cartridge of its number.
+pub fn are_in_their_places(rt: &impl Abort, finished: &Finished<TestDisk>) {
+    let mut last = 0usize;
+    for bay in finished.bays.iter().flatten() {
+        last = last.saturating_add(1);
+        let number = match bay.drive().medium() {
+            Some(medium) => number_of(medium),
+            None => 0,
+        };
+        assert_equal!(rt; number, last);
+    }
+    assert_equal!(rt; last, 16);
 }

@@ -1,181 +1,168 @@
-//! Worked answers: hosts at one drive, and how the library then ends.
+//! Worked answers: hosts at one drive and at two, cartridges that are moved, and flushers that rest.
 use crate::acts::Act;
-use crate::days::{Day, spend_loaded};
-use crate::disks::NEVER;
-use crate::replies::{
-    Answer, CONFLICT, FILEMARK, GOOD, MARK, POWERED_ON, READY, REWIND, Step, WRITE_1,
+use crate::acts::Act::{
+    Any, Asks, Awaits, Counts, Ends, Flushes, Moves, MovesAbout, Pauses, Raises, Sees, Session,
+    Times, Turns,
 };
-use crate::stages::Sign;
-use library::FinishError;
-use scsi_sense::Status;
+use crate::days::{Day, spend};
+use crate::replies::{
+    Answer, CHANGED, END_OF_DATA, FILEMARK, GOOD, IS_READY, MARKS, NO_ADDRESS, NO_ROOM, NO_SOURCE,
+    NOT_PRESENT, ON, ON_2, POWERED_ON, READ_1, READY, REWIND, Step, WRITE_1, X,
+};
+use crate::samples::NEVER;
+use crate::stages::{BEGUN_2, ENDED, IDLE, SAID, STOOD, STORED, STORED_2, Stands};
 use std::test::Fail;
 
 // A block and a filemark are written and read.
 const WRITTEN_AND_READ: &'static [Step] = &[
-    (1, READY, b"", POWERED_ON),
-    (1, READY, b"", GOOD),
+    ON,
+    IS_READY,
     (1, &[0x0a, 0, 0, 0, 5, 0], b"hello", GOOD),
-    (1, MARK, b"", GOOD),
+    MARKS,
     (1, REWIND, b"", GOOD),
-    (
-        1,
-        &[0x08, 0, 0, 0, 5, 0],
-        b"",
-        (Status::Good, b"", b"hello"),
-    ),
+    (1, &[0x08, 0, 0, 0, 5, 0], b"", (None, b"hello")),
     (1, &[0x08, 0, 0, 0, 5, 0], b"", FILEMARK),
 ];
 
 // Three blocks are written, two of them to drive 2.
 const BESIDE: &'static [Step] = &[
-    (1, READY, b"", POWERED_ON),
-    (2, READY, b"", POWERED_ON),
+    (1, WRITE_1, b"v", POWERED_ON),
+    ON_2,
     (2, WRITE_1, b"x", GOOD),
     (1, WRITE_1, b"y", GOOD),
     (2, WRITE_1, b"z", GOOD),
 ];
 
-const ALONE: &'static [&'static [Act]] = &[&[Act::Session(WRITTEN_AND_READ)]];
-
 // Host 2 writes after host 1.
-const BOTH: &'static [&'static [Act]] = &[
-    &[Act::Session(WRITTEN_AND_READ), Act::Raises(Sign::Said)],
-    &[Act::Awaits(Sign::Said, 1), Act::Session(BESIDE)],
-];
-
-// The seat of a host is missed if changes of its commands were accepted; another is not.
-static ENDS: &'static [Day] = &[
-    Day {
-        hosts: ALONE,
-        amounts: &[2],
-        left_out: None,
-        end: Ok((2, 0)),
-    },
-    Day {
-        hosts: ALONE,
-        amounts: &[2],
-        left_out: Some(0),
-        end: Err(FinishError::SeatsMissing { total: 2, seats: 0 }),
-    },
-    Day {
-        hosts: &[&[Act::Session(WRITTEN_AND_READ)], &[]],
-        amounts: &[2, 0],
-        left_out: Some(1),
-        end: Ok((2, 0)),
-    },
-    Day {
-        hosts: BOTH,
-        amounts: &[2, 3],
-        left_out: None,
-        end: Ok((3, 2)),
-    },
-    Day {
-        hosts: BOTH,
-        amounts: &[2, 3],
-        left_out: Some(1),
-        end: Err(FinishError::SeatsMissing { total: 5, seats: 2 }),
-    },
-];
+static BOTH: Day = Day {
+    hosts: &[
+        &[&[Session(WRITTEN_AND_READ), Raises(SAID)]],
+        &[&[Awaits(SAID, 1), Asks(BESIDE)]],
+    ],
+    amounts: &[2, 3],
+    end: Some(Ok((3, 2))),
+};
 
 #[test]
 fn a_block_and_a_filemark(rt: HostRuntime) -> Result<(), Fail> {
-    for day in ENDS {
-        spend_loaded(&rt, rt.alloc(), NEVER, 0, day)?;
-    }
-    Ok(())
+    spend(&rt, rt.alloc(), NEVER, 0, 2, &BOTH)
 }
 
-const REGISTER: &'static [u8] = &[0x5f, 0, 0, 0, 0, 0, 0, 0, 24, 0];
+// Moves that lend no drive, one as destination, one as source, or both. The drive to which a cartridge was moved is
+// ready, and the other one is not.
+static GOES_ROUND: Day = Day {
+    hosts: &[&[
+        &[Asks(&[ON, ON_2])],
+        &[Moves(&[
+            (1001, 1300, NO_ADDRESS),
+            (1004, 1, NO_SOURCE),
+            (1001, 1, GOOD),
+        ])],
+        &[Asks(&[
+            (1, READY, b"", CHANGED),
+            IS_READY,
+            (2, READY, b"", NOT_PRESENT),
+        ])],
+        &[Moves(&[(1, 1, NO_ROOM), (1, 2, GOOD)])],
+        &[Asks(&[(1, READY, b"", NOT_PRESENT)])],
+        &[Asks(&[(2, READY, b"", CHANGED), (2, READY, b"", GOOD)])],
+        &[Sees(3), Moves(&[(2, 1256, GOOD), (1256, 1001, GOOD)])],
+        &[Sees(3)],
+    ]],
+    amounts: &[0],
+    end: Some(Ok((0, 0))),
+};
 
-const RESERVE_5: &'static [u8] = &[0x5f, 1, 5, 0, 0, 0, 0, 0, 24, 0];
+#[test]
+fn a_cartridge_goes_round_both_drives(rt: HostRuntime) -> Result<(), Fail> {
+    spend(&rt, rt.alloc(), NEVER, 0, 0, &GOES_ROUND)
+}
 
-const RELEASE_5: &'static [u8] = &[0x5f, 2, 5, 0, 0, 0, 0, 0, 24, 0];
+// A WRITE to a drive while cartridges are moved.
+const OF_A_WRITE: &'static [Answer] = &[GOOD, NOT_PRESENT, CHANGED, POWERED_ON];
 
-const PREEMPT_5: &'static [u8] = &[0x5f, 4, 5, 0, 0, 0, 0, 0, 24, 0];
+const WRITES: &'static [&'static [Act]] = &[&[
+    Any(60, X, OF_A_WRITE),
+    Any(60, (2, WRITE_1, b"x", GOOD), OF_A_WRITE),
+]];
 
-const READ_KEYS: &'static [u8] = &[0x5e, 0, 0, 0, 0, 0, 0, 0, 24, 0];
+// Hosts 1 and 2 write, and hosts 3 and 4 move the cartridges. How much is written depends on the threads.
+static MOVED_ABOUT: Day = Day {
+    hosts: &[WRITES, WRITES, &[&[MovesAbout]], &[&[MovesAbout]]],
+    amounts: &[],
+    end: None,
+};
 
-// Parameter lists: a key, a service action key, and nothing.
-const NO_KEY_TO_A1: &'static [u8] =
-    b"\x00\x00\x00\x00\x00\x00\x00\x00\x00\x00\x00\x00\x00\x00\x00\xa1\x00\x00\x00\x00\x00\x00\x00\x00";
+#[test]
+fn cartridges_are_moved_while_hosts_write(rt: HostRuntime) -> Result<(), Fail> {
+    spend(&rt, rt.alloc(), NEVER, 0, 0, &MOVED_ABOUT)
+}
 
-const NO_KEY_TO_B2: &'static [u8] =
-    b"\x00\x00\x00\x00\x00\x00\x00\x00\x00\x00\x00\x00\x00\x00\x00\xb2\x00\x00\x00\x00\x00\x00\x00\x00";
+// Commands that accept no change.
+const WITHOUT_CHANGE: &'static [Step] = &[
+    IS_READY,
+    (1, REWIND, b"", GOOD),
+    (1, READ_1, b"", END_OF_DATA),
+    (1, &[0x0a, 0, 0, 0, 0, 0], b"", GOOD),
+    (1, &[0x10, 0, 0, 0, 0, 0], b"", GOOD),
+];
 
-const A1: &'static [u8] =
-    b"\x00\x00\x00\x00\x00\x00\x00\xa1\x00\x00\x00\x00\x00\x00\x00\x00\x00\x00\x00\x00\x00\x00\x00\x00";
-
-const B2_TO_C3: &'static [u8] =
-    b"\x00\x00\x00\x00\x00\x00\x00\xb2\x00\x00\x00\x00\x00\x00\x00\xc3\x00\x00\x00\x00\x00\x00\x00\x00";
-
-// 6, 2A/04
-const RELEASED: Answer = (
-    Status::Check,
-    b"\x70\x00\x06\x00\x00\x00\x00\x0a\x00\x00\x00\x00\x2a\x04\x00\x00\x00\x00",
-    b"",
-);
-
-// Generation 2, 16 bytes, and the keys of hosts 1 and 2.
-const KEYS: Answer = (
-    Status::Good,
-    b"",
-    b"\x00\x00\x00\x02\x00\x00\x00\x10\x00\x00\x00\x00\x00\x00\x00\xa1\x00\x00\x00\x00\x00\x00\x00\xb2",
-);
-
-// Host 1 has a reservation, and host 2 registers. Each signals when the other is to go on.
-static RESERVED: Day = Day {
+// A thousand commands that accept no change leave the flusher idle, even over a while. One that accepts a change wakes
+// it, and then it is idle again, until the library is closed.
+static RESTS: Day = Day {
     hosts: &[
         &[
-            Act::Asks(&[(1, READY, b"", POWERED_ON)]),
-            Act::Awaits(Sign::Said, 1),
-            Act::Asks(&[(1, REGISTER, NO_KEY_TO_A1, GOOD), (1, RESERVE_5, A1, GOOD)]),
-            Act::Raises(Sign::Said),
-            Act::Awaits(Sign::Said, 3),
-            Act::Asks(&[(1, RELEASE_5, A1, GOOD)]),
-            Act::Raises(Sign::Said),
+            &[Asks(&[ON]), Awaits(IDLE, 1), Times(200, 1, WITHOUT_CHANGE)],
+            &[Pauses(1), Turns([1, 1, 0, 0]), Asks(&[X])],
+            &[Awaits(STORED, 1), Awaits(IDLE, 2), Pauses(1)],
+            &[Turns([3, 2, 1, 1]), Counts(ENDED, 0), Ends(1)],
+            &[Turns([3, 2, 1, 1])],
         ],
-        &[
-            Act::Asks(&[(1, READY, b"", POWERED_ON)]),
-            Act::Raises(Sign::Said),
-            Act::Awaits(Sign::Said, 2),
-            Act::Asks(&[
-                (1, WRITE_1, b"x", CONFLICT),
-                (1, REGISTER, NO_KEY_TO_B2, GOOD),
-                (1, WRITE_1, b"x", GOOD),
-            ]),
-            Act::Raises(Sign::Said),
-            Act::Awaits(Sign::Said, 4),
-            Act::Asks(&[
-                (1, READY, b"", RELEASED),
-                (1, READY, b"", GOOD),
-                (1, PREEMPT_5, B2_TO_C3, CONFLICT),
-                (1, READ_KEYS, b"", KEYS),
-            ]),
-        ],
+        &[&[Flushes(1, Stands::Nowhere)]],
     ],
-    amounts: &[0, 1],
-    left_out: None,
-    end: Ok((1, 0)),
+    amounts: &[1, 0],
+    end: Some(Ok((1, 0))),
+};
+
+// A shut gate ends a flusher; a drive that is not there has none; and in a closed library none begins.
+static ENDS_AT_ONCE: Day = Day {
+    hosts: &[&[
+        &[Asks(&[ON, X]), Flushes(1, Stands::Shut)],
+        &[Flushes(3, Stands::Nowhere), Ends(2)],
+        &[Flushes(1, Stands::Nowhere), Flushes(2, Stands::Nowhere)],
+        &[Turns([0, 0, 0, 0]), Counts(BEGUN_2, 0)],
+    ]],
+    amounts: &[1],
+    end: Some(Ok((1, 0))),
 };
 
 #[test]
-fn a_reservation_of_two_hosts(rt: HostRuntime) -> Result<(), Fail> {
-    spend_loaded(&rt, rt.alloc(), NEVER, 0, &RESERVED)
+fn a_flusher_rests_until_a_change_is_accepted(rt: HostRuntime) -> Result<(), Fail> {
+    spend(&rt, rt.alloc(), NEVER, 0, 2, &ENDS_AT_ONCE)?;
+    spend(&rt, rt.alloc(), NEVER, 0, 2, &RESTS)
 }
 
-// Blocks of one byte are lent: where one is taken, nothing is left.
-static LENT: Day = Day {
-    hosts: &[&[
-        Act::Lends((1, WRITE_1, b"x", POWERED_ON), 1),
-        Act::Lends((1, WRITE_1, b"x", GOOD), 0),
-        Act::Lends((1, WRITE_1, b"x", GOOD), 0),
-    ]],
-    amounts: &[2],
-    left_out: None,
-    end: Ok((2, 0)),
+// The flusher of drive 1 waits in its first turn, with the drive's lock, until all blocks at drive 2 are stored. Host 1
+// writes one of these and rewinds drive 1, host 2 writes twenty.
+static STANDS_IN_ITS_TURN: Day = Day {
+    hosts: &[
+        &[
+            &[Asks(&[ON, ON_2]), Raises(SAID), Awaits(STOOD, 1)],
+            &[Session(&[(2, WRITE_1, b"p", GOOD), (1, REWIND, b"", GOOD)])],
+            &[Awaits(SAID, 3), Ends(2)],
+        ],
+        &[
+            &[Asks(&[ON_2]), Raises(SAID), Awaits(STORED_2, 1)],
+            &[Times(20, 1, &[(2, WRITE_1, b"q", GOOD)]), Raises(SAID)],
+        ],
+        &[&[Awaits(SAID, 2), Flushes(1, Stands::Inside(0, STORED_2, 21))]],
+        &[&[Flushes(2, Stands::Nowhere)]],
+    ],
+    amounts: &[1, 20, 0, 0],
+    end: Some(Ok((0, 21))),
 };
 
 #[test]
-fn blocks_that_are_lent_are_taken(rt: HostRuntime) -> Result<(), Fail> {
-    spend_loaded(&rt, rt.alloc(), NEVER, 0, &LENT)
+fn a_drive_works_while_another_stands_in_its_turn(rt: HostRuntime) -> Result<(), Fail> {
+    spend(&rt, rt.alloc(), NEVER, 0, 2, &STANDS_IN_ITS_TURN)
 }

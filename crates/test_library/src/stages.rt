@@ -1,102 +1,57 @@
-//! What the threads of a test count, and what they wait for.
-use crate::counts::Count;
+//! What the threads of a test count, what they wait for, and the gate of a flusher.
+use library::Gate;
+use std::process::Abort;
+use std::sync::atomic::{AtomicU64, Ordering};
 use std::thread;
+use std::time::{Clock, Duration};
+use test_assertions::assert_holds;
 use volume_core::Turn;
 
-/// What is counted. A number names a drive, 1 or 2.
-#[derive(Clone, Copy, Debug)]
-pub enum Sign {
-    /// Turns of a flusher that stored nothing.
-    Idle(u8),
-    /// Turns in which the device failed.
-    Failed(u8),
-    /// Changes that turns stored.
-    Stored(u8),
-    /// Flushers that reached the place where they wait.
-    Stood,
-    /// Flushers that ended.
-    Ended,
-    /// What threads signal to each other, in order.
-    Said,
-    /// Syncs, once one is to last.
-    Synced,
-    /// Syncs that are to last.
-    Armed,
-    /// Syncs that began to last.
-    Held,
-    /// What a sync that lasts waits for.
-    Freed,
-    /// Syncs for which that did not come.
-    Late,
-}
+/// What is counted: flushers that reached the place where they wait, flushers that ended, and what threads signal to
+/// each other, in order.
+pub const STOOD: usize = 0;
 
-/// The turns of a drive's flushers.
-#[derive(Drop)]
-pub struct Turns {
-    begun: Count,
-    idle: Count,
-    busy: Count,
-    failed: Count,
-    stored: Count,
-}
+pub const ENDED: usize = 1;
 
-impl Turns {
-    fn new() -> Turns {
-        Turns {
-            begun: Count::new(),
-            idle: Count::new(),
-            busy: Count::new(),
-            failed: Count::new(),
-            stored: Count::new(),
-        }
-    }
+pub const SAID: usize = 2;
 
-    /// A turn begins.
-    pub fn begin(&self) {
-        self.begun.raise();
-    }
+/// Syncs, once one is to last; those that are to last; those that began to last; what one that lasts waits for; and
+/// those for which that did not come.
+pub const SYNCED: usize = 3;
 
-    /// A turn has ended with this result.
-    pub fn end(&self, turn: Turn) {
-        match turn {
-            Turn::Idle => self.idle.raise(),
-            Turn::Stored(changes) => {
-                self.stored.add(changes as u64);
-                self.busy.raise();
-            }
-            Turn::Device => {
-                self.failed.raise();
-                self.busy.raise();
-            }
-        }
-    }
+pub const ARMED: usize = 4;
 
-    /// How many turns began, stored nothing, and stored something or failed; and how many changes were
-    /// stored.
-    pub fn seen(&self) -> (u64, u64, u64, u64) {
-        (
-            self.begun.value(),
-            self.idle.value(),
-            self.busy.value(),
-            self.stored.value(),
-        )
-    }
+pub const HELD: usize = 5;
+
+pub const FREED: usize = 6;
+
+pub const LATE: usize = 7;
+
+/// Turns of drive 1 that began, that stored nothing, that stored something or failed, and that failed; and the stored
+/// changes. Those of drive 2 are counted behind them.
+pub const BEGUN: usize = 8;
+
+pub const IDLE: usize = 9;
+
+pub const BUSY: usize = 10;
+
+pub const STORED: usize = 11;
+
+pub const FAILED_TURNS: usize = 12;
+
+pub const BEGUN_2: usize = 13;
+
+pub const STORED_2: usize = 16;
+
+/// A pause between two looks at a count, in which other threads run.
+pub fn pause<R: Clock>(rt: &R) {
+    thread::sleep(rt, Duration::from_millis(5));
 }
 
 /// All that is counted.
 #[derive(Drop)]
 pub struct Stage {
-    // At drives 1 and 2.
-    one: Turns,
-    two: Turns,
-    stood: Count,
-    ended: Count,
-    said: Count,
-    synced: Count,
-    armed: Count,
-    held: Count,
-    freed: Count,
-    late: Count,
+    counts: [AtomicU64; 18],
     // How much must be freed before a sync ends.
     wanted: u64,
     // Whether each sync that lasts frees the others.
@@ -104,81 +59,132 @@ pub struct Stage {
 }
 
 impl Stage {
-    /// A sync that is to last waits until this much is freed.
-    pub fn new(wanted: u64) -> Stage {
-        Stage::of(wanted, false)
-    }
-
-    /// A sync that is to last waits until this many have begun.
-    pub fn meeting(wanted: u64) -> Stage {
-        Stage::of(wanted, true)
-    }
-
-    fn of(wanted: u64, meets: bool) -> Stage {
+    /// A sync that is to last waits until this much is freed, or, where they meet, until so many have begun.
+    pub fn new(wanted: u64, meets: bool) -> Stage {
         Stage {
-            one: Turns::new(),
-            two: Turns::new(),
-            stood: Count::new(),
-            ended: Count::new(),
-            said: Count::new(),
-            synced: Count::new(),
-            armed: Count::new(),
-            held: Count::new(),
-            freed: Count::new(),
-            late: Count::new(),
+            counts: [0u64; 18].map(|count| AtomicU64::new(count)),
             wanted,
             meets,
         }
     }
 
-    /// The turns at a drive.
-    pub fn turns(&self, number: u8) -> &Turns {
-        if number == 1 { &self.one } else { &self.two }
+    /// How often this was counted.
+    pub fn value(&self, sign: usize) -> u64 {
+        self.counts[sign % 18].load(Ordering::SeqCst)
     }
 
-    /// The count of a sign.
-    pub fn count(&self, sign: Sign) -> &Count {
-        match sign {
-            Sign::Idle(number) => &self.turns(number).idle,
-            Sign::Failed(number) => &self.turns(number).failed,
-            Sign::Stored(number) => &self.turns(number).stored,
-            Sign::Stood => &self.stood,
-            Sign::Ended => &self.ended,
-            Sign::Said => &self.said,
-            Sign::Synced => &self.synced,
-            Sign::Armed => &self.armed,
-            Sign::Held => &self.held,
-            Sign::Freed => &self.freed,
-            Sign::Late => &self.late,
+    pub fn add(&self, sign: usize, more: u64) {
+        let _ = self.counts[sign % 18].fetch_add(more, Ordering::SeqCst);
+    }
+
+    /// Whether a count reaches this number within 1,000 looks.
+    pub fn reaches<R: Clock>(&self, rt: &R, sign: usize, wanted: u64) -> bool {
+        for _ in 0..1_000u32 {
+            if self.value(sign) >= wanted {
+                return true;
+            }
+            pause(rt);
+        }
+        false
+    }
+
+    // The result of a turn of a drive's flusher.
+    fn end(&self, number: u8, turn: Turn) {
+        let behind = if number == 1 { 0 } else { 5 };
+        let (sign, count) = match turn {
+            Turn::Idle => (IDLE, 1),
+            Turn::Stored(changes) => (STORED, changes as u64),
+            Turn::Device => (FAILED_TURNS, 1),
+        };
+        self.add(sign + behind, count);
+        if turn != Turn::Idle {
+            self.add(BUSY + behind, 1);
         }
     }
 
-    /// A sync that frees one that lasts, once some are to last.
+    /// A sync that frees those that last, once some are to last.
     pub fn free(&self) {
-        if self.armed.value() > 0 {
-            self.freed.raise();
+        if self.value(ARMED) > 0 {
+            self.add(FREED, 1);
         }
     }
 
-    /// A sync. If it is to last, it lasts until enough is freed, or for five million looks, or until another
-    /// one was late.
+    /// A sync. If it is to last, it lasts until enough is freed, or for five million looks, or until another one was
+    /// late.
     pub fn sync(&self) {
-        if self.armed.value() > 0 {
-            self.synced.raise();
+        if self.value(ARMED) > 0 {
+            self.add(SYNCED, 1);
         }
-        if self.armed.value() <= self.held.value() {
+        if self.value(ARMED) <= self.value(HELD) {
             return;
         }
-        self.held.raise();
+        self.add(HELD, 1);
         if self.meets {
-            self.freed.raise();
+            self.add(FREED, 1);
         }
         for _ in 0..5_000_000u32 {
-            if self.freed.value() >= self.wanted || self.late.value() > 0 {
+            if self.value(FREED) >= self.wanted || self.value(LATE) > 0 {
                 return;
             }
             thread::yield_now();
         }
-        self.late.raise();
+        self.add(LATE, 1);
+    }
+}
+
+/// Where a flusher waits until a sign has come to a number.
+#[derive(Clone, Copy, Debug)]
+pub enum Stands {
+    Nowhere,
+    /// In each turn, where the lock of the drive's disk's half is held, from the turn on behind which this many changes
+    /// were stored.
+    Inside(u64, usize, u64),
+    /// Behind each turn in which the device failed, where no lock is held.
+    Behind(usize, u64),
+    /// It takes no turn.
+    Shut,
+    /// Nowhere, and each turn that stores something frees a sync that lasts.
+    Frees,
+}
+
+/// The gate of a flusher of this drive. A sign that does not come in 1,000 looks ends the test.
+#[derive(Drop)]
+pub struct StageGate<'a, R: Clock + Abort> {
+    pub rt: &'a R,
+    pub stage: &'a Stage,
+    pub number: u8,
+    pub stands: Stands,
+}
+
+impl<'a, R: Clock + Abort> StageGate<'a, R> {
+    fn stand(&self, sign: usize, until: u64) {
+        self.stage.add(STOOD, 1);
+        assert_holds!(self.rt; self.stage.reaches(self.rt, sign, until); sign);
+    }
+}
+
+impl<'a, R: Clock + Abort> Gate for StageGate<'a, R> {
+    fn before_turn(&self) -> bool {
+        !matches!(self.stands, Stands::Shut)
+    }
+
+    fn in_turn(&self) {
+        match self.stands {
+            Stands::Inside(stored, sign, until) if self.stage.value(STORED) >= stored => {
+                self.stand(sign, until);
+            }
+            _ => {}
+        }
+        self.stage
+            .add(if self.number == 1 { BEGUN } else { BEGUN_2 }, 1);
+    }
+
+    fn after_turn(&self, turn: Turn) {
+        self.stage.end(self.number, turn);
+        match (turn, self.stands) {
+            (Turn::Device, Stands::Behind(sign, until)) => self.stand(sign, until),
+            (Turn::Stored(_), Stands::Frees) => self.stage.add(FREED, 1),
+            _ => {}
+        }
     }
 }

@@ -4,7 +4,7 @@ use scsi_sense::Sense;
 use std::alloc::Global;
 use std::io::{self, Write};
 use std::test::Fail;
-use test_assertions::{assert_equal, assert_holds};
+use test_assertions::assert_equal;
 
 // A script's lines, from 1 on: two hosts, `--`, a move.
 static SCRIPT: &'static [&'static [u8]] = &[
@@ -35,11 +35,12 @@ const MEANINGS: &str = "\
     line 8: the source of the move holds no cartridge (3B/0E)\n\
     line 9: the block has another length than the read, it is 5 bytes shorter (ILI, 00/00)\n";
 
-// A writer that takes some bytes at most of each call.
+// A writer that takes some bytes at most of each call, and counts its flushes.
 #[derive(Drop)]
 struct Few<'a> {
     output: &'a mut Vec<u8>,
     most: usize,
+    flushes: &'a mut u64,
 }
 
 impl<'a> Write for Few<'a> {
@@ -49,7 +50,8 @@ impl<'a> Write for Few<'a> {
     }
 
     fn flush(&mut self) -> io::Result<()> {
-        self.output.flush()
+        *self.flushes = self.flushes.saturating_add(1);
+        Ok(())
     }
 }
 
@@ -63,75 +65,51 @@ fn lines_read(alloc: Global, is_on: bool) -> Answers {
     lines
 }
 
-// What is written of these answers to the script, and the answers themselves, where each write takes at most a given
-// number of bytes.
+// What is written of these answers to the script, the answers themselves, and how often they are flushed, where each
+// write takes at most a given number of bytes.
 fn written(
     alloc: Global,
     is_on: bool,
     answers: &[u8],
     most: usize,
-) -> Result<(Vec<u8>, Vec<u8>), Fail> {
+) -> Result<(Vec<u8>, Vec<u8>, u64), Fail> {
     let lines = lines_read(alloc, is_on);
     let (mut output, mut errors) = (Vec::new(alloc), Vec::new(alloc));
+    let mut flushes = 0u64;
     let below = Few {
         output: &mut output,
         most,
+        flushes: &mut flushes,
     };
     let mut writer = AnswerWriter::new(below, &mut errors, alloc, &lines);
     writer.write_all(answers)?;
     writer.flush()?;
-    drop(writer);
-    Ok((errors, output))
-}
-
-fn meanings_of(alloc: Global, is_on: bool, answers: &[u8]) -> Result<Vec<u8>, Fail> {
-    Ok(written(alloc, is_on, answers, 1)?.0)
-}
-
-#[test]
-fn each_answer_has_its_line(rt: HostRuntime) -> Result<(), Fail> {
-    let meanings = meanings_of(rt.alloc(), true, ANSWERS.as_bytes())?;
-    assert_equal!(rt; meanings.as_slice(), MEANINGS.as_bytes());
-    Ok(())
-}
-
-// A writer that counts its flushes.
-#[derive(Drop)]
-struct Flushes<'a> {
-    count: &'a mut u64,
-}
-
-impl<'a> Write for Flushes<'a> {
-    fn write(&mut self, buf: &[u8]) -> io::Result<usize> {
-        Ok(buf.len())
-    }
-
-    fn flush(&mut self) -> io::Result<()> {
-        *self.count = self.count.saturating_add(1);
-        Ok(())
-    }
-}
-
-#[test]
-fn each_flush_is_passed_on(rt: HostRuntime) -> Result<(), Fail> {
-    let lines = lines_read(rt.alloc(), true);
-    let (mut count, mut errors) = (0, Vec::new(rt.alloc()));
-    let below = Flushes { count: &mut count };
-    let mut writer = AnswerWriter::new(below, &mut errors, rt.alloc(), &lines);
-    writer.flush()?;
     writer.flush()?;
     drop(writer);
-    assert_equal!(rt; count, 2);
-    Ok(())
+    Ok((errors, output, flushes))
 }
+
+// Other texts than answers, which no line is owed.
+const OTHERS: &str =
+    "created T1\nCHECK 70\nCHECK zz0005000000000a000000003b0e00000000\nCONFLICTS\n";
+
+// Whether meanings are asked for, what is written, the most bytes of a write, and the meanings.
+static ROWS: &'static [(bool, &'static str, usize, &'static str)] = &[
+    (true, ANSWERS, 1, MEANINGS),
+    (true, ANSWERS, 5, MEANINGS),
+    (true, ANSWERS, 42, MEANINGS),
+    (true, ANSWERS, 1_000, MEANINGS),
+    (false, ANSWERS, 1, ""),
+    (true, OTHERS, 1, ""),
+];
 
 // Whatever a write takes, the answers are as they were, and each has its meaning once.
 #[test]
-fn answers_are_passed_on(rt: HostRuntime) -> Result<(), Fail> {
-    for most in [1, 5, 42, 1_000] {
-        let (meanings, answers) = written(rt.alloc(), true, ANSWERS.as_bytes(), most)?;
-        assert_equal!(rt; answers.as_slice(), ANSWERS.as_bytes(); most);
-        assert_equal!(rt; meanings.as_slice(), MEANINGS.as_bytes(); most);
+fn each_answer_has_its_line(rt: HostRuntime) -> Result<(), Fail> {
+    for &(is_on, text, most, wanted) in ROWS {
+        let (meanings, output, flushes) = written(rt.alloc(), is_on, text.as_bytes(), most)?;
+        assert_equal!(rt; (output.as_slice(), flushes), (text.as_bytes(), 2); most);
+        assert_equal!(rt; meanings.as_slice(), wanted.as_bytes(); most);
     }
     Ok(())
 }
@@ -141,30 +119,16 @@ fn answers_are_passed_on(rt: HostRuntime) -> Result<(), Fail> {
 fn what_is_not_taken_has_no_meaning(rt: HostRuntime) -> Result<(), Fail> {
     let lines = lines_read(rt.alloc(), true);
     let (mut output, mut errors) = (Vec::new(rt.alloc()), Vec::new(rt.alloc()));
+    let mut flushes = 0u64;
     let below = Few {
         output: &mut output,
         most: 5,
+        flushes: &mut flushes,
     };
     let mut writer = AnswerWriter::new(below, &mut errors, rt.alloc(), &lines);
     let count = writer.write(ANSWERS.as_bytes())?;
     drop(writer);
     assert_equal!(rt; (count, errors.len()), (5, 0));
-    Ok(())
-}
-
-#[test]
-fn none_is_written_unasked(rt: HostRuntime) -> Result<(), Fail> {
-    let meanings = meanings_of(rt.alloc(), false, ANSWERS.as_bytes())?;
-    assert_holds!(rt; meanings.is_empty());
-    Ok(())
-}
-
-// Other texts than answers, and answers that no line is owed, have no meaning.
-#[test]
-fn other_lines_have_none(rt: HostRuntime) -> Result<(), Fail> {
-    let others = "created T1\nCHECK 70\nCHECK zz0005000000000a000000003b0e00000000\nCONFLICTS\n";
-    let meanings = meanings_of(rt.alloc(), true, others.as_bytes())?;
-    assert_holds!(rt; meanings.is_empty());
     Ok(())
 }
 

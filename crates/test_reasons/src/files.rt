@@ -1,255 +1,196 @@
-//! Calls for files that failed, and the lines that say why, written by hand.
+//! Calls for files and streams that failed, and the lines that say why; and lines of a damage. All written by hand.
 use explanations::Explanation;
-use file_reasons::{Answer, FileCall, FileReason, MemoryReason, Source, StoreReason};
+use file_reasons::Answer::{
+    BadName, Denied, Ended, Exists, InUse, LongScript, Missing, NoReader, NoRoom, NotAFile, Other,
+    ReadOnly, TooLarge, TookNone,
+};
+use file_reasons::FileCall::{
+    Cut, Lock, Look, Make, Open, Read, ReadAt, Sync, SyncFolder, Write, WriteAt,
+};
+use file_reasons::{Answer, FileCall, FileReason, Found, MemoryReason, Source};
 use std::alloc::{AllocError, Global};
+use std::io;
 use std::test::Fail;
 use test_assertions::assert_equal;
 
-// The lines of a call for the file `a.tape` with this answer.
-fn lines_of(alloc: Global, call: FileCall, answer: Answer) -> Result<Explanation, AllocError> {
-    let mut lines = Explanation::new(alloc);
-    let source = Source::File(String::from_str(alloc, "a.tape")?);
-    FileReason::new(alloc, source, call, answer).add_to(alloc, &mut lines)?;
-    Ok(lines)
-}
-
-// A call, the answer, and the lines.
-static ROWS: &'static [(FileCall, Answer, &'static str)] = &[
-    (
-        FileCall::Open,
-        Answer::Missing,
-        "failed: open, of the file a.tape\n\
-        answer: there is no such file or folder\n\
-        to do: correct the name or put the file back; what vtl create makes is new and holds nothing\n",
-    ),
-    (
-        FileCall::Make,
-        Answer::Missing,
-        "failed: make, of the file a.tape\n\
-        answer: there is no such file or folder\n\
-        to do: correct the name, or make the folder in which the file is to be\n",
-    ),
-    (
-        FileCall::Read,
-        Answer::Missing,
-        "failed: read, of the file a.tape\n\
-        answer: there is no such file or folder\n\
-        to do: correct the name\n",
-    ),
-    (
-        FileCall::Look,
-        Answer::BadName,
-        "failed: look at, of the file a.tape\n\
-        answer: the name is too long, a part of it is not a folder, or its links form a loop\n\
-        to do: correct the name\n",
-    ),
-    (
-        FileCall::Open,
-        Answer::InUse,
-        "failed: open, of the file a.tape\n\
-        answer: the file is in use by another process, or open under another name\n\
-        to do: end the other vtl that has it open, or name the file once\n",
-    ),
-    (
-        FileCall::Make,
-        Answer::NotAFile,
-        "failed: make, of the file a.tape\n\
-        answer: what has this name is no regular file\n\
-        to do: name a regular file\n",
-    ),
-    (
-        FileCall::Make,
-        Answer::Denied,
-        "failed: make, of the file a.tape\n\
-        answer: the system does not allow it\n\
-        to do: let this user write in the folder in which the file is to be\n",
-    ),
-    (
-        FileCall::Read,
-        Answer::Denied,
-        "failed: read, of the file a.tape\n\
-        answer: the system does not allow it\n\
-        to do: let this user read the file\n",
-    ),
-    (
-        FileCall::WriteAt,
-        Answer::NoRoom,
-        "failed: write at, of the file a.tape\n\
-        answer: the file system is full\n\
-        to do: make room on the file system\n",
-    ),
-    (
-        FileCall::Cut,
-        Answer::ReadOnly,
-        "failed: cut, of the file a.tape\n\
-        answer: the file system is read only\n\
-        to do: mount the file system for writing\n",
-    ),
-    (
-        FileCall::Sync,
-        Answer::Other(Some(5)),
-        "failed: sync, of the file a.tape\n\
-        answer: Input/output error (os error 5)\n\
-        to do: look at the device, and at what the system has logged of it\n",
-    ),
-    (
-        FileCall::ReadAt,
-        Answer::Other(None),
-        "failed: read at, of the file a.tape\n\
-        answer: the system reported an error\n\
-        to do: look at the device, and at what the system has logged of it\n",
-    ),
-    // a file is open while it is used, so this answer is one of the device
-    (
-        FileCall::ReadAt,
-        Answer::Other(Some(9)),
-        "failed: read at, of the file a.tape\n\
-        answer: Bad file descriptor (os error 9)\n\
-        to do: look at the device, and at what the system has logged of it\n",
-    ),
-    (
-        FileCall::Open,
-        Answer::Other(Some(24)),
-        "failed: open, of the file a.tape\n\
-        answer: Too many open files (os error 24)\n\
-        to do: raise the limit on the files that a process may have open\n",
-    ),
-    (
-        FileCall::Make,
-        Answer::Exists,
-        "failed: make, of the file a.tape\n\
-        answer: the name is taken\n\
-        to do: choose another name\n",
-    ),
-    (
-        FileCall::Lock,
-        Answer::Other(Some(37)),
-        "failed: lock, of the file a.tape\n\
-        answer: No locks available (os error 37)\n\
-        to do: look at the device, and at what the system has logged of it\n",
-    ),
-    (
-        FileCall::Look,
-        Answer::Denied,
-        "failed: look at, of the file a.tape\n\
-        answer: the system does not allow it\n\
-        to do: let this user read and write the file\n",
-    ),
-    (
-        FileCall::SyncFolder,
-        Answer::NoRoom,
-        "failed: sync of the folder, of the file a.tape\n\
-        answer: the file system is full\n\
-        to do: make room on the file system\n",
-    ),
-    (
-        FileCall::ReadAt,
-        Answer::Ended,
-        "failed: read at, of the file a.tape\n\
-        answer: the file has ended before all bytes were read\n\
-        to do: find what made the file shorter while it was open\n",
-    ),
-    (
-        FileCall::WriteAt,
-        Answer::TookNone,
-        "failed: write at, of the file a.tape\n\
-        answer: no byte was taken\n\
-        to do: make room where the bytes go\n",
-    ),
-    (
-        FileCall::WriteAt,
-        Answer::TooLarge,
-        "failed: write at, of the file a.tape\n\
-        answer: the file may not be so long\n\
-        to do: raise the limit on the length of files\n",
-    ),
-];
-
-// A stream, a call, the answer, and the lines.
-static STREAMS: &'static [(bool, FileCall, Answer, &'static str)] = &[
-    (
-        true,
-        FileCall::Read,
-        Answer::LongScript,
-        "failed: read, of standard input\n\
-        answer: a script has 2147483648 bytes at most\n\
-        to do: run it in several parts\n",
-    ),
-    (
-        false,
-        FileCall::Write,
-        Answer::NoReader,
-        "failed: write, of standard output\n\
-        answer: the program that read it has ended\n\
-        to do: let the program that reads it run to the end\n",
-    ),
-    // a stream that was not open when the program was started: EBADF of Linux
-    (
-        true,
-        FileCall::Read,
-        Answer::Other(Some(9)),
-        "failed: read, of standard input\n\
-        answer: Bad file descriptor (os error 9)\n\
-        to do: start the program with this stream open\n",
-    ),
-    (
-        false,
-        FileCall::Write,
-        Answer::Other(Some(9)),
-        "failed: write, of standard output\n\
-        answer: Bad file descriptor (os error 9)\n\
-        to do: start the program with this stream open\n",
-    ),
-];
-
-#[test]
-fn streams_by_name(rt: HostRuntime) -> Result<(), Fail> {
-    for &(is_input, call, answer, wanted) in STREAMS {
-        let source = if is_input {
-            Source::Input
-        } else {
-            Source::Output
-        };
-        let mut lines = Explanation::new(rt.alloc());
-        FileReason::new(rt.alloc(), source, call, answer).add_to(rt.alloc(), &mut lines)?;
-        assert_equal!(rt; lines.as_str(), wanted; call);
+// The name of a call.
+fn name_of(call: FileCall) -> &'static str {
+    match call {
+        Look => "look at",
+        Open => "open",
+        Make => "make",
+        Lock => "lock",
+        Read => "read",
+        Write => "write",
+        ReadAt => "read at",
+        WriteAt => "write at",
+        Cut => "cut",
+        Sync => "sync",
+        SyncFolder => "sync of the folder",
     }
-    Ok(())
 }
 
-#[test]
-fn memory_that_ran_out(rt: HostRuntime) -> Result<(), Fail> {
-    let mut lines = Explanation::new(rt.alloc());
-    let file = String::from_str(rt.alloc(), "a.tape")?;
-    MemoryReason::File(file).add_to(rt.alloc(), &mut lines)?;
-    MemoryReason::Script(71).add_to(rt.alloc(), &mut lines)?;
-    MemoryReason::Script(1).add_to(rt.alloc(), &mut lines)?;
-    let wanted = "memory ran out: as it was opened or read, the file a.tape\n\
-        to do: give the program more memory; a loaded cartridge takes 24 bytes for each block\n\
-        memory ran out: as the script was read, behind 71 bytes of it\n\
-        to do: give the program more memory; a loaded cartridge takes 24 bytes for each block\n\
-        memory ran out: as the script was read, behind 1 byte of it\n\
-        to do: give the program more memory; a loaded cartridge takes 24 bytes for each block\n";
-    assert_equal!(rt; lines.as_str(), wanted);
-    Ok(())
+// The words of an answer.
+fn words_of(answer: Answer) -> &'static str {
+    match answer {
+        Missing => "there is no such file or folder",
+        BadName => "the name is too long, a part of it is not a folder, or its links form a loop",
+        InUse => "the file is in use by another process, or open under another name",
+        NotAFile => "what has this name is no regular file",
+        Denied => "the system does not allow it",
+        NoRoom => "the file system is full",
+        ReadOnly => "the file system is read only",
+        Exists => "the name is taken",
+        Ended => "the file has ended before all bytes were read",
+        TookNone => "no byte was taken",
+        TooLarge => "the file may not be so long",
+        LongScript => "a script has 2147483648 bytes at most",
+        NoReader => "the program that read it has ended",
+        Other(None) => "the system reported an error",
+        Other(Some(5)) => "Input/output error (os error 5)",
+        Other(Some(9)) => "Bad file descriptor (os error 9)",
+        Other(Some(24)) => "Too many open files (os error 24)",
+        Other(Some(_)) => "No locks available (os error 37)",
+    }
 }
 
-#[test]
-fn a_file_that_has_no_reservations(rt: HostRuntime) -> Result<(), Fail> {
-    let mut lines = Explanation::new(rt.alloc());
-    let file = String::from_str(rt.alloc(), "d1.pr")?;
-    StoreReason { file }.add_to(rt.alloc(), &mut lines)?;
-    let wanted = "refused: what is in the file d1.pr\n\
-        allowed: the reservations of a drive, in a file that vtl create made\n\
-        to do: look at the file by vtl check, then name the right one in the configuration\n";
-    assert_equal!(rt; lines.as_str(), wanted);
-    Ok(())
+const DEVICE: &str = "look at the device, and at what the system has logged of it";
+
+const READER: &str = "let the program that reads it run to the end";
+
+const STREAM: &str = "start the program with this stream open";
+
+const IN_USE: &str = "end the other vtl that has it open, or name the file once";
+
+const MANY: &str = "raise the limit on the files that a process may have open";
+
+const SHORTER: &str = "find what made the file shorter while it was open";
+
+const LONG: &str = "raise the limit on the length of files";
+
+const FOLDER: &str = "let this user write in the folder in which the file is to be";
+
+// A call for a file, the answer, and what to do.
+static FIXES: &'static [(FileCall, Answer, &'static str)] = &[
+    (Look, BadName, "correct the name"),
+    (Open, InUse, IN_USE),
+    (Make, NotAFile, "name a regular file"),
+    (Make, Denied, FOLDER),
+    (Read, Denied, "let this user read the file"),
+    (Look, Denied, "let this user read and write the file"),
+    (WriteAt, NoRoom, "make room on the file system"),
+    (SyncFolder, NoRoom, "make room on the file system"),
+    (Cut, ReadOnly, "mount the file system for writing"),
+    (Make, Exists, "choose another name"),
+    (ReadAt, Ended, SHORTER),
+    (WriteAt, TookNone, "make room where the bytes go"),
+    (WriteAt, TooLarge, LONG),
+    (Sync, Other(Some(5)), DEVICE),
+    (ReadAt, Other(None), DEVICE),
+    // a file is open while it is used, so this answer is one of the device
+    (ReadAt, Other(Some(9)), DEVICE),
+    (Open, Other(Some(24)), MANY),
+    (Lock, Other(Some(37)), DEVICE),
+];
+
+// The same of a stream.
+static OF_STREAMS: &'static [(FileCall, Answer, &'static str)] = &[
+    (Read, LongScript, "run it in several parts"),
+    (Write, NoReader, READER),
+    // a stream that was not open when the program was started: EBADF of Linux
+    (Read, Other(Some(9)), STREAM),
+    (Write, Other(Some(9)), STREAM),
+];
+
+// The three lines of a call for this file or stream.
+fn wanted_of(
+    alloc: Global,
+    source: &str,
+    call: FileCall,
+    answer: Answer,
+    to_do: &str,
+) -> Result<String, AllocError> {
+    let (name, words) = (name_of(call), words_of(answer));
+    format!(in alloc; "failed: {name}, of {source}\nanswer: {words}\nto do: {to_do}\n")
 }
 
 #[test]
 fn each_call_and_each_answer(rt: HostRuntime) -> Result<(), Fail> {
-    for &(call, answer, wanted) in ROWS {
-        assert_equal!(rt; lines_of(rt.alloc(), call, answer)?.as_str(), wanted; call);
+    let alloc = rt.alloc();
+    for &(call, answer, to_do) in FIXES {
+        let mut lines = Explanation::new(alloc);
+        let source = Source::File(String::from_str(alloc, "a.tape")?);
+        FileReason::new(alloc, source, call, answer).add_to(alloc, &mut lines)?;
+        let wanted = wanted_of(alloc, "the file a.tape", call, answer, to_do)?;
+        assert_equal!(rt; lines.as_str(), wanted.as_str(); (call, answer));
+    }
+    for &(call, answer, to_do) in OF_STREAMS {
+        let mut lines = Explanation::new(alloc);
+        let (source, name) = if call == Read {
+            (Source::Input, "standard input")
+        } else {
+            (Source::Output, "standard output")
+        };
+        FileReason::new(alloc, source, call, answer).add_to(alloc, &mut lines)?;
+        let wanted = wanted_of(alloc, name, call, answer, to_do)?;
+        assert_equal!(rt; lines.as_str(), wanted.as_str(); (call, answer));
+    }
+    Ok(())
+}
+
+// ENOENT, EACCES, ENOTDIR, EISDIR, ENOSPC, EROFS, ENAMETOOLONG, ELOOP, EDQUOT, EFBIG, EPIPE and EIO of Linux.
+static NUMBERS: &'static [(i32, Answer)] = &[
+    (2, Missing),
+    (13, Denied),
+    (20, BadName),
+    (21, NotAFile),
+    (28, NoRoom),
+    (30, ReadOnly),
+    (36, BadName),
+    (40, BadName),
+    (122, NoRoom),
+    (27, TooLarge),
+    (32, NoReader),
+    (5, Other(Some(5))),
+];
+
+#[test]
+fn the_answer_of_each_error(rt: HostRuntime) {
+    for &(number, wanted) in NUMBERS {
+        assert_equal!(rt; Answer::of_error(&io::Error::from_raw_os_error(number)), wanted; number);
+    }
+}
+
+#[test]
+fn memory_that_ran_out(rt: HostRuntime) -> Result<(), Fail> {
+    for (bytes, words) in [(71, "71 bytes"), (1, "1 byte")] {
+        let mut lines = Explanation::new(rt.alloc());
+        MemoryReason::Script(bytes).add_to(rt.alloc(), &mut lines)?;
+        let wanted = format!(in rt.alloc();
+            "memory ran out: as the script was read, behind {words} of it\n\
+            to do: give the program more memory; a loaded cartridge takes 24 bytes for each block\n"
+        )?;
+        assert_equal!(rt; lines.as_str(), wanted.as_str());
+    }
+    Ok(())
+}
+
+// One byte is not several.
+#[test]
+fn one_byte_in_words(rt: HostRuntime) -> Result<(), Fail> {
+    let cut = Found::CutOff {
+        length: 10,
+        bytes: 1,
+    };
+    for (found, wanted) in [
+        (cut, "an open gate, a length of 10, and 1 byte behind it"),
+        (
+            Found::Whole(1),
+            "a whole frame of 1 byte, of which a record is bad",
+        ),
+    ] {
+        let said = format!(in rt.alloc(); "{found}")?;
+        assert_equal!(rt; said.as_str(), wanted);
     }
     Ok(())
 }

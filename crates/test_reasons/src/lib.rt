@@ -6,15 +6,7 @@ mod answers;
 #[cfg(test)]
 mod asserted;
 #[cfg(test)]
-mod config_doubles;
-#[cfg(test)]
-mod config_values;
-#[cfg(test)]
 mod configs;
-#[cfg(test)]
-mod damages;
-#[cfg(test)]
-mod file_answers;
 #[cfg(test)]
 mod files;
 #[cfg(test)]

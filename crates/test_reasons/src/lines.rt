@@ -4,62 +4,38 @@ use std::alloc::{AllocError, Global};
 use std::test::Fail;
 use test_assertions::assert_equal;
 
-// A text of `count` bytes.
-fn long_text(alloc: Global, count: usize) -> Result<String, AllocError> {
-    let mut text = String::new(alloc);
-    for _ in 0..count {
-        text.push_str("x")?;
-    }
-    Ok(text)
-}
-
-// The length of the line that a text of `count` bytes becomes, with its line feed.
-fn length_of(alloc: Global, count: usize) -> Result<usize, AllocError> {
-    let mut lines = Explanation::new(alloc);
-    lines.add(alloc, long_text(alloc, count)?.as_str())?;
-    Ok(lines.as_str().len())
-}
-
-#[test]
-fn a_line_has_120_columns_at_most(rt: HostRuntime) -> Result<(), Fail> {
-    for (count, wanted) in [
-        (0, 1),
-        (1, 2),
-        (119, 120),
-        (120, 121),
-        (121, 121),
-        (5_000, 121),
-    ] {
-        assert_equal!(rt; length_of(rt.alloc(), count)?, wanted; count);
-    }
-    Ok(())
-}
-
-// A text, and its line.
-static SHOWN: &'static [(&'static str, &'static str)] = &[
-    ("", "\n"),
-    ("drive 7 ~ {}", "drive 7 ~ {}\n"),
-    ("a\tb\u{1b}[2Jc\u{7f}", "a?b?[2Jc?\n"),
-    ("two\nlines", "two?lines\n"),
-    ("\u{e9}", "??\n"),
+// Texts and how often each stands in its line, and the line with how many of them are left.
+static LINES: &'static [(&'static str, usize, &'static str, usize)] = &[
+    ("drive 7 ~ {}", 1, "drive 7 ~ {}", 1),
+    ("a\tb\u{1b}[2Jc\u{7f}", 1, "a?b?[2Jc?", 1),
+    ("two\nlines", 1, "two?lines", 1),
+    ("\u{e9}", 1, "??", 1),
+    ("x", 0, "x", 0),
+    ("x", 119, "x", 119),
+    ("x", 120, "x", 120),
+    ("x", 121, "x", 120),
+    ("x", 5_000, "x", 120),
 ];
 
-#[test]
-fn other_bytes_are_question_marks(rt: HostRuntime) -> Result<(), Fail> {
-    for &(text, wanted) in SHOWN {
-        let mut lines = Explanation::new(rt.alloc());
-        lines.add(rt.alloc(), text)?;
-        assert_equal!(rt; lines.as_str(), wanted);
+// This text so often.
+fn times(alloc: Global, text: &str, count: usize) -> Result<String, AllocError> {
+    let mut all = String::new(alloc);
+    for _ in 0..count {
+        all.push_str(text)?;
     }
-    Ok(())
+    Ok(all)
 }
 
+// Printable ASCII characters, 120 of them at most, and all others are question marks. Each line is behind the first.
 #[test]
-fn lines_stand_in_order(rt: HostRuntime) -> Result<(), Fail> {
-    let mut lines = Explanation::new(rt.alloc());
-    assert_equal!(rt; lines.as_str(), "");
-    lines.add(rt.alloc(), "one")?;
-    lines.add(rt.alloc(), "two")?;
-    assert_equal!(rt; lines.as_str(), "one\ntwo\n");
+fn a_line_has_120_columns_at_most(rt: HostRuntime) -> Result<(), Fail> {
+    for &(text, count, shown, left) in LINES {
+        let mut lines = Explanation::new(rt.alloc());
+        lines.add(rt.alloc(), "one")?;
+        lines.add(rt.alloc(), times(rt.alloc(), text, count)?.as_str())?;
+        let line = times(rt.alloc(), shown, left)?;
+        let wanted = format!(in rt.alloc(); "one\n{line}\n")?;
+        assert_equal!(rt; lines.as_str(), wanted.as_str(); (text, count));
+    }
     Ok(())
 }

@@ -1,22 +1,16 @@
-//! The tests of reclaims: of a copy, and of a cartridge whose volume is copied to the other side.
+//! The tests of reclaims: of a cartridge whose volume is copied to the other side.
 #![tactic(auto)]
 
 #[cfg(test)]
 mod asserted;
 #[cfg(test)]
-mod copy_tests;
-#[cfg(test)]
 mod fault_tests;
-#[cfg(test)]
-mod random_tests;
 #[cfg(test)]
 mod row_tests;
 #[cfg(test)]
 mod rows;
 #[cfg(test)]
 mod samples;
-#[cfg(test)]
-mod spare_tests;
 #[cfg(test)]
 mod stop_tables;
 #[cfg(test)]

@@ -1,12 +1,6 @@
 //! The sides of a cartridge `T00001L6` of one partition of 4,096 bytes, byte by byte.
 
-/// The first side: the block `hello`, and a filemark after it.
-pub const VECTOR: &'static [u8; 71] = b"\xa5VTLCART1\0\x01T00001L6        \0\0\0\0\0\0\x10\0\
-    \xa5\0\0\0\x0f\x01\0\0\0\0\0\0\0\0\x05hello\
-    \xa5\0\0\0\x0a\x02\0\0\0\0\x01\0\0\0\x01\
-    \0";
-
-/// Then the block `x` at its beginning.
+/// The first side: the block `hello` and a filemark after it, and then the block `x` at its beginning.
 pub const BEFORE: &'static [u8; 87] = b"\xa5VTLCART1\0\x01T00001L6        \0\0\0\0\0\0\x10\0\
     \xa5\0\0\0\x0f\x01\0\0\0\0\0\0\0\0\x05hello\
     \xa5\0\0\0\x0a\x02\0\0\0\0\x01\0\0\0\x01\

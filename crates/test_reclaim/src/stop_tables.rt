@@ -1,10 +1,9 @@
 //! Pairs of images that are reclaimed, and their contents.
 use crate::rows::{BEFORE, ONCE_AND_ON, ONCE_CLOSED, PAIRED, PREPARED, TWICE_AND_ON};
-use crate::samples::{Pair, empty, pair_of};
+use crate::samples::Pair;
 use std::alloc::Global;
-use std::test::Fail;
-use volume_core::{Change, Volume};
-use vtl_base::{Bytes, NoMemory};
+use tape_disk::MemDisk;
+use vtl_base::NoMemory;
 
 /// A pair to be reclaimed.
 pub struct Work {
@@ -78,28 +77,9 @@ pub static WORKS: &'static [Work] = &[
 impl Work {
     /// The disks before it.
     pub fn pair(&self, alloc: Global) -> Result<Pair, NoMemory> {
-        pair_of(alloc, self.first, self.second)
-    }
-
-    /// The volume on the disks.
-    pub fn volume(&self, alloc: Global) -> Result<Volume, Fail> {
-        let mut volume = empty(alloc, &[4_096])?;
-        for object in self.objects {
-            let at = volume.count(0);
-            let change = if object.is_empty() {
-                Change::Marks {
-                    part: 0,
-                    at,
-                    count: 1,
-                }
-            } else {
-                let block = Bytes::from_slice(alloc, *object)?;
-                Change::Put { part: 0, at, block }
-            };
-            let Ok(()) = volume.apply(change) else {
-                return Err(Fail::from("no such object"));
-            };
-        }
-        Ok(volume)
+        Ok((
+            MemDisk::from_bytes(alloc, self.first)?,
+            MemDisk::from_bytes(alloc, self.second)?,
+        ))
     }
 }

@@ -1,8 +1,9 @@
 //! The longest command, whole.
-use crate::outcomes::{BAD_1, DONE, answered, assert_ends, joined};
+use crate::outcomes::{BAD_1, DONE, answered, joined};
 use crate::wires::Plan;
 use std::alloc::{AllocError, Global};
 use std::test::Fail;
+use test_assertions::{assert_equal, assert_holds};
 
 // A command with 1,099,996 bytes, whose line has `spaces` bytes more than `HOST DRIVE CDB DATA` needs.
 fn longest_command(alloc: Global, spaces: usize) -> Result<Vec<u8>, AllocError> {
@@ -19,14 +20,23 @@ fn longest_command(alloc: Global, spaces: usize) -> Result<Vec<u8>, AllocError> 
 
 #[test]
 fn the_longest_command(rt: HostRuntime) -> Result<(), Fail> {
-    // 2,200,000 bytes, which are taken whole, whatever a drive replies; and one byte more.
+    // 2,200,000 bytes, which are taken whole, whatever a drive replies, also by many reads and writes; one byte more.
     let script = longest_command(rt.alloc(), 1)?;
     assert_eq!(rt; script.len(), 2_200_001);
-    let outcome = answered(rt.alloc(), script.as_slice(), Plan::whole());
-    assert_eq!(rt; outcome.end, DONE);
     let mut wanted = joined(rt.alloc(), &["GOOD 010100"])?;
     wanted.extend_from_slice(&script.as_slice()[8..])?;
-    assert!(rt; outcome.text.as_slice() == wanted.as_slice());
+    for (piece, taken) in [(usize::MAX, usize::MAX), (1_000, 17)] {
+        let plan = Plan {
+            piece,
+            taken,
+            ..Plan::whole()
+        };
+        let outcome = answered(rt.alloc(), script.as_slice(), plan);
+        assert_equal!(rt; outcome.end, DONE; piece);
+        assert_holds!(rt; outcome.text.as_slice() == wanted.as_slice(); piece);
+    }
     let script = longest_command(rt.alloc(), 2)?;
-    assert_ends(&rt, rt.alloc(), script.as_slice(), (&[], BAD_1), 0)
+    let outcome = answered(rt.alloc(), script.as_slice(), Plan::whole());
+    assert_equal!(rt; (outcome.end, outcome.text.len()), (BAD_1, 0));
+    Ok(())
 }

@@ -26,11 +26,7 @@ fn counted(alloc: Global, reader: &mut WireReader) -> u64 {
 #[test]
 fn reads_are_counted(rt: HostRuntime) {
     for &(piece, call) in READS {
-        let plan = Plan {
-            piece,
-            bad_read: Some((call, ErrorKind::Interrupted)),
-            ..Plan::whole()
-        };
+        let plan = Plan::read(piece, call, ErrorKind::Interrupted, 1);
         let wire = Wire::new();
         let mut reader = WireReader::new(TWO_PHASES, plan, &wire);
         let reads = counted(rt.alloc(), &mut reader);

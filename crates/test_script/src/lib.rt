@@ -12,10 +12,6 @@ mod echoes;
 #[cfg(test)]
 mod failing;
 #[cfg(test)]
-mod long_answers;
-#[cfg(test)]
-mod moves;
-#[cfg(test)]
 mod outcomes;
 #[cfg(test)]
 mod waiting;

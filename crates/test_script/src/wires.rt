@@ -26,6 +26,26 @@ impl Plan {
         }
     }
 
+    /// Reads of so many bytes at most, of which as many as `times` fail, from the call with this number on.
+    pub fn read(piece: usize, call: u32, kind: ErrorKind, times: u32) -> Self {
+        Plan {
+            piece,
+            bad_read: Some((call, kind)),
+            in_a_row: times,
+            ..Plan::whole()
+        }
+    }
+
+    /// The same of writes and flushes.
+    pub fn write(taken: usize, call: u32, kind: ErrorKind, times: u32) -> Self {
+        Plan {
+            taken,
+            bad_write: Some((call, kind)),
+            in_a_row: times,
+            ..Plan::whole()
+        }
+    }
+
     // What the plan says of a call: the kind of its fault, if it fails.
     fn fault(&self, bad: Option<(u32, ErrorKind)>, call: u32) -> Option<ErrorKind> {
         match bad {

@@ -1,5 +1,5 @@
 -- The hosts from number 1 on.
-use Rattle.std.proofs.Common.{◌≡◌, ℕ, zero, suc, ◌+◌, ◌<◌, nat_eq, false, List, [], ◌∷◌, ◌++◌, ◌∙◌, ap, arith}
+use Rattle.std.proofs.Common.{◌≡◌, ℕ, zero, suc, ◌+◌, ◌<◌, nat_eq, false, arith}
 use Rattle.std.proofs.lemmas.Bool.Decides.{nat_tests}
 use Rattle.std.specs.List.{AllByRecursion, IsDistinct, range_with_len}
 
@@ -14,10 +14,3 @@ pub numbers_differ : (from count : ℕ) → IsDistinct nat_eq (range_with_len fr
 unfolding IsDistinct
 numbers_differ from zero = tt
 numbers_differ from (suc count) = (behind from (from + 1) count (omega arith), numbers_differ (from + 1) count)
-
-pub one_more : (from count : ℕ)
-    → range_with_len from count ++ (from + count) ∷ [] ≡ range_with_len from (suc count)
-one_more from zero = ap (λ (n : ℕ). n ∷ []) (omega arith)
-one_more from (suc count) =
-    ap (λ (rest : List ℕ). from ∷ rest)
-    (ap (λ (n : ℕ). range_with_len (from + 1) count ++ n ∷ []) (omega arith) ∙ one_more (from + 1) count)

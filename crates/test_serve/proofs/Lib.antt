@@ -1,2 +1,1 @@
-mod FreshLemmas
 mod HostLemmas

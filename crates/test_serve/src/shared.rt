@@ -1,8 +1,5 @@
 //! A library that threads share, whose hosts are served over one pipe, over frames that were worked by hand.
-use crate::frames::add_bytes;
-use crate::opening::{count_fresh, hosts};
-use crate::samples::row;
-use crate::turns::{Turns, Watching};
+use crate::frames::{bytes_of, row};
 use element_slots::Slots;
 use library::{Gate, RingRow};
 use std::alloc::Global;
@@ -10,13 +7,16 @@ use std::io::{Read, Write};
 use std::marker::{Brand, Send, Sync};
 use std::process::Abort;
 use std::sync::Wait;
+use std::sync::atomic::{AtomicU32, Ordering};
 use std::sync::ledger::Blank;
 use std::test::Fail;
 use std::thread::Threads;
-use std::time::Clock;
+use std::time::{Clock, Duration};
+use std::{io, thread};
 use tape_disk::MemDisk;
 use test_assertions::assert_equal;
-use test_gates::OpenGate;
+use test_gates::{OpenGate, count_fresh, hosts};
+use volume_core::Turn;
 use vtl_base::Barcode;
 use vtl_serve::{Label, Labels, serve_library};
 use vtl_wire::WireFault;
@@ -42,29 +42,17 @@ static ANSWERS: &'static [&'static str] = &[
     "01 05 02 12 00000000 00000006 00000000 700006000000000a00000000290000000000",
 ];
 
-// A command to a drive that is not configured.
-const REFUSED: &str = "01 05 03 06 00000000 00000007 00000000 000000000000";
-
-// The entry of an address where this is: nothing, or a barcode.
-fn add_entry(bytes: &mut Vec<u8>, address: u32, barcode: &[u8]) -> Result<(), Fail> {
-    bytes.extend_from_slice(&address.to_be_bytes())?;
-    if barcode.is_empty() {
-        bytes.extend_from_slice(&[0; 16])?;
-    } else {
-        bytes.extend_from_slice(barcode)?;
-        for _ in barcode.len()..16 {
-            bytes.push(b' ')?;
-        }
-    }
-    Ok(())
-}
-
-// The entries where A1 is in drive 1, and B2 here.
+// Adds the entries where A1 is in drive 1, and B2 here.
 fn add_entries(bytes: &mut Vec<u8>, second: u32) -> Result<(), Fail> {
-    add_entry(bytes, 1, b"A1")?;
-    add_entry(bytes, 2, if second == 2 { b"B2" } else { b"" })?;
-    for address in 1001..1257 {
-        add_entry(bytes, address, if second == address { b"B2" } else { b"" })?;
+    for address in (1..3u32).chain(1001..1257u32) {
+        let (barcode, pad) = match address {
+            1 => (b"A1", b' '),
+            _ if address == second => (b"B2", b' '),
+            _ => (b"\0\0", 0),
+        };
+        bytes.extend_from_slice(&address.to_be_bytes())?;
+        bytes.extend_from_slice(barcode)?;
+        bytes.extend_from_slice(&[pad; 14])?;
     }
     Ok(())
 }
@@ -72,44 +60,27 @@ fn add_entries(bytes: &mut Vec<u8>, second: u32) -> Result<(), Fail> {
 // The labels of both cartridges.
 fn labels(alloc: Global) -> Result<Labels, Fail> {
     let mut labels = Vec::new(alloc);
-    labels.push(Label {
-        address: 1,
-        barcode: Barcode::parse(b"A1")?,
-    })?;
-    labels.push(Label {
-        address: 2,
-        barcode: Barcode::parse(b"B2")?,
-    })?;
+    for (address, barcode) in [(1, b"A1"), (2, b"B2")] {
+        let barcode = Barcode::parse(barcode)?;
+        labels.push(Label { address, barcode })?;
+    }
     Ok(Labels::from_vec(labels))
 }
 
-/// What two drives count, where so many changes were made at drive 1.
-pub fn two(changes: u64) -> [Option<u64>; 16] {
-    let mut counts = [None; 16];
-    counts[0] = Some(changes);
-    counts[1] = Some(0);
-    counts
-}
-
-/// Serves so many drives and 64 hosts for what a reader gives. Returns how that ended, with the drives' counts.
-pub fn serving_to<
-    R: Threads + Wait + Abort + Clock + Sync,
-    G: Gate + Sync,
-    I: Read,
-    W: Write + Send,
->(
+// Serves drives that then count so, and 64 hosts, for what a reader gives, and returns how that ended.
+fn serving_to<R: Threads + Wait + Abort + Clock + Sync, G: Gate + Sync, I: Read, W: Write + Send>(
     rt: &R,
     alloc: Global,
-    count: u8,
     counts: [Option<u64>; 16],
     gate: &G,
     reader: &mut I,
     writer: &mut W,
 ) -> Result<Result<(), WireFault>, Fail> {
-    let bays = row(alloc, count)?;
+    let count = counts.iter().filter(|count| count.is_some()).count();
+    let bays = row(alloc, count.min(16) as u8)?;
     let drives = count_fresh(bays.as_slice())?;
     let rings = RingRow::of_drives(alloc, bays.as_slice())?;
-    let hosts = hosts(rt, alloc, 64)?;
+    let hosts = hosts(alloc, 64)?;
     let served = serve_library::<MemDisk, Brand, Brand, R, G, I, W>(
         rt,
         alloc,
@@ -133,168 +104,159 @@ pub fn serving_to<
     }
 }
 
-// What two drives and 64 hosts write for what a reader gives, and how that ends. No change was made.
-fn serving_all<R: Threads + Wait + Abort + Clock + Sync, G: Gate + Sync, I: Read>(
-    rt: &R,
-    alloc: Global,
-    gate: &G,
-    reader: &mut I,
-) -> Result<(Result<(), WireFault>, Vec<u8>), Fail> {
-    let mut written = Vec::new(alloc);
-    let outcome = serving_to(rt, alloc, 2, two(0), gate, reader, &mut written)?;
-    Ok((outcome, written))
-}
-
-// The same for an input.
-fn serving_input<R: Threads + Wait + Abort + Clock + Sync>(
-    rt: &R,
-    alloc: Global,
-    input: &[u8],
-) -> Result<(Result<(), WireFault>, Vec<u8>), Fail> {
-    let mut reader = input;
-    serving_all(rt, alloc, &OpenGate, &mut reader)
-}
-
-// The requests, and their answers.
-fn exchange(alloc: Global) -> Result<(Vec<u8>, Vec<u8>), Fail> {
-    let mut input = Vec::new(alloc);
-    for request in REQUESTS {
-        add_bytes(alloc, &mut input, request)?;
-    }
-    let mut output = Vec::new(alloc);
-    for answer in ANSWERS {
-        add_bytes(alloc, &mut output, answer)?;
-        match answer.as_bytes() {
-            [b'0', b'3', .., b'1', b' ', _, _, _, _, _, _, _, _] => add_entries(&mut output, 2)?,
-            [b'0', b'3', ..] => add_entries(&mut output, 1001)?,
+#[test]
+fn moves_and_inventories_are_served(rt: HostRuntime) -> Result<(), Fail> {
+    let input = bytes_of(rt.alloc(), REQUESTS)?;
+    let mut output = Vec::new(rt.alloc());
+    for (place, answer) in ANSWERS.iter().enumerate() {
+        output.extend_from_slice(bytes_of(rt.alloc(), &[*answer])?.as_slice())?;
+        match place {
+            0 => add_entries(&mut output, 2)?,
+            3 => add_entries(&mut output, 1001)?,
             _ => {}
         }
     }
-    Ok((input, output))
-}
-
-#[test]
-fn moves_and_inventories_are_served(rt: HostRuntime) -> Result<(), Fail> {
-    let (input, output) = exchange(rt.alloc())?;
-    let (end, written) = serving_input(&rt, rt.alloc(), input.as_slice())?;
+    let mut counts = [None; 16];
+    counts[0] = Some(0);
+    counts[1] = Some(0);
+    let mut reader = input.as_slice();
+    let mut out = Vec::new(rt.alloc());
+    let end = serving_to(&rt, rt.alloc(), counts, &OpenGate, &mut reader, &mut out)?;
     assert_equal!(rt; end, Ok(()));
-    assert_equal!(rt; written.as_slice(), output.as_slice());
+    assert_equal!(rt; out.as_slice(), output.as_slice());
     Ok(())
 }
 
-#[test]
-fn a_drive_that_is_not_configured_is_refused(rt: HostRuntime) -> Result<(), Fail> {
-    let (mut input, output) = exchange(rt.alloc())?;
-    add_bytes(rt.alloc(), &mut input, REFUSED)?;
-    let (end, written) = serving_input(&rt, rt.alloc(), input.as_slice())?;
-    assert_equal!(rt; end, Err(WireFault::BadFrame { frame: 7 }));
-    assert_equal!(rt; written.as_slice(), output.as_slice());
-    Ok(())
+// How many turns began, and how many answers were flushed.
+#[derive(Drop)]
+struct Signs {
+    turns: AtomicU32,
+    answers: AtomicU32,
 }
 
-// Each drive's flusher takes a turn while nothing comes, and waits then.
-#[test]
-fn each_drive_has_a_flusher(rt: HostRuntime) -> Result<(), Fail> {
-    let (input, output) = exchange(rt.alloc())?;
-    let turns = Turns::new(&rt);
-    let mut reader = Watching {
-        turns: &turns,
-        wanted: 2,
-        rest: input.as_slice(),
-    };
-    let (end, written) = serving_all(&rt, rt.alloc(), &turns, &mut reader)?;
-    assert_equal!(rt; end, Ok(()));
-    assert_equal!(rt; written.as_slice(), output.as_slice());
-    Ok(())
-}
-
-#[test]
-fn each_of_16_drives_has_a_flusher(rt: HostRuntime) -> Result<(), Fail> {
-    let turns = Turns::new(&rt);
-    let mut reader = Watching {
-        turns: &turns,
-        wanted: 16,
-        rest: &[],
-    };
-    let mut written = Vec::new(rt.alloc());
-    let counts = [Some(0); 16];
-    let end = serving_to(
-        &rt,
-        rt.alloc(),
-        16,
-        counts,
-        &turns,
-        &mut reader,
-        &mut written,
-    )?;
-    assert_equal!(rt; end, Ok(()));
-    assert_equal!(rt; written.len(), 0);
-    Ok(())
-}
-
-// Each of 64 hosts sends REQUEST SENSE to drives 1 and 2 by turns, so many times.
-fn crowd(alloc: Global, rounds: u8) -> Result<Vec<u8>, Fail> {
-    let mut input = Vec::new(alloc);
-    for number in 0..rounds {
-        for host in 1..65 {
-            let drive = number % 2 + 1;
-            let head = [
-                1, host, drive, 6, 0, 0, 0, 0, 0, 0, host, number, 0, 0, 0, 0,
-            ];
-            input.extend_from_slice(&head)?;
-            input.extend_from_slice(&[3, 0, 0, 0, 18, 0])?;
+impl Signs {
+    // Waits until there are so many turns and answers.
+    fn wait<R: Wait + Clock>(&self, rt: &R, turns: u32, answers: u32) {
+        for _ in rt.forever() {
+            let (begun, flushed) = (&self.turns, &self.answers);
+            if begun.load(Ordering::SeqCst) >= turns && flushed.load(Ordering::SeqCst) >= answers {
+                break;
+            }
+            thread::sleep(rt, Duration::from_millis(1));
         }
     }
-    Ok(input)
 }
 
-// The last byte of the tag of each answer of a host, in their order. Each has 18 bytes of data: what is reported of a
-// drive, first of all that it was switched on.
-fn tags_of(alloc: Global, written: &[u8], host: u8) -> Result<Vec<u8>, Fail> {
-    let mut tags = Vec::new(alloc);
-    for frame in written.chunks(34) {
-        if let [
-            1,
-            from,
-            0,
-            0,
-            0,
-            0,
-            0,
-            18,
-            _,
-            _,
-            _,
-            tag,
-            0,
-            0,
-            0,
-            0,
-            0x70,
-            ..
-        ] = frame
-        {
-            if *from == host {
-                tags.push(*tag)?;
+// A gate that stands in the 17th turn, the first behind those of all flushers, until four answers are out.
+#[derive(Drop)]
+struct Standing<'a, R>(&'a R, &'a Signs);
+
+impl<R: Wait + Clock> Gate for Standing<'_, R> {
+    fn before_turn(&self) -> bool {
+        true
+    }
+
+    fn in_turn(&self) {
+        if self.1.turns.fetch_add(1, Ordering::SeqCst) == 16 {
+            self.1.wait(self.0, 0, 4);
+        }
+    }
+
+    fn after_turn(&self, _turn: Turn) {}
+}
+
+// Sends requests, each once its step has come, and some milliseconds later.
+#[derive(Drop)]
+struct Stepping<'a, R> {
+    rt: &'a R,
+    signs: &'a Signs,
+    steps: &'a [(usize, u32, u32)],
+    rest: &'a [u8],
+    left: usize,
+}
+
+impl<R: Wait + Clock> Read for Stepping<'_, R> {
+    fn read(&mut self, buf: &mut [u8]) -> io::Result<usize> {
+        if self.left == 0 {
+            if let [(length, turns, answers), steps @ ..] = self.steps {
+                self.signs.wait(self.rt, *turns, *answers);
+                thread::sleep(self.rt, Duration::from_millis(20));
+                self.left = *length;
+                self.steps = steps;
             }
         }
+        let count = self.left.min(self.rest.len()).min(buf.len());
+        buf[..count].copy_from_slice(&self.rest[..count]);
+        self.rest = &self.rest[count..];
+        self.left = self.left.saturating_sub(count);
+        Ok(count)
     }
-    Ok(tags)
 }
 
+// Takes the answers, and counts the flushes.
+#[derive(Drop)]
+struct Counting<'a>(&'a Signs, Vec<u8>);
+
+impl Write for Counting<'_> {
+    fn write(&mut self, buf: &[u8]) -> io::Result<usize> {
+        self.1.extend_from_slice(buf)?;
+        Ok(buf.len())
+    }
+
+    fn flush(&mut self) -> io::Result<()> {
+        let _ = self.0.answers.fetch_add(1, Ordering::SeqCst);
+        Ok(())
+    }
+}
+
+// Each of 16 drives has a flusher, which takes a turn. Each host takes its power on condition. Host 1 writes a block to
+// drive 1, whose flusher then begins a turn. It stands in that with the disk's half of the drive locked. Host 1 sends a
+// REWIND to drive 1, which waits for that half, and host 2 one command to drive 2, which is answered first.
+static SENT: &'static [&'static str] = &[
+    "01 01 01 06 00000000 00000001 00000000 000000000000",
+    "01 02 02 06 00000000 00000002 00000000 000000000000",
+    "01 01 01 06 00000001 00000003 00000000 0a0000000100 78",
+    "01 01 01 06 00000000 00000004 00000000 010000000000",
+    "01 02 02 06 00000000 00000005 00000000 000000000000",
+];
+
+static TAKEN: &'static [&'static str] = &[
+    "01 01 02 12 00000000 00000001 00000000 700006000000000a00000000290000000000",
+    "01 02 02 12 00000000 00000002 00000000 700006000000000a00000000290000000000",
+    "01 01 00 00 00000000 00000003 00000000",
+    "01 02 00 00 00000000 00000005 00000000",
+    "01 01 00 00 00000000 00000004 00000000",
+];
+
+// When each is sent: its length, how many turns have begun before, and how many answers were flushed.
+static STEPS: &'static [(usize, u32, u32)] = &[
+    (22, 16, 0),
+    (22, 16, 1),
+    (23, 16, 2),
+    (22, 17, 3),
+    (22, 17, 3),
+];
+
 #[test]
-fn each_of_64_hosts_is_served_in_order(rt: HostRuntime) -> Result<(), Fail> {
-    let input = crowd(rt.alloc(), 16)?;
-    let (end, written) = serving_input(&rt, rt.alloc(), input.as_slice())?;
+fn a_drive_answers_while_another_stands_in_its_turn(rt: HostRuntime) -> Result<(), Fail> {
+    let (input, output) = (bytes_of(rt.alloc(), SENT)?, bytes_of(rt.alloc(), TAKEN)?);
+    let signs = Signs {
+        turns: AtomicU32::new(0),
+        answers: AtomicU32::new(0),
+    };
+    let gate = Standing(&rt, &signs);
+    let mut reader = Stepping {
+        rt: &rt,
+        signs: &signs,
+        steps: STEPS,
+        rest: input.as_slice(),
+        left: 0,
+    };
+    let mut writer = Counting(&signs, Vec::new(rt.alloc()));
+    let mut counts = [Some(0); 16];
+    counts[0] = Some(1);
+    let end = serving_to(&rt, rt.alloc(), counts, &gate, &mut reader, &mut writer)?;
     assert_equal!(rt; end, Ok(()));
-    assert_equal!(rt; written.len(), 16 * 64 * 34);
-    let mut numbers = Vec::new(rt.alloc());
-    for number in 0..16 {
-        numbers.push(number)?;
-    }
-    for host in 1..65 {
-        let tags = tags_of(rt.alloc(), written.as_slice(), host)?;
-        assert_equal!(rt; tags.as_slice(), numbers.as_slice(); host);
-    }
+    assert_equal!(rt; writer.1.as_slice(), output.as_slice());
     Ok(())
 }

@@ -1,5 +1,5 @@
 //! What crashes leave of a drive.
-use crate::drives::{Disks, NEVER, TestDisk, TestDrive, switched_on};
+use crate::drives::{Disks, NEVER, TestDisk, switched_on, whole};
 use crate::samples::{
     HELD_BY_A, KEY_A, NOBODY, NONE, POWERED_ON, READ_KEYS, READ_RESERVATION, READY, answers, reads,
 };
@@ -11,8 +11,8 @@ use std::test::Fail;
 use tape_disk::MemDisk;
 use test_assertions::{assert_equal, assert_holds};
 
-/// What is found when a drive is switched on: the blocks of its tape, of one byte each; and the data of READ
-/// KEYS and READ RESERVATION.
+/// What is found when a drive is switched on: the blocks of its tape, of one byte each; and the data of READ KEYS and
+/// READ RESERVATION.
 pub type Left = (&'static [u8], Held);
 
 pub type Held = (&'static [u8], &'static [u8]);
@@ -23,21 +23,8 @@ pub const REGISTERED: Held = (KEY_A, NOBODY);
 
 pub const RESERVED: Held = (KEY_A, HELD_BY_A);
 
-// How many of the bytes that are not synced land in a crash, and what the others hold.
-static CRASHES: &'static [(u64, u8)] = &[
-    (0, 0x00),
-    (0, 0xa5),
-    (0, 0xff),
-    (1, 0x00),
-    (1, 0xa5),
-    (1, 0xff),
-    (u64::MAX, 0x00),
-    (u64::MAX, 0xa5),
-    (u64::MAX, 0xff),
-];
-
-// Whether a drive that was just switched on has this.
-fn shows<D: TestDisk, S: TestDrive<D>>(drive: &mut S, left: Left) -> bool {
+/// Whether a drive that was just switched on has this.
+pub fn shows<D: TestDisk>(drive: &mut Bay<D>, left: Left) -> bool {
     let (tape, (keys, reservation)) = left;
     answers(drive, (1, READY, NONE, POWERED_ON))
         && reads(drive, tape)
@@ -49,29 +36,20 @@ fn shows<D: TestDisk, S: TestDrive<D>>(drive: &mut S, left: Left) -> bool {
 pub fn restarted<D: TestDisk>(alloc: Global, disks: Disks) -> Result<Bay<D>, Fail> {
     let Disks { tape, store } = disks;
     let second = D::over(MemDisk::new(alloc), NEVER);
-    match switched_on(alloc, D::over(tape, NEVER), second, D::over(store, NEVER)) {
-        Ok(drive) => Ok(drive),
-        Err(disks) => {
-            drop(disks);
-            Err(Fail::from("not switched on"))
-        }
-    }
+    whole(switched_on(alloc, D::over(tape, NEVER), second, D::over(store, NEVER))?)
 }
 
-/// Whether this is found on the disks.
-pub fn has<D: TestDisk>(alloc: Global, disks: Disks, left: Left) -> Result<bool, Fail> {
-    let mut drive = restarted::<D>(alloc, disks)?;
-    let is_shown = shows(&mut drive, left);
-    drop(drive);
-    Ok(is_shown)
-}
-
-// How many of nine crashes leave this.
+// How many of nine crashes leave this: none, one or all of the bytes that are not synced land, and the others are one
+// of three bytes.
 fn crashes_with<D: TestDisk>(alloc: Global, reached: &Disks, left: Left) -> Result<u32, Fail> {
     let mut count = 0u32;
-    for (keep, fill) in CRASHES {
-        if has::<D>(alloc, reached.copy()?.crash(*keep, *fill)?, left)? {
-            count = count.saturating_add(1);
+    for keep in [0, 1, u64::MAX] {
+        for other in [0x00, 0xa5, 0xff] {
+            let mut drive = restarted::<D>(alloc, reached.crash(keep, other)?)?;
+            if shows(&mut drive, left) {
+                count = count.saturating_add(1);
+            }
+            drop(drive);
         }
     }
     Ok(count)

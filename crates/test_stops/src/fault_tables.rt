@@ -1,274 +1,190 @@
 //! The commands to a drive where a call of a disk fails, and what is found afterwards.
 use crate::crashes::{Left, NOTHING, REGISTERED, RESERVED};
-use crate::fault_rows::{
-    A_KEY, LOADED, LOADED_LATE, NOT_LOADED, NOT_READ, NOT_REGISTERED, NOT_RESERVED, NOT_WAITING,
-    POWER_ON, REPORTED_LATE, STILL_RESERVED, TAKES_NOTHING, UNLOADED, WAITING,
-};
 use crate::samples::{
-    A_NEW, A_WITHOUT_APTPL, AB_TAPE, BY_A, FAILED, GOOD, HELD_STORE, LOAD, NEW_STORE, NEW_TAPE,
-    NONE, NOT_PRESENT, READ_1, READ_ERROR, READY, REGISTER, RESERVE_5, REWIND, Row, UNLOAD,
-    WRITE_1, WRITE_ERROR, WRITE_OUT, Wanted,
+    A_NEW, A_WITHOUT_APTPL, BY_A, CHANGED, FAILED, GOOD, HELD_BY_A, KEY_A, LOAD, MARK,
+    MODE_CHANGED, NOBODY, NONE, NOT_PRESENT, POWERED_ON, READ_1, READ_ERROR, READ_KEYS,
+    READ_RESERVATION, READY, REGISTER, RESERVE_5, Rows, SELECT_4, UNBUFFERED, UNLOAD, WRITE_1,
+    WRITE_ERROR, WRITE_OUT, Wanted,
 };
-use crate::stop_tables::Which;
+use crate::stop_tables::{AB_NEW, HELD, HELD_NEW, KEYED, NEW, Sides, Which};
 
 /// What meets the fault.
 #[derive(Clone, Copy)]
 pub enum Action {
-    /// A flusher's turn, which stores one change.
+    /// A flusher's turn, which stores one change. Its fault is reported late, to the next host.
     Turn,
     /// A command of host 1, the data sent with it, its answer, and its answer where a call fails.
     Asked(&'static [u8], &'static [u8], Wanted<'static>, Wanted<'static>),
 }
 
-/// How what was stored is found again.
-#[derive(Clone, Copy)]
-pub enum Again {
-    /// By these commands.
-    Asked(&'static [Row<'static>]),
-    /// By another drive, which is switched on over the same disks.
-    Restarted,
-}
+/// A name; the disk; how many of its calls come before the action, with the power on; how many the action makes; the
+/// commands before; and the action.
+pub type Case = (&'static str, Which, u64, u64, Rows, Action);
 
-/// For one failed call: what nine crashes leave, each of these by at least one, and what is found again.
-pub type Failed = (&'static [Left], Left);
-
-/// An action of which each call of a disk fails, one at a time.
-pub struct Fault {
-    pub what: &'static str,
-    pub tape: &'static [u8],
-    pub store: &'static [u8],
-    pub which: Which,
-    /// The commands before.
-    pub before: &'static [Row<'static>],
-    /// How many calls of the disk these take, with the power on.
-    pub first: u64,
-    pub action: Action,
+/// Actions of which each call of a disk fails, one at a time.
+pub struct Faults {
+    pub sides: Sides,
+    pub cases: &'static [Case],
     /// The commands afterwards.
-    pub then: &'static [Row<'static>],
-    pub again: Again,
-    /// A line for each call of the action.
-    pub failed: &'static [Failed],
+    pub then: Rows,
+    /// The commands by which what was stored is found again; if there are none, by another drive over the same disks.
+    pub again: Option<Rows>,
+    /// What is left where a call fails; and what is found where the last one fails, if it is another: then a crash
+    /// leaves either.
+    pub left: &'static [Left],
 }
 
-const A: Left = (b"a", NOTHING);
+/// Before all others.
+pub const BOTH: Rows = &[(1, READY, NONE, POWERED_ON), (2, READY, NONE, POWERED_ON)];
+
+const NO_MORE: Rows = &[];
+
+// A block is stored, and another waits.
+const WAITING: Rows = &[
+    (1, WRITE_1, b"a", GOOD),
+    (1, WRITE_OUT, NONE, GOOD),
+    (1, WRITE_1, b"b", GOOD),
+];
+
+// A block is stored, and the next must not wait.
+const NOT_WAITING: Rows = &[
+    (1, WRITE_1, b"a", GOOD),
+    (1, WRITE_OUT, NONE, GOOD),
+    (1, SELECT_4, UNBUFFERED, GOOD),
+    (2, READY, NONE, MODE_CHANGED),
+];
+
+// The tape has failed, and accepts nothing.
+const TAKES_NOTHING: Rows = &[
+    (1, READY, NONE, FAILED),
+    (2, WRITE_1, b"c", FAILED),
+    (1, MARK, NONE, FAILED),
+    (2, WRITE_OUT, NONE, FAILED),
+    (1, LOAD, NONE, FAILED),
+];
+
+// It is unloaded and loaded.
+const LOADED: Rows = &[
+    (1, UNLOAD, NONE, GOOD),
+    (1, READY, NONE, NOT_PRESENT),
+    (1, LOAD, NONE, GOOD),
+    (2, READY, NONE, CHANGED),
+    (2, READY, NONE, GOOD),
+];
+
+const UNLOADED: Rows = &[(1, UNLOAD, NONE, GOOD)];
+
+// A cartridge that is not loaded accepts nothing, and is loaded.
+const NOT_LOADED: Rows = &[
+    (1, READY, NONE, NOT_PRESENT),
+    (1, WRITE_1, b"c", NOT_PRESENT),
+    (1, WRITE_OUT, NONE, NOT_PRESENT),
+];
+
+const LOADED_LATE: Rows = &[(1, LOAD, NONE, GOOD), (1, READY, NONE, GOOD)];
+
+// Nobody is registered, the store accepts nothing, and the tape accepts a block.
+const NOT_REGISTERED: Rows = &[
+    (1, READ_KEYS, NONE, (None, NOBODY)),
+    (1, REGISTER, A_NEW, FAILED),
+    (1, RESERVE_5, BY_A, FAILED),
+    (1, READ_KEYS, NONE, (None, NOBODY)),
+    (1, WRITE_1, b"a", GOOD),
+    (1, WRITE_OUT, NONE, GOOD),
+];
+
+// Host 1 is registered, which raised the generation, and holds nothing.
+const NOT_RESERVED: Rows = &[
+    (1, READ_RESERVATION, NONE, (None, b"\0\0\0\x01\0\0\0\0")),
+    (1, RESERVE_5, BY_A, FAILED),
+    (1, REGISTER, A_WITHOUT_APTPL, FAILED),
+    (1, READ_RESERVATION, NONE, (None, b"\0\0\0\x01\0\0\0\0")),
+];
+
+// Host 1 is registered and holds the reservation.
+const STILL_RESERVED: Rows = &[
+    (1, READ_KEYS, NONE, (None, KEY_A)),
+    (1, READ_RESERVATION, NONE, (None, HELD_BY_A)),
+    (1, REGISTER, A_WITHOUT_APTPL, FAILED),
+    (1, READ_KEYS, NONE, (None, KEY_A)),
+];
+
+const KEY: Rows = &[(1, REGISTER, A_NEW, GOOD)];
+
+const SETTLES: Action = Action::Asked(WRITE_OUT, NONE, GOOD, WRITE_ERROR);
+
+const UNLOADS: Action = Action::Asked(UNLOAD, NONE, GOOD, WRITE_ERROR);
+
+const WRITES: Action = Action::Asked(WRITE_1, b"b", GOOD, WRITE_ERROR);
+
+const LOADS: Action = Action::Asked(LOAD, NONE, GOOD, READ_ERROR);
+
+const READS: Action = Action::Asked(READ_1, NONE, (None, b"a"), READ_ERROR);
+
+const IS_ON: Action = Action::Asked(READY, NONE, GOOD, NOT_PRESENT);
+
+const REGISTERS: Action = Action::Asked(REGISTER, A_NEW, GOOD, FAILED);
+
+const RESERVES: Action = Action::Asked(RESERVE_5, BY_A, GOOD, FAILED);
+
+const FORGETS: Action = Action::Asked(REGISTER, A_WITHOUT_APTPL, GOOD, FAILED);
 
 const AB: Left = (b"ab", NOTHING);
 
-// A frame is stored by a write after the closed gate, a sync, the write of the gate, and a sync.
-const STORING: &'static [Failed] = &[(&[A], A), (&[A], A), (&[A], A), (&[A, AB], AB)];
-
-// A cartridge of two frames is opened by a sync and a read of the first bytes of its first disk, which show
-// that this disk counts. Then come a sync, two reads of its heading, three of gates and two of bodies.
-const LOADING: &'static [Failed] = &[
-    (&[AB], AB),
-    (&[AB], AB),
-    (&[AB], AB),
-    (&[AB], AB),
-    (&[AB], AB),
-    (&[AB], AB),
-    (&[AB], AB),
-    (&[AB], AB),
-    (&[AB], AB),
-    (&[AB], AB),
-];
-
-// The first key, with a block; a reservation; and a key without APTPL.
-const ONE_KEY: Left = (b"a", REGISTERED);
-
-const KEYED: Left = (b"", REGISTERED);
-
-const HELD: Left = (b"", RESERVED);
-
-const FREE: Left = (b"", NOTHING);
-
-/// A turn whose fault is reported late. Hosts were answered by it before the commands afterwards.
-pub static LATE: Fault = Fault {
-    what: "a turn whose fault is reported late",
-    tape: NEW_TAPE,
-    store: NEW_STORE,
-    which: Which::Tape,
-    before: WAITING,
-    first: 10,
-    action: Action::Turn,
-    then: TAKES_NOTHING,
-    again: Again::Asked(LOADED),
-    failed: STORING,
-};
-
-/// What is stored to the tape.
-pub static STORINGS: &'static [Fault] = &[
-    Fault {
-        what: "a turn",
-        tape: NEW_TAPE,
-        store: NEW_STORE,
-        which: Which::Tape,
-        before: WAITING,
-        first: 10,
-        action: Action::Turn,
-        then: REPORTED_LATE,
-        again: Again::Asked(LOADED),
-        failed: STORING,
-    },
-    Fault {
-        what: "a settle",
-        tape: NEW_TAPE,
-        store: NEW_STORE,
-        which: Which::Tape,
-        before: WAITING,
-        first: 10,
-        action: Action::Asked(WRITE_OUT, NONE, GOOD, WRITE_ERROR),
+/// A frame is stored, and a state saved, by a write after the closed gate, a sync, the write of the gate, and a sync. A
+/// cartridge of two frames is opened by a sync and a read of the first bytes of its first disk, which show that this
+/// disk counts. Then come a sync, two reads of its heading, three of gates and two of bodies.
+pub static FAULTS: &'static [Faults] = &[
+    Faults {
+        sides: NEW,
+        cases: &[
+            ("a turn", Which::Tape, 10, 4, WAITING, Action::Turn),
+            ("a settle", Which::Tape, 10, 4, WAITING, SETTLES),
+            ("an unloading", Which::Tape, 10, 4, WAITING, UNLOADS),
+            ("unbuffered", Which::Tape, 10, 4, NOT_WAITING, WRITES),
+        ],
         then: TAKES_NOTHING,
-        again: Again::Asked(LOADED),
-        failed: STORING,
+        again: Some(LOADED),
+        left: &[(b"a", NOTHING), AB],
     },
-    Fault {
-        what: "a rewind",
-        tape: NEW_TAPE,
-        store: NEW_STORE,
-        which: Which::Tape,
-        before: WAITING,
-        first: 10,
-        action: Action::Asked(REWIND, NONE, GOOD, WRITE_ERROR),
-        then: TAKES_NOTHING,
-        again: Again::Asked(LOADED),
-        failed: STORING,
-    },
-    Fault {
-        what: "an unloading",
-        tape: NEW_TAPE,
-        store: NEW_STORE,
-        which: Which::Tape,
-        before: WAITING,
-        first: 10,
-        action: Action::Asked(UNLOAD, NONE, GOOD, WRITE_ERROR),
-        then: TAKES_NOTHING,
-        again: Again::Asked(LOADED),
-        failed: STORING,
-    },
-    Fault {
-        what: "an unbuffered write",
-        tape: NEW_TAPE,
-        store: NEW_STORE,
-        which: Which::Tape,
-        before: NOT_WAITING,
-        first: 10,
-        action: Action::Asked(WRITE_1, b"b", GOOD, WRITE_ERROR),
-        then: TAKES_NOTHING,
-        again: Again::Asked(LOADED),
-        failed: STORING,
-    },
-];
-
-/// What is read of the tape.
-pub static READINGS: &'static [Fault] = &[
-    Fault {
-        what: "a load",
-        tape: AB_TAPE,
-        store: NEW_STORE,
-        which: Which::Tape,
-        before: UNLOADED,
-        first: 10,
-        action: Action::Asked(LOAD, NONE, GOOD, READ_ERROR),
+    Faults {
+        sides: AB_NEW,
+        cases: &[
+            ("a load", Which::Tape, 10, 10, UNLOADED, LOADS),
+            ("a power on", Which::Tape, 0, 10, NO_MORE, IS_ON),
+            ("a load", Which::Second, 1, 1, UNLOADED, LOADS),
+            ("a power on", Which::Second, 0, 1, NO_MORE, IS_ON),
+        ],
         then: NOT_LOADED,
-        again: Again::Asked(LOADED_LATE),
-        failed: LOADING,
+        again: Some(LOADED_LATE),
+        left: &[AB],
     },
-    Fault {
-        what: "a read of a block",
-        tape: AB_TAPE,
-        store: NEW_STORE,
-        which: Which::Tape,
-        before: NOT_READ,
-        first: 10,
-        action: Action::Asked(READ_1, NONE, (None, b"a"), READ_ERROR),
+    Faults {
+        sides: AB_NEW,
+        cases: &[("a read", Which::Tape, 10, 1, NO_MORE, READS)],
         then: TAKES_NOTHING,
-        again: Again::Asked(LOADED),
-        failed: &[(&[AB], AB)],
+        again: Some(LOADED),
+        left: &[AB],
     },
-    Fault {
-        what: "a power on",
-        tape: AB_TAPE,
-        store: NEW_STORE,
-        which: Which::Tape,
-        before: POWER_ON,
-        first: 0,
-        action: Action::Asked(READY, NONE, GOOD, NOT_PRESENT),
-        then: NOT_LOADED,
-        again: Again::Asked(LOADED_LATE),
-        failed: LOADING,
-    },
-    Fault {
-        what: "a load, at the second disk",
-        tape: AB_TAPE,
-        store: NEW_STORE,
-        which: Which::Second,
-        before: UNLOADED,
-        first: 1,
-        action: Action::Asked(LOAD, NONE, GOOD, READ_ERROR),
-        then: NOT_LOADED,
-        again: Again::Asked(LOADED_LATE),
-        failed: &[(&[AB], AB)],
-    },
-    Fault {
-        what: "a power on, at the second disk",
-        tape: AB_TAPE,
-        store: NEW_STORE,
-        which: Which::Second,
-        before: POWER_ON,
-        first: 0,
-        action: Action::Asked(READY, NONE, GOOD, NOT_PRESENT),
-        then: NOT_LOADED,
-        again: Again::Asked(LOADED_LATE),
-        failed: &[(&[AB], AB)],
-    },
-];
-
-/// What is saved to the store.
-pub static SAVES: &'static [Fault] = &[
-    Fault {
-        what: "a save of a key",
-        tape: NEW_TAPE,
-        store: NEW_STORE,
-        which: Which::Store,
-        before: POWER_ON,
-        first: 4,
-        action: Action::Asked(REGISTER, A_NEW, GOOD, FAILED),
+    Faults {
+        sides: NEW,
+        cases: &[("a save of a key", Which::Store, 4, 4, NO_MORE, REGISTERS)],
         then: NOT_REGISTERED,
-        again: Again::Restarted,
-        failed: &[(&[A], A), (&[A], A), (&[A], A), (&[A, ONE_KEY], ONE_KEY)],
+        again: None,
+        left: &[(b"a", NOTHING), (b"a", REGISTERED)],
     },
-    Fault {
-        what: "a save of a reservation",
-        tape: NEW_TAPE,
-        store: NEW_STORE,
-        which: Which::Store,
-        before: A_KEY,
-        first: 8,
-        action: Action::Asked(RESERVE_5, BY_A, GOOD, FAILED),
+    Faults {
+        sides: NEW,
+        cases: &[("a reservation", Which::Store, 8, 4, KEY, RESERVES)],
         then: NOT_RESERVED,
-        again: Again::Restarted,
-        failed: &[
-            (&[KEYED], KEYED),
-            (&[KEYED], KEYED),
-            (&[KEYED], KEYED),
-            (&[KEYED, HELD], HELD),
-        ],
+        again: None,
+        left: &[KEYED, HELD],
     },
-    Fault {
-        what: "a save without APTPL",
-        tape: NEW_TAPE,
-        store: HELD_STORE,
-        which: Which::Store,
-        before: POWER_ON,
-        first: 8,
-        action: Action::Asked(REGISTER, A_WITHOUT_APTPL, GOOD, FAILED),
+    Faults {
+        sides: HELD_NEW,
+        cases: &[("without APTPL", Which::Store, 8, 4, NO_MORE, FORGETS)],
         then: STILL_RESERVED,
-        again: Again::Restarted,
-        failed: &[
-            (&[HELD], HELD),
-            (&[HELD], HELD),
-            (&[HELD], HELD),
-            (&[HELD, FREE], FREE),
-        ],
+        again: None,
+        left: &[(b"", RESERVED), (b"", NOTHING)],
     },
 ];

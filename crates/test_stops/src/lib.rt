@@ -8,26 +8,16 @@ mod crashes;
 #[cfg(test)]
 mod drives;
 #[cfg(test)]
-mod fault_rows;
-#[cfg(test)]
 mod fault_tables;
 #[cfg(test)]
 mod fault_tests;
 #[cfg(test)]
 mod full_tests;
 #[cfg(test)]
-mod halves;
-#[cfg(test)]
-mod late_tests;
-#[cfg(test)]
 mod long_disks;
-#[cfg(test)]
-mod pending_tests;
 #[cfg(test)]
 mod samples;
 #[cfg(test)]
 mod stop_tables;
 #[cfg(test)]
 mod stop_tests;
-#[cfg(test)]
-mod ways;

@@ -15,18 +15,16 @@ const FRAME: u64 = 8_388_613;
 // The place of the closed gate after 131,071 frames: 35 + 131,071 * 8,388,613.
 const END: u64 = 1_099_503_894_558;
 
-// The bytes of each frame, and their places: the gate and the length, and the heads of eight blocks, each of
-// which is written at the beginning of the partition. Seven have 1,048,576 bytes, and the last has 1,048,496.
-static HEADS: &'static [(u64, &'static [u8])] = &[
-    (0, b"\xa5\0\x80\0\0"),
-    (5, b"\x01\0\0\0\0\0\0\x10\0\0"),
-    (1_048_591, b"\x01\0\0\0\0\0\0\x10\0\0"),
-    (2_097_177, b"\x01\0\0\0\0\0\0\x10\0\0"),
-    (3_145_763, b"\x01\0\0\0\0\0\0\x10\0\0"),
-    (4_194_349, b"\x01\0\0\0\0\0\0\x10\0\0"),
-    (5_242_935, b"\x01\0\0\0\0\0\0\x10\0\0"),
-    (6_291_521, b"\x01\0\0\0\0\0\0\x10\0\0"),
-    (7_340_107, b"\x01\0\0\0\0\0\0\x0f\xff\xb0"),
+// Each frame has, behind its gate and length, the heads of eight blocks, each of which is written at the beginning of
+// the partition. Seven have 1,048,576 bytes, and the last has 1,048,496.
+const GATE: &'static [u8] = b"\xa5\0\x80\0\0";
+
+const HEAD: &'static [u8] = b"\x01\0\0\0\0\0\0\x10\0\0";
+
+const LAST: &'static [u8] = b"\x01\0\0\0\0\0\0\x0f\xff\xb0";
+
+const PLACES: [u64; 9] = [
+    0, 5, 1_048_591, 2_097_177, 3_145_763, 4_194_349, 5_242_935, 6_291_521, 7_340_107,
 ];
 
 /// A disk whose frames are made up at each read, followed and preceded by bytes that were written. It is
@@ -57,30 +55,33 @@ impl LongDisk {
     }
 }
 
-// Puts the bytes from `place` on into the buffer, which has the bytes from `at` on.
-fn lay(buffer: &mut [u8], at: u64, place: u64, bytes: &[u8]) {
-    let (end, size) = (at.saturating_add(buffer.len() as u64), bytes.len() as u64);
-    if place >= end || place.saturating_add(size) <= at {
-        return;
-    }
-    for (i, byte) in bytes.iter().enumerate() {
-        let there = place.saturating_add(i as u64);
-        let from = there.saturating_sub(at) as usize;
-        if there >= at && from < buffer.len() {
-            buffer[from] = *byte;
-        }
-    }
-}
-
 // Puts the bytes of the frames from a place on into the buffer, except those of the blocks.
 fn fill(buffer: &mut [u8], at: u64) {
-    let first = at.saturating_sub(at.saturating_sub(35) % FRAME);
-    for frame in [first, first.saturating_add(FRAME)] {
-        if frame >= at.saturating_add(buffer.len() as u64) {
-            return;
-        }
-        for &(place, bytes) in HEADS {
-            lay(buffer, at, frame.saturating_add(place), bytes);
+    let (end, first) = (
+        at.saturating_add(buffer.len() as u64),
+        at.saturating_sub(35) / FRAME,
+    );
+    for number in [first, first.saturating_add(1)] {
+        for place in PLACES {
+            let bytes = match place {
+                0 => GATE,
+                7_340_107 => LAST,
+                _ => HEAD,
+            };
+            let begin = number
+                .saturating_mul(FRAME)
+                .saturating_add(35)
+                .saturating_add(place);
+            if begin >= end {
+                break;
+            }
+            for (i, byte) in bytes.iter().enumerate() {
+                let there = begin.saturating_add(i as u64);
+                let from = there.saturating_sub(at) as usize;
+                if there >= at && from < buffer.len() {
+                    buffer[from] = *byte;
+                }
+            }
         }
     }
 }

@@ -1,19 +1,19 @@
-//! Commands of hosts to a drive, and their answers; and a flusher's turns.
-use crate::drives::TestDrive;
+//! Commands of hosts to a drive, and their answers.
+use bay_moves::Bay;
 use scsi_sense::{Reply, Status};
 use std::fmt::Debug;
 use std::process::Abort;
 use tape_disk::Disk;
-use test_assertions::{assert_equal, assert_holds};
-use volume_core::Turn;
+use test_assertions::assert_equal;
 use vtl_base::Nexus;
 
-/// The expected reply: its sense data, if any, by bytes 0 and 2, INFORMATION, additional code and qualifier;
-/// and its bytes.
+/// The expected reply: its sense data, if any, by bytes 0 and 2, INFORMATION, code and qualifier; and its bytes.
 pub type Wanted<'a> = (Option<(u8, u8, u32, u8, u8)>, &'a [u8]);
 
 /// A host, its command and the bytes that it sends, and the expected reply.
 pub type Row<'a> = (u8, &'a [u8], &'a [u8], Wanted<'a>);
+
+pub type Rows = &'static [Row<'static>];
 
 pub const NONE: &'static [u8] = &[];
 
@@ -55,8 +55,7 @@ pub const BY_A: &'static [u8] = b"\0\0\0\0\0\0\0\xa1\0\0\0\0\0\0\0\0\0\0\0\0\0\0
 
 pub const A_WITHOUT_APTPL: &'static [u8] = b"\0\0\0\0\0\0\0\xa1\0\0\0\0\0\0\0\xa1\0\0\0\0\0\0\0\0";
 
-/// The data of READ KEYS where nobody is registered, or of READ RESERVATION where nothing is held; generation
-/// 0.
+/// The data of READ KEYS where nobody is registered, or of READ RESERVATION where nothing is held; generation 0.
 pub const NOBODY: &'static [u8] = b"\0\0\0\0\0\0\0\0";
 
 /// The data of READ KEYS for the key a1, with generation 0.
@@ -110,8 +109,7 @@ pub const HELD_STORE: &'static [u8] = b"\xa5VTLRESV1\0\0DRIVE1          \
     \xa5\0\0\0\x0d\x01\x05\x01\x01\x01\0\0\0\0\0\0\0\xa1\
     \0";
 
-/// The same with a frame after its last gate, which is closed: host 1 has registered a1 over a1 without
-/// APTPL.
+/// The same with a frame after its last gate, which is closed: host 1 has registered a1 over a1 without APTPL.
 pub const LEFT_STORE: &'static [u8] = b"\xa5VTLRESV1\0\0DRIVE1          \
     \xa5\0\0\0\x0d\x01\0\0\x01\x01\0\0\0\0\0\0\0\xa1\
     \xa5\0\0\0\x0d\x01\x05\x01\x01\x01\0\0\0\0\0\0\0\xa1\
@@ -133,71 +131,49 @@ fn wanted_of(wanted: Wanted) -> Heard {
     (Status::Check, Some(sense), bytes)
 }
 
-// The status, sense data and bytes of a reply, if there is one.
-fn heard(reply: &Option<Reply>) -> Option<Heard<'_>> {
-    let Some(reply) = reply else {
-        return None;
-    };
+fn heard(reply: &Reply) -> Heard<'_> {
     let sense = match &reply.sense {
         Some(sense) => Some(sense.bytes()),
         None => None,
     };
-    Some((reply.status, sense, reply.bytes.as_slice()))
+    (reply.status, sense, reply.bytes.as_slice())
 }
 
 /// A command has the expected reply.
-pub fn ask<D: Disk, S: TestDrive<D>>(
+pub fn ask<D: Disk>(
     rt: &impl Abort,
-    drive: &mut S,
+    drive: &mut Bay<D>,
     row: Row,
     wanted: Wanted,
     at: &impl Debug,
 ) {
     let (host, cdb, sent, _) = row;
     let nexus = Nexus::new(host).expect(rt, "a nexus");
-    let reply = drive.answer(nexus, cdb, sent);
-    assert_equal!(rt; heard(&reply), Some(wanted_of(wanted)); at);
+    let reply = drive.execute(nexus, cdb, sent);
+    assert_equal!(rt; heard(&reply), wanted_of(wanted); at);
 }
 
-/// The same for each of these.
-pub fn asks<D: Disk, S: TestDrive<D>>(
-    rt: &impl Abort,
-    drive: &mut S,
-    rows: &[Row],
-    at: &impl Debug,
-) {
+pub fn asks<D: Disk>(rt: &impl Abort, drive: &mut Bay<D>, rows: &[Row], at: &impl Debug) {
     for (place, row) in rows.iter().enumerate() {
         ask(rt, drive, *row, row.3, &(place, at));
     }
 }
 
 /// Whether a command has the expected reply.
-pub fn answers<D: Disk, S: TestDrive<D>>(drive: &mut S, row: Row) -> bool {
+pub fn answers<D: Disk>(drive: &mut Bay<D>, row: Row) -> bool {
     let (host, cdb, sent, wanted) = row;
     match Nexus::new(host) {
-        Some(nexus) => heard(&drive.answer(nexus, cdb, sent)) == Some(wanted_of(wanted)),
+        Some(nexus) => heard(&drive.execute(nexus, cdb, sent)) == wanted_of(wanted),
         None => false,
     }
 }
 
 /// Whether the tape has these blocks of one byte from the position on, and then the end of data.
-pub fn reads<D: Disk, S: TestDrive<D>>(drive: &mut S, blocks: &[u8]) -> bool {
+pub fn reads<D: Disk>(drive: &mut Bay<D>, blocks: &[u8]) -> bool {
     for i in 0..blocks.len() {
         if !answers(drive, (1, READ_1, NONE, (None, &blocks[i..i + 1]))) {
             return false;
         }
     }
     answers(drive, (1, READ_1, NONE, END))
-}
-
-/// A flusher's turn has the expected result.
-pub fn turns<D: Disk, S: TestDrive<D>>(
-    rt: &impl Abort,
-    drive: &mut S,
-    wanted: Turn,
-    at: &impl Debug,
-) {
-    let turn = drive.take_turn();
-    assert_equal!(rt; turn, Some(wanted); at);
-    assert_holds!(rt; drive.follow_turn(wanted); at);
 }

@@ -10,10 +10,4 @@ mod fault_tests;
 #[cfg(test)]
 mod order_tests;
 #[cfg(test)]
-mod plain_stores;
-#[cfg(test)]
-mod samples;
-#[cfg(test)]
-mod side_tests;
-#[cfg(test)]
 mod stop_tests;

@@ -5,10 +5,8 @@ ghost use Rattle.ledgers.specs.Ledgers.{IsBlankOf};
 use ledgers::{Gathering, MoveBook, Moves, Parties, PartyShare, SeatsMissing, Tally};
 use std::marker::Brand;
 use std::process::Abort;
+use std::sync::Wait;
 use std::sync::ledger::Blank;
-use std::sync::{Mutex, Wait};
-use std::thread;
-use std::thread::Threads;
 use test_assertions::assert_equal;
 
 // Two bays and three hosts, for which five changes were entered; the operator and the hosts, for whom five moves were.
@@ -130,53 +128,4 @@ fn a_missing_seat_shows_by_its_changes(rt: HostRuntime) {
         );
         assert_equal!(rt; found, answer; missing);
     }
-}
-
-// A host's session: a hundred changes at one bay. The tally's lock is taken inside the bay's.
-fn entered_a_hundred<B: Parties, H: Parties, R: Wait>(
-    rt: &R,
-    bay: &Mutex<PartyShare<B>>,
-    tally: &Mutex<Tally<B, H>>,
-    host: PartyShare<H>,
-) -> PartyShare<H> {
-    let mut host = host;
-    for _ in 0..100u8 {
-        let mut share = bay.lock(rt);
-        tally.lock(rt).enter(rt, &mut share, &mut host);
-    }
-    host
-}
-
-fn entered_by_two<
-    B: Parties + Send + Sync,
-    H: Parties + Send + Sync,
-    R: Threads + Wait + Abort + Sync,
->(rt: &R, bay_ledger: Blank, host_ledger: Blank) -> Result<u64, SeatsMissing>
-    requires bays { IsBlankOf bay_ledger B.name B.parts B.all }
-    requires one { bay_ledger.parts ≡ 1 }
-    requires hosts { IsBlankOf host_ledger H.name H.parts H.all }
-    requires two { host_ledger.parts ≡ 2 }
-{
-    let (mut tally, _, _) = Tally::<B, H>::open(bay_ledger, host_ledger);
-    let share = tally.add_bay();
-    let (first, _) = tally.add_host();
-    let (second, _) = tally.add_host();
-    let (bay, tally) = (Mutex::new(share), Mutex::new(tally));
-    let (at, by) = (&bay, &tally);
-    let (first, second) = thread::join(
-        rt,
-        move || entered_a_hundred(rt, at, by, first),
-        move || entered_a_hundred(rt, at, by, second),
-    );
-    let mut gathering = tally.into_inner().gather();
-    gathering.take_bay(bay.into_inner());
-    gathering.take_host(first);
-    gathering.take_host(second);
-    gathering.compare()
-}
-
-#[test]
-fn two_threads_enter_at_one_bay(rt: HostRuntime) {
-    let found = entered_by_two::<Brand, Brand, HostRuntime>(&rt, Blank::new(1), Blank::new(2));
-    assert_equal!(rt; found, Ok(200));
 }

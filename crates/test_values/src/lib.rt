@@ -1,13 +1,11 @@
-//! The tests of the crates of plain values: vtl_base, ledgers, scsi_attention, scsi_sense, scsi_opcodes, scsi_lists,
-//! pr_core, positioning and element_slots.
+//! The tests of the crates of plain values: ledgers, scsi_attention, scsi_sense, scsi_opcodes, scsi_lists, pr_core and
+//! positioning.
 #![tactic(auto)]
 
 #[cfg(test)]
 mod asserted;
 #[cfg(test)]
 mod attentions;
-#[cfg(test)]
-mod base;
 #[cfg(test)]
 mod entries;
 #[cfg(test)]
@@ -18,7 +16,5 @@ mod positions;
 mod reservations;
 #[cfg(test)]
 mod senses;
-#[cfg(test)]
-mod slots;
 #[cfg(test)]
 mod wire;

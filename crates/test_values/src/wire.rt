@@ -1,5 +1,4 @@
-//! What command blocks are decoded to, and the data of a drive.
-mod answers;
+//! What command blocks are decoded to.
 mod blocks;
 mod fields;
 

@@ -1,1 +1,2 @@
 mod AwakeLemmas
+mod MarkLemmas

@@ -12,11 +12,7 @@ mod media;
 #[cfg(test)]
 mod records;
 #[cfg(test)]
-mod runs;
-#[cfg(test)]
 mod searches;
-#[cfg(test)]
-mod spaces;
 #[cfg(test)]
 mod staged;
 #[cfg(test)]

@@ -1,19 +1,12 @@
-//! An index against a plain list of objects.
+//! An index against a plain list of objects, and by its single calls.
+use crate::volumes::Add;
 use change_records::Record;
-use object_index::{Index, Placed};
+use object_index::{Index, Placed, Run};
 use std::process::Abort;
 use std::test::Fail;
 use test_assertions::assert_equal;
-use volume_core::{ApplyError, Kind, Refusal};
+use volume_core::{ApplyError, Refusal};
 use vtl_base::{ObjNo, PartNo};
-
-// What a record adds: a block of this size, this many marks, or nothing.
-#[derive(Clone, Copy, Debug)]
-enum Add {
-    Block(u32),
-    Marks(u32),
-    Nothing,
-}
 
 fn record(part: PartNo, at: ObjNo, add: Add) -> Record {
     match add {
@@ -38,9 +31,6 @@ static ROWS: &'static [Row] = &[
     (1, 2, Add::Marks(4), 0, None),
     (1, 6, Add::Nothing, 0, None),
     (1, 4, Add::Nothing, 0, None),
-    (1, 4, Add::Block(4_012), 300, Some(Refusal::NoRoom)),
-    (1, 5, Add::Block(1), 300, Some(Refusal::PastEnd)),
-    (1, 4, Add::Block(0), 300, Some(Refusal::TooLong)),
     (1, 4, Add::Marks(0), 0, Some(Refusal::TooLong)),
     (1, 4, Add::Marks(16_000_000), 0, Some(Refusal::NoRoom)),
     (2, 0, Add::Nothing, 0, Some(Refusal::NoPartition)),
@@ -92,12 +82,9 @@ fn index_against_a_list(rt: HostRuntime) -> Result<(), Fail> {
     for (part, at, add, place, refusal) in ROWS {
         let item = record(*part, *at, *add);
         assert_equal!(rt; index.refusal(item), *refusal; (add, at));
-        let wanted = match refusal {
-            Some(cause) => Err(ApplyError::Refused(*cause)),
-            None => Ok(()),
-        };
         if *place < u64::MAX {
-            assert_equal!(rt; index.apply(item, *place), wanted; (add, at));
+            let applied = index.apply(item, *place).err();
+            assert_equal!(rt; applied, refusal.map(ApplyError::Refused); (add, at));
         }
         if refusal.is_none() {
             follow(&mut list, item, *place)?;
@@ -108,26 +95,23 @@ fn index_against_a_list(rt: HostRuntime) -> Result<(), Fail> {
     Ok(())
 }
 
-// As many marks as a partition takes are one entry.
+// By its single calls: a block and a run of three marks are put behind, and cut.
 #[test]
-fn a_run_of_all_marks(rt: HostRuntime) -> Result<(), Fail> {
-    let alloc = rt.alloc();
-    let mut index = Index::new(alloc, &[4_096, 1_099_511_627_776])?;
-    assert_equal!(rt; index.apply(record(1, 0, Add::Marks(16_000_000)), 0), Ok(()));
-    assert_equal!(rt; index.count(1), 16_000_000);
-    assert_equal!(rt; index.place(1, 15_999_999), Some(Placed::Mark));
-    assert_equal!(rt; index.kind_at(1, 16_000_000), None::<Kind>);
-    assert_equal!(rt; index.used(1, 7_000_000), 112_000_000);
-    assert_equal!(rt; index.refusal(record(1, 16_000_000, Add::Marks(1))), Some(Refusal::NoRoom));
-    assert_equal!(rt; index.apply(record(1, 8_000_000, Add::Block(9)), 5), Ok(()));
-    assert_equal!(rt; index.count(1), 8_000_001);
-    assert_equal!(rt;
-        index.place(1, 8_000_000),
-        Some(Placed::Block {
-            place: 5,
-            length: 9
-        })
-    );
-    assert_equal!(rt; index.used(1, 8_000_001), 128_000_025);
+fn runs_are_put_behind_and_cut(rt: HostRuntime) -> Result<(), Fail> {
+    let mut index = Index::new(rt.alloc(), &[4_096, 8_192])?;
+    assert_equal!(rt; (index.parts(), index.capacity(1), index.capacity(2)), (2, 8_192, 0));
+    let block = Run::Block {
+        place: 45,
+        length: 5,
+    };
+    let marks = Run::Marks { count: 3 };
+    assert_equal!(rt; (block.count(), marks.count()), (1, 3));
+    index.reserve(1, 2)?;
+    index.add(1, block)?;
+    index.add(1, marks)?;
+    assert_equal!(rt; (index.count(0), index.count(1), index.used(1, 4)), (0, 4, 69));
+    index.cut_at(1, 2);
+    assert_equal!(rt; (index.count(1), index.used(1, 4)), (2, 37));
+    assert_equal!(rt; (index.place(1, 1), index.place(1, 2)), (Some(Placed::Mark), None));
     Ok(())
 }

@@ -152,9 +152,8 @@ pub fn assert_rows<M: Medium>(
     for (ask, wanted, pending, failed, count) in rows {
         let given = answered(rt, alloc, medium, *ask)?;
         assert_equal!(rt; given, *wanted; ask);
-        assert_equal!(rt; medium.pending(), *pending; ask);
-        assert_equal!(rt; medium.has_failed(), *failed; ask);
-        assert_equal!(rt; medium.count(0), *count; ask);
+        let left = (medium.pending(), medium.has_failed(), medium.count(0));
+        assert_equal!(rt; left, (*pending, *failed, *count); ask);
     }
     Ok(())
 }

@@ -101,43 +101,6 @@ const FETCH_FAILS: &'static [Row] = &[
     (Ask::Fetch(0, 5), Answer::Done, 0, false, 1),
 ];
 
-const FOUND: FaultPlan = FaultPlan {
-    store: Some(1),
-    fetch: None,
-    tears: true,
-    keeps_torn: true,
-};
-
-const LOST: FaultPlan = FaultPlan {
-    keeps_torn: false,
-    ..FOUND
-};
-
-const NO_FRAME: FaultPlan = FaultPlan {
-    tears: false,
-    ..FOUND
-};
-
-const NO_FAULT: FaultPlan = FaultPlan {
-    store: None,
-    ..FOUND
-};
-
-const READING: FaultPlan = FaultPlan {
-    fetch: Some(1),
-    ..NO_FAULT
-};
-
-const ONCE: FaultPlan = FaultPlan {
-    store: Some(0),
-    ..FOUND
-};
-
-const BOTH: FaultPlan = FaultPlan {
-    fetch: Some(0),
-    ..FOUND
-};
-
 // Blocks of fewer than six bytes are accepted without the device, and so are marks.
 const FEW_BYTES: &'static [Row] = &[
     (Ask::Alone(0), Answer::Has(true), 0, false, 0),
@@ -146,43 +109,44 @@ const FEW_BYTES: &'static [Row] = &[
     (Ask::Put(0, 6), Answer::Done, 1, false, 1),
 ];
 
-#[test]
-fn changes_of_few_bytes_are_taken_alone(rt: HostRuntime) -> Result<(), Fail> {
-    let alloc = rt.alloc();
-    let mut medium = StagedMedium::new(alloc, &[4_096], 50, NO_FAULT)?.taking_alone(6);
-    assert_rows(&rt, alloc, &mut medium, FEW_BYTES)
-}
+const NO_ROW: &'static [Row] = &[];
 
-// Which calls fail, the room of the side, the calls, and the calls afterwards.
-static RUNS: &'static [(FaultPlan, u64, &'static [Row], &'static [Row])] = &[
-    (NO_FAULT, 50, FILLING, &[]),
-    (NO_FRAME, 1_000, SETTLE_FAILS, WITHOUT),
-    (LOST, 1_000, SETTLE_FAILS, WITHOUT),
-    (FOUND, 1_000, SETTLE_FAILS, WITH),
-    (FOUND, 1_000, TURN_FAILS, WITH),
-    (LOST, 1_000, PARK_FAILS, WITHOUT),
-    (READING, 1_000, FETCH_FAILS, &[]),
-    (ONCE, 1_000, AT_ONCE, &[]),
-    (BOTH, 1_000, BOTH_FAIL, &[]),
+// The storing and the reading that fail, whether a storing makes a frame then, and whether that is found.
+type Plan = (Option<u32>, Option<u32>, bool, bool);
+
+// The plan, how many bytes are too many to be taken alone, the room of the side, the calls, and those afterwards.
+type Run = (Plan, u32, u64, &'static [Row], &'static [Row]);
+
+static RUNS: &'static [Run] = &[
+    ((None, None, true, true), 0, 50, FILLING, NO_ROW),
+    ((None, None, true, true), 6, 50, FEW_BYTES, NO_ROW),
+    ((Some(1), None, false, true), 0, 999, SETTLE_FAILS, WITHOUT),
+    ((Some(1), None, true, false), 0, 999, SETTLE_FAILS, WITHOUT),
+    ((Some(1), None, true, true), 0, 999, SETTLE_FAILS, WITH),
+    ((Some(1), None, true, true), 0, 999, TURN_FAILS, WITH),
+    ((Some(1), None, true, false), 0, 999, PARK_FAILS, WITHOUT),
+    ((None, Some(1), true, true), 0, 999, FETCH_FAILS, NO_ROW),
+    ((Some(0), None, true, true), 0, 999, AT_ONCE, NO_ROW),
+    ((Some(1), Some(0), true, true), 0, 999, BOTH_FAIL, NO_ROW),
 ];
 
-fn runs(
-    rt: &impl Abort,
-    alloc: Global,
-    side: (FaultPlan, u64),
-    rows: &[Row],
-    then: &[Row],
-) -> Result<(), Fail> {
-    let (plan, room) = side;
-    let mut medium = StagedMedium::new(alloc, &[4_096], room, plan)?;
+fn runs(rt: &impl Abort, alloc: Global, run: Run) -> Result<(), Fail> {
+    let ((store, fetch, tears, keeps_torn), alone, room, rows, then) = run;
+    let plan = FaultPlan {
+        store,
+        fetch,
+        tears,
+        keeps_torn,
+    };
+    let mut medium = StagedMedium::new(alloc, &[4_096], room, plan)?.taking_alone(alone);
     assert_rows(rt, alloc, &mut medium, rows)?;
     assert_rows(rt, alloc, &mut medium, then)
 }
 
 #[test]
 fn a_side_fills_and_a_device_fails(rt: HostRuntime) -> Result<(), Fail> {
-    for (plan, room, rows, then) in RUNS {
-        runs(&rt, rt.alloc(), (*plan, *room), rows, then)?;
+    for &run in RUNS {
+        runs(&rt, rt.alloc(), run)?;
     }
     Ok(())
 }

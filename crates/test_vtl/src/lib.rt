@@ -4,8 +4,6 @@
 #[cfg(test)]
 mod asserted;
 #[cfg(test)]
-mod plain_sides;
-#[cfg(test)]
 mod sides;
 #[cfg(test)]
 mod tests;

@@ -15,10 +15,6 @@ impl Plan {
         Plan { piece, bad: None }
     }
 
-    pub fn whole() -> Self {
-        Plan::pieces(usize::MAX)
-    }
-
     // The fault of a call, if it fails.
     fn fault(&self, call: u32) -> Option<ErrorKind> {
         match self.bad {
@@ -30,9 +26,11 @@ impl Plan {
 
 #[derive(Drop)]
 pub struct PipeReader<'a> {
-    rest: &'a [u8],
+    /// What was not read.
+    pub rest: &'a [u8],
     plan: Plan,
-    calls: u32,
+    /// How many reads were asked for.
+    pub calls: u32,
 }
 
 impl<'a> PipeReader<'a> {
@@ -42,16 +40,6 @@ impl<'a> PipeReader<'a> {
             plan,
             calls: 0,
         }
-    }
-
-    /// How many reads were asked for.
-    pub fn calls(&self) -> u32 {
-        self.calls
-    }
-
-    /// How many bytes were not read.
-    pub fn left(&self) -> usize {
-        self.rest.len()
     }
 }
 
@@ -70,10 +58,12 @@ impl Read for PipeReader<'_> {
 
 #[derive(Drop)]
 pub struct PipeWriter {
-    written: Vec<u8>,
-    flushed: usize,
+    pub written: Vec<u8>,
+    /// How many bytes had been written at the last flush.
+    pub flushed: usize,
     plan: Plan,
-    calls: u32,
+    /// How many writes and flushes were asked for.
+    pub calls: u32,
 }
 
 impl PipeWriter {
@@ -84,20 +74,6 @@ impl PipeWriter {
             plan,
             calls: 0,
         }
-    }
-
-    pub fn written(&self) -> &[u8] {
-        self.written.as_slice()
-    }
-
-    /// How many writes and flushes were asked for.
-    pub fn calls(&self) -> u32 {
-        self.calls
-    }
-
-    /// How many bytes had been written at the last flush.
-    pub fn flushed(&self) -> usize {
-        self.flushed
     }
 
     // Counts a call, and fails where it is the one that is to fail.

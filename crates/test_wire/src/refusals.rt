@@ -1,55 +1,87 @@
 //! Frames that are refused.
+use crate::frames::{Kind, bytes, reading};
 use crate::pipes::Plan;
-use crate::requests::{bytes, reading};
+use std::alloc::Global;
+use std::process::Abort;
 use std::test::Fail;
 use test_assertions::assert_equal;
 use vtl_wire::WireFault;
 
-// Each differs in one field from a frame that is taken: an unknown kind; a host, a drive, the length of a block or of
-// data out of range; a byte that has to be 00h; a move or an inventory with a host, a drive, another length or data.
-static REFUSED: &'static [&'static str] = &[
-    "00 01 01 06 00000000 00000001 00000000",
-    "04 01 01 06 00000000 00000001 00000000",
-    "ff 01 01 06 00000000 00000001 00000000",
-    "01 00 01 06 00000000 00000001 00000000",
-    "01 41 01 06 00000000 00000001 00000000",
-    "01 ff 01 06 00000000 00000001 00000000",
-    "01 01 00 06 00000000 00000001 00000000",
-    "01 01 11 06 00000000 00000001 00000000",
-    "01 01 01 11 00000000 00000001 00000000",
-    "01 01 01 ff 00000000 00000001 00000000",
-    "01 01 01 06 0010c8e1 00000001 00000000",
-    "01 01 01 06 ffffffff 00000001 00000000",
-    "01 01 01 06 00000000 00000001 01000000",
-    "01 01 01 06 00000000 00000001 00010000",
-    "01 01 01 06 00000000 00000001 00000100",
-    "01 01 01 06 00000000 00000001 00000001",
-    "02 01 00 08 00000000 00000001 00000000",
-    "02 00 01 08 00000000 00000001 00000000",
-    "02 00 00 07 00000000 00000001 00000000",
-    "02 00 00 09 00000000 00000001 00000000",
-    "02 00 00 00 00000000 00000001 00000000",
-    "02 00 00 08 00000001 00000001 00000000",
-    "02 00 00 08 00000000 00000001 00000001",
-    "03 01 00 00 00000000 00000001 00000000",
-    "03 00 01 00 00000000 00000001 00000000",
-    "03 00 00 01 00000000 00000001 00000000",
-    "03 00 00 08 00000000 00000001 00000000",
-    "03 00 00 00 00000001 00000001 00000000",
-    "03 00 00 00 00000000 00000001 80000000",
+// Frames, and behind a bar what makes each of them a refused one: a place, and another byte there. Of requests an
+// unknown kind; a host, a drive, the length of a block or of data out of range; a byte that has to be 00h; a move or an
+// inventory with a host, a drive, another length or data.
+static REQUESTS: &'static [&'static str] = &[
+    "01 01 01 06 00000000 00000001 00000000 | 0000 0004 00ff 0100 0141 01ff 0200 0211 0311 03ff",
+    "01 01 01 06 00000000 00000001 00000000 | 0c01 0d01 0e01 0f01",
+    "01 01 01 06 0010c8e0 00000001 00000000 | 07e1 04ff",
+    "02 00 00 08 00000000 00000001 00000000 | 0101 0201 0307 0309 0300 0701 0f01",
+    "03 00 00 00 00000000 00000001 00000000 | 0101 0201 0301 0308 0701 0c80",
 ];
 
-// It is refused at its header: what stands behind is not read, and none is waited for.
-#[test]
-fn refused_headers(rt: HostRuntime) -> Result<(), Fail> {
-    for frame in REFUSED {
-        let mut input = bytes(rt.alloc(), "03 00 00 00 00000000 00000005 00000000")?;
-        input.extend_from_slice(bytes(rt.alloc(), frame)?.as_slice())?;
-        input.extend_from_slice(&[0; 40])?;
-        let outcome = reading(rt.alloc(), input.as_slice(), Plan::pieces(7));
-        assert_equal!(rt; outcome.end, Err(WireFault::BadFrame { frame: 2 }); frame);
-        assert_equal!(rt; outcome.text.as_slice(), b"inventory 5\n".as_slice(); frame);
-        assert_equal!(rt; outcome.left, 40; frame);
+// Of answers an unknown kind; a host out of range; a status that there is not; a length of sense data or of data out of
+// range, sense data with another status; a byte that has to be 00h; a move or an inventory with a host; an inventory
+// with a status, with sense data, or with part of an entry. In sense data another response code; a byte that has to be
+// 00h; a reserved key; a bit that is reserved; INFORMATION without VALID; another length of what follows. In entries a
+// zero behind a barcode; a space in front of one, or in it; a small letter; 15 zeros and another byte; 16 spaces.
+static ANSWERS: &'static [&'static str] = &[
+    "01 01 00 00 00000000 00000001 00000000 | 0000 0004 00ff 0100 0141 01ff 0201 0208 0228 0312",
+    "01 01 00 00 00000000 00000001 00000000 | 0c01 0d01 0e01 0f01",
+    "01 01 02 12 00000000 00000001 00000000 | 0311 0313 0301 03ff",
+    "01 01 18 00 00000000 00000001 00000000 | 0312",
+    "01 01 00 00 0010c8e0 00000001 00000000 | 07e1 04ff",
+    "01 01 02 12 0010c8e0 00000001 00000000 | 07e1",
+    "02 00 00 00 00000000 00000001 00000000 | 0101 0201 0312 0f01",
+    "02 00 18 00 00000000 00000001 00000000 | 0312",
+    "02 00 02 12 00000000 00000001 00000000 | 0308",
+    "02 00 00 00 0010c8e0 00000001 00000000 | 07e1",
+    "03 00 00 00 00000000 00000001 00000000 | 0101 0202 0218 0312 0701 0713 0715 0c80",
+    "03 00 02 00 00000000 00000001 00000000 | 0312",
+    "03 00 00 00 0010c8e0 00000001 00000000 | 07f4",
+    "01 01 02 12 00000001 00000007 00000000 700002000000000a000000003a0000000000 \
+        | 1072 1000 1101 1201 1207 1209 120a 120c 120e 120f 1212 1601 1301 170b 1709 1801 1b01 1e01 2101",
+    "02 00 02 12 00000001 00000007 00000000 700005000000000a000000003b0e00000000 | 1073",
+    "03 00 00 00 00000028 00000001 00000000 00000001 00000000000000000000000000000000 \
+        000003e9 5430303030314c36 2020202020202020 | 3700 3000 2820 2b20 2874 2320 2341",
+    "03 00 00 00 00000028 00000001 00000000 00000001 20202020202020202020202020202020 \
+        000003e9 5430303030314c36 2020202020202020 | 1420",
+];
+
+const FIRST: &'static [u8] = b"03 00 00 00 00000000 00000005 00000000";
+
+// A frame that is taken stands before each, and 40 bytes behind it, which are not read: none is waited for.
+fn are_refused(
+    rt: &impl Abort,
+    alloc: Global,
+    kind: Kind,
+    text: &[u8],
+    lines: &[&str],
+) -> Result<(), Fail> {
+    for line in lines {
+        let line = line.as_bytes();
+        let bar = line.iter().position(|byte| *byte == b'|').unwrap_or(0);
+        let frame = bytes(alloc, line.get(..bar).unwrap_or(&[]))?;
+        let changes = bytes(alloc, line.get(bar.saturating_add(1)..).unwrap_or(&[]))?;
+        for change in changes.as_slice().chunks(2) {
+            let mut input = bytes(alloc, FIRST)?;
+            for (place, byte) in frame.as_slice().iter().enumerate() {
+                match change {
+                    [at, other] if usize::from(*at) == place => input.push(*other)?,
+                    _ => input.push(*byte)?,
+                }
+            }
+            input.extend_from_slice(&[0; 40])?;
+            let outcome = reading(alloc, kind, input.as_slice(), Plan::pieces(7));
+            assert_equal!(rt; outcome.end, Err(WireFault::BadFrame { frame: 2 }); (line, change));
+            assert_equal!(rt; outcome.text.as_slice(), text; (line, change));
+            assert_equal!(rt; (outcome.left, outcome.frames), (40, 1); (line, change));
+        }
     }
     Ok(())
+}
+
+#[test]
+fn refused_frames(rt: HostRuntime) -> Result<(), Fail> {
+    let written = bytes(rt.alloc(), FIRST)?;
+    are_refused(&rt, rt.alloc(), Kind::Requests, b"inventory 5\n", REQUESTS)?;
+    are_refused(&rt, rt.alloc(), Kind::Answers, written.as_slice(), ANSWERS)
 }

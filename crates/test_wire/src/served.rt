@@ -1,6 +1,6 @@
 //! Requests that are served, each answered as its frame.
+use crate::frames::{Kind, all_of, bytes};
 use crate::pipes::{PipeReader, PipeWriter, Plan};
-use crate::requests::{DONE, all_frames, bytes};
 use scsi_sense::Reply;
 use std::alloc::Global;
 use std::io::ErrorKind;
@@ -65,17 +65,6 @@ static ANSWERS: &'static [&'static str] = &[
     "03 00 00 00 00000000 01000000 00000000",
 ];
 
-// The first `count` answers.
-fn first_answers(alloc: Global, count: usize) -> Result<Vec<u8>, Fail> {
-    let mut output = Vec::new(alloc);
-    for (place, answer) in ANSWERS.iter().enumerate() {
-        if place < count {
-            output.extend_from_slice(bytes(alloc, answer)?.as_slice())?;
-        }
-    }
-    Ok(output)
-}
-
 // How the serving of an input ends, and the writer.
 fn serving(
     alloc: Global,
@@ -90,59 +79,57 @@ fn serving(
     (end, writer)
 }
 
+// All are answered; or the one behind so many is not taken, or cut off: it is refused by its number, and those before
+// it are answered.
 #[test]
 fn each_is_answered(rt: HostRuntime) -> Result<(), Fail> {
-    let (input, _) = all_frames(rt.alloc())?;
-    let output = first_answers(rt.alloc(), 7)?;
-    for piece in [1, 7, usize::MAX] {
-        let plan = Plan::pieces(piece);
-        let (end, writer) = serving(rt.alloc(), 7, input.as_slice(), plan, plan);
-        assert_equal!(rt; end, DONE; piece);
-        assert_equal!(rt; writer.written(), output.as_slice(); piece);
-        assert_equal!(rt; writer.flushed(), output.len(); piece);
+    let (input, _) = all_of(rt.alloc(), Kind::Requests)?;
+    let mut output = Vec::new(rt.alloc());
+    for count in 0..8u32 {
+        let frame = u64::from(count).saturating_add(1);
+        let refused = Err(WireFault::BadFrame { frame });
+        for piece in [1, 7, usize::MAX] {
+            let plan = Plan::pieces(piece);
+            let (end, writer) = serving(rt.alloc(), count, input.as_slice(), plan, plan);
+            assert_equal!(rt; end, if count == 7 { Ok(()) } else { refused }; (count, piece));
+            assert_equal!(rt; writer.written.as_slice(), output.as_slice(); (count, piece));
+            assert_equal!(rt; writer.flushed, output.len(); (count, piece));
+        }
+        if count == 6 {
+            let cut = &input.as_slice()[..input.len().saturating_sub(1)];
+            let (end, writer) = serving(rt.alloc(), 7, cut, Plan::pieces(9), Plan::pieces(9));
+            assert_equal!(rt; end, refused);
+            assert_equal!(rt; writer.written.as_slice(), output.as_slice());
+        }
+        if let Some(answer) = ANSWERS.get(count as usize) {
+            output.extend_from_slice(bytes(rt.alloc(), answer.as_bytes())?.as_slice())?;
+        }
     }
-    Ok(())
-}
-
-// After some requests the next is not taken, or is cut off: it is refused by its number, and those before it are
-// answered.
-#[test]
-fn one_is_refused(rt: HostRuntime) -> Result<(), Fail> {
-    let (input, _) = all_frames(rt.alloc())?;
-    for count in 0..7u32 {
-        let plan = Plan::whole();
-        let (end, writer) = serving(rt.alloc(), count, input.as_slice(), plan, plan);
-        let frame = u64::from(count) + 1;
-        assert_equal!(rt; end, Err(WireFault::BadFrame { frame }); count);
-        let output = first_answers(rt.alloc(), count as usize)?;
-        assert_equal!(rt; writer.written(), output.as_slice(); count);
-    }
-    let cut = &input.as_slice()[..input.len().saturating_sub(1)];
-    let (end, writer) = serving(rt.alloc(), 7, cut, Plan::whole(), Plan::whole());
-    assert_equal!(rt; end, Err(WireFault::BadFrame { frame: 7 }));
-    assert_equal!(rt; writer.written(), first_answers(rt.alloc(), 6)?.as_slice());
     Ok(())
 }
 
 // Each call of the reader or the writer fails in turn. What was written is a beginning of the answers.
 #[test]
 fn streams_that_fail(rt: HostRuntime) -> Result<(), Fail> {
-    let (input, _) = all_frames(rt.alloc())?;
-    let output = first_answers(rt.alloc(), 7)?;
+    let (input, _) = all_of(rt.alloc(), Kind::Requests)?;
+    let all = Plan::pieces(usize::MAX);
+    let (_, whole) = serving(rt.alloc(), 7, input.as_slice(), all, all);
+    let output = whole.written.as_slice();
     for call in 1..40 {
         let bad = Plan {
             piece: 9,
             bad: Some((call, ErrorKind::Other)),
         };
-        let (end, writer) = serving(rt.alloc(), 7, input.as_slice(), bad, Plan::whole());
-        assert_holds!(rt; end == DONE || end == Err(WireFault::ReadFault); call);
-        assert_holds!(rt; end != DONE || writer.written().len() == output.len(); call);
-        assert_holds!(rt; output.as_slice().starts_with(writer.written()); call);
+        let (end, writer) = serving(rt.alloc(), 7, input.as_slice(), bad, all);
+        let written = writer.written.as_slice();
+        assert_holds!(rt; end == Ok(()) || end == Err(WireFault::ReadFault); call);
+        assert_holds!(rt; end.is_err() || written.len() == output.len(); call);
+        assert_holds!(rt; output.starts_with(written); call);
 
-        let (end, writer) = serving(rt.alloc(), 7, input.as_slice(), Plan::whole(), bad);
-        assert_holds!(rt; end == DONE || end == Err(WireFault::WriteFault); call);
-        assert_equal!(rt; end == DONE, writer.flushed() == output.len(); call);
-        assert_holds!(rt; output.as_slice().starts_with(writer.written()); call);
+        let (end, writer) = serving(rt.alloc(), 7, input.as_slice(), all, bad);
+        assert_holds!(rt; end == Ok(()) || end == Err(WireFault::WriteFault); call);
+        assert_equal!(rt; end.is_ok(), writer.flushed == output.len(); call);
+        assert_holds!(rt; output.starts_with(writer.written.as_slice()); call);
     }
     Ok(())
 }

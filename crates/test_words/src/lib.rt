@@ -4,14 +4,6 @@
 #[cfg(test)]
 mod asserted;
 #[cfg(test)]
-mod cartridges;
-#[cfg(test)]
-mod configs;
-#[cfg(test)]
-mod explained;
-#[cfg(test)]
-mod files;
-#[cfg(test)]
 mod orders;
 #[cfg(test)]
 mod unread;

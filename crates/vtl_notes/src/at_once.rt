@@ -64,6 +64,19 @@ impl<'a> FileLines<'a> {
             self.at_once.say(text.as_str());
         }
     }
+
+    /// Writes a line that says that frames stand behind the end of the side in the file, whose end gate stands at byte
+    /// `at`.
+    pub fn say_behind(&self, at: u64) {
+        if let Ok(text) = behind_text(self.at_once.rt.alloc(), self.name.as_str(), at) {
+            self.at_once.say(text.as_str());
+        }
+    }
+}
+
+/// Returns the text of the line for frames behind the end of a side, as `say_behind` writes it.
+pub fn behind_text(alloc: Global, name: &str, at: u64) -> Result<String, AllocError> {
+    format!(in alloc; "found: frames behind the end at {at}, in the file {name}")
 }
 
 /// Returns the text of the line for a call that failed, as `say_failed` writes it. The byte stands behind a read and a

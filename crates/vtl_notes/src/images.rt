@@ -226,8 +226,8 @@ fn add_no_copy(alloc: Global, file: &str, lines: &mut Explanation) -> Result<(),
     lines.add(alloc, "to do: copy what it holds to another cartridge")
 }
 
-// Whether these bytes begin as those of a cartridge's first file whose pair gate is open.
-fn has_open_pair(first: &[u8]) -> bool {
+/// Whether these bytes begin as those of a cartridge's first file whose pair gate is open.
+pub(crate) fn has_open_pair(first: &[u8]) -> bool {
     first
         .get(1..10)
         .is_some_and(|start| start == b"VTLCART1\xa5".as_slice())

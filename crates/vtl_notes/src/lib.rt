@@ -3,6 +3,7 @@
 
 pub mod at_once;
 mod images;
+pub mod noted_disk;
 pub mod noted_streams;
 pub mod notes;
 pub mod noting;

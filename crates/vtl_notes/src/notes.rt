@@ -2,7 +2,7 @@
 use crate::images::Images;
 use crate::noted_streams::OutputNote;
 use crate::open_files::OpenFiles;
-use crate::pairs::PairNote;
+use crate::pairs::{LostSecond, PairNote};
 use explanations::Explanation;
 use file_disk::{FileError, FileLook};
 use file_reasons::{Answer, FileCall, FileReason, MemoryReason, Source, StoreReason};
@@ -38,6 +38,7 @@ pub struct Notes {
     script: Cell<Option<u64>>,
     images: Images,
     pair: PairNote,
+    lost: LostSecond,
     // The folder of the file that was noted last as open without a lock.
     unlocked: Cell<Option<String>>,
     output: OutputNote,
@@ -59,6 +60,7 @@ impl Notes {
             script: Cell::new(None),
             images: Images::new(),
             pair: PairNote::new(),
+            lost: LostSecond::new(),
             unlocked: Cell::new(None),
             output: OutputNote::new(is_on),
         }
@@ -198,11 +200,18 @@ impl Notes {
     }
 
     /// Notes the bytes of the file `file`, which was checked, as `look` does, unless it was checked as one of a
-    /// configuration.
-    pub fn look_checked<D: Disk>(&self, alloc: Global, file: &str, disk: &mut D) {
+    /// configuration. Returns true where it was, and is to be said: it is a second file that is missing or has no byte,
+    /// though the pair gate of its first one is open (`LostSecond::is_lost`).
+    pub fn look_checked<D: Disk>(&self, alloc: Global, file: &str, disk: &mut D) -> bool {
         match self.config.take() {
-            Some(config) => self.config.set(Some(config)),
-            None => self.look(alloc, file, disk),
+            Some(config) => {
+                self.config.set(Some(config));
+                self.lost.is_lost(alloc, file, disk)
+            }
+            None => {
+                self.look(alloc, file, disk);
+                false
+            }
         }
     }
 

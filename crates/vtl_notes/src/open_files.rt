@@ -1,14 +1,10 @@
 //! Notes of the files that were opened, and of their calls that failed, for an explanation. Threads share these notes.
-use crate::at_once::FileLines;
 use explanations::Explanation;
-use file_disk::{FailedCall, FileDisk, SystemCall};
+use file_disk::FailedCall;
 use file_reasons::{FileReason, MemoryReason};
 use std::alloc::{AllocError, Global};
-use std::io::ErrorKind;
 use std::sync::Mutex;
 use std::sync::atomic::{AtomicBool, AtomicU64, Ordering};
-use tape_disk::Disk;
-use vtl_base::DevFault;
 
 // How often the lock is tried, since no call waits for it. A thread that has it releases it after a few steps.
 const TRIES: u32 = 100_000;
@@ -143,104 +139,6 @@ impl OpenFiles {
                 MemoryReason::File(name).add_to(alloc, lines)
             }
             None => Ok(()),
-        }
-    }
-}
-
-/// A disk that can say which of its calls to the system failed last.
-pub trait SaysFailed {
-    /// The call that failed last; `None` where none failed.
-    fn failed(&self) -> Option<FailedCall>;
-}
-
-impl SaysFailed for FileDisk {
-    fn failed(&self) -> Option<FailedCall> {
-        self.file().failed()
-    }
-}
-
-/// A disk that passes each call on to the disk below it, and notes the first call that fails, with what the system
-/// answered.
-#[derive(Drop)]
-pub struct NotedDisk<'a, D> {
-    /// The disk below.
-    pub disk: D,
-    /// The number of the disk's file in `files`; 0 if the file is left out.
-    pub number: u64,
-    /// Where failed calls are noted.
-    pub files: &'a OpenFiles,
-    /// Where each failed call is reported at once; None if it is not.
-    pub lines: Option<FileLines<'a>>,
-}
-
-impl<'a, D: SaysFailed> NotedDisk<'a, D> {
-    // Notes a call that failed, at this byte of the file if there is one, and reports it. If no call of the system
-    // failed, the system did not say how long the file is; that is noted then.
-    fn fail(&self, at: Option<u64>) {
-        let failed = match self.disk.failed() {
-            Some(failed) => failed,
-            None => FailedCall {
-                call: SystemCall::Look,
-                kind: ErrorKind::Other,
-                number: None,
-            },
-        };
-        self.files.fail(self.number, failed);
-        if let Some(lines) = &self.lines {
-            lines.say_failed(failed, at);
-        }
-    }
-}
-
-impl<'a, D: Disk + SaysFailed> Disk for NotedDisk<'a, D> {
-    ghost state = { λ noted. D.state noted.disk };
-
-    ghost effect = { λ call result old new. D.effect call result old.disk new.disk };
-
-    ghost is_disk = { λ noted honest. D.is_disk noted.disk honest };
-
-    fn len(&self) -> u64 {
-        self.disk.len()
-    }
-
-    fn read_at(&mut self, at: u64, buffer: &mut [u8]) -> Result<(), DevFault> {
-        self.files.used(self.number);
-        match self.disk.read_at(at, buffer) {
-            Ok(()) => Ok(()),
-            Err(fault) => {
-                self.fail(Some(at));
-                Err(fault)
-            }
-        }
-    }
-
-    fn write_at(&mut self, at: u64, bytes: &[u8]) -> Result<(), DevFault> {
-        match self.disk.write_at(at, bytes) {
-            Ok(()) => Ok(()),
-            Err(fault) => {
-                self.fail(Some(at));
-                Err(fault)
-            }
-        }
-    }
-
-    fn cut(&mut self, len: u64) -> Result<(), DevFault> {
-        match self.disk.cut(len) {
-            Ok(()) => Ok(()),
-            Err(fault) => {
-                self.fail(None);
-                Err(fault)
-            }
-        }
-    }
-
-    fn sync(&mut self) -> Result<(), DevFault> {
-        match self.disk.sync() {
-            Ok(()) => Ok(()),
-            Err(fault) => {
-                self.fail(None);
-                Err(fault)
-            }
         }
     }
 }

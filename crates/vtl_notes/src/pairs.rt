@@ -1,9 +1,12 @@
 //! Notes what looks at the names of a cartridge's files found, for an explanation of a refused second file.
+use crate::images::has_open_pair;
 use explanations::Explanation;
 use file_disk::{FileError, FileLook};
 use file_reasons::{PairFault, PairReason};
 use std::alloc::{AllocError, Global};
 use std::cell::Cell;
+use tape_disk::Disk;
+use vtl_config::second_file;
 
 // The bytes of a second file at most over which a reclaim writes behind a closed pair gate.
 const SPARE_BYTES: u64 = 10;
@@ -69,4 +72,40 @@ fn fault_of(was_lost: bool, found: FileLook) -> Option<PairFault> {
     } else {
         (found.bytes > SPARE_BYTES).then_some(PairFault::Foreign(found.bytes))
     }
+}
+
+/// A note of the second file that an open pair gate asks for, while files are checked one behind the other.
+#[derive(Drop)]
+pub struct LostSecond {
+    wanted: Cell<Option<String>>,
+}
+
+impl LostSecond {
+    /// Creates an empty note.
+    pub fn new() -> Self {
+        LostSecond {
+            wanted: Cell::new(None),
+        }
+    }
+
+    /// Whether the file `file` on `disk` has no byte, or is missing, though it is the second file of a cartridge whose
+    /// first file has an open pair gate. The first file must be that of the call before this one. If memory runs out,
+    /// or the disk cannot be read, nothing is noted.
+    pub fn is_lost<D: Disk>(&self, alloc: Global, file: &str, disk: &mut D) -> bool {
+        match self.wanted.take() {
+            Some(second) if second.as_str() == file => disk.len() == 0,
+            _ => {
+                if begins_pair(disk) {
+                    self.wanted.set(second_file(alloc, file).ok());
+                }
+                false
+            }
+        }
+    }
+}
+
+// Whether a disk begins as a cartridge's first file whose pair gate is open.
+fn begins_pair<D: Disk>(disk: &mut D) -> bool {
+    let mut start = [0; 10];
+    disk.len() >= 10 && disk.read_at(0, &mut start).is_ok() && has_open_pair(&start)
 }

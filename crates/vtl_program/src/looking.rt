@@ -3,9 +3,7 @@ ghost use Rattle.std.specs.Prelude.{◌≡◌};
 
 use check_lines::reading::ReportsRead;
 use file_disk::{FileDisk, FileError};
-use gate_journal::frames_behind;
 use std::alloc::{AllocError, Global};
-use vtl_config::second_file;
 use vtl_files::config_checks::is_other;
 use vtl_files::files::ReadFiles;
 use vtl_files::side_checks::lines_of;
@@ -78,28 +76,8 @@ fn found_text(
     format!(in alloc; "found: {found}, for {word}{label}, in the file {path}")
 }
 
-// Reports at once that frames stand behind the end of the file of this name, if they do.
-fn report_behind(
-    rt: &HostRuntime,
-    at_once: AtOnce<'_>,
-    word: &[u8],
-    label: &[u8],
-    name: &str,
-) -> Result<(), AllocError> {
-    let Ok(mut disk) = file_disk::open_to_read(rt, name) else {
-        return Ok(());
-    };
-    if let Ok(Some(at)) = frames_behind(&mut disk) {
-        let found = format!(in rt.alloc(); "frames behind the end at {at}")?;
-        at_once.say(found_text(rt.alloc(), found.as_str(), word, label, name)?.as_str());
-    }
-    drop(disk);
-    Ok(())
-}
-
 /// Looks at the file of this name, and its second file, and reports at once what is wrong with them, as `wrong_text`
-/// says it, and that frames stand behind the end of one of them. Nothing is reported of files that cannot be read:
-/// whoever opens them then finds that. No file is changed.
+/// says it. Nothing is reported of files that cannot be read: whoever opens them then finds that. No file is changed.
 pub fn report_side(rt: &HostRuntime, at_once: AtOnce<'_>, word: &[u8], label: &[u8], path: &str) {
     if !at_once.is_on() {
         return;
@@ -109,9 +87,5 @@ pub fn report_side(rt: &HostRuntime, at_once: AtOnce<'_>, word: &[u8], label: &[
         if let Ok(Some(text)) = wrong_text(rt.alloc(), word, label, path, lines.as_slice()) {
             at_once.say(text.as_str());
         }
-    }
-    let _ = report_behind(rt, at_once, word, label, path);
-    if let Ok(second) = second_file(rt.alloc(), path) {
-        let _ = report_behind(rt, at_once, word, label, second.as_str());
     }
 }

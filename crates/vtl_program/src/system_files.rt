@@ -14,8 +14,8 @@ use vtl_files::files::{
     ChangeFiles, LookFiles, MakeFiles, ReadFiles, SecondFiles, TakesBack, TextFiles,
 };
 use vtl_notes::at_once::AtOnce;
+use vtl_notes::noted_disk::NotedDisk;
 use vtl_notes::notes::Notes;
-use vtl_notes::open_files::NotedDisk;
 use vtl_notes::progress::GibLines;
 use vtl_notes::watched::Watched;
 use vtl_power_on::starting::NotStarted;
@@ -42,13 +42,9 @@ impl<'a> SystemFiles<'a> {
     fn watched(&self, name: &str, number: u64, disk: FileDisk) -> SystemDisk<'a>
         ensures { result.disk.disk ≡ disk }
     {
+        let lines = self.at_once.of_file(name);
         Watched {
-            disk: NotedDisk {
-                disk,
-                number,
-                files: self.notes.files(),
-                lines: self.at_once.of_file(name),
-            },
+            disk: NotedDisk::new(disk, number, self.notes.files(), lines),
             progress: self.progress,
         }
     }
@@ -125,7 +121,12 @@ impl<'a> ReadFiles<SystemDisk<'a>> for SystemFiles<'a> {
     }
 
     fn close(&self, name: &str, mut disk: SystemDisk<'a>) {
-        self.notes.look_checked(self.rt.alloc(), name, &mut disk);
+        if self
+            .notes
+            .look_checked(self.rt.alloc(), name, &mut disk.disk.disk)
+        {
+            say_no_second(self.rt, self.notes, name);
+        }
         drop(disk);
     }
 

@@ -1,5 +1,5 @@
 //! A keeper whose store becomes full, or one of whose saves fails.
-use super::{ONE_REGISTERS, TWO_REGISTER, after};
+use super::{ONE, OTHER, after};
 use pr_core::{Keeper, KeeperError, Reservations};
 use std::process::Abort;
 use test_assertions::{assert_equal, assert_holds};
@@ -38,8 +38,8 @@ static FAULTS: &'static [(u32, SaveFault, u8)] = &[
 #[test]
 fn one_save_fails(rt: HostRuntime) {
     let empty = Reservations::empty();
-    let one = after(&rt, ONE_REGISTERS);
-    let two = after(&rt, TWO_REGISTER);
+    let one = after(&rt, empty, &[(1, ONE)]);
+    let two = after(&rt, one, &[(2, OTHER)]);
     for &(behind, by, hosts) in FAULTS {
         let plan = SavePlan { after: behind, by };
         let mut keeper = StagedKeeper::new(empty, 1_000, Some(plan));
@@ -71,7 +71,7 @@ static SAVES: &'static [(bool, Result<(), KeeperError>, u64)] = &[
 #[test]
 fn a_store_fills(rt: HostRuntime) {
     let empty = Reservations::empty();
-    let one = after(&rt, ONE_REGISTERS);
+    let one = after(&rt, empty, &[(1, ONE)]);
     let mut keeper = StagedKeeper::new(empty, 35, None);
     for &(is_registered, answer, left) in SAVES {
         let state = if is_registered { &one } else { &empty };
@@ -85,7 +85,7 @@ fn a_store_fills(rt: HostRuntime) {
 // The state in doubt after a device fault is distinguished from what was saved.
 #[test]
 fn a_save_is_torn(rt: HostRuntime) {
-    let one = after(&rt, ONE_REGISTERS);
+    let one = after(&rt, Reservations::empty(), &[(1, ONE)]);
     let plan = SavePlan {
         after: 0,
         by: SaveFault::Device,

@@ -1,4 +1,4 @@
-//! Every operation code in blocks of every length, and the table.
+//! Every operation code in blocks of every length.
 use scsi_lists::PrAction;
 use scsi_opcodes::{Cdb, Command, Opcode, PrRead, length_of};
 use scsi_sense::Sense;
@@ -96,37 +96,5 @@ fn every_code_at_every_length(rt: HostRuntime) {
             assert_equal!(rt; Opcode::of(&block[..length]), opcode; (length, code));
             assert_equal!(rt; Cdb::decode(&block[..length]), expected; (length, code));
         }
-    }
-}
-
-// Each row is a code, the bytes of its blocks, whether it is exempt from the checks, whether a reservation
-// stops it, and whether it needs a medium.
-static TABLE: &'static [(Opcode, usize, bool, bool, bool)] = &[
-    (Opcode::TestUnitReady, 6, false, false, true),
-    (Opcode::Rewind, 6, false, true, true),
-    (Opcode::RequestSense, 6, true, false, false),
-    (Opcode::ReadBlockLimits, 6, false, false, false),
-    (Opcode::Read, 6, false, true, true),
-    (Opcode::Write, 6, false, true, true),
-    (Opcode::WriteFilemarks, 6, false, true, true),
-    (Opcode::Space, 6, false, true, true),
-    (Opcode::Inquiry, 6, true, false, false),
-    (Opcode::ModeSelect, 6, false, true, false),
-    (Opcode::Erase, 6, false, true, true),
-    (Opcode::ModeSense, 6, false, false, false),
-    (Opcode::LoadUnload, 6, false, true, false),
-    (Opcode::Locate, 10, false, true, true),
-    (Opcode::ReadPosition, 10, false, false, true),
-    (Opcode::PersistentReserveIn, 10, false, false, false),
-    (Opcode::PersistentReserveOut, 10, false, false, false),
-];
-
-#[test]
-fn the_table(rt: HostRuntime) {
-    for &(opcode, bytes, exempt, stopped, on_medium) in TABLE {
-        assert_equal!(rt; opcode.block_length(), bytes; opcode);
-        assert_equal!(rt; opcode.is_exempt(), exempt; opcode);
-        assert_equal!(rt; opcode.is_stopped_by_reservation(), stopped; opcode);
-        assert_equal!(rt; opcode.needs_medium(), on_medium; opcode);
     }
 }

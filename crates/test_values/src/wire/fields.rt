@@ -48,92 +48,61 @@ const RELEASE: PrAction = PrAction::Release(PrType::ExclusiveAccessAllRegistrant
 
 const IGNORE: PrAction = PrAction::RegisterAndIgnoreExistingKey;
 
-const SENSE_MODE: Command = Command::ModeSense {
+const READ_KEYS: PrRead = PrRead::ReadKeys;
+
+const WRITE: Option<Command> = Some(Command::Write { length: 1_048_576 });
+
+const SELECT_MODE: Option<Command> = Some(Command::ModeSelect { length: 128 });
+
+const SENSE_MODE: Option<Command> = Some(Command::ModeSense {
     length: 128,
     disable_descriptors: false,
-};
+});
 
-// A block, its command, and the bytes that are sent with it; a block without a command has an invalid field.
-static FIELDS: &'static [(&'static [u8], Option<Command>, u32)] = &[
+// A block of 6 or 10 bytes as a number, its command, and the bytes that are sent with it; a block without a command has
+// an invalid field.
+static OF_6_BYTES: &'static [(u64, Option<Command>, u32)] = &[
+    (0x0afe_1000_00ff, WRITE, 1_048_576),
+    (0x1100_0000_00ff, blocks!(0), 0),
+    (0x11f0_1234_5600, blocks!(0x12_3456), 0),
+    (0x1500_1234_8000, SELECT_MODE, 128),
+    (0x1af7_00ff_80ff, SENSE_MODE, 0),
+    (0x1a08_1000_0c00, None, 0),
+];
+
+static OF_10_BYTES: &'static [(u128, Option<Command>, u32)] = &[
+    (0x2b02_00ff_ffff_ff00_ff00, locate!(LAST, Some(255)), 0),
+    (0x2bfd_ff12_3456_78ff_ffff, locate!(0x1234_5678, None), 0),
+    (0x2bff_ff87_6543_21ff_01ff, locate!(0x8765_4321, Some(1)), 0),
+    (0x2b04_0000_0001_0000_0200, locate!(256, None), 0),
+    (0x5e00_0000_0000_0012_3400, reads!(READ_KEYS, 0x1234), 0),
+    (0x5ee0_ffff_ffff_ff00_01ff, reads!(READ_KEYS, 1), 0),
     (
-        b"\x0a\xfe\x10\x00\x00\xff",
-        Some(Command::Write { length: 1_048_576 }),
-        1_048_576,
-    ),
-    (b"\x11\x00\x00\x00\x00\xff", blocks!(0), 0),
-    (b"\x11\xf0\x12\x34\x56\x00", blocks!(0x12_3456), 0),
-    (
-        b"\x2b\x02\x00\xff\xff\xff\xff\x00\xff\x00",
-        locate!(LAST, Some(255)),
-        0,
-    ),
-    (
-        b"\x2b\xfd\xff\x12\x34\x56\x78\xff\xff\xff",
-        locate!(0x1234_5678, None),
-        0,
-    ),
-    (
-        b"\x2b\xff\xff\x87\x65\x43\x21\xff\x01\xff",
-        locate!(0x8765_4321, Some(1)),
-        0,
-    ),
-    (
-        b"\x2b\x04\x00\x00\x00\x01\x00\x00\x02\x00",
-        locate!(256, None),
-        0,
-    ),
-    (
-        b"\x15\x00\x12\x34\x80\x00",
-        Some(Command::ModeSelect { length: 128 }),
-        128,
-    ),
-    (b"\x1a\xf7\x00\xff\x80\xff", Some(SENSE_MODE), 0),
-    (b"\x1a\x08\x10\x00\x0c\x00", None, 0),
-    (
-        b"\x5e\x00\x00\x00\x00\x00\x00\x12\x34\x00",
-        reads!(PrRead::ReadKeys, 0x1234),
-        0,
-    ),
-    (
-        b"\x5e\xe0\xff\xff\xff\xff\xff\x00\x01\xff",
-        reads!(PrRead::ReadKeys, 1),
-        0,
-    ),
-    (
-        b"\x5e\x21\x00\x00\x00\x00\x01\xff\xff\x00",
+        0x5e21_0000_0000_01ff_ff00,
         reads!(PrRead::ReadReservation, 65_535),
         0,
     ),
+    (0x5fe1_01ff_ff00_0000_00ff, orders!(RESERVE, 0), 0),
+    (0x5f22_0800_00ff_ffff_ff00, orders!(RELEASE, LAST), LAST),
     (
-        b"\x5f\xe1\x01\xff\xff\x00\x00\x00\x00\xff",
-        orders!(RESERVE, 0),
-        0,
-    ),
-    (
-        b"\x5f\x22\x08\x00\x00\xff\xff\xff\xff\x00",
-        orders!(RELEASE, LAST),
-        LAST,
-    ),
-    (
-        b"\x5f\x00\xff\xff\xff\x01\x02\x03\x04\xff",
+        0x5f00_ffff_ff01_0203_04ff,
         orders!(PrAction::Register, 0x0102_0304),
         0x0102_0304,
     ),
     (
-        b"\x5f\x83\xff\x00\x00\x00\x00\x01\x00\x00",
+        0x5f83_ff00_0000_0001_0000,
         orders!(PrAction::Clear, 256),
         256,
     ),
-    (
-        b"\x5f\x46\x77\x00\x00\x00\x00\x00\x17\x00",
-        orders!(IGNORE, 23),
-        23,
-    ),
+    (0x5f46_7700_0000_0000_1700, orders!(IGNORE, 23), 23),
 ];
 
 #[test]
 fn fields(rt: HostRuntime) {
-    for &(block, command, sent) in FIELDS {
-        is_decoded(&rt, block, command, sent);
+    for &(block, command, sent) in OF_6_BYTES {
+        is_decoded(&rt, &block.to_be_bytes()[2..], command, sent);
+    }
+    for &(block, command, sent) in OF_10_BYTES {
+        is_decoded(&rt, &block.to_be_bytes()[6..], command, sent);
     }
 }

@@ -2,18 +2,16 @@
 use explanations::Explanation;
 use file_disk::{DiskOver, FailedCall, FileDisk, SystemCall, SystemFile};
 use std::alloc::{AllocError, Global};
-use std::fs::{File, OpenOptions};
-use std::hash::{BuildHasher, RandomState};
+use std::fs::File;
 use std::io::ErrorKind;
-use std::process::Abort;
 use std::test::Fail;
-use std::{env, fs};
 use tape_disk::{Disk, MemDisk, OnceDisk};
 use test_assertions::assert_equal;
 use vtl_base::DevFault;
 use vtl_notes::at_once::failed_text;
+use vtl_notes::noted_disk::{NotedDisk, SaysMore};
 use vtl_notes::notes::Notes;
-use vtl_notes::open_files::{NotedDisk, OpenFiles, SaysFailed};
+use vtl_notes::open_files::OpenFiles;
 
 // A disk that says of each call that it failed so.
 #[derive(Drop)]
@@ -50,9 +48,13 @@ impl<D: Disk> Disk for ReportingDisk<D> {
     }
 }
 
-impl<D> SaysFailed for ReportingDisk<D> {
+impl<D> SaysMore for ReportingDisk<D> {
     fn failed(&self) -> Option<FailedCall> {
         self.failed
+    }
+
+    fn frames_behind(&self) -> Option<u64> {
+        None
     }
 }
 
@@ -79,13 +81,8 @@ fn failing(
 }
 
 // Each call of the disk of this file once: which of them succeed.
-fn used<D: Disk + Drop + SaysFailed>(files: &OpenFiles, number: u64, disk: D) -> [bool; 4] {
-    let mut disk = NotedDisk {
-        disk,
-        number,
-        files,
-        lines: None,
-    };
+fn used<D: Disk + Drop + SaysMore>(files: &OpenFiles, number: u64, disk: D) -> [bool; 4] {
+    let mut disk = NotedDisk::new(disk, number, files, None);
     [
         disk.read_at(0, &mut []).is_ok(),
         disk.cut(0).is_ok(),
@@ -172,17 +169,6 @@ fn a_refused_store_is_reported_by_its_own_calls(rt: HostRuntime) -> Result<(), F
     Ok(())
 }
 
-// Where no explanation is asked for, no file is kept.
-#[test]
-fn no_file_is_kept_unasked(rt: HostRuntime) -> Result<(), Fail> {
-    let alloc = rt.alloc();
-    let files = OpenFiles::new(alloc, false);
-    let number = files.enter(alloc, "a");
-    let _ = used(&files, number, failing(alloc, 0, Some(SYNC))?);
-    assert_equal!(rt; (number, lines_of(alloc, &files)?.as_str()), (0, ""));
-    Ok(())
-}
-
 // The file that is named where memory ran out.
 fn last_of(alloc: Global, files: &OpenFiles) -> Result<Explanation, AllocError> {
     let mut lines = Explanation::new(alloc);
@@ -209,130 +195,49 @@ fn memory_ran_out_at_the_file_that_was_used_last(rt: HostRuntime) -> Result<(), 
     Ok(())
 }
 
-// How a file of the system is open, and a call of a disk over it.
-#[derive(Clone, Copy, Debug)]
-enum Step {
-    ReadOfAWrittenFile,
-    WriteOfAReadFile,
-    CutOfAReadFile,
-    SyncOfADevice,
-}
-
-// The call, and what Linux answers (EBADF, EBADF, EINVAL, EINVAL).
-static ANSWERS: &'static [(Step, &'static str)] = &[
-    (
-        Step::ReadOfAWrittenFile,
-        "failed: read at, of the file a\nanswer: Bad file descriptor (os error 9)\n",
-    ),
-    (
-        Step::WriteOfAReadFile,
-        "failed: write at, of the file a\nanswer: Bad file descriptor (os error 9)\n",
-    ),
-    (
-        Step::CutOfAReadFile,
-        "failed: cut, of the file a\nanswer: Invalid argument (os error 22)\n",
-    ),
-    (
-        Step::SyncOfADevice,
-        "failed: sync, of the file a\nanswer: Invalid argument (os error 22)\n",
-    ),
-];
-
-// A disk over the file of this name, of four bytes, or over a device.
-fn opened(rt: &HostRuntime, path: &str, step: Step) -> Result<FileDisk, Fail> {
-    let mut options = OpenOptions::new();
-    let file = match step {
-        Step::ReadOfAWrittenFile => options.write(true).open(rt, path)?,
-        Step::WriteOfAReadFile | Step::CutOfAReadFile => File::open(rt, path)?,
-        Step::SyncOfADevice => options.read(true).open(rt, "/dev/null")?,
-    };
+// A disk over a device.
+fn opened(rt: &HostRuntime) -> Result<FileDisk, Fail> {
+    let file = File::open(rt, "/dev/null")?;
     Ok(DiskOver::new(SystemFile::over(file)))
 }
 
-// Makes the call: whether it succeeds, and how long the disk is. A read is of all of it.
-fn made<D: Disk>(disk: &mut D, step: Step) -> (bool, u64) {
-    let mut bytes = [0; 4];
-    let len = disk.len();
-    let count = bytes.len().min(len as usize);
-    let answer = match step {
-        Step::ReadOfAWrittenFile => disk.read_at(0, &mut bytes[..count]),
-        Step::WriteOfAReadFile => disk.write_at(0, b"x"),
-        Step::CutOfAReadFile => disk.cut(0),
-        Step::SyncOfADevice => disk.sync(),
-    };
-    (answer.is_ok(), len)
-}
-
-// A file of the system says itself what it was answered.
-fn of_the_system(abort: &impl Abort, rt: &HostRuntime, path: &str) -> Result<(), Fail> {
-    let alloc = rt.alloc();
-    for &(step, told) in ANSWERS {
-        let files = OpenFiles::new(alloc, true);
-        let mut disk = NotedDisk {
-            disk: opened(rt, path, step)?,
-            number: files.enter(alloc, "a"),
-            files: &files,
-            lines: None,
-        };
-        let len = match step {
-            Step::SyncOfADevice => 0,
-            _ => 4,
-        };
-        assert_equal!(abort; made(&mut disk, step), (false, len); step);
-        let wanted = format!(in alloc;
-            "{told}to do: look at the device, and at what the system has logged of it\n"
-        )?;
-        assert_equal!(abort; lines_of(alloc, &files)?.as_str(), wanted.as_str(); step);
-    }
-    Ok(())
-}
-
+// A file of the system says itself what it was answered: a device is not synced, EINVAL of Linux.
 #[test]
 fn a_file_of_the_system_says_what_it_was_answered(rt: HostRuntime) -> Result<(), Fail> {
     let alloc = rt.alloc();
-    let key = RandomState::new(&rt)?.hash_one(&0u8);
-    let parent = env::temp_dir(&rt)?;
-    let path = format!(in alloc; "{}/vtl_noted_{key:016x}", parent.as_str())?;
-    fs::write(&rt, path.as_str(), b"abcd")?;
-    of_the_system(&rt, &rt, path.as_str())?;
-    fs::remove_file(&rt, path.as_str())?;
+    let files = OpenFiles::new(alloc, true);
+    let number = files.enter(alloc, "a");
+    let mut disk = NotedDisk::new(opened(&rt)?, number, &files, None);
+    assert_equal!(rt; (disk.sync().is_ok(), disk.len()), (false, 0));
+    let wanted = "failed: sync, of the file a\nanswer: Invalid argument (os error 22)\n\
+        to do: look at the device, and at what the system has logged of it\n";
+    assert_equal!(rt; lines_of(alloc, &files)?.as_str(), wanted);
     Ok(())
 }
 
-// A call that failed, the byte that it was for, and the text of its line.
+const ENDED: FailedCall = FailedCall {
+    call: SystemCall::ReadAt,
+    kind: ErrorKind::UnexpectedEof,
+    number: None,
+};
+
+const HAS_ENDED: &str = "read at 0 (the file has ended before all bytes were read)";
+
+// A call that failed, the byte that it was for, and what its line says of it.
 static SAID: &'static [(FailedCall, Option<u64>, &'static str)] = &[
-    (
-        FULL,
-        Some(4096),
-        "failed: write at 4096 (the file system is full), of the file t1.tape",
-    ),
-    (
-        FailedCall {
-            call: SystemCall::ReadAt,
-            kind: ErrorKind::UnexpectedEof,
-            number: None,
-        },
-        Some(0),
-        "failed: read at 0 (the file has ended before all bytes were read), of the file t1.tape",
-    ),
-    (
-        SYNC,
-        None,
-        "failed: sync (Input/output error (os error 5)), of the file t1.tape",
-    ),
+    (FULL, Some(4096), "write at 4096 (the file system is full)"),
+    (ENDED, Some(0), HAS_ENDED),
+    (SYNC, None, "sync (Input/output error (os error 5))"),
     // A sync that writes bytes again knows no byte of the caller.
-    (
-        FULL,
-        None,
-        "failed: write at (the file system is full), of the file t1.tape",
-    ),
+    (FULL, None, "write at (the file system is full)"),
 ];
 
 #[test]
 fn a_call_that_failed_is_said(rt: HostRuntime) -> Result<(), Fail> {
     for &(failed, at, wanted) in SAID {
         let text = failed_text(rt.alloc(), "t1.tape", failed, at)?;
-        assert_equal!(rt; text.as_str(), wanted);
+        let line = format!(in rt.alloc(); "failed: {wanted}, of the file t1.tape")?;
+        assert_equal!(rt; text.as_str(), line.as_str());
     }
     Ok(())
 }

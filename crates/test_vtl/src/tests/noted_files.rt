@@ -1,4 +1,5 @@
 //! Files in memory, of a test's own, that note their calls.
+use super::streams::Errors;
 use bay_moves::Held;
 use check_lines::reading::ReportsRead;
 use file_disk::{FailedCall, FileError, FileLook, SystemCall};
@@ -13,7 +14,7 @@ use vtl_files::files::{
 use vtl_power_on::starting::NotStarted;
 
 /// An opening that failed.
-pub const DEVICE_ERROR: FileError = FileError::Device(FailedCall {
+pub const FAULT: FileError = FileError::Device(FailedCall {
     call: SystemCall::Open,
     kind: ErrorKind::Other,
     number: None,
@@ -47,9 +48,9 @@ const SPARE: &[u8] = b"\0VTLCART1\0";
 // The side of its first drive, new.
 const STORE: &[u8] = b"\xa5VTLRESV1\0\0DRIVE1          \0";
 
-/// What fails, if anything: the call for a file with this number, with its error; the memory for a text;
-/// the disk with this name after this many calls. Or the side with this name has these bytes, or the call
-/// of the writer with this number fails, or a look at this name finds this, or a name has a NUL. Numbers are from 1 on.
+/// What fails, if anything: the call for a file with this number, from 1 on, with its error; the memory for a text; the
+/// disk with this name after this many calls. Or the side with this name has these bytes, or the first calls of the
+/// writer return these errors, or a look at this name finds so many bytes or a link, or a name has a NUL.
 #[derive(Clone, Copy)]
 pub enum Failing {
     Nothing,
@@ -57,9 +58,15 @@ pub enum Failing {
     Memory,
     Disk(&'static str, u64),
     Side(&'static str, &'static [u8]),
-    Write(u32),
-    Seen(&'static str, FileLook),
+    Write(Errors<'static>),
+    Seen(&'static str, u64),
+    Link(&'static str),
     Nul,
+}
+
+// What a look finds.
+fn found(bytes: u64, is_link: bool) -> FileLook {
+    FileLook { bytes, is_link }
 }
 
 /// Files in memory. Each call notes its word and the name.
@@ -100,7 +107,7 @@ impl NotedFiles {
     fn call(&self, word: &str, name: &str) -> Result<(), FileError> {
         self.calls.set(self.calls.get().saturating_add(1));
         if self.noted(word, name).is_err() {
-            return Err(DEVICE_ERROR);
+            return Err(FAULT);
         }
         match self.failing {
             Failing::Call(number, error) if number == self.calls.get() => Err(error),
@@ -116,7 +123,7 @@ impl NotedFiles {
         };
         match MemDisk::from_bytes(self.alloc, bytes) {
             Ok(disk) => Ok(OnceDisk::new(disk, calls)),
-            Err(_) => Err(DEVICE_ERROR),
+            Err(_) => Err(FAULT),
         }
     }
 
@@ -166,8 +173,7 @@ impl ReadFiles<OnceDisk<MemDisk>> for NotedFiles {
     ghost closes = { λ name disk. Unit {0} };
 
     fn open_to_read(&self, name: &str) -> Result<OnceDisk<MemDisk>, FileError> {
-        self.call("look", name)?;
-        self.disk(name, self.side(name))
+        self.opened("look", name)
     }
 
     fn close(&self, name: &str, disk: OnceDisk<MemDisk>) {
@@ -194,7 +200,8 @@ impl LookFiles for NotedFiles {
     fn look(&self, name: &str) -> Result<FileLook, FileError> {
         self.call("see", name)?;
         match self.failing {
-            Failing::Seen(seen, found) if seen == name => Ok(found),
+            Failing::Seen(seen, bytes) if seen == name => Ok(found(bytes, false)),
+            Failing::Link(seen) if seen == name => Ok(found(0, true)),
             _ => Err(FileError::Missing),
         }
     }
@@ -216,7 +223,8 @@ impl SecondFiles<OnceDisk<MemDisk>> for NotedFiles {
         is_paired: bool,
     ) -> (UsedName, Result<OnceDisk<MemDisk>, FileError>) {
         let name = name.use_up();
-        let opened = self.second(name.as_str(), is_paired);
+        let word = if is_paired { "beside" } else { "second" };
+        let opened = self.opened(word, name.as_str());
         (name, opened)
     }
 
@@ -228,13 +236,8 @@ impl SecondFiles<OnceDisk<MemDisk>> for NotedFiles {
 }
 
 impl NotedFiles {
-    fn opened(&self, name: &str) -> Result<OnceDisk<MemDisk>, FileError> {
-        self.call("open", name)?;
-        self.disk(name, self.side(name))
-    }
-
-    fn second(&self, name: &str, is_paired: bool) -> Result<OnceDisk<MemDisk>, FileError> {
-        self.call(if is_paired { "beside" } else { "second" }, name)?;
+    fn opened(&self, word: &str, name: &str) -> Result<OnceDisk<MemDisk>, FileError> {
+        self.call(word, name)?;
         self.disk(name, self.side(name))
     }
 
@@ -251,7 +254,7 @@ impl ChangeFiles<OnceDisk<MemDisk>> for NotedFiles {
 
     fn open(&self, name: FileName) -> (UsedName, Result<OnceDisk<MemDisk>, FileError>) {
         let name = name.use_up();
-        let opened = self.opened(name.as_str());
+        let opened = self.opened("open", name.as_str());
         (name, opened)
     }
 

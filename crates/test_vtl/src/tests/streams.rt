@@ -1,100 +1,73 @@
-//! A reader and a writer that fail at a call, and those that give and take parts.
+//! A reader that gives parts and a writer that takes parts, whose first calls return what a test wants.
 use std::alloc::Global;
 use std::io;
 use std::io::{ErrorKind, Read, Write};
 
-/// The call that fails, if any; calls are counted from 1 on.
-pub type BadCall = Option<u32>;
+/// The errors of a stream's first calls, in their order; `None` for one that does not fail.
+pub type Errors<'a> = &'a [Option<ErrorKind>];
 
-// Counts a call, and fails if it is the one that is to fail.
-fn call(calls: &mut u32, bad: BadCall) -> io::Result<()> {
-    *calls = calls.saturating_add(1);
-    if bad == Some(*calls) {
-        Err(io::Error::from(ErrorKind::Other))
-    } else {
-        Ok(())
+/// A call that fails.
+pub const BAD: Option<ErrorKind> = Some(ErrorKind::Other);
+
+/// As many bytes as there are.
+pub const ALL: usize = usize::MAX;
+
+// Counts a call, and fails if it is one that is to fail.
+fn call(calls: &mut usize, errors: Errors) -> io::Result<()> {
+    let at = *calls;
+    *calls = at.saturating_add(1);
+    match errors.get(at) {
+        Some(Some(kind)) => Err(io::Error::from(*kind)),
+        _ => Ok(()),
     }
 }
 
+/// A reader that gives at most this many bytes of a read.
 #[derive(Drop)]
-pub struct BadReader<'a> {
+pub struct PartReader<'a> {
     rest: &'a [u8],
-    bad: BadCall,
-    calls: u32,
+    most: usize,
+    errors: Errors<'a>,
+    calls: usize,
 }
 
-impl<'a> BadReader<'a> {
-    pub fn new(rest: &'a [u8], bad: BadCall) -> Self {
-        BadReader {
+impl<'a> PartReader<'a> {
+    pub fn new(rest: &'a [u8], most: usize, errors: Errors<'a>) -> Self {
+        PartReader {
             rest,
-            bad,
+            most,
+            errors,
             calls: 0,
         }
     }
 }
 
-impl Read for BadReader<'_> {
+impl Read for PartReader<'_> {
     fn read(&mut self, buf: &mut [u8]) -> io::Result<usize> {
-        call(&mut self.calls, self.bad)?;
-        let count = buf.len().min(self.rest.len());
+        call(&mut self.calls, self.errors)?;
+        let count = buf.len().min(self.rest.len()).min(self.most);
         buf[..count].copy_from_slice(&self.rest[..count]);
         self.rest = &self.rest[count..];
         Ok(count)
     }
 }
 
-#[derive(Drop)]
-pub struct BadWriter {
-    text: Vec<u8>,
-    bad: BadCall,
-    calls: u32,
-}
-
-impl BadWriter {
-    pub fn new(alloc: Global, bad: BadCall) -> Self {
-        BadWriter {
-            text: Vec::new(alloc),
-            bad,
-            calls: 0,
-        }
-    }
-
-    pub fn text(&self) -> &[u8] {
-        self.text.as_slice()
-    }
-
-    pub fn into_text(self) -> Vec<u8> {
-        self.text
-    }
-}
-
-impl Write for BadWriter {
-    fn write(&mut self, buf: &[u8]) -> io::Result<usize> {
-        call(&mut self.calls, self.bad)?;
-        self.text.extend_from_slice(buf)?;
-        Ok(buf.len())
-    }
-
-    fn flush(&mut self) -> io::Result<()> {
-        call(&mut self.calls, self.bad)
-    }
-}
-
-/// A writer that takes at most this many bytes of a write, and whose first calls return these errors, if
-/// there are some.
+/// A writer that takes at most this many bytes of a write. A flush is a call too.
 #[derive(Drop)]
 pub struct PartWriter<'a> {
     text: Vec<u8>,
     most: usize,
-    errors: &'a [Option<ErrorKind>],
+    errors: Errors<'a>,
+    calls: usize,
 }
 
 impl<'a> PartWriter<'a> {
-    pub fn new(alloc: Global, most: usize, errors: &'a [Option<ErrorKind>]) -> Self {
+    pub fn new(alloc: Global, most: usize, errors: Errors<'a>) -> Self {
         PartWriter {
             text: Vec::new(alloc),
             most,
             errors,
+            calls: 0,
         }
     }
 
@@ -109,70 +82,13 @@ impl<'a> PartWriter<'a> {
 
 impl Write for PartWriter<'_> {
     fn write(&mut self, buf: &[u8]) -> io::Result<usize> {
-        if let Some((first, rest)) = self.errors.split_first() {
-            self.errors = rest;
-            if let Some(kind) = first {
-                return Err(io::Error::from(*kind));
-            }
-        }
+        call(&mut self.calls, self.errors)?;
         let count = buf.len().min(self.most);
         self.text.extend_from_slice(&buf[..count])?;
         Ok(count)
     }
 
     fn flush(&mut self) -> io::Result<()> {
-        Ok(())
-    }
-}
-
-/// A reader that gives at most this many bytes of a read, and whose first calls return these errors, if there are some.
-#[derive(Drop)]
-pub struct PartReader<'a> {
-    rest: &'a [u8],
-    most: usize,
-    errors: &'a [Option<ErrorKind>],
-}
-
-impl<'a> PartReader<'a> {
-    pub fn new(rest: &'a [u8], most: usize, errors: &'a [Option<ErrorKind>]) -> Self {
-        PartReader { rest, most, errors }
-    }
-}
-
-impl Read for PartReader<'_> {
-    fn read(&mut self, buf: &mut [u8]) -> io::Result<usize> {
-        if let Some((first, rest)) = self.errors.split_first() {
-            self.errors = rest;
-            if let Some(kind) = first {
-                return Err(io::Error::from(*kind));
-            }
-        }
-        let count = buf.len().min(self.rest.len()).min(self.most);
-        buf[..count].copy_from_slice(&self.rest[..count]);
-        self.rest = &self.rest[count..];
-        Ok(count)
-    }
-}
-
-/// A writer that hands on the first byte of each write.
-#[derive(Drop)]
-pub struct ByteWriter<'a> {
-    below: &'a mut BadWriter,
-}
-
-impl<'a> ByteWriter<'a> {
-    pub fn new(below: &'a mut BadWriter) -> Self {
-        ByteWriter { below }
-    }
-}
-
-impl Write for ByteWriter<'_> {
-    fn write(&mut self, buf: &[u8]) -> io::Result<usize> {
-        let count = buf.len().min(1);
-        self.below.write(&buf[..count])
-    }
-
-    fn flush(&mut self) -> io::Result<()> {
-        self.below.flush()
+        call(&mut self.calls, self.errors)
     }
 }

@@ -1,5 +1,5 @@
 //! Disks whose writes are reported, and which lines report how much was written.
-use super::calls::words_of;
+use super::runs::words_of;
 use std::cell::Cell;
 use std::test::Fail;
 use tape_disk::{Disk, MemDisk, OnceDisk};
@@ -10,23 +10,14 @@ use vtl_notes::watched::{Progress, Watched};
 // How many writes were reported, and of how many bytes.
 #[derive(Drop)]
 struct Reported {
-    writes: Cell<u64>,
-    bytes: Cell<u64>,
-}
-
-impl Reported {
-    fn nothing() -> Reported {
-        Reported {
-            writes: Cell::new(0),
-            bytes: Cell::new(0),
-        }
-    }
+    told: Cell<(u64, u64)>,
 }
 
 impl Progress for Reported {
     fn written(&self, bytes: u64) {
-        self.writes.set(self.writes.get().saturating_add(1));
-        self.bytes.set(self.bytes.get().saturating_add(bytes));
+        let (writes, before) = self.told.get();
+        let now = (writes.saturating_add(1), before.saturating_add(bytes));
+        self.told.set(now);
     }
 }
 
@@ -44,7 +35,9 @@ static CALLS: &'static [(u64, [bool; 5], (u64, u64), &'static [u8])] = &[
 #[test]
 fn each_call_is_passed_on_once(rt: HostRuntime) -> Result<(), Fail> {
     for (bad, done, reported, bytes) in CALLS {
-        let progress = Reported::nothing();
+        let progress = Reported {
+            told: Cell::new((0, 0)),
+        };
         let mut disk = Watched {
             disk: OnceDisk::new(MemDisk::new(rt.alloc()), *bad),
             progress: &progress,
@@ -57,23 +50,9 @@ fn each_call_is_passed_on_once(rt: HostRuntime) -> Result<(), Fail> {
             disk.write_at(0, b"xyz").is_ok(),
         ];
         assert_equal!(rt; found, *done; bad);
-        assert_equal!(rt; (progress.writes.get(), progress.bytes.get()), *reported; bad);
+        assert_equal!(rt; progress.told.get(), *reported; bad);
         assert_equal!(rt; disk.disk.inner().bytes(), *bytes; bad);
     }
-    Ok(())
-}
-
-#[test]
-fn a_read_gives_the_bytes_below(rt: HostRuntime) -> Result<(), Fail> {
-    let progress = Reported::nothing();
-    let mut disk = Watched {
-        disk: MemDisk::from_bytes(rt.alloc(), b"abcd")?,
-        progress: &progress,
-    };
-    let mut bytes = [0; 2];
-    assert_equal!(rt; disk.read_at(1, &mut bytes).is_ok(), true);
-    assert_equal!(rt; (disk.len(), bytes), (4, *b"bc"));
-    assert_equal!(rt; progress.writes.get(), 0);
     Ok(())
 }
 
@@ -97,37 +76,31 @@ fn a_line_comes_as_a_gib_is_full(rt: HostRuntime) -> Result<(), Fail> {
     Ok(())
 }
 
-static LINES: &'static [(u64, &'static str)] = &[
+const LAST: u64 = 18_446_744_073_709_551_615;
+
+// How many GiB were written, and how many were read, of how many.
+static WRITTEN: &'static [(u64, &'static str)] = &[
     (1, "1 GiB written\n"),
     (1024, "1024 GiB written\n"),
-    (
-        18_446_744_073_709_551_615,
-        "18446744073709551615 GiB written\n",
-    ),
+    (LAST, "18446744073709551615 GiB written\n"),
 ];
 
-#[test]
-fn a_line_says_how_many_gib_were_written(rt: HostRuntime) -> Result<(), Fail> {
-    for (full, line) in LINES {
-        assert_equal!(rt; gib_line(*full)?.as_str(), *line);
-    }
-    Ok(())
-}
-
-// How many GiB were read, of how many.
-static READ_LINES: &'static [(u64, u64, &'static str)] = &[
+static READ: &'static [(u64, u64, &'static str)] = &[
     (1, 1, "1 of 1 GiB read\n"),
     (17, 1024, "17 of 1024 GiB read\n"),
     (
-        18_446_744_073_709_551_615,
-        18_446_744_073_709_551_615,
+        LAST,
+        LAST,
         "18446744073709551615 of 18446744073709551615 GiB read\n",
     ),
 ];
 
 #[test]
-fn a_line_says_how_many_gib_were_read(rt: HostRuntime) -> Result<(), Fail> {
-    for (full, all, line) in READ_LINES {
+fn a_line_says_how_many_gib_there_were(rt: HostRuntime) -> Result<(), Fail> {
+    for (full, line) in WRITTEN {
+        assert_equal!(rt; gib_line(*full)?.as_str(), *line);
+    }
+    for (full, all, line) in READ {
         assert_equal!(rt; gib_read_line(*full, *all)?.as_str(), *line);
     }
     Ok(())

@@ -1,7 +1,7 @@
 use Rattle.std.specs.Prelude.{Some}
 use Rattle.std.proofs.lemmas.Result.{IfErr-weaker, IfOk-weaker}
 use Rattle.tape_disk.specs.TwoDisks.{TwoDisks}
-use Rattle.cartridge.proofs.ChoosingLemmas.{gives_then, honest_on, looked, looked_then, none_failed, refused_then, seen_found, stays_then}
+use Rattle.cartridge.proofs.ChoosingLemmas.{gives_then, honest_on, looked, looked_then, none_failed, opens_on, refused_then, seen_found, stays_then}
 use Rattle.cartridge.proofs.opening.open_disks.Goals as goal
 
 pub returns-in-Ok-Some-clause-gives : goal.returns-in-Ok-Some-clause-gives
@@ -61,3 +61,9 @@ returns-in-Ok-Some-clause-each g c =
     let mid : TwoDisks g.row.D.Denot = record { first = c.choose.new.first; second = c.choose.new.second } in
     stays_then state g.met.D.Disk.is_disk old mid _ c.choose.ensures.disks
     (record { first = c.choose.ensures.first; second = c.choose.ensures.second }) c.open_side.ensures.each
+
+pub returns-in-Ok-Some-clause-reads : goal.returns-in-Ok-Some-clause-reads
+returns-in-Ok-Some-clause-reads g c =
+    opens_on g.D.Disk.effect (record { first = c.args.first; second = c.args.second })
+    (record { first = c.choose.new.first; second = c.choose.new.second }) _
+    (record { first = c.choose.ensures.reads.0; second = c.choose.ensures.reads.1 }) c.open_side.ensures.reads

@@ -2,12 +2,12 @@ use Rattle.std.proofs.Common.{sym, subst}
 use Rattle.tape_disk.specs.TwoDisks.{AreHonest, MayLeave, TwoDisks, TwoLeave, seen_of_two}
 use Rattle.cartridge.specs.Answers.{IsNotOpened}
 use Rattle.cartridge.specs.Contents.{GivesContents}
-use Rattle.cartridge.specs.Disks.{EachStays, OnlyOfTwo, disks_by}
+use Rattle.cartridge.specs.Disks.{EachStays, OnlyOfTwo, OpensEach, disks_by}
 use Rattle.cartridge.specs.Inner.Causes.{cartridge_error}
 use Rattle.cartridge.specs.Inner.Opening.{HasSide}
 use Rattle.cartridge.specs.Notes.{noted_as}
 use Rattle.cartridge.specs.declared.recovering.Recovered.{Recovered}
-use Rattle.cartridge.proofs.DisksLemmas.{by_honest, honest_by, quiet_by, stays_by}
+use Rattle.cartridge.proofs.DisksLemmas.{by_honest, honest_by, opens_by, quiet_by, stays_by}
 use Rattle.cartridge.proofs.OpenedLemmas.{not_opened, opened_gives, opened_open, opened_own, opened_stores}
 use Rattle.cartridge.proofs.opening.open_side.Goals as goal
 
@@ -111,3 +111,20 @@ returns-in-Err-clause-each g c =
     (λ i. (c.apart-counts.ensures i, sym c.in_order-first.ensures i))
     (stays_by state g.met.D.Disk.is_disk c.args.which c.apart-counts.result.0 c.apart-counts.result.1
     c.in-Err.refused.disk c.in-Err.ensures.any_moment)
+
+pub returns-in-Ok-clause-reads : goal.returns-in-Ok-clause-reads
+returns-in-Ok-clause-reads g c =
+    let effect = g.D.Disk.effect in
+    let which = c.args.which in
+    let journal = c.in-Ok.journal in
+    subst (λ (d : TwoDisks g.row.D.Denot). OpensEach effect d (disks_by which journal.disk c.apart-counts.result.1))
+    c.apart-counts.ensures
+    (opens_by effect which c.apart-counts.result.0 c.apart-counts.result.1 journal.disk c.in-Ok.ensures.reads)
+
+pub returns-in-Err-clause-reads : goal.returns-in-Err-clause-reads
+returns-in-Err-clause-reads g c =
+    let effect = g.D.Disk.effect in
+    subst (λ (x : TwoDisks g.row.D.Denot × TwoDisks g.row.D.Denot). OpensEach effect x.0 x.1)
+    (λ i. (c.apart-counts.ensures i, sym c.in_order-first.ensures i))
+    (opens_by effect c.args.which c.apart-counts.result.0 c.apart-counts.result.1 c.in-Err.refused.disk
+    c.in-Err.ensures.reads)

@@ -1,3 +1,4 @@
+use Rattle.gate_journal.specs.Reads.{opens_none, opens_reads, opens_then}
 use Rattle.cartridge_sides.proofs.RunLemmas.{counted_since, moments_then, still}
 use Rattle.cartridge_sides.proofs.choosing.choose.Goals as goal
 
@@ -30,3 +31,14 @@ returns-clause-second g c = λ h.
     moments_then (g.D.Disk.state c.args.second.now) (g.D.Disk.state c.make_sure-2.new.disk)
     (g.D.Disk.state c.choose_read.new.second) (g.met.D.Disk.is_disk c.make_sure-2.new.disk later)
     (c.make_sure-2.ensures.any_moment h) (c.choose_read.ensures.unwritten.1 later)
+
+pub returns-in_err-make_sure-clause-reads : goal.returns-in_err-make_sure-clause-reads
+returns-in_err-make_sure-clause-reads g c = (c.make_sure.ensures.reads, opens_none g.D.Disk.effect _)
+
+pub returns-clause-reads : goal.returns-clause-reads
+returns-clause-reads g c = (
+  opens_then g.D.Disk.effect _ _ _ c.make_sure.ensures.reads
+      (opens_reads g.D.Disk.effect _ _ c.choose_read.ensures.reads.0),
+  opens_then g.D.Disk.effect _ _ _ c.make_sure-2.ensures.reads
+      (opens_reads g.D.Disk.effect _ _ c.choose_read.ensures.reads.1),
+)

@@ -1,5 +1,6 @@
 use Rattle.std.proofs.Common.{List, ℕ, refl, sym, ◌∙◌, subst}
 use Rattle.std.proofs.lemmas.Bool.{false≢true}
+use Rattle.gate_journal.specs.Reads.{reads_none}
 use Rattle.cartridge_sides.specs.Choosing.{Chooses}
 use Rattle.cartridge_sides.proofs.ChooseLemmas.{chooses_whole}
 use Rattle.cartridge_sides.proofs.CutLemmas.{front}
@@ -36,3 +37,9 @@ returns-clause-answer g c = (
       (subst (λ (l : List ℕ × List ℕ). Chooses l.0 l.1 c.choose_of_two.result) (λ i. (one i, two i))
       c.choose_of_two.ensures),
 )
+
+pub returns-in_err-len-clause-reads : goal.returns-in_err-len-clause-reads
+returns-in_err-len-clause-reads g c = (c.read_front.ensures.reads, reads_none g.D.Disk.effect _)
+
+pub returns-then-not-has_open_pair-clause-reads : goal.returns-then-not-has_open_pair-clause-reads
+returns-then-not-has_open_pair-clause-reads g c = (c.read_front.ensures.reads, reads_none g.D.Disk.effect _)

@@ -1,8 +1,9 @@
 use Rattle.std.proofs.Common.{◌≡◌, ◌+◌, ◌-◌, ◌≤◌, inl, inr, ℕ, length, take, sym, ◌∙◌, ap, arith}
 use Rattle.std.specs.Prelude.{slice_range}
 use Rattle.std.proofs.lemmas.Bool.{cases_lt}
-use Rattle.std.proofs.lemmas.List.{length-take-le, take_all, take_at}
+use Rattle.std.proofs.lemmas.List.{length-take, length-take-le, take_all, take_at}
 use borrow.Rule.Slice.PartMut.{post_of}
+use Rattle.gate_journal.specs.Reads.{reads_one}
 use Rattle.cartridge_sides.proofs.fronts.read_front.Goals as goal
 
 pub returns-clause-front : goal.returns-clause-front
@@ -28,3 +29,13 @@ returns-clause-front g c = λ h.
           take_all n seen (omega (arith, all, size)) ∙ sym (take_all 71 seen (omega (arith, less, size)))
       | inr more ↦ let e = c.front_len-len.ensures.front more in ap (λ (k : ℕ). take k seen) e
     ]
+
+pub returns-in_err-read_at-clause-reads : goal.returns-in_err-read_at-clause-reads
+returns-in_err-read_at-clause-reads g c =
+    let part = length-take c.front_len-len.result c.args.bytes.now in
+    reads_one g.D.Disk.effect _ _ _ _ (omega (arith, part, c.requires)) (_, c.read_at.ensures.effect)
+
+pub returns-clause-reads : goal.returns-clause-reads
+returns-clause-reads g c =
+    let part = length-take c.front_len-len.result c.args.bytes.now in
+    reads_one g.D.Disk.effect _ _ _ _ (omega (arith, part, c.requires)) (_, c.read_at.ensures.effect)

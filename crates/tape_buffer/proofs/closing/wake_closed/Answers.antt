@@ -44,7 +44,7 @@ returns-in-Ok-catalog_for-clause-ok g c =
       advances_opened disk g.met.D.Disk.is_disk one old new told.disks told.ok.0 told.ok.1 told.gives told.any_moment
           told.ok.2,
       told.any_moment,
-      told.each,
+      told.each.stays,
     )
 
 pub returns-in-Err-catalog_for-clause-err : goal.returns-in-Err-catalog_for-clause-err
@@ -67,7 +67,7 @@ returns-in-Err-catalog_for-clause-err g c =
     × Advances (buffer_below disk) (closed_buffer old) [] (met_fault (Err Media.NoMemory)) (closed_buffer s)
     × LeavesAlone disk (closed_buffer old) (closed_buffer s)
     × LeavesEachAlone disk (closed_buffer old) (closed_buffer s)) (sym (c.into_shelved-shelved.ensures ∙ told.ok.3))
-    (stays.0, stays.1, stays.2, told.any_moment, told.each)
+    (stays.0, stays.1, stays.2, told.any_moment, told.each.stays)
 
 pub returns-in-Err-clause-err : goal.returns-in-Err-clause-err
 returns-in-Err-clause-err g c =
@@ -92,4 +92,4 @@ returns-in-Err-clause-err g c =
     (closed_buffer s)
     × LeavesAlone disk (closed_buffer old) (closed_buffer s)
     × LeavesEachAlone disk (closed_buffer old) (closed_buffer s)) (sym told.same)
-    (stays.0, stays.1, stays.2, told.any_moment, told.each))
+    (stays.0, stays.1, stays.2, told.any_moment, told.each.stays))

@@ -24,7 +24,7 @@ pub serve_over-requires-clause-hosts : goal.serve_over-requires-clause-hosts
 serve_over-requires-clause-hosts g c =
     subst (λ (hosts : List ℕ). IsDistinct nat_eq hosts)
     (sym (c.as_slice-3.ensures.value ∙ c.in_ok-hosts.ensures.0))
-    (numbers_differ 1 3)
+    (numbers_differ 1 1)
 
 pub serve_over-requires-clause-bay_ledger : goal.serve_over-requires-clause-bay_ledger
 serve_over-requires-clause-bay_ledger g c = (

@@ -3,9 +3,10 @@ use Rattle.std.specs.Prelude.{IfSome, vec_capacity}
 use Rattle.std.proofs.lemmas.Result.{err_from_is_err_and}
 use Rattle.object_index.specs.Indexes.{indexes_block}
 use Rattle.cartridge.specs.Contents.{bodies_of, volume_made}
+use Rattle.cartridge.specs.Disks.{ReadsSide, disks_by}
 use Rattle.cartridge.specs.Lying.{LiesOnSide}
 use Rattle.cartridge.specs.Notes.{noted_contents}
-use Rattle.cartridge.proofs.DisksLemmas.{honest_by, unwritten_by}
+use Rattle.cartridge.proofs.DisksLemmas.{honest_by, reads_by, unwritten_by}
 use Rattle.cartridge.proofs.FetchLemmas.{block_short, can_be_read, filled_whole, length-take-le-whole, not_a_mark, not_none, read_is}
 use Rattle.cartridge.proofs.OpenLemmas.{open_shape}
 use Rattle.cartridge.proofs.StoringLemmas.{on_ok_any}
@@ -152,6 +153,37 @@ returns-clause-bound g c = on_ok_any c.match-read.result (
       length-take-le-whole c.resize.new.self.len (c.read_body-read.new.buffer ++ drop (length
           c.read_body-read.new.buffer) c.resize.new.self.items),
     ))
+
+pub returns-clause-reads : goal.returns-clause-reads
+returns-clause-reads g c = rw (← c.self.view_is) (elim c.match-read.branch [
+  | in-Ok w ↦ rw w.result-is (
+      let i = c.self.inside in
+      let found = indexes_block (LiesOnSide i.noted.notes i.journal.extents) (volume_made (noted_contents
+      i.noted.notes))
+      i.index c.args.part c.args.at c.in-Some-Block.place c.in-Some-Block.length c.self.invariant.0.lies
+      (sym c.place.ensures ∙ c.in-Some-Block.is ∙ ap Some c.in-Some-Block.field-0-is) in
+      let count : length c.deref_mut.result.now ≡ c.in-Some-Block.length =
+      omega (
+        arith,
+        c.deref_mut.ensures.len,
+        ap (λ (l : List ℕ). length l) c.deref_mut.ensures.value,
+        c.in_ok-resize.ensures.len,
+      ) in
+      let fine : i.journal.failed ≡ false = search rules in
+      let now = c.read_body-read.new.self.disk in
+      let read = reads_by g.D.Disk.effect i.which i.journal.disk i.spare now c.in-Some-Block.place
+      (length c.deref_mut.result.now) (c.read_body-read.ensures.reads fine) in
+      subst
+      (λ (o : Option (List ℕ)).
+      IfSome o (λ block.
+      ReadsSide g.D.Disk.effect i.which (length block) (disks_by i.which i.journal.disk i.spare)
+      (disks_by i.which now i.spare))) (sym found.1)
+      (subst
+      (λ (n : ℕ).
+      ReadsSide g.D.Disk.effect i.which n (disks_by i.which i.journal.disk i.spare)
+      (disks_by i.which now i.spare)) (count ∙ found.2) read))
+  | in-Err-Device w ↦ rw w.result-is tt
+])
 
 pub returns-clause-unwritten : goal.returns-clause-unwritten
 returns-clause-unwritten g c = rw (← c.self.view_is) (λ h.

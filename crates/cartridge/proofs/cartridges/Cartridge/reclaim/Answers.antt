@@ -97,3 +97,10 @@ pub returns-in-Err-clause-untouched : goal.returns-in-Err-clause-untouched
 returns-in-Err-clause-untouched g c = λ honest.
     not_opened g.D.Disk.state g.met.D.Disk.is_disk c.args.shelved.disks c.in-Err.refused.shelved.disks honest
     c.in-Err.ensures.disks (c.in-Err.ensures.any_moment honest) c.in-Err.refused.error c.in-Err.ensures.refused
+
+pub returns-in-Err-plan_copy-clause-unwritten : goal.returns-in-Err-plan_copy-clause-unwritten
+returns-in-Err-plan_copy-clause-unwritten g c =
+    let state = g.D.Disk.state in
+    let old = c.args.shelved.disks in
+    inr (subst (λ (s : ClosedCartridge g.row.D.Denot). AreHonest state old
+    → TwoLeave state old s.disks (MayLeave state old)) (sym c.shelve.ensures) c.in-Ok.ensures.any_moment)

@@ -1,0 +1,2 @@
+mod FreshLemmas
+mod HostLemmas
