@@ -9,7 +9,7 @@ wrong.py --selftest         tries none, and looks at how edits are put together 
 
 Edits of different functions are tried in one check, as wrong_batches.py says; what isn't clearly refused so is tried by
 the gate's tool, `rt must-fail`, which has the last word. With --alone that tool tries each. With --into each result is
-added to the file as a line, and an edit that has a line there is not tried again over the same text: so a run that
+added to the file as a line, and an edit that was tried there is not tried again over the same text: so a run that
 broke off goes on. Once all edits of a crate were refused, its wrong.edits begins with a sum of them and of the text.
 """
 import os

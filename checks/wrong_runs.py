@@ -65,7 +65,8 @@ class Results:
         # the first line of each file and its edits, as they are before any is tried
         self.files = {crate: (parted(read(file_of(crate)))[0], edits_in(crate, "wrong.edits")) for crate in chosen}
         found = re.findall(r"(?m)^(\w+) (\w+/\w+): ([^:\n]*): ", read(path)) if path and os.path.isfile(path) else []
-        self.had = {name: kind for sum_then, name, kind in found if sum_then == self.sums.get(name)}
+        self.had = {name: kind for sum_then, name, kind in found
+                    if sum_then == self.sums.get(name) and not kind.startswith("NOT TRIED")}
 
     def left(self, chosen):
         """The edits that have no result yet."""

@@ -143,7 +143,8 @@ def cases_of_results():
     yield "none was, this time", line(tried(edits), set()), tried(edits)
     with tempfile.TemporaryDirectory(prefix="wrong_") as room, contextlib.redirect_stdout(io.StringIO()):
         path = os.path.join(room, "results")
-        wrong_runs.Results(path, {"vtl_base": edits}).note("vtl_base", "a", "refused alone", "a: word\nand more")
+        for name, kind in (("a", "refused alone"), ("b", "NOT TRIED")):
+            wrong_runs.Results(path, {"vtl_base": edits}).note("vtl_base", name, kind, "a: word\nand more")
         yield "what is left", wrong_runs.Results(path, {"vtl_base": edits}).left({"vtl_base": edits}), {
             "vtl_base": {"b": "2"}}
         other = {"a": "3"}
