@@ -88,6 +88,12 @@ EDITS = [
     ("the blocks of the first partition alone are read", "check_lines", "src/reading.rt",
      "    for part in 0..cartridge.parts() {\n        if let Err(fault) = read_partition(",
      "    for part in 0..1 {\n        if let Err(fault) = read_partition(", ["a_check_opens_both_files_to_read"]),
+    ("what was read and all are reported the other way round", "check_lines", "src/reading.rt",
+     "        reports.read(before.saturating_add(used), all);\n",
+     "        reports.read(all, before.saturating_add(used));\n", ["a_check_opens_both_files_to_read"]),
+    ("what was read of the partitions before is not reported", "check_lines", "src/reading.rt",
+     "        reports.read(before.saturating_add(used), all);\n",
+     "        let _ = before;\n        reports.read(used, all);\n", ["a_check_opens_both_files_to_read"]),
     ("a check of a configuration ends at a file that is not read", "vtl_files", "src/config_checks.rt",
      "    let Ok(report) = check_report(alloc, word, label, &lines) else {\n",
      "    if let Err(fault) = &lines {\n        return Err(*fault);\n    }\n"
