@@ -117,7 +117,7 @@ pub fn read_wanted<D: Disk, P: ReportsRead>(
     reports: Option<&P>,
 ) -> Result<(), VtlFault>
     requires { cartridge.old.failed ≡ false }
-    ensures { IsRead D.state D.effect
+    ensures read { IsRead D.state D.effect
         (wanted_lengths (is_some reports.entry) cartridge.old.contents) cartridge.old cartridge.new result }
     ensures wanted { IfErr result (λ fault. is_some reports.entry ≡ true) }
 {
