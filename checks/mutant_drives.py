@@ -65,6 +65,8 @@ EDITS = [
      "        let mut said = read_all(&mut self.looked.file, at, buffer);\n        if said.is_err() {\n"
      "            said = read_all(&mut self.looked.file, at, buffer);\n        }\n        match said {",
      ["each_error_is_counted"]),
+    ("a file is made for others to read", "file_disk", "src/opening.rt", "    options.mode(OWNER_ALONE);\n",
+     "    options.mode(OWNER_ALONE | 0o044);\n", ["a_file_is_read_back"]),
     ("create opens a file that is there, and empties it", "file_disk", "src/opening.rt",
      "    options.read(true).write(true).create_new(true);",
      "    options.read(true).write(true).create(true).truncate(true);",
