@@ -73,8 +73,8 @@ module _ {D : Type 0} (state : D → DiskState) (opens_to_read : List ℕ → Re
       (lines : Result (List ℕ) VtlFault) × GivesLines state opens_to_read closes path lines
       × (text ≡ name_line label path ++ check_report word label lines) × (end ≡ end_for word lines)
 
-  -- Of a file no more is written. Memory ran out for its name, so nothing is, or for what is written behind that. Or the
-  -- writer failed, and a beginning of what was to be written of it is (own).
+  -- Of a file no more is written. Memory ran out for its name, so nothing is, or for what is written behind that. Or
+  -- the writer failed, and a beginning of what was to be written of it is (own).
   abbrev pub IsCutShort : (word label path : List ℕ) → VtlFault → List ℕ → Type 0
   IsCutShort word label path fault part =
       ((fault ≡ NoMemory) × ((part ≡ []) ⊎ (part ≡ name_line label path)))
