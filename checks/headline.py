@@ -13,7 +13,7 @@ import textwrap
 
 import headline_words as words
 from definitions import TOP, crates, parted, read
-from headline_names import call, closure, meant, needs, path_of, shown
+from headline_names import WORD, call, closure, here, meant, needs, path_of, scope_of, shown
 
 PAGE = os.path.join(TOP, "docs", "HEADLINE.md")
 WIDTH = 120
@@ -44,6 +44,12 @@ def firsts():
                                                                                clauses(seed))[0]]
 
 
+def before(item):
+    """The definition over one in its file, of which its comment says that it is the same of something else."""
+    names = list(scope_of(item.file).items) if re.match(r"the same (for|of|from) ", item.comment.lower()) else []
+    return scope_of(item.file).items[names[names.index(item.name) - 1]] if names else None
+
+
 def in_order(reached, cuts):
     """The definitions as they stand in their files, but each behind those that it needs."""
     order, met, names = [], set(), crates()
@@ -55,6 +61,8 @@ def in_order(reached, cuts):
         key = item.file, item.name
         if key not in met and key in reached:
             met.add(key)
+            if before(item):
+                visit(before(item))
             for other in needs(item, cuts)[0]:
                 visit(other)
             order.append(item)
@@ -85,15 +93,17 @@ def left_out(item):
     return f" *Left out ({why})" + (": " + ", ".join(parts) if parts else "") + ".*"
 
 
-def entry(item):
+def entry(item, order):
     """A definition on the page: its name and file, its comment, and its text."""
+    same = before(item) if before(item) not in order else None
+    over = f" *Over it stands `{same.name}`, which is not needed:* {parted(same.comment)[0]}" if same else ""
     comment, source = parted(item.comment)
     file = os.path.relpath(item.file, TOP)
     said = comment[:1].upper() + comment[1:] + ("" if comment.endswith((".", ")")) or not comment else ".")
     source = f" ({source})" if source and source != "own" else ""
     where = f"[{os.path.basename(file)}](../{file}){given(item)}"
     text = shown(item, CUTS)
-    head = wrapped(f"**`{item.name}`** ({where}). {said}{source}{left_out(item)}")
+    head = wrapped(f"**`{item.name}`** ({where}). {said}{source}{over}{left_out(item)}")
     return f"{head}\n" + (f"\n```text\n{text}\n```\n" if text else "") + "\n"
 
 
@@ -138,6 +148,8 @@ def made():
     order = in_order(reached, CUTS)
     names = {item.name for item in order}
     faults += [f"headline_words.py leaves out {name}, which nothing leads to" for name in CUTS if name not in names]
+    faults += [f"{item.name} names {other}, which is not on the page" for item in order
+               for other in overlooked(item, names)]
     page = {title: [] for title in words.SECTIONS}
     last = []
     for item in order:
@@ -161,19 +173,28 @@ def made():
             "## The calls\n\nThe text of these clauses stands [below](#the-clauses).\n\n", table_of_calls(), "\n",
             words.NOTATION]
     for title, items in page.items():
-        text += [f"## {title}\n\n", *map(entry, items)] if items else []
+        text += [f"## {title}\n\n", *(entry(item, placed) for item in items)] if items else []
     text.append("## The clauses\n\nWhat is left out of a call are clauses that the promises do not need.\n\n")
     for seed in words.SEEDS:
         file = os.path.join("crates", seed[0], "src", seed[1])
         said = call(os.path.join(TOP, file), seed[2])[0]
         head = wrapped(f"**`{seed[2]}`** ([{seed[0]}/src/{seed[1]}](../{file})): {seed[4]}. {said}")
         text.append(f"{head}\n\n```text\n{clauses(seed)}\n```\n\n")
-    text += [words.TRUSTED, f"```text\n{clauses((*LAWS, None))}\n```\n\n", *map(entry, last)]
+    text += [words.TRUSTED, f"```text\n{clauses((*LAWS, None))}\n```\n\n", *(entry(item, placed) for item in last)]
     text.append("### Words of the library\n\n| Word | Meaning |\n|---|---|\n")
     for name in met:
         sign = re.sub(" +", " ", name.replace("◌", " ")).strip().replace("|", "\\|")
         text.append(f"| `{sign}` | {words.LIBRARY[name]} |\n")
     return "".join(text), faults
+
+
+def overlooked(item, names):
+    """Words of a definition's text that stand for definitions and are not on the page; one that is bound may be one."""
+    scope = scope_of(item.file)
+    text = re.sub(r"--.*", "", shown(item, CUTS)) if item.file.endswith(".antt") else ""
+    firsts_of = {word.partition(".")[0] for word in WORD.findall(re.sub(r"\bpub \w+ :|\w+ =(?!=)", " ", text))}
+    known = {first: here(item.file, first) for first in firsts_of if first in {*scope.items, *scope.cases, *scope.used}}
+    return [other.name for other in known.values() if other and other.name not in names]
 
 
 def heavy():

@@ -72,11 +72,12 @@ SEEDS = [
      "what any events and a stop leave of reservations", "joins the calls above to the second promise"),
 ]
 # Reasons for which text is left out.
-OTHERS = ("cases of commands and events that accept no change (`SeatGrows`, `StoresFound`, `KeepsCartridges`) and change"
-          " no reservation (`OrdersStand`)")
+OTHERS = ("cases of commands and events that accept no change (`SeatGrows`, `StoresFound`, `KeepsCartridges`) and"
+          " change no reservation (`OrdersStand`)")
 TABLE = "tables of the SCSI standards. Believe them as the standards have them, or compare the files with those"
 LAYOUT = "the bytes of layouts, which [FORMATS](FORMATS.md) has in words"
-UPKEEP = "room, rings, counts and positions, or what proofs carry from one call to the next"
+UPKEEP = ("room, rings, counts and positions, or what proofs carry from one call to the next. A record without some"
+          " fields says less than what is proved")
 NOT_NEEDED = ("TestUnitReady", "Rewind", "RequestSense", "ReadBlockLimits", "Read", "Space", "Inquiry", "ModeSelect",
               "ModeSense", "LoadUnload", "Locate", "ReadPosition", "PersistentReserveIn")
 EVENTS = ("FlushTurn", "Load", "Insert", "Unload", "PowerOn")
@@ -92,10 +93,10 @@ LEFT_OUT = {
     LAYOUT: dict.fromkeys(("spell_side_head", "spell_front", "IsHead", "spell_state", "spell_change"), ()),
     UPKEEP: dict.fromkeys(("contents_on", "room_found", "IsStoreFull", "LeavesStoreRoom", "request_needs_disk",
                            "NotedBeginning", "alone_near"), ()) | {
-        "StoresFound": ("answer", "frame", "stores"), "ExecutesBoth": ("stood", "positioned", "settled", "parts"),
+        "StoresFound": ("answer", "frame", "stores"), "ExecutesBoth": ("stood", "positioned", "settled"),
         "Takes": ("stores", "counted"), "TakesTurn": ("step", "turns", "stores", "accepted"),
         "KeepsDiskHalf": ("follows", "within"), "KeepsHostsHalf": ("end", "within", "positioned"),
-        "Joins": ("looks", "ends_are"), "SeatGrows": ("host", "nexus", "answered", "moved"),
+        "Joins": ("ends_are",), "Parts": (), "Looks": (), "SeatGrows": ("host", "nexus", "answered", "moved"),
         "MovesEach": ("answer",), "KeepsDrive": ("positioned",), "copy_frames": (),
         "ReclaimsShelved": ("ok", "copy", "refused", "unwritten", "untouched")},
 }
@@ -164,5 +165,6 @@ LIBRARY = {
     "w32": "of 32 bits", "w64": "of 64 bits", "bit_at": "a bit of a number", "unwrap_or": "the value, or else this one",
     "big_number": "the number of these bytes, the highest first", "big_bytes": "these bytes, the highest first",
     "Bytes": "seen as a list of bytes", "Nexus": "a host: seen as its number, 1 to 64",
-    "Shelved": "a closed cartridge: seen as a `ClosedCartridge`", "BeginningNote": "a note of proofs", "NotedValue": "a value that proofs alone see",
+    "Shelved": "a closed cartridge: seen as a `ClosedCartridge`", "BeginningNote": "a note of proofs",
+    "NotedValue": "a value that proofs alone see",
 }
