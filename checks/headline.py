@@ -4,7 +4,8 @@ reading, and what is trusted. headline_words.py has what is written by hand, hea
 
 headline.py           writes the page
 headline.py --check   says where the page differs, and what is wrong; ends with 1 where there is anything
-headline.py --heavy   lists the definitions by how many lines would go with each of them; this takes minutes
+headline.py --heavy   lists the definitions by how many lines would go if the text of each were left out
+headline.py --heavy --whole   does so where no text is left out
 """
 import os
 import re
@@ -19,8 +20,6 @@ PAGE = os.path.join(TOP, "docs", "HEADLINE.md")
 WIDTH = 120
 CUTS = {name: parts for left_out in words.LEFT_OUT.values() for name, parts in left_out.items()}
 REASONS = {name: why for why, left_out in words.LEFT_OUT.items() for name in left_out}
-MARKS = {words.OTHERS: "other cases", words.TABLE: "a standard's table", words.LAYOUT: "a layout",
-         words.UPKEEP: "upkeep"}
 LAWS = ("file_disk", "raw.rt", "RawFile")
 
 
@@ -89,7 +88,7 @@ def wrapped(text):
 def left_out(item):
     if item.name not in CUTS:
         return ""
-    parts, why = CUTS[item.name], MARKS[REASONS[item.name]]
+    parts, why = CUTS[item.name], words.MARKS[REASONS[item.name]]
     return f" *Left out ({why})" + (": " + ", ".join(parts) if parts else "") + ".*"
 
 
@@ -115,6 +114,12 @@ def table_of_calls():
     return "| Call and clauses | What they say | Why it is here |\n|---|---|---|\n" + "".join(rows)
 
 
+def table_of_sections(page):
+    rows = (f"| [{title}](#{title.lower().replace(',', '').replace(' ', '-')}) | {len(items)}"
+            f" | {lines_of(items, CUTS)} |\n" for title, items in page.items() if items)
+    return "| Section | Definitions | Lines |\n|---|---|---|\n" + "".join(rows)
+
+
 def section_of(item):
     return next((title for title, names in words.SECTIONS.items() if crate_of(item) in names), None)
 
@@ -134,7 +139,7 @@ def reasons(items):
     for why, names in words.LEFT_OUT.items():
         some = [item for item in items if item.name in names]
         gone = sum(len(item.text.splitlines()) for item in some) - lines_of(some, CUTS)
-        line = f"- *{MARKS[why]}*: {why}. {len(some)} definitions, {gone} lines of their own."
+        line = f"- *{words.MARKS[why]}*: {why}. {len(some)} definitions, {gone} lines of their own."
         said.append(textwrap.fill(line, WIDTH, subsequent_indent="  ") + "\n")
     return "".join(said)
 
@@ -148,6 +153,9 @@ def made():
     order = in_order(reached, CUTS)
     names = {item.name for item in order}
     faults += [f"headline_words.py leaves out {name}, which nothing leads to" for name in CUTS if name not in names]
+    said = words.PROMISES + "".join(words.LEFT_OUT)
+    faults += [f"headline_words.py speaks of {name}, which is not on the page" for name in re.findall(r"`(\w+)`", said)
+               if name not in names]
     faults += [f"{item.name} names {other}, which is not on the page" for item in order
                for other in overlooked(item, names)]
     page = {title: [] for title in words.SECTIONS}
@@ -171,7 +179,7 @@ def made():
                if name not in words.LIBRARY]
     text = [words.HEAD, counts(placed, whole), "\n\n", reasons(placed), "\n", words.PROMISES,
             "## The calls\n\nThe text of these clauses stands [below](#the-clauses).\n\n", table_of_calls(), "\n",
-            words.NOTATION]
+            table_of_sections(page), "\n", words.NOTATION]
     for title, items in page.items():
         text += [f"## {title}\n\n", *(entry(item, placed) for item in items)] if items else []
     text.append("## The clauses\n\nWhat is left out of a call are clauses that the promises do not need.\n\n")
@@ -197,20 +205,30 @@ def overlooked(item, names):
     return [other.name for other in known.values() if other and other.name not in names]
 
 
-def heavy():
-    first = firsts()
-    reached, _ = closure(first, CUTS)
-    total = lines_of(reached.values(), CUTS)
-    rows = []
-    for item in reached.values():
-        cuts = CUTS | {item.name: ()}
-        rows.append((total - lines_of(closure(first, cuts)[0].values(), cuts), item.name, crate_of(item)))
-    print("\n".join(f"{lines} {name} ({crate})" for lines, name, crate in sorted(rows, reverse=True)))
+def heavy(cuts):
+    """How many lines would go with each definition, if its own text were left out."""
+    first = [(item.file, item.name) for item in firsts()]
+    reached, _ = closure(firsts(), cuts)
+    lines = {key: lines_of([item], cuts) for key, item in reached.items()}
+    named = {key: [(other.file, other.name) for other in needs(item, cuts)[0]] for key, item in reached.items()}
+
+    def left(without):
+        met, behind = set(), list(first)
+        while behind:
+            key = behind.pop()
+            if key not in met:
+                met.add(key)
+                behind += [] if key == without else named[key]
+        return sum(lines[key] for key in met if key != without)
+
+    total = sum(lines.values())
+    rows = sorted(((total - left(key), item.name, crate_of(item)) for key, item in reached.items()), reverse=True)
+    print("\n".join(f"{count} {name} ({crate})" for count, name, crate in rows))
 
 
 def main(arguments):
-    if arguments == ["--heavy"]:
-        heavy()
+    if arguments[:1] == ["--heavy"]:
+        heavy({} if "--whole" in arguments else CUTS)
         return 0
     text, faults = made()
     if arguments == ["--check"]:

@@ -4,8 +4,8 @@ and the words of the library (headline.py)."""
 HEAD = """# What has to be believed
 
 Made by `checks/headline.py`. This page leads from two promises to the clauses that carry them, through every definition
-that these clauses name, and ends at what is trusted. The prover shows that the code keeps the clauses. Whether the
-clauses say what you want is for you to judge: this is all that has to be read for it.
+that these clauses name, and ends at what is trusted. The prover shows that the code keeps the clauses. Whether they say
+what you want is for you to judge, and what is here is all that you need for it: no code, and no proof.
 
 """
 PROMISES = """## The two promises
@@ -74,10 +74,13 @@ SEEDS = [
 # Reasons for which text is left out.
 OTHERS = ("cases of commands and events that accept no change (`SeatGrows`, `StoresFound`, `KeepsCartridges`) and"
           " change no reservation (`OrdersStand`)")
+FAULTS = "cases in which nothing is acknowledged: an error is answered, or a cartridge is refused"
 TABLE = "tables of the SCSI standards. Believe them as the standards have them, or compare the files with those"
 LAYOUT = "the bytes of layouts, which [FORMATS](FORMATS.md) has in words"
 UPKEEP = ("room, rings, counts and positions, or what proofs carry from one call to the next. A record without some"
           " fields says less than what is proved")
+# What the reasons are called on the page.
+MARKS = {OTHERS: "other cases", FAULTS: "errors", TABLE: "a standard's table", LAYOUT: "a layout", UPKEEP: "upkeep"}
 NOT_NEEDED = ("TestUnitReady", "Rewind", "RequestSense", "ReadBlockLimits", "Read", "Space", "Inquiry", "ModeSelect",
               "ModeSense", "LoadUnload", "Locate", "ReadPosition", "PersistentReserveIn")
 EVENTS = ("FlushTurn", "Load", "Insert", "Unload", "PowerOn")
@@ -85,19 +88,20 @@ EVENTS = ("FlushTurn", "Load", "Insert", "Unload", "PowerOn")
 LEFT_OUT = {
     OTHERS: {"MediumWork": NOT_NEEDED, "DriveWork": NOT_NEEDED, "code_of": NOT_NEEDED, "suits": NOT_NEEDED,
              "sent_length": NOT_NEEDED, "Step": EVENTS, "GoesBy": EVENTS},
+    FAULTS: {"AppendWork": ("NoMemory", "SideFull", "Writing", "_"), "AppendAnswer": ("NoRoom", "_"),
+             "WakesFrom": ("NoMemory", "Device", "Unreadable", "Failed", "_"), "ChangesBase": ("Err",)},
     TABLE: dict.fromkeys((
-        "effect_of", "command_by_fields", "list_decoded", "condition_due", "cleared", "with_attention", "union",
-        "no_attentions", "invalid_field", "medium_not_present", "medium_failed", "invalid_operation_code",
-        "invalid_release", "invalid_parameter", "keeper_failed", "volume_overflow", "attention_sense",
-        "deferred_write_error", "fault_sense", "made_reply"), ()),
+        "effect_of", "ReserveOutWork", "command_by_fields", "list_decoded", "condition_due", "cleared",
+        "with_attention", "no_attentions", "invalid_field", "medium_not_present", "medium_failed",
+        "invalid_operation_code", "attention_sense", "deferred_write_error", "fault_sense", "made_reply"), ()),
     LAYOUT: dict.fromkeys(("spell_side_head", "spell_front", "IsHead", "spell_state", "spell_change"), ()),
-    UPKEEP: dict.fromkeys(("contents_on", "room_found", "IsStoreFull", "LeavesStoreRoom", "request_needs_disk",
-                           "NotedBeginning", "alone_near"), ()) | {
+    UPKEEP: dict.fromkeys(("contents_on", "room_found", "request_needs_disk", "NotedBeginning", "alone_near",
+                           "refusal_in", "copy_frames", "Parts", "Looks"), ()) | {
         "StoresFound": ("answer", "frame", "stores"), "ExecutesBoth": ("stood", "positioned", "settled"),
         "Takes": ("stores", "counted"), "TakesTurn": ("step", "turns", "stores", "accepted"),
         "KeepsDiskHalf": ("follows", "within"), "KeepsHostsHalf": ("end", "within", "positioned"),
-        "Joins": ("ends_are",), "Parts": (), "Looks": (), "SeatGrows": ("host", "nexus", "answered", "moved"),
-        "MovesEach": ("answer",), "KeepsDrive": ("positioned",), "copy_frames": (),
+        "Joins": ("ends_are",), "SeatGrows": ("host", "nexus", "answered", "moved"), "Opens": ("room_is",),
+        "MovesEach": ("answer",), "KeepsDrive": ("positioned",),
         "ReclaimsShelved": ("ok", "copy", "refused", "unwritten", "untouched")},
 }
 SECTIONS = {
