@@ -89,7 +89,7 @@ def left_out(item):
     if item.name not in CUTS:
         return ""
     parts, why = CUTS[item.name], words.MARKS[REASONS[item.name]]
-    return f" *Left out ({why})" + (": " + ", ".join(parts) if parts else "") + ".*"
+    return f" *Left out ({why})" + (": " + ", ".join(f"`{part}`" for part in parts) if parts else "") + ".*"
 
 
 def entry(item, order):

@@ -5,7 +5,8 @@ HEAD = """# What has to be believed
 
 Made by `checks/headline.py`. This page leads from two promises to the clauses that carry them, through every definition
 that these clauses name, and ends at what is trusted. The prover shows that the code keeps the clauses. Whether they say
-what you want is for you to judge, and what is here is all that you need for it: no code, and no proof.
+what you want is for you to judge. What is here is all that you need for it: no proof, and no code but what the last
+section names.
 
 """
 PROMISES = """## The two promises
@@ -127,12 +128,14 @@ TRUSTED = """## What is trusted
   them this page needs only the locks: who takes one finds what its last holder left.
 - **The system's files.** It is proved that a disk over an open file keeps the disk model wherever the file keeps the
   laws of `RawFile`, below. That a real file keeps them is the premise, and [PREMISES](PREMISES.md#honest-files) says in
-  words what it asks of each call. `honest` means this, and that nobody else writes the file.
+  words what it asks of each call. `honest` means this, and that nobody else writes the file. A file that is opened
+  after a stop reads one of the images that the stop might have left.
 - **What has to be read**, since no clause says it ([PREMISES](PREMISES.md#not-proved)): that a half of a drive is
   reached through its lock alone, and asked by `FrontPlace::execute_alone` and `execute_both` alone: `command` says that
   some half in some state answers. Two more calls take both halves and call no disk: `FrontPlace::report_fault` and
   `renew`. That the program calls a drive's disks through the calls above alone.
-- **This script**, which found what is on the page: a name that it overlooked is missing here, and nowhere else.
+- **The script** that made this page. It follows the words of each text, and says so where one that is a definition is
+  not here.
 
 The laws of an open file, which the system has to keep:
 
