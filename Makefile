@@ -156,3 +156,4 @@ fmt: need-rt
 definitions:
 	python3 checks/definitions.py
 	python3 checks/edits.py
+	python3 checks/headline.py
