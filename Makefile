@@ -23,7 +23,7 @@ EXAMPLES = $(filter-out %.tape %.tape.2 %.pr,$(wildcard examples/*.*))
 
 vtl: need-rt
 	@python3 checks/build.py
-	@cd crates/vtl && rt run -- run < stdin > /dev/null
+	@cd crates/vtl && out/vtl run < stdin | cmp - stdout
 	@echo "the proved program is crates/vtl/out/vtl"
 
 # The program that is there: whoever installs may lack rt.
