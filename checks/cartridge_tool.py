@@ -45,13 +45,17 @@ FIVE = HEAD + b"".join(bytes.fromhex(frame) for frame in (
     "a5 0000000e 0100 00000002 00000004 62657461",
     "a5 00000019 0100 00000003 00000005 67616d6d61 0200 00000004 00000001",
     "a5 0000000f 0100 00000005 00000005 64656c7461", "00"))
-# words of extract, a change of FIVE (place, bytes), and what is extracted: the status, the files of a folder
+# two filemarks that one change writes, and a block behind them
+TWO = HEAD + HELLO + MARK[:-1] + b"\2" + ONE[:10] + b"\3" + ONE[11:] + b"\0"
+# words of extract, a change of FIVE (place, bytes) or another file, and what is extracted: the status, the files
 A, BG, D = {"000000-00000000": b"alpha"}, {"000001-00000002": b"betagamma"}, {"000002-00000005": b"delta"}
 SALVAGED = (
     ([], None, 0, A | BG | D),
     (["--from", "2", "--to", "3"], None, 0, BG),
     (["--from", "3"], None, 0, {"000001-00000003": b"gamma"} | D),
     (["--to", "6"], None, 1, A | BG | D),
+    ([], TWO, 0, {"000000-00000000": b"hello", "000002-00000003": b"x"}),
+    (["--from", "2"], TWO, 0, {"000002-00000003": b"x"}),
     (["--partition", "1"], None, 1, {}),
     # a length that is none, and one that is wrong
     ([], (71, b"\xff"), 1, A),
@@ -222,9 +226,9 @@ def extracted(compared, path, where, words, status, wanted):
 def salvaged(compared):
     with tempfile.TemporaryDirectory(prefix="vtl-tool-", dir=hostile.MEMORY) as room:
         for words, change, status, wanted in SALVAGED:
-            place, new = change or (0, b"")
-            data = FIVE[:place] + (b"" if new is None else new + FIVE[place + len(new):])
-            where = f"five frames with {change}"
+            place, new = (0, change) if isinstance(change, bytes) else change or (0, b"")
+            data = new if change is TWO else FIVE[:place] + (b"" if new is None else new + FIVE[place + len(new):])
+            where = f"frames with {change}"
             extracted(compared, compared.put(room, (data, None), where), where, words, status, wanted)
 
 
