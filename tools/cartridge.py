@@ -233,7 +233,7 @@ def list_side(side):
 
 def extract(side, given):
     """Writes the blocks of a range of objects. Whether all that was asked for is there."""
-    part = side.partitions[given.partition]
+    part = dict(enumerate(side.partitions)).get(given.partition, Partition(0))
     last, file, marks, blocks, size = part.count - 1 if given.to is None else given.to, None, 0, 0, 0
     is_all = last < part.count and given.start <= part.count
     for first, place, number in zip(*part.columns):
@@ -250,7 +250,7 @@ def extract(side, given):
             blocks, size = blocks + 1, size + number
     (file or sys.stdout.buffer).flush()
     say(f"{blocks} blocks, {size} bytes; {part.count} objects of partition {given.partition} were found")
-    return is_all
+    return is_all and given.partition in range(len(side.partitions))
 
 
 def work(given):
@@ -276,7 +276,7 @@ def work(given):
         before.go_past(side.bad or side.damage or side.end)
     if given.order == "list":
         list_side(before)
-    is_all = given.order != "extract" or given.partition in range(len(before.partitions)) and extract(before, given)
+    is_all = given.order != "extract" or extract(before, given)
     return 0 if is_all and not side.why else 1
 
 
