@@ -2,7 +2,7 @@
 RT := $(shell command -v rt)
 
 .PHONY: demo vtl check wrong rows rows-wrong nomemory mutants faults explained hostile memory endings examples stops kills \
-	mended cluster iscsi hosts page bench gate fmt definitions install manual need-rt
+	mended tools cluster iscsi hosts page bench gate fmt definitions install manual need-rt
 .DEFAULT_GOAL := demo
 
 need-rt:
@@ -43,6 +43,7 @@ install: crates/vtl/out/vtl
 	install -D -m 644 $(ISCSI)/vtl-iscsi.service $(DESTDIR)$(PREFIX)/lib/systemd/system/vtl-iscsi.service
 	install -d $(DESTDIR)$(PREFIX)/share/vtl/vtl_iscsi $(DOC)/iscsi
 	install -m 644 $(ISCSI)/vtl_iscsi/*.py $(DESTDIR)$(PREFIX)/share/vtl/vtl_iscsi
+	install -m 755 tools/cartridge.py $(DESTDIR)$(PREFIX)/share/vtl
 	install -m 644 $(ISCSI)/README.md $(DOC)/iscsi
 	install -d $(DOC)/examples/cluster
 	install -m 644 examples/cluster/*.* $(DOC)/examples/cluster
@@ -119,6 +120,10 @@ kills: vtl
 mended: $(if $(PROGRAM),,vtl)
 	python3 checks/mended_faults.py --selftest
 	python3 checks/mended_faults.py $(if $(PROGRAM),--program $(PROGRAM)) $(if $(COUNT),--runs $(COUNT)) $(if $(SEED),--seed $(SEED))
+
+tools: $(if $(PROGRAM),,vtl)
+	python3 checks/cartridge_tool.py $(if $(PROGRAM),--program $(PROGRAM)) $(if $(COUNT),--count $(COUNT)) \
+		$(if $(SEED),--seed $(SEED))
 
 # Debian's packages that `make cluster` wants; it runs as root.
 CLUSTER = glusterfs-server glusterfs-client ceph-mon ceph-mgr ceph-osd ceph-mds ceph-fuse pacemaker corosync crmsh \
