@@ -1,8 +1,8 @@
 #!/usr/bin/env python3
 """Proves and builds a program and the crates below it side by side, each by one `rattle build`: as many at a time as
-there are processors, and 4 GiB of memory for each. Those go first that the longest chain of crates waits for.
-`rt lib` would build them one by one, since each waits for all others that stand on the same crates. What is built
-already, from the same text, is kept.
+there are processors, and 4 GiB of memory for each. Those go first that the longest chain of crates waits for. A crate
+gets the processors that no other one is ready for. `rt lib` would build them one by one, since each waits for all
+others that stand on the same crates. What is built already, from the same text, is kept.
 
 build.py [CRATE]     the program, vtl where none is named"""
 import functools
@@ -82,8 +82,8 @@ def is_built(name):
         return False
 
 
-def words(name):
-    """The words of the crate's check, in its folder."""
+def words(name, jobs):
+    """The words of the crate's check by so many processes, in its folder."""
     rlibs = os.path.join(kit(), "rlibs")
     place = {it: made(it) if it in used() else os.path.join(rlibs, f"{it}.rlib") for it in ["std", *used()[name]]}
     libraries = [word for it, at in place.items() for word in ("--extern", f"{it}={at}")]
@@ -91,25 +91,25 @@ def words(name):
     return ["--crate-name", name, "src/main.rt" if is_program(name) else "src/lib.rt", *libraries,
             *(word for it in folders for word in ("-L", f"dependency={it}")),
             "--antt-project", os.path.join(kit(), "rattle/logic/antt-project.json"),
-            "--logic-built", os.path.join(kit(), "logic_built"), "--jobs", "1", "--links", f"{name}="]
+            "--logic-built", os.path.join(kit(), "logic_built"), "--jobs", str(jobs), "--links", f"{name}="]
 
 
-def commands(name):
+def commands(name, jobs):
     """What proves and builds a crate: a library with its statements alone, a program by LLVM."""
     rattle, to, tools = os.path.join(kit(), "bin/rattle"), made(name), ["--toolchain", os.path.join(kit(), "toolchain")]
     if not is_program(name):
-        return [[rattle, "build", *words(name), "--statements", "-o", to]]
+        return [[rattle, "build", *words(name, jobs), "--statements", "-o", to]]
     of_c = [os.path.join(kit(), "c", it) for it in ("libos_c.a", "liblibc_c.a")]
-    return [[rattle, "build", *words(name), *tools, "--backend", "llvm", "-o", f"{to}.o"],
+    return [[rattle, "build", *words(name, jobs), *tools, "--backend", "llvm", "-o", f"{to}.o"],
             [f"{rattle}-link", "--target", TARGET, *tools, "-o", to, f"{to}.o", *of_c]]
 
 
-def build(name):
+def build(name, jobs):
     """None once the crate is built, or what the toolchain printed where it was refused."""
     to = made(name)
     shutil.rmtree(to, ignore_errors=True)
     os.makedirs(os.path.dirname(to), exist_ok=True)
-    for command in commands(name):
+    for command in commands(name, jobs):
         with tempfile.TemporaryFile("w+", errors="replace") as said:
             done = subprocess.run(command, cwd=folder(name), stdin=subprocess.DEVNULL, stdout=said, stderr=said)
             if done.returncode != 0:
@@ -136,18 +136,21 @@ def lanes():
 
 def main(given):
     program, begun = given[0] if given else "vtl", time.monotonic()
-    names = [*below(program), program]
+    names, most = [*below(program), program], lanes()
     length, left, running = chains(names), {it for it in names if not is_built(it)}, {}
     total = len(left)
-    with ThreadPoolExecutor(lanes()) as pool:
+    with ThreadPoolExecutor(most) as pool:
         while left or running:
-            waits = left | set(running.values())
+            waits = left | {name for name, _ in running.values()}
             ready = sorted((it for it in left if waits.isdisjoint(below(it))), key=length.get, reverse=True)
-            for name in ready[:pool._max_workers - len(running)]:
-                left.remove(name)
-                running[pool.submit(build, name)] = name
+            for at, name in enumerate(ready):
+                idle = most - sum(jobs for _, jobs in running.values())
+                if idle > 0:
+                    jobs = max(1, idle // (len(ready) - at))
+                    left.remove(name)
+                    running[pool.submit(build, name, jobs)] = name, jobs
             for ended in wait(running, return_when=FIRST_COMPLETED).done:
-                name, refused = running.pop(ended), ended.result()
+                (name, _), refused = running.pop(ended), ended.result()
                 if refused is not None:
                     pool.shutdown(cancel_futures=True)
                     sys.exit(f"{refused}\n{name} was not built")
