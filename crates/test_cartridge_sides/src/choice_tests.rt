@@ -4,7 +4,7 @@ use crate::rows::{BEFORE, ONCE, PREPARED, TWICE};
 use cartridge_sides::Which;
 use std::alloc::{AllocError, Global};
 use std::test::Fail;
-use tape_disk::MemDisk;
+use tape_disk::{MemDisk, OnceDisk};
 use test_assertions::assert_equal;
 
 /// An image, and bytes that are set in it.
@@ -73,5 +73,15 @@ fn pairs_of_images(rt: HostRuntime) -> Result<(), Fail> {
         let mut two = MemDisk::from_bytes(rt.alloc(), &made(rt.alloc(), second)?)?;
         assert_equal!(rt; choice_of(&mut one, &mut two), Ok(expected); (first, second));
     }
+    Ok(())
+}
+
+// Where the second call of the first disk fails, both were synced.
+#[test]
+fn both_disks_are_synced_before_one_is_read(rt: HostRuntime) -> Result<(), Fail> {
+    let mut one = OnceDisk::new(MemDisk::from_bytes(rt.alloc(), BEFORE)?, 1);
+    let mut two = OnceDisk::new(MemDisk::from_bytes(rt.alloc(), &[])?, 9);
+    assert_equal!(rt; choice_of(&mut one, &mut two).is_err(), true);
+    assert_equal!(rt; (one.inner().syncs(), two.inner().syncs()), (1, 1));
     Ok(())
 }
