@@ -47,7 +47,10 @@ fn ask<D: Disk + Drop>(drive: &mut Tape<D>, host: Nexus, cdb: &[u8], sent: &[u8]
 // The syncs of a drive's disk.
 fn syncs(drive: &Tape<MemDisk>) -> u64 {
     match drive.medium() {
-        Some(medium) => medium.disk().syncs(),
+        Some(medium) => match medium.disk() {
+            Some(disk) => disk.syncs(),
+            None => 0,
+        },
         None => 0,
     }
 }

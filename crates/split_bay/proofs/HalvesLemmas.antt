@@ -1,5 +1,6 @@
--- The two halves of a bay.
-use Rattle.std.proofs.Common.{◌≡◌, List, Bool, Option, refl, sym, ◌∙◌, ap, subst}
+-- Both halves of a drive, whose disks come back and go away again.
+use Rattle.std.proofs.Common.{◌≡◌, List, true, false, not, Bool, Option, None, Some, refl, sym, ◌∙◌, ap, subst}
+use Rattle.std.specs.Prelude.{◌&&◌}
 use Rattle.tape_disk.specs.Disk.{DiskState}
 use Rattle.positioning.specs.declared.positions.Pos.{Pos}
 use Rattle.positioning.specs.Motion.{IsOnTape}
@@ -7,192 +8,310 @@ use Rattle.volume_core.specs.Medium.{MediumState}
 use Rattle.volume_core.specs.Volume.{Part}
 use Rattle.drive_commands.specs.declared.bays.Bay.{Bay}
 use Rattle.drive_commands.specs.declared.bays.Bay.TheVariants.{Empty, Unloaded, Loaded}
-use Rattle.drive_commands.specs.Apart.{RestState, drive_with, rest_of_drive}
-use Rattle.drive_commands.specs.State.{DriveState, IsBayPositioned, bay_of, machine_of}
+use Rattle.drive_commands.specs.State.{IsAtHand, IsBayPositioned, IsPositioned, bay_of, has_failed_in, machine_of, medium_in}
 use Rattle.aptpl_store.specs.Kept.{store_kept}
-use Rattle.aptpl_store.specs.State.{OpenStore}
-use Rattle.tape_buffer.specs.Moves.{buffer_below}
+use Rattle.tape_buffer.specs.Aways.{seen_as}
+use Rattle.tape_buffer.specs.Detaching.{DetachesFrom}
+use Rattle.tape_buffer.specs.Moves.{IsHere, buffer_below}
 use Rattle.tape_buffer.specs.State.{BufferState, state_of}
+use Rattle.tape_buffer.specs.Taking.{DisksState}
+use Rattle.bay_moves.specs.Bays.{KeepsBoth, KeepsCartridgeIn, ShowsCartridgeIn}
 use Rattle.bay_moves.specs.Elements.{BayState}
 use Rattle.bay_moves.specs.Reservations.{IsHolding}
-use Rattle.split_bay.specs.Backs.{BackState}
-use Rattle.split_bay.specs.Fronts.{FrontState, HasEnd, KeepsOrders}
-use Rattle.split_bay.specs.Halves.{Joins, JoinsBay, Parts, PartsBay}
-use Rattle.split_bay.specs.Looks.{LookedIn, deferred_after}
-use Rattle.split_bay.specs.Nears.{state_near}
+use Rattle.split_bay.specs.declared.items.Item.{Item}
+use Rattle.split_bay.specs.Backs.{BackState, KeepsDiskHalf, is_stuck_in}
+use Rattle.split_bay.specs.Both.{Attaches, AttachesIn, BeginsNext, DetachesIn}
+use Rattle.split_bay.specs.Fronts.{FrontState, KeepsHostsHalf, KeepsOrders}
+use Rattle.split_bay.specs.Halves.{HoldsHalves, Joins, Parts, ReportsBoth, ReportsFault, is_unreported}
+use Rattle.split_bay.specs.Looks.{LookedIn, Looks, deferred_after, fails_anew, is_broken}
 use Rattle.split_bay.specs.Rings.{SendingState}
-use Rattle.split_bay.specs.Spans.{begins}
+use Rattle.split_bay.proofs.BothLemmas.{read_so}
+use Rattle.split_bay.proofs.TakenLemmas.{awake_still, failed_still}
+
+both_true : (a b : Bool) → a && b ≡ true → b ≡ true
+both_true true b both = both
+both_true false b both = absurd (cc)
+
+-- the disks of what is in a drive are at hand
+abbrev pub HereBay : {D : Type 0} → Bay (BufferState D) → Type 0
+HereBay bay = IsAtHand (λ m. IsHere m.held) bay
+
+-- what the type of a bay keeps says so
+pub kept_bay : {D : Type 0} (state : D → DiskState) (bay : Bay (BufferState D))
+    → KeepsCartridgeIn state (medium_in bay) → HereBay bay
+kept_bay state Empty keeps = tt
+kept_bay state (Unloaded m) keeps = keeps.hand
+kept_bay state (Loaded m) keeps = keeps.hand
 
 module _ {D : Type 0} (state : D → DiskState) where
+  -- a medium that may be there is broken
+  abbrev broken_in : Option (BufferState D) → Bool
+  broken_in None = false
+  broken_in (Some medium) = is_broken (state_of state medium)
+
+  -- what is in a drive whose disks are back
+  pub record FoundIn (disks : Option (DisksState D)) (old new : Bay (BufferState D)) : Type 0 where
+    pub looked : LookedIn (bay_of (state_of state) old) (bay_of (state_of state) new)
+    pub hand : HereBay new
+    pub stuck : broken_in (medium_in new) ≡ is_stuck_in state disks
+
+  -- pending changes do not show whether a medium is broken
+  broken_with : (sent received : List Item) (disks : DisksState D) (old new : BufferState D)
+      → Attaches state sent received disks old new
+      → is_broken (state_of state new) ≡ is_broken (state_of state disks.buffer)
+  broken_with sent received disks old new a =
+      ap (λ (b : BufferState D). is_broken (state_of state b)) a.new_is
+      ∙ (λ i. awake_still state disks.buffer a.waiting i && failed_still state disks.buffer a.waiting i)
+
+  pub found_in : (sent received : List Item) (disks : Option (DisksState D)) (old new : Bay (BufferState D))
+      → AttachesIn state sent received disks old new → FoundIn disks old new
+  found_in sent received None Empty Empty a = record { looked = tt; hand = tt; stuck = refl }
+  found_in sent received (Some d) (Unloaded m) (Unloaded n) a =
+      record { looked = a.looked; hand = a.hand; stuck = broken_with sent received d m n a }
+  found_in sent received (Some d) (Loaded m) (Loaded n) a =
+      record { looked = a.looked; hand = a.hand; stuck = broken_with sent received d m n a }
+  found_in sent received None Empty (Unloaded n) a = absurd a
+  found_in sent received None Empty (Loaded n) a = absurd a
+  found_in sent received None (Unloaded m) Empty a = absurd a
+  found_in sent received None (Unloaded m) (Unloaded n) a = absurd a
+  found_in sent received None (Unloaded m) (Loaded n) a = absurd a
+  found_in sent received None (Loaded m) Empty a = absurd a
+  found_in sent received None (Loaded m) (Unloaded n) a = absurd a
+  found_in sent received None (Loaded m) (Loaded n) a = absurd a
+  found_in sent received (Some d) Empty Empty a = absurd a
+  found_in sent received (Some d) Empty (Unloaded n) a = absurd a
+  found_in sent received (Some d) Empty (Loaded n) a = absurd a
+  found_in sent received (Some d) (Unloaded m) Empty a = absurd a
+  found_in sent received (Some d) (Unloaded m) (Loaded n) a = absurd a
+  found_in sent received (Some d) (Loaded m) Empty a = absurd a
+  found_in sent received (Some d) (Loaded m) (Unloaded n) a = absurd a
+
   -- the position is on what is found, as on what was seen
-  pub positioned_still : (old : Bay SendingState) (new : Bay (BufferState D)) (position : Pos)
-      → LookedIn (bay_of state_near old) (bay_of (state_of state) new) → IsBayPositioned state_near old position
-      → IsBayPositioned (state_of state) new position
+  pub positioned_still : (old new : Bay (BufferState D)) (position : Pos)
+      → LookedIn (bay_of (state_of state) old) (bay_of (state_of state) new)
+      → IsBayPositioned (state_of state) old position → IsBayPositioned (state_of state) new position
   positioned_still Empty Empty position looked on = tt
-  positioned_still (Unloaded near) (Unloaded medium) position looked on = looked.awake ∙ on
-  positioned_still (Loaded near) (Loaded medium) position looked on =
+  positioned_still (Unloaded m) (Unloaded n) position looked on = looked.awake ∙ on
+  positioned_still (Loaded m) (Loaded n) position looked on =
       record {
         awake = looked.awake ∙ on.awake;
         on_tape = subst (λ (v : List Part). IsOnTape v position) (sym looked.volume) on.on_tape;
       }
-  positioned_still Empty (Unloaded medium) position looked on = absurd looked
-  positioned_still Empty (Loaded medium) position looked on = absurd looked
-  positioned_still (Unloaded near) Empty position looked on = absurd looked
-  positioned_still (Unloaded near) (Loaded medium) position looked on = absurd looked
-  positioned_still (Loaded near) Empty position looked on = absurd looked
-  positioned_still (Loaded near) (Unloaded medium) position looked on = absurd looked
+  positioned_still Empty (Unloaded n) position looked on = absurd looked
+  positioned_still Empty (Loaded n) position looked on = absurd looked
+  positioned_still (Unloaded m) Empty position looked on = absurd looked
+  positioned_still (Unloaded m) (Loaded n) position looked on = absurd looked
+  positioned_still (Loaded m) Empty position looked on = absurd looked
+  positioned_still (Loaded m) (Unloaded n) position looked on = absurd looked
 
   -- what is known of the reservations does not speak of the medium
-  pub holding_whole : (drive : DriveState SendingState (OpenStore D)) (bay : BayState D) → KeepsOrders state drive
-      → bay.reservations ≡ drive.reservations → bay.keeper ≡ drive.keeper
-      → IsHolding (state_of state) (buffer_below state) state bay
-  holding_whole drive bay keeps orders keeper =
+  pub orders_still : (old new : BayState D) → KeepsOrders state old → new.reservations ≡ old.reservations
+      → new.keeper ≡ old.keeper → KeepsOrders state new
+  orders_still old new keeps orders keeper =
       subst (λ (b : BayState D). IsHolding (state_of state) (buffer_below state) state b)
-      (λ i. record bay { reservations = sym orders i; keeper = sym keeper i })
+      (λ i. record new { reservations = sym orders i; keeper = sym keeper i })
       (record { sound = keeps.sound; saved = keeps.saved; at_rest = keeps.at_rest; shows = keeps.shows })
 
-  pub holding_half : (drive : DriveState SendingState (OpenStore D)) (bay : BayState D)
-      → IsHolding (state_of state) (buffer_below state) state bay
-      → drive.reservations ≡ bay.reservations → drive.keeper ≡ bay.keeper → KeepsOrders state drive
-  holding_half drive bay keeps orders keeper =
-      subst (KeepsOrders state)
-      (λ i. record drive { reservations = sym orders i; keeper = sym keeper i })
-      (record { sound = keeps.sound; saved = keeps.saved; at_rest = keeps.at_rest; shows = keeps.shows })
+  -- what is known of a cartridge whose disks are at hand is the invariant of a bay's type
+  keeps_here : (bay : Bay (BufferState D)) → HereBay bay → ShowsCartridgeIn state (medium_in bay)
+      → KeepsCartridgeIn state (medium_in bay)
+  keeps_here Empty here shows = tt
+  keeps_here (Unloaded m) here shows =
+      record { hand = here; core = shows.core; whole = shows.whole; shows = shows.shows }
+  keeps_here (Loaded m) here shows =
+      record { hand = here; core = shows.core; whole = shows.whole; shows = shows.shows }
 
-  -- both halves are the bay
-  pub joins_whole : (front : FrontState D) (back : BackState D) (bay : Bay (BufferState D)) (ends : SendingState)
-      (fails : Bool) (new : BayState D)
-      → JoinsBay state front.drive.bay front.end back.received back.medium bay ends fails
-      → new ≡ drive_with bay
-      (record (rest_of_drive front.drive) { deferred = deferred_after fails front.drive.deferred })
-      → Joins state front back new ends
-  joins_whole front back bay ends fails new joins is =
-      subst (λ (b : BayState D). Joins state front back b ends) (sym is)
-      (record {
-        waiting = joins.waiting;
-        ends_are = joins.ends_are;
-        prefix = joins.prefix;
-        medium = joins.medium_is;
-        advances = joins.advances;
+  pub keeps_found : (old new : BayState D) → HereBay new.bay → ShowsCartridgeIn state (medium_in new.bay)
+      → KeepsOrders state old → new.reservations ≡ old.reservations → new.keeper ≡ old.keeper → KeepsBoth state new
+  keeps_found old new here shows orders same keeper =
+      record {
+        cartridge = keeps_here new.bay here shows;
+        reservations = orders_still old new orders same keeper;
+      }
+
+  -- a drive whose disks are back, as it is found
+  abbrev pub found_drive : BayState D → Bay (BufferState D) → BayState D
+  found_drive old bay = record old {
+    bay = bay;
+    deferred = deferred_after (fails_anew (bay_of (state_of state) old.bay) (bay_of (state_of state) bay))
+        old.deferred;
+  }
+
+  -- it is looked at
+  pub looks_found : (old new : BayState D)
+      → LookedIn (bay_of (state_of state) old.bay) (bay_of (state_of state) new.bay) → new ≡ found_drive old new.bay
+      → Looks (machine_of (state_of state) store_kept old) (machine_of (state_of state) store_kept new)
+  looks_found old new looked found =
+      record { bay = looked; others = ap (machine_of (state_of state) store_kept) found }
+
+  -- its position is on what is found
+  pub positioned_found : (old new : BayState D)
+      → LookedIn (bay_of (state_of state) old.bay) (bay_of (state_of state) new.bay) → new ≡ found_drive old new.bay
+      → IsBayPositioned (state_of state) old.bay old.position → IsBayPositioned (state_of state) new.bay new.position
+  positioned_found old new looked found on =
+      subst (λ (p : Pos). IsBayPositioned (state_of state) new.bay p)
+      (sym (ap (λ (b : BayState D). b.position) found))
+      (positioned_still old.bay new.bay old.position looked on)
+
+  -- the disks are back
+  pub joins_found : (front : FrontState D) (back : BackState D) (joined : BayState D)
+      → AttachesIn state front.sending.sent back.received back.medium front.drive.bay joined.bay
+      → joined ≡ found_drive front.drive joined.bay → Joins state front back joined front.sending
+  joins_found front back joined attaches found =
+      record {
+        ends_are = refl;
+        attaches = attaches;
+        found = found;
         looks =
-            record {
-              bay = joins.looked;
-              others =
-                  λ i. record (machine_of state_near store_kept front.drive) {
-                    bay = bay_of (state_of state) bay;
-                    deferred = deferred_after (joins.fails_is i) front.drive.deferred;
-                  };
-            };
-        keeper = refl;
-        accepted = refl;
-      })
+            looks_found front.drive joined
+            (found_in front.sending.sent back.received back.medium front.drive.bay joined.bay attaches).looked found;
+      }
 
-  -- the position goes by what is seen of a medium
-  of_seen : {M : Type 0} (seen : M → MediumState) (bay : Bay M) (position : Pos)
-      → IsBayPositioned (λ (m : MediumState). m) (bay_of seen bay) position → IsBayPositioned seen bay position
-  of_seen seen Empty position on = on
-  of_seen seen (Unloaded medium) position on = on
-  of_seen seen (Loaded medium) position on = on
+  -- the disks go away
+  pub parts_left : (bay : BayState D) (ends begun : SendingState) (front : FrontState D) (back : BackState D)
+      → begun ≡ ends → BeginsNext begun front.sending → DetachesIn state bay.bay back.medium front.drive.bay
+      → front.drive ≡ record bay { bay = front.drive.bay } → back.number ≡ front.sending.number
+      → back.received ≡ front.sending.sent → Parts state bay ends front back
+  parts_left bay ends begun front back is begins detaches same number level =
+      record {
+        begins = subst (λ (s : SendingState). BeginsNext s front.sending) is begins;
+        detaches = detaches;
+        same = same;
+        number = number;
+        level = level;
+      }
 
-  to_seen : {M : Type 0} (seen : M → MediumState) (bay : Bay M) (position : Pos)
-      → IsBayPositioned seen bay position → IsBayPositioned (λ (m : MediumState). m) (bay_of seen bay) position
-  to_seen seen Empty position on = on
-  to_seen seen (Unloaded medium) position on = on
-  to_seen seen (Loaded medium) position on = on
+  -- the disks are back, the drive becomes another, and they go away again; of halves as they are inside their types
+  pub holds_both : (seen front : FrontState D) (seen_back back : BackState D) (joined left : BayState D)
+      (front' : FrontState D) (back' : BackState D) → seen ≡ front → seen_back ≡ back → KeepsHostsHalf state front
+      → KeepsDiskHalf state back → Joins state seen seen_back joined seen.sending → KeepsBoth state joined
+      → KeepsBoth state left → Parts state left seen.sending front' back'
+      → HoldsHalves state front back joined left front' back'
+  holds_both seen front seen_back back joined left front' back' is back_is front_keeps back_keeps joins joined_keeps
+      keeps parts =
+      let joins_so = subst (λ (f : FrontState D). Joins state f back joined f.sending) is
+      (subst (λ (b : BackState D). Joins state seen b joined seen.sending) back_is joins) in
+      record {
+        front_keeps = front_keeps;
+        back_keeps = back_keeps;
+        joins = joins_so;
+        joined_keeps = joined_keeps;
+        stood =
+            positioned_found front.drive joined
+            (found_in front.sending.sent back.received back.medium front.drive.bay joined.bay
+            joins_so.attaches).looked joins_so.found front_keeps.positioned;
+        keeps = keeps;
+        parts = subst (λ (f : FrontState D). Parts state left f.sending front' back') is parts;
+      }
 
-  pub positioned_half : (near : Bay SendingState) (bay : Bay (BufferState D)) (position : Pos)
-      → bay_of state_near near ≡ bay_of (state_of state) bay
-      → IsBayPositioned (state_of state) bay position → IsBayPositioned state_near near position
-  positioned_half near bay position seen on =
-      of_seen state_near near position
-      (subst (λ (b : Bay MediumState). IsBayPositioned (λ (m : MediumState). m) b position) (sym seen)
-      (to_seen (state_of state) bay position on))
+  -- a fault that was not seen is new
+  anew : (old new : Bay (BufferState D)) (position : Pos)
+      → LookedIn (bay_of (state_of state) old) (bay_of (state_of state) new)
+      → IsBayPositioned (state_of state) old position → broken_in (medium_in new) ≡ true
+      → not (has_failed_in (state_of state) old) ≡ true
+      → (fails_anew (bay_of (state_of state) old) (bay_of (state_of state) new) ≡ true)
+      × (has_failed_in (state_of state) new ≡ true)
+  anew Empty Empty position looked on broken not_seen = absurd (cc)
+  anew (Unloaded m) (Unloaded n) position looked on broken not_seen =
+      let asleep = looked.awake ∙ on in
+      let never : false ≡ true = sym (ap (λ (b : Bool). b && (state_of state n).failed) asleep) ∙ broken in
+      absurd (cc)
+  anew (Loaded m) (Loaded n) position looked on broken not_seen = (
+    λ i. broken i && not_seen i,
+    both_true (state_of state n).awake (state_of state n).failed broken,
+  )
+  anew Empty (Unloaded n) position looked on broken not_seen = absurd looked
+  anew Empty (Loaded n) position looked on broken not_seen = absurd looked
+  anew (Unloaded m) Empty position looked on broken not_seen = absurd looked
+  anew (Unloaded m) (Loaded n) position looked on broken not_seen = absurd looked
+  anew (Loaded m) Empty position looked on broken not_seen = absurd looked
+  anew (Loaded m) (Unloaded n) position looked on broken not_seen = absurd looked
 
-  -- the bay is both halves
-  pub parts_halves : (bay : BayState D) (ends : SendingState) (near : Bay SendingState) (end : Option SendingState)
-      (back : BackState D) (front : FrontState D) → PartsBay state bay.bay ends near end back
-      → front ≡ record { drive = drive_with near (rest_of_drive bay); end = end } → Parts state bay ends front back
-  parts_halves bay ends near end back front parts is =
-      subst (λ (f : FrontState D). Parts state bay ends f back) (sym is)
-      (record {
-        begins = parts.begins;
-        number = parts.number;
-        level = parts.level;
-        lent = parts.lent;
-        machine = λ i. record (machine_of (state_of state) store_kept bay) { bay = parts.seen i };
-        keeper = refl;
-        accepted = refl;
-        allowed = parts.allowed;
-      })
+  -- hosts see just the medium once its disks are away
+  seen_away : (old : BufferState D) (disks : DisksState D) (new : BufferState D) → DetachesFrom state old disks new
+      → state_of state new ≡ state_of state old
+  seen_away old disks new went =
+      ap (state_of state) went.new_is ∙ ap seen_as went.away_is.noted ∙ read_so state old
 
--- all else of a drive, once a fault was looked for
-abbrev pub rest_reported : {K : Type 0} → Bool → RestState K → RestState K
-rest_reported fails rest = record rest { deferred = deferred_after fails rest.deferred }
+  -- the position is on it still
+  pub positioned_away : (old : Bay (BufferState D)) (disks : Option (DisksState D)) (new : Bay (BufferState D))
+      (position : Pos) → DetachesIn state old disks new → IsBayPositioned (state_of state) old position
+      → IsBayPositioned (state_of state) new position
+  positioned_away Empty None Empty position went on = tt
+  positioned_away (Unloaded m) (Some d) (Unloaded n) position went on =
+      ap (λ (s : MediumState). s.awake) (seen_away m d n went) ∙ on
+  positioned_away (Loaded m) (Some d) (Loaded n) position went on =
+      subst (λ (s : MediumState). IsPositioned s position) (sym (seen_away m d n went)) on
+  positioned_away Empty None (Unloaded n) position went on = absurd went
+  positioned_away Empty None (Loaded n) position went on = absurd went
+  positioned_away Empty (Some d) Empty position went on = absurd went
+  positioned_away Empty (Some d) (Unloaded n) position went on = absurd went
+  positioned_away Empty (Some d) (Loaded n) position went on = absurd went
+  positioned_away (Unloaded m) None Empty position went on = absurd went
+  positioned_away (Unloaded m) None (Unloaded n) position went on = absurd went
+  positioned_away (Unloaded m) None (Loaded n) position went on = absurd went
+  positioned_away (Unloaded m) (Some d) Empty position went on = absurd went
+  positioned_away (Unloaded m) (Some d) (Loaded n) position went on = absurd went
+  positioned_away (Loaded m) None Empty position went on = absurd went
+  positioned_away (Loaded m) None (Unloaded n) position went on = absurd went
+  positioned_away (Loaded m) None (Loaded n) position went on = absurd went
+  positioned_away (Loaded m) (Some d) Empty position went on = absurd went
+  positioned_away (Loaded m) (Some d) (Unloaded n) position went on = absurd went
 
-module _ {D : Type 0} (state : D → DiskState) (drive : DriveState SendingState (OpenStore D)) (old : Bay SendingState)
-    (rest rest' : RestState (OpenStore D)) (fails : Bool) (bay : Bay (BufferState D)) (apart : old ≡ drive.bay)
-    (rest_is : rest ≡ rest_of_drive drive) (told : rest' ≡ rest_reported fails rest) where
-  reported_is : rest' ≡ rest_reported fails (rest_of_drive drive)
-  reported_is = told ∙ ap (rest_reported fails) rest_is
+  -- and a fault is seen still
+  failed_away : (old : Bay (BufferState D)) (disks : Option (DisksState D)) (new : Bay (BufferState D))
+      → DetachesIn state old disks new → has_failed_in (state_of state) new ≡ has_failed_in (state_of state) old
+  failed_away Empty None Empty went = refl
+  failed_away (Unloaded m) (Some d) (Unloaded n) went = refl
+  failed_away (Loaded m) (Some d) (Loaded n) went =
+      ap (λ (s : MediumState). s.failed) (seen_away m d n went)
+  failed_away Empty None (Unloaded n) went = absurd went
+  failed_away Empty None (Loaded n) went = absurd went
+  failed_away Empty (Some d) Empty went = absurd went
+  failed_away Empty (Some d) (Unloaded n) went = absurd went
+  failed_away Empty (Some d) (Loaded n) went = absurd went
+  failed_away (Unloaded m) None Empty went = absurd went
+  failed_away (Unloaded m) None (Unloaded n) went = absurd went
+  failed_away (Unloaded m) None (Loaded n) went = absurd went
+  failed_away (Unloaded m) (Some d) Empty went = absurd went
+  failed_away (Unloaded m) (Some d) (Loaded n) went = absurd went
+  failed_away (Loaded m) None Empty went = absurd went
+  failed_away (Loaded m) None (Unloaded n) went = absurd went
+  failed_away (Loaded m) None (Loaded n) went = absurd went
+  failed_away (Loaded m) (Some d) Empty went = absurd went
+  failed_away (Loaded m) (Some d) (Unloaded n) went = absurd went
 
-  -- the position is on what is put together
-  pub positioned_whole : LookedIn (bay_of state_near old) (bay_of (state_of state) bay)
-      → IsBayPositioned state_near drive.bay drive.position → IsBayPositioned (state_of state) bay rest'.position
-  positioned_whole looked on =
-      subst (λ (p : Pos). IsBayPositioned (state_of state) bay p)
-      (sym (ap (λ (r : RestState (OpenStore D)). r.position) reported_is))
-      (positioned_still state drive.bay bay drive.position
-      (subst (λ (b : Bay SendingState). LookedIn (bay_of state_near b) (bay_of (state_of state) bay)) apart looked) on)
+  -- a fault that was not told is told
+  reports_fault : (front front' : FrontState D) (back back' : BackState D) (joined : BayState D)
+      → HoldsHalves state front back joined joined front' back' → is_stuck_in state back.medium ≡ true
+      → has_failed_in (state_of state) front.drive.bay ≡ false → ReportsFault state front back front' back'
+  reports_fault front front' back back' joined holds stuck not_seen =
+      let found = found_in front.sending.sent back.received back.medium front.drive.bay joined.bay
+      holds.joins.attaches in
+      let told = anew front.drive.bay joined.bay front.drive.position found.looked holds.front_keeps.positioned
+      (found.stuck ∙ stuck) (ap not not_seen) in
+      record {
+        joined = joined;
+        holds = holds;
+        deferred =
+            ap (λ (b : BayState D). b.deferred) holds.parts.same
+            ∙ ap (λ (b : BayState D). b.deferred) holds.joins.found
+            ∙ ap (λ (b : Bool). deferred_after b front.drive.deferred) told.0;
+        failed = failed_away joined.bay back'.medium front'.drive.bay holds.parts.detaches ∙ told.1;
+      }
 
-  module _ (new : BayState D) (is : new ≡ drive_with bay rest') where
-    new_is : new ≡ drive_with bay (rest_reported fails (rest_of_drive drive))
-    new_is = is ∙ ap (λ (r : RestState (OpenStore D)). drive_with bay r) reported_is
+  -- where there is nothing to tell, nothing has changed
+  pub reports_nothing : (front : FrontState D) (back : BackState D) → is_unreported state front back ≡ false
+      → ReportsBoth state (is_unreported state front back) front back front back
+  reports_nothing front back none =
+      subst (λ (b : Bool). ReportsBoth state b front back front back) (sym none) (refl, refl)
 
-    -- what is known of its reservations
-    pub holding_joined : KeepsOrders state drive → IsHolding (state_of state) (buffer_below state) state new
-    holding_joined keeps =
-        holding_whole state drive new keeps (ap (λ (b : BayState D). b.reservations) new_is)
-        (ap (λ (b : BayState D). b.keeper) new_is)
-
-    pub joins_apart : (end : Option SendingState) (back : BackState D) (ends : SendingState)
-        → JoinsBay state old end back.received back.medium bay ends fails
-        → Joins state (record { drive = drive; end = end }) back new ends
-    joins_apart end back ends joins =
-        joins_whole state (record { drive = drive; end = end }) back bay ends fails new
-        (subst
-        (λ (b : Bay SendingState). JoinsBay state b end back.received back.medium bay ends fails)
-        apart joins) new_is
-
-module _ {D : Type 0} (state : D → DiskState) (bay : BayState D) (old : Bay (BufferState D))
-    (rest : RestState (OpenStore D)) (near : Bay SendingState) (end : Option SendingState) (back : BackState D)
-    (ends : SendingState) (apart : old ≡ bay.bay) (rest_is : rest ≡ rest_of_drive bay)
-    (parts : PartsBay state old ends near end back) where
-  -- the position is on the hosts' half
-  pub positioned_parted : IsBayPositioned (state_of state) bay.bay bay.position
-      → IsBayPositioned state_near near rest.position
-  positioned_parted on =
-      subst (λ (p : Pos). IsBayPositioned state_near near p)
-      (sym (ap (λ (r : RestState (OpenStore D)). r.position) rest_is))
-      (positioned_half state near bay.bay bay.position
-      (parts.seen ∙ ap (bay_of (state_of state)) apart) on)
-
-  module _ (new : DriveState SendingState (OpenStore D)) (is : new ≡ drive_with near rest) where
-    half_is : new ≡ drive_with near (rest_of_drive bay)
-    half_is = is ∙ ap (λ (r : RestState (OpenStore D)). drive_with near r) rest_is
-
-    -- what the type of the hosts' half keeps
-    pub keeps_parted : IsHolding (state_of state) (buffer_below state) state bay
-        → HasEnd new.bay end × KeepsOrders state new
-    keeps_parted keeps = (
-      subst (λ (b : Bay SendingState). HasEnd b end)
-          (sym (ap (λ (d : DriveState SendingState (OpenStore D)). d.bay) half_is)) parts.has_end,
-      holding_half state new bay keeps
-          (ap (λ (d : DriveState SendingState (OpenStore D)). d.reservations) half_is)
-          (ap (λ (d : DriveState SendingState (OpenStore D)). d.keeper) half_is),
-    )
-
-    pub parts_apart : Parts state bay ends (record { drive = new; end = end }) back
-    parts_apart =
-        parts_halves state bay ends near end back (record { drive = new; end = end })
-        (subst (λ (b : Bay (BufferState D)). PartsBay state b ends near end back) apart parts)
-        (λ i. record { drive = half_is i; end = end })
+  -- else it is told
+  pub reports_both : (front front' : FrontState D) (back back' : BackState D) (joined : BayState D)
+      → HoldsHalves state front back joined joined front' back' → is_stuck_in state back.medium ≡ true
+      → has_failed_in (state_of state) front.drive.bay ≡ false
+      → ReportsBoth state (is_unreported state front back) front back front' back'
+  reports_both front front' back back' joined holds stuck not_seen =
+      subst (λ (b : Bool). ReportsBoth state b front back front' back')
+      (sym (λ i. stuck i && not (not_seen i)))
+      (reports_fault front front' back back' joined holds stuck not_seen)

@@ -4,6 +4,8 @@
 #[cfg(test)]
 mod asserted;
 #[cfg(test)]
+mod drives;
+#[cfg(test)]
 mod fault_tests;
 #[cfg(test)]
 mod reclaim_tests;

@@ -1,22 +1,15 @@
 //! A drive over a cartridge on two disks, and the commands of the tests.
+use crate::drives::switched_on;
+pub use crate::drives::{Tape, switch_off};
 use cartridge::{Cartridge, Shelved};
-use drive_commands::Drive;
-use pr_core::{NoKeeper, Reservations};
 use scsi_sense::{Reply, Status};
 use std::alloc::Global;
 use std::process::Abort;
 use std::test::Fail;
-use tape_buffer::Buffered;
 use tape_disk::{Disk, MemDisk};
 use test_assertions::assert_equal;
 use volume_core::Kind;
 use vtl_base::{Bytes, Nexus};
-
-/// A drive over a cartridge on two disks, which saves no reservations.
-pub type Tape<D> = Drive<Buffered<D>, NoKeeper>;
-
-/// Switches a drive off, which drops it. It is proved once, for every disk.
-pub fn switch_off<D: Disk + Drop>(_drive: Tape<D>) {}
 
 // The expected reply: its sense data, if any, by bytes 0 and 2, INFORMATION, additional code and qualifier;
 // and its bytes.
@@ -160,8 +153,7 @@ pub fn greeted<D: Disk + Drop>(
     first: D,
     second: D,
 ) -> Result<Tape<D>, Fail> {
-    let medium = Buffered::parked(alloc, Shelved::of(first, second));
-    let Ok(mut drive) = Drive::power_on(alloc, NoKeeper, Reservations::empty(), Some(medium)) else {
+    let Some(mut drive) = switched_on(alloc, first, second) else {
         return Err(Fail::from("not switched on"));
     };
     asks(rt, &mut drive, GREETINGS);
@@ -183,8 +175,8 @@ pub fn reads<D: Disk + Drop>(rt: &impl Abort, drive: &mut Tape<D>, objects: &[u8
 
 /// The syncs of the disk with the side that counts.
 pub fn syncs(drive: &Tape<MemDisk>) -> u64 {
-    match drive.medium() {
-        Some(medium) => medium.disk().syncs(),
+    match drive.disk() {
+        Some(disk) => disk.syncs(),
         None => 0,
     }
 }

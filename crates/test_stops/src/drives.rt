@@ -98,7 +98,10 @@ impl Disks {
 /// The disks below a drive, as it left them.
 pub fn reached<D: TestDisk>(drive: &Bay<D>) -> Result<Disks, Fail> {
     match drive.drive().medium() {
-        Some(medium) => Ok(Disks::below(medium.disk(), drive.drive().keeper().disk())?),
+        Some(medium) => match medium.disk() {
+            Some(disk) => Ok(Disks::below(disk, drive.drive().keeper().disk())?),
+            None => Err(Fail::from("no disk")),
+        },
         None => Err(Fail::from("no cartridge")),
     }
 }

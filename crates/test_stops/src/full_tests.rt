@@ -96,12 +96,22 @@ fn does<D: Disk>(rt: &impl Abort, drive: &mut Bay<D>, zeros: &[u8], step: Step, 
         }
         Step::Turns(turn) => return assert_equal!(rt; drive.turn(), turn; at),
         Step::AtEnd => {
-            let len = drive.drive().medium().map(|medium| medium.disk().len());
-            return assert_equal!(rt; len, Some(1_099_511_627_776); at);
+            return assert_equal!(rt; len_of(drive), Some(1_099_511_627_776); at);
         }
     };
     let row = (1, cdb, &zeros[..zeros.len().min(sent)], wanted);
     ask(rt, drive, row, wanted, &at);
+}
+
+// The length of the disk of a drive's medium; None where none is at hand.
+fn len_of<D: Disk>(drive: &Bay<D>) -> Option<u64> {
+    match drive.drive().medium() {
+        Some(medium) => match medium.disk() {
+            Some(disk) => Some(disk.len()),
+            None => None,
+        },
+        None => None,
+    }
 }
 
 fn fills<D: Disk>(rt: &impl Abort, alloc: Global, drive: &mut Bay<D>) -> Result<(), Fail> {

@@ -1,21 +1,45 @@
+use Rattle.split_bay.specs.Backs.{BackState}
+use Rattle.split_bay.specs.Fronts.{FrontState}
+use Rattle.split_bay.proofs.HalvesLemmas.{holds_both, joins_found, kept_bay, parts_left}
 use Rattle.split_bay.proofs.halves.execute_both.Goals as goal
+
+pub detach-requires-clause-hand : goal.detach-requires-clause-hand
+detach-requires-clause-hand g c =
+    kept_bay g.D.Disk.state c.answer-reply.new.drive.bay c.answer-reply.ensures.keeps.cartridge
 
 pub returns : goal.returns
 returns g c =
+    let state = g.D.Disk.state in
+    let front' : FrontState g.row.D.Denot = record { drive = c.detach.new.drive; sending = c.detach.new.sending } in
+    let back' : BackState g.row.D.Denot = record {
+      number = c.detach.new.receiving.number;
+      received = c.detach.new.receiving.received;
+      waiting = c.detach.new.receiving.waiting;
+      medium = c.detach.new.disks;
+    } in
+    let seen : FrontState g.row.D.Denot = record { drive = c.front.inside.drive; sending = c.front.inside.sending } in
+    let seen_back : BackState g.row.D.Denot = record {
+      number = c.back.inside.receiving.number;
+      received = c.back.inside.receiving.received;
+      waiting = c.back.inside.receiving.waiting;
+      medium = c.back.inside.disks;
+    } in
+    let joined = c.attach.new.drive in
+    let left = c.answer-reply.new.drive in
     let back = c.known-2.ensures in
+    let holds = holds_both state seen c.args.front.now seen_back c.args.back.now joined left front' back'
+    c.front.view_is c.back.view_is c.known.ensures.keeps
+    (record { cartridge = back.cartridge; follows = back.follows; within = back.within })
+    (joins_found state seen seen_back joined c.attach.ensures.attaches c.attach.ensures.found)
+    c.attach.ensures.keeps c.answer-reply.ensures.keeps
+    (parts_left state left seen.sending c.attach.new.sending front' back' c.attach.ensures.sending
+    c.detach.ensures.begins c.detach.ensures.detaches c.detach.ensures.same c.detach.ensures.number
+    c.detach.ensures.level) in
     record {
-      joined = c.join-bay.result.0;
-      ends = c.join-bay.result.1;
-      joins = c.join-bay.ensures;
-      front_keeps = c.known.ensures.keeps;
-      back_keeps = record { cartridge = back.cartridge; follows = back.follows; within = back.within };
-      joined_keeps = c.known-3.ensures.keeps;
-      stood = c.known-3.ensures.positioned;
-      answered = c.execute_lent-reply.new.self;
-      answers = c.execute_lent-reply.ensures.moments;
-      settled = c.execute_lent-reply.ensures.settled;
-      safe = c.execute_lent-reply.ensures.safe;
-      keeps = c.known-4.ensures.keeps;
-      positioned = c.known-4.ensures.positioned;
-      parts = c.part-front.ensures;
+      joined = joined;
+      answered = left;
+      holds = holds;
+      answers = c.answer-reply.ensures.moments;
+      settled = c.answer-reply.ensures.settled;
+      safe = c.answer-reply.ensures.safe;
     }

@@ -3,7 +3,7 @@ use Rattle.vtl_base.specs.Below.{advances_nowhere}
 use Rattle.volume_core.specs.Volume.{Part, refusal_of}
 use Rattle.tape_buffer.specs.Moves.{buffer_below, medium_moves_nowhere}
 use Rattle.tape_buffer.specs.State.{BufferState, state_of}
-use Rattle.tape_buffer.specs.Taking.{LentState}
+use Rattle.tape_buffer.specs.Taking.{DisksState}
 use Rattle.split_bay.specs.declared.items.Item.TheVariants.{Sent}
 use Rattle.split_bay.specs.Backs.{FollowsSpan}
 use Rattle.split_bay.specs.Spans.{KeepsLimits, Span, span_of}
@@ -51,11 +51,11 @@ changes-preserved g c =
       follows =
           subst (λ (s : Span). FollowsSpan g.D.Disk.state new s) (sym next)
           (follows_next g.D.Disk.state (span_of items) change old new within c.changes.invariant.follows
-          c.take.ensures.taken);
+          c.take.ensures.taken c.take.ensures.state);
       takes =
           takes_more g.D.Disk.state c.args.receiving.now c.changes.receiving c.receive-change.new.self first old new
           change takes told.number told.received told.waiting
-          (ap (λ (l : LentState g.row.D.Denot). l.buffer) c.take.ensures.taken)
+          (ap (λ (l : DisksState g.row.D.Denot). l.buffer) c.take.ensures.taken)
           (ap (λ (b : BufferState g.row.D.Denot). (state_of g.D.Disk.state b).failed) takes.pending
           ∙ failed_still g.D.Disk.state first.buffer takes.found)
           c.take.ensures.advances;

@@ -1,0 +1,53 @@
+use Rattle.std.proofs.Common.{Ok, sym, subst, ◌∙◌}
+use Rattle.volume_core.specs.Medium.{Accepts, block_bytes, volume_of}
+use Rattle.object_index.specs.Shapes.{IsIndexOf}
+use Rattle.tape_buffer.specs.declared.aways.Away.{Away}
+use Rattle.tape_buffer.specs.Aways.{seen_as}
+use Rattle.tape_buffer.specs.Limits.{FitsBuffer}
+use Rattle.tape_buffer.proofs.AwayLemmas.{Takes, accepts, fits_more, keeps_one, may_enter, seen_more, takes, takes_none}
+use Rattle.tape_buffer.proofs.aways.accept_away.Goals as goal
+
+took : (c : goal.In-None) → Takes c.args.away.now.left (block_bytes c.args.change)
+took c =
+    let away = c.args.away.now in
+    let bytes = block_bytes c.args.change in
+    takes away.left bytes (takes_none away.left away.loose bytes c.requires.within).1
+
+pub enter_shown-requires : goal.enter_shown-requires
+enter_shown-requires c =
+    let away = c.args.away.now in
+    let change = c.args.change in
+    let seen = volume_of away.noted in (
+      seen,
+      may_enter c.args.index.now away.noted away.left.records change c.requires.shows c.requires.knows.roomy
+          (took c).few (sym (c.refusal_shown.ensures seen c.requires.shows) ∙ c.in-None.is),
+    )
+
+pub keep-requires-clause-loose : goal.keep-requires-clause-loose
+keep-requires-clause-loose c =
+    let away = c.args.away.now in
+    (takes_none away.left away.loose (block_bytes c.args.change) c.requires.within).0
+
+pub keep-requires-clause-within : goal.keep-requires-clause-within
+keep-requires-clause-within c = keeps_one c.args.away.now.left c.args.change (took c)
+
+pub returns-in-None-clause-shows : goal.returns-in-None-clause-shows
+returns-in-None-clause-shows c =
+    let seen = c.args.away.now.noted in
+    let change = c.args.change in
+    subst (λ (a : Away). IsIndexOf c.enter_shown.new.index (volume_of a.noted)) (sym c.keep.ensures)
+    (subst (IsIndexOf c.enter_shown.new.index) (sym (seen_more seen change))
+    (c.enter_shown.ensures.shows (volume_of seen) c.requires.shows))
+
+pub returns-in-None-clause-answer : goal.returns-in-None-clause-answer
+returns-in-None-clause-answer c =
+    let away = c.args.away.now in
+    let change = c.args.change in
+    let none = sym (c.refusal_shown.ensures (volume_of away.noted) c.requires.shows) ∙ c.in-None.is in
+    subst (λ (a : Away). Accepts (seen_as away.noted) change (Ok tt) (seen_as a.noted)) (sym c.keep.ensures)
+    (accepts c.args.index.now away change c.requires.knows c.requires.awake (took c) none)
+
+pub returns-in-None-clause-fits : goal.returns-in-None-clause-fits
+returns-in-None-clause-fits c =
+    subst (λ (a : Away). FitsBuffer a.noted.pending) (sym c.keep.ensures)
+    (fits_more c.args.index.now c.args.away.now c.args.change c.requires.knows c.requires.awake (took c))
