@@ -2,7 +2,7 @@
 ghost use Rattle.std.specs.Prelude.{◌≡◌, [], Some};
 
 use crate::ends::{Receiving, Rings, Sending};
-use crate::halving::Ends;
+use crate::wholes::Ends;
 use crate::items::{Item, RING_RECORDS};
 use crate::protocol::InSpans;
 use rtrb::{Consumer, Producer, RingBuffer};
