@@ -19,12 +19,13 @@ use Rattle.bay_moves.specs.Bays.{KeepsBoth, KeepsCartridgeIn, ShowsCartridgeIn}
 use Rattle.bay_moves.specs.Elements.{BayState}
 use Rattle.bay_moves.specs.Reservations.{IsHolding}
 use Rattle.split_bay.specs.declared.items.Item.{Item}
-use Rattle.split_bay.specs.Backs.{BackState, KeepsDiskHalf, is_stuck_in}
+use Rattle.split_bay.specs.Backs.{BackState, FollowsIn, KeepsDiskHalf, is_stuck_in}
 use Rattle.split_bay.specs.Both.{Attaches, AttachesIn, BeginsNext, DetachesIn}
-use Rattle.split_bay.specs.Fronts.{FrontState, KeepsHostsHalf, KeepsOrders}
+use Rattle.split_bay.specs.Fronts.{FrontState, IsFrontOf, KeepsHostsHalf, KeepsOrders}
 use Rattle.split_bay.specs.Halves.{HoldsHalves, Joins, Parts, ReportsBoth, ReportsFault, is_unreported}
 use Rattle.split_bay.specs.Looks.{LookedIn, Looks, deferred_after, fails_anew, is_broken}
 use Rattle.split_bay.specs.Rings.{SendingState}
+use Rattle.split_bay.specs.Spans.{span_of}
 use Rattle.split_bay.proofs.BothLemmas.{read_so}
 use Rattle.split_bay.proofs.TakenLemmas.{awake_still, failed_still}
 
@@ -171,24 +172,28 @@ module _ {D : Type 0} (state : D → DiskState) where
   pub parts_left : (bay : BayState D) (ends begun : SendingState) (front : FrontState D) (back : BackState D)
       → begun ≡ ends → BeginsNext begun front.sending → DetachesIn state bay.bay back.medium front.drive.bay
       → front.drive ≡ record bay { bay = front.drive.bay } → back.number ≡ front.sending.number
-      → back.received ≡ front.sending.sent → Parts state bay ends front back
-  parts_left bay ends begun front back is begins detaches same number level =
+      → back.received ≡ front.sending.sent → IsFrontOf front.drive.bay (span_of front.sending.sent)
+      → FollowsIn state back.medium (span_of back.received) → Parts state bay ends front back
+  parts_left bay ends begun front back is begins detaches same number level stands follows =
       record {
         begins = subst (λ (s : SendingState). BeginsNext s front.sending) is begins;
         detaches = detaches;
         same = same;
         number = number;
         level = level;
+        stands = stands;
+        follows = follows;
       }
 
   -- the disks are back, the drive becomes another, and they go away again; of halves as they are inside their types
   pub holds_both : (seen front : FrontState D) (seen_back back : BackState D) (joined left : BayState D)
       (front' : FrontState D) (back' : BackState D) → seen ≡ front → seen_back ≡ back → KeepsHostsHalf state front
       → KeepsDiskHalf state back → Joins state seen seen_back joined seen.sending → KeepsBoth state joined
-      → KeepsBoth state left → Parts state left seen.sending front' back'
+      → KeepsBoth state left → IsBayPositioned (state_of state) left.bay left.position
+      → Parts state left seen.sending front' back'
       → HoldsHalves state front back joined left front' back'
   holds_both seen front seen_back back joined left front' back' is back_is front_keeps back_keeps joins joined_keeps
-      keeps parts =
+      keeps positioned parts =
       let joins_so = subst (λ (f : FrontState D). Joins state f back joined f.sending) is
       (subst (λ (b : BackState D). Joins state seen b joined seen.sending) back_is joins) in
       record {
@@ -201,6 +206,7 @@ module _ {D : Type 0} (state : D → DiskState) where
             (found_in front.sending.sent back.received back.medium front.drive.bay joined.bay
             joins_so.attaches).looked joins_so.found front_keeps.positioned;
         keeps = keeps;
+        positioned = positioned;
         parts = subst (λ (f : FrontState D). Parts state left f.sending front' back') is parts;
       }
 

@@ -11,11 +11,12 @@ use Rattle.tape_buffer.specs.Moves.{buffer_below}
 use Rattle.tape_buffer.specs.State.{state_of}
 use Rattle.bay_moves.specs.Bays.{AnswersLentInEvent, IsSafeIn, KeepsBoth}
 use Rattle.bay_moves.specs.Elements.{BayState}
-use Rattle.split_bay.specs.Backs.{BackState, KeepsDiskHalf, is_stuck_in}
+use Rattle.split_bay.specs.Backs.{BackState, FollowsIn, KeepsDiskHalf, is_stuck_in}
 use Rattle.split_bay.specs.Both.{AttachesIn, BeginsNext, DetachesIn}
-use Rattle.split_bay.specs.Fronts.{FrontState, KeepsHostsHalf}
+use Rattle.split_bay.specs.Fronts.{FrontState, IsFrontOf, KeepsHostsHalf}
 use Rattle.split_bay.specs.Looks.{Looks, deferred_after, fails_anew}
 use Rattle.split_bay.specs.Rings.{SendingState}
+use Rattle.split_bay.specs.Spans.{span_of}
 
 module _ {D : Type 0} (state : D → DiskState) where
   -- The disks are brought back to the drive, which is found as it then is: a fault that was not told establishes a
@@ -32,13 +33,16 @@ module _ {D : Type 0} (state : D → DiskState) where
     pub looks :
         Looks (machine_of (state_of state) store_kept front.drive) (machine_of (state_of state) store_kept bay)
 
-  -- The disks of a drive go away, and a span begins: all that was sent is received. The drive is the same (own).
+  -- The disks of a drive go away, and a span begins: all that was sent is received. The drive is the same. Both halves
+  -- stand for the span, which says how much may be sent in it (own).
   pub record Parts (bay : BayState D) (ends : SendingState) (front : FrontState D) (back : BackState D) : Type 0 where
     pub begins : BeginsNext ends front.sending
     pub detaches : DetachesIn state bay.bay back.medium front.drive.bay
     pub same : front.drive ≡ record bay { bay = front.drive.bay }
     pub number : back.number ≡ front.sending.number
     pub level : back.received ≡ front.sending.sent
+    pub stands : IsFrontOf front.drive.bay (span_of front.sending.sent)
+    pub follows : FollowsIn state back.medium (span_of back.received)
 
   -- The disks are brought back, the drive becomes another one, and the disks go away again. Halves and drive keep what
   -- their types keep (own).
@@ -51,6 +55,7 @@ module _ {D : Type 0} (state : D → DiskState) where
     pub joined_keeps : KeepsBoth state joined
     pub stood : IsBayPositioned (state_of state) joined.bay joined.position
     pub keeps : KeepsBoth state left
+    pub positioned : IsBayPositioned (state_of state) left.bay left.position
     pub parts : Parts left front.sending front' back'
 
   -- A host is answered by both halves of a bay as by the bay that they are together. Before a synchronizing command is

@@ -3,7 +3,7 @@ ghost use Rattle.std.specs.Prelude.{◌≡◌, None};
 ghost use Rattle.aptpl_store.specs.Kept.{store_kept};
 ghost use Rattle.drive_commands.specs.Execute.{asked};
 ghost use Rattle.drive_commands.specs.Media.{TakesTurn};
-ghost use Rattle.drive_commands.specs.State.{IsAtHand, bay_of};
+ghost use Rattle.drive_commands.specs.State.{IsAtHand, IsBayPositioned, bay_of};
 ghost use Rattle.tape_buffer.specs.Moves.{IsHere, buffer_below};
 ghost use Rattle.tape_buffer.specs.State.{state_of};
 ghost use Rattle.bay_moves.specs.Bays.{KeepsBoth};
@@ -179,6 +179,7 @@ pub(crate) fn detach<D: Disk, R: Rings>(
     ensures detaches { DetachesIn D.state drive.old.bay disks.new drive.new.bay }
     ensures same { drive.new ≡ record drive.old { bay = drive.new.bay } }
     ensures orders { KeepsOrders D.state drive.old → KeepsOrders D.state drive.new }
+    ensures positioned { IsBayPositioned (state_of D.state) drive.old.bay drive.old.position }
 {
     let mut bay = drive.lift();
     let lent = detach_bay(&mut bay, sending, receiving);

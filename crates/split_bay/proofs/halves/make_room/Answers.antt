@@ -31,8 +31,8 @@ returns g c =
     c.front.view_is c.back.view_is c.known.ensures.keeps
     (record { cartridge = back.cartridge; follows = back.follows; within = back.within })
     (joins_found state seen seen_back joined c.attach.ensures.attaches c.attach.ensures.found)
-    c.attach.ensures.keeps c.attach.ensures.keeps
+    c.attach.ensures.keeps c.attach.ensures.keeps c.detach.ensures.positioned
     (parts_left state left seen.sending c.attach.new.sending front' back' c.attach.ensures.sending
     c.detach.ensures.begins c.detach.ensures.detaches c.detach.ensures.same c.detach.ensures.number
-    c.detach.ensures.level) in
+    c.detach.ensures.level c.detach.ensures.front c.detach.ensures.follows) in
     (joined, holds)

@@ -34,4 +34,6 @@ returns g c =
       same = c.detach.ensures.same;
       number = c.detach.ensures.number;
       level = c.detach.ensures.level;
+      stands = c.detach.ensures.front;
+      follows = c.detach.ensures.follows;
     }))
