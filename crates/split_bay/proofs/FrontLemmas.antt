@@ -1,5 +1,5 @@
 -- A drive whose disks are away, and the end of its ring.
-use Rattle.std.proofs.Common.{◌≡◌, ◌+◌, ◌++◌, suc, List, [], ◌∷◌, length, sum_by, Bool, true, false, Option, None, Some, refl, sym, ◌∙◌, ap, subst, arith, append_assoc, length-append}
+use Rattle.std.proofs.Common.{◌≡◌, ◌+◌, ◌++◌, ℕ, suc, List, [], ◌∷◌, length, sum_by, Bool, true, false, Option, None, Some, refl, sym, ◌∙◌, ap, subst, arith, append_assoc, length-append}
 use Rattle.std.specs.Prelude.{not, ◌&&◌, nat_lt, nat_le}
 use Rattle.std.proofs.lemmas.Bool.{le-leb}
 use Rattle.std.proofs.lemmas.List.{append-nil}
@@ -12,8 +12,13 @@ use Rattle.volume_core.specs.Volume.{AllApply, refusal_of}
 use Rattle.cartridge.specs.State.{ClosedCartridge, OpenCartridge}
 use Rattle.drive_commands.specs.declared.bays.Bay.{Bay}
 use Rattle.drive_commands.specs.declared.bays.Bay.TheVariants.{Empty, Unloaded, Loaded}
+use Rattle.drive_commands.specs.Alone.{AnswersAlone}
+use Rattle.drive_commands.specs.Events.{Execute}
 use Rattle.drive_commands.specs.Execute.{AdvancesIn}
 use Rattle.drive_commands.specs.State.{IsBayPositioned, IsPositioned, bay_of, medium_in}
+use Rattle.drive_commands.specs.Work.{Request}
+use Rattle.scsi_sense.specs.declared.replies.Reply.{Reply}
+use Rattle.aptpl_store.specs.Kept.{store_below, store_kept}
 use Rattle.positioning.specs.declared.positions.Pos.{Pos}
 use Rattle.tape_buffer.specs.declared.aways.Away.{Away}
 use Rattle.tape_buffer.specs.declared.budgets.Budget.{Budget}
@@ -21,9 +26,11 @@ use Rattle.tape_buffer.specs.declared.holding.Holding.{Holding}
 use Rattle.tape_buffer.specs.declared.holding.Holding.TheVariants as Holdings
 use Rattle.tape_buffer.specs.Aways.{MovesAway, loose_in, seen_as, seen_with}
 use Rattle.tape_buffer.specs.Detaching.{loose_held, passed, passed_held}
-use Rattle.tape_buffer.specs.Moves.{IsAway, MovesIn, away_in, buffer_below}
+use Rattle.tape_buffer.specs.Moves.{IsAway, MovesIn, away_in, buffer_below, takes_alone_in}
 use Rattle.tape_buffer.specs.State.{BufferState, state_held, state_of}
-use Rattle.split_bay.specs.Fronts.{AreAway, IsFrontOf, LeftIn, OwesAway, OwesHeld, OwesIn, loose_in_bay, span_since}
+use Rattle.bay_moves.specs.Elements.{BayState}
+use Rattle.bay_moves.specs.Reservations.{HoldingGoesOn}
+use Rattle.split_bay.specs.Fronts.{AreAway, IsFrontOf, KeepsOrders, LeavesOrders, LeftIn, OwesAway, OwesHeld, OwesIn, loose_in_bay, passed_on, span_since}
 use Rattle.split_bay.specs.Spans.{Span, medium_begun, medium_seen, takes_more, volume_seen}
 use Rattle.split_bay.proofs.SpanLemmas.{frame_of}
 
@@ -141,6 +148,28 @@ module _ {D : Type 0} (state : D → DiskState) where
   positioned_passed (Loaded medium) position on =
       subst (λ (m : MediumState). IsPositioned m position)
       (sym (passed_state medium.held medium.pending)) on
+
+module _ {D : Type 0} (state : D → DiskState)
+    (goes_on : HoldingGoesOn (state_of state) (buffer_below state) state) (old answered new : BayState D)
+    (request : Request) (reply : Reply) (left : List ℕ) (holds : KeepsOrders state old)
+    (step :
+    AnswersAlone (state_of state) store_kept takes_alone_in (buffer_below state) (store_below state) old request
+    (Some reply) answered left)
+    (passes : new ≡ passed_on answered) where
+  -- a drive that was asked keeps its reservations, also once it passed on what it made
+  pub orders_passed : KeepsOrders state new
+  orders_passed =
+      let kept = (goes_on old answered (Execute request) holds (reply, step.1.step)).0 in
+      subst (λ (d : BayState D). KeepsOrders state d) (sym passes)
+      (record { sound = kept.sound; saved = kept.saved; at_rest = kept.at_rest; shows = kept.shows })
+
+  -- and at each moment of that its store gives them
+  pub moments_passed : LeavesOrders state old request (Some reply) new
+  moments_passed =
+      subst (λ (d : BayState D). LeavesOrders state old request (Some reply) d) (sym passes)
+      (λ honest.
+      let moments = (goes_on old answered (Execute request) holds (reply, step.1.step)).1 honest in
+      (moments.0, moments.1))
 
 away_held : {C S : Type 0} (held : Holding C S) (span : Span) → OwesHeld held span → IsAway held
 away_held (Holdings.Away a) span owes = tt

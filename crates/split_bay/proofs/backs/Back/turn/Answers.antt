@@ -8,7 +8,7 @@ use Rattle.split_bay.proofs.backs.Back.turn.Goals as goal
 
 pub invariant_of-self : goal.invariant_of-self
 invariant_of-self g c =
-    let medium = c.in-Some.medium in
+    let medium = c.in-Some.disks in
     let taken = c.take_known.new.medium in
     let some = c.take_known.ensures.takes.takes in
     let works = ap (works_in g.D.Disk.state) (sym c.in-Some.is)
@@ -24,7 +24,7 @@ invariant_of-self g c =
 pub returns : goal.returns
 returns g c =
     let i = c.self.inside in
-    let medium = c.in-Some.medium in
+    let medium = c.in-Some.disks in
     let new = c.take_known.new.receiving in
     let done : BackState g.row.D.Denot = record {
       number = new.number;
@@ -36,7 +36,7 @@ returns g c =
       number = i.receiving.number;
       received = i.receiving.received;
       waiting = i.receiving.waiting;
-      medium = i.medium;
+      medium = i.disks;
     } in
     let there : BackState g.row.D.Denot = record before { medium = Some medium } in
     let same : there ≡ before = λ j. record before { medium = sym c.in-Some.is j } in

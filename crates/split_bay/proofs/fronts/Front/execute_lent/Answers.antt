@@ -1,9 +1,21 @@
-use Rattle.std.proofs.Common.{subst}
+use Rattle.std.proofs.Common.{Some, subst}
+use Rattle.aptpl_store.specs.Kept.{store_kept}
 use Rattle.drive_commands.specs.Execute.{asked, is_device_fault}
-use Rattle.split_bay.specs.Fronts.{AnswersHalf, FrontState}
+use Rattle.drive_commands.specs.State.{machine_of}
+use Rattle.drive_commands.specs.Synchronize.{Acknowledges, IsSynchronizing}
+use Rattle.tape_buffer.specs.State.{state_of}
+use Rattle.split_bay.specs.Fronts.{AnswersHalf, FrontState, LeavesOrders}
 use Rattle.split_bay.specs.Spans.{span_of}
-use Rattle.split_bay.proofs.FrontLemmas.{owes_after}
+use Rattle.split_bay.proofs.FrontLemmas.{moments_passed, orders_passed, owes_after}
 use Rattle.split_bay.proofs.fronts.Front.execute_lent.Goals as goal
+
+pub invariant_of-self-in-Some : goal.invariant_of-self-in-Some
+invariant_of-self-in-Some g c = (
+  c.pass_on.ensures.stands,
+  orders_passed g.D.Disk.state c.reservations_outlive_each_stop.ensures.goes_on c.self.inside.drive
+      c.execute_alone.new.self c.pass_on.new.drive (asked c.args.nexus c.args.cdb.now c.args.sent.now)
+      c.in-Some.reply c.execute_alone.new.sent c.self.invariant.1 c.in-Some.ensures.step c.pass_on.ensures.drive,
+)
 
 pub returns-in-Some-clause-step : goal.returns-in-Some-clause-step
 returns-in-Some-clause-step g c =
@@ -25,3 +37,19 @@ returns-in-Some-clause-step g c =
       drive = c.pass_on.ensures.drive;
       sending = c.pass_on.ensures.sending;
     })
+
+pub returns-in-Some-clause-waits : goal.returns-in-Some-clause-waits
+returns-in-Some-clause-waits g c =
+    subst (λ (f : FrontState g.row.D.Denot).
+    IsSynchronizing (machine_of (state_of g.D.Disk.state) store_kept f.drive) c.args.cdb.now
+    → Acknowledges c.in-Some.reply → ⊥) c.self.view_is c.in-Some.ensures.waits
+
+pub returns-in-Some-clause-moments : goal.returns-in-Some-clause-moments
+returns-in-Some-clause-moments g c =
+    let state = g.D.Disk.state in
+    let request = asked c.args.nexus c.args.cdb.now c.args.sent.now in
+    subst (λ (f : FrontState g.row.D.Denot).
+    LeavesOrders state f.drive request (Some c.in-Some.reply) c.pass_on.new.drive) c.self.view_is
+    (moments_passed state c.reservations_outlive_each_stop.ensures.goes_on c.self.inside.drive
+    c.execute_alone.new.self c.pass_on.new.drive request c.in-Some.reply c.execute_alone.new.sent
+    c.self.invariant.1 c.in-Some.ensures.step c.pass_on.ensures.drive)
