@@ -22,6 +22,7 @@ use Rattle.tape_buffer.specs.Aways.{IsCut, IsRoomFor, IsRoomyIn, KnowsAway, loos
 use Rattle.tape_buffer.specs.Budgets.{KeepsBudget, budget_after}
 use Rattle.tape_buffer.specs.Catalogs.{IsCataloged}
 use Rattle.tape_buffer.specs.Detaching.{away_buffer}
+use Rattle.tape_buffer.specs.Frames.{AcceptsInFrames}
 use Rattle.tape_buffer.specs.Limits.{FitsBuffer}
 use Rattle.tape_buffer.specs.State.{BufferState, state_held, state_of}
 use Rattle.tape_buffer.specs.Taking.{LendsFrom, LendsHeld}
@@ -173,6 +174,12 @@ module _ (parts : List PlacedPart) (away : Away) (change : Change)
             (omega (arith, takes.fits, frame_of change));
       }
 
+-- no frame is stored without the disks
+pub frames_away : (pending : List Change) (change : Change) → FitsBuffer (pending ++ change ∷ [])
+    → AcceptsInFrames change (Ok tt) [] pending [] (pending ++ change ∷ [])
+frames_away pending change fits =
+    (pending, record { waits = λ fit. (refl, refl); goes = λ past. absurd (past fits) }, refl)
+
 grown_outline : (old new : List PlacedPart) → IsGrown old new → outline new ≡ outline old
 grown_outline [] [] grown = refl
 grown_outline (p ∷ ps) (q ∷ qs) grown =
@@ -219,7 +226,7 @@ module _ {D : Type 0} (state : D → DiskState) (old new : BufferState D) (left 
     pub room : seen.awake ≡ true → IsRoomFor seen.room left.room seen.pending
 
   not_both : {P : Type 0} (b : Bool) → b ≡ false → b ≡ true → P
-  not_both b no yes = let e : true ≡ false = sym yes ∙ no in absurd (cc)
+  not_both b off on = let e : true ≡ false = sym on ∙ off in absurd (cc)
 
   facts : Facts (state_of state old)
   facts = by old.held new.held lends.held
