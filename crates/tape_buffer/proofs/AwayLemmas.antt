@@ -4,9 +4,9 @@ use Rattle.std.proofs.lemmas.Bool.{and_parts, leb-true, ltb-true}
 use Rattle.std.proofs.lemmas.List.Sums.{sum_by-append}
 use Rattle.volume_core.specs.declared.changes.Change.{Change}
 use Rattle.volume_core.specs.declared.changes.Change.TheVariants.{Put, Marks, Erase}
-use Rattle.volume_core.specs.Medium.{Accepts, Fits, MediumState, block_bytes, frame_size, volume_of, volume_or_empty}
-use Rattle.volume_core.specs.Stores.{after_append}
-use Rattle.volume_core.specs.Volume.{changed, part_of, refusal_of}
+use Rattle.volume_core.specs.Medium.{Accepts, Fits, LeavesRoom, MediumState, block_bytes, frame_size, volume_of, volume_or_empty}
+use Rattle.volume_core.specs.Stores.{Stores, after_append, stored_after}
+use Rattle.volume_core.specs.Volume.{Part, changed, part_of, refusal_of}
 use Rattle.object_index.specs.Places.{PlacedPart, reserved_of}
 use Rattle.object_index.specs.Shapes.{IsIndexOf}
 use Rattle.cartridge.specs.Shown.{MayEnter}
@@ -163,6 +163,27 @@ module _ (parts : List PlacedPart) (away : Away) (change : Change)
             λ awake. room_more away.noted.room away.left.room away.noted.pending change (knows.room awake)
             (omega (arith, takes.fits, frame_of change));
       }
+
+-- a side that stores nothing gives what it gave, and has the room that it had
+stored_still : (stored : Option (List Part)) → stored ≡ stored_after stored []
+stored_still None = refl
+stored_still (Some volume) = refl
+
+room_still : (room : Option ℕ) → LeavesRoom room [] room
+room_still None = refl
+room_still (Some room) = omega arith
+
+-- nothing is stored without the disks
+pub stores_away : (seen : MediumState) (changes : List Change)
+    → Stores (seen_as seen) changes (seen_as (seen_with seen changes))
+stores_away seen changes =
+    record {
+      count = 0;
+      fits = omega arith;
+      stored = stored_still seen.stored;
+      pending = refl;
+      room = room_still seen.room;
+    }
 
 -- no frame is stored without the disks
 pub frames_away : (pending : List Change) (change : Change) → FitsBuffer (pending ++ change ∷ [])
