@@ -4,6 +4,7 @@ mod AwayLemmas
 mod ChangeLemmas
 mod ClosingLemmas
 mod CoreLemmas
+mod DetachingLemmas
 mod FetchingLemmas
 mod FrameLemmas
 mod HeldLemmas

@@ -1,9 +1,11 @@
 //! What a medium knows of itself while its disks are away.
 ghost use Rattle.std.specs.Prelude.{◌≡◌, ◌≤◌, ◌+◌, [], ◌∷◌, None, Some, true, false, IfErr, length};
 ghost use Rattle.volume_core.specs.Medium.{Accepts, MediumState, accept_answer, accepted_by, block_bytes, met_fault, volume_of};
+ghost use Rattle.volume_core.specs.Stores.{Stores};
 ghost use Rattle.object_index.specs.Shapes.{IsIndexOf};
 ghost use Rattle.tape_buffer.specs.Aways.{KnowsAway, MovesAway, loose_in, seen_as, seen_with, takes_loose};
 ghost use Rattle.tape_buffer.specs.Budgets.{KeepsBudget, budget_after};
+ghost use Rattle.tape_buffer.specs.Frames.{AcceptsInFrames};
 ghost use Rattle.tape_buffer.specs.Invariants.{IsHeld, buffer_of};
 ghost use Rattle.tape_buffer.specs.Limits.{FitsBuffer};
 ghost use Rattle.tape_buffer.specs.Moves.{IsHere};
@@ -109,8 +111,12 @@ pub(crate) fn accept_away(
     ensures knows { KnowsAway (Some index.new) away.new }
     ensures answer { Accepts (seen_as away.old.noted) change (accept_answer result) (seen_as away.new.noted) }
     ensures returned { IfErr result (λ refused. refused.change ≡ change) }
+    ensures frames { AcceptsInFrames change (accept_answer result) [] away.old.noted.pending [] away.new.noted.pending }
+    ensures stores { Stores (seen_as away.old.noted) (accepted_by (accept_answer result) change)
+        (seen_as away.new.noted) }
     ensures moves { MovesAway away.old (accepted_by (accept_answer result) change) away.new }
     ensures fits { FitsBuffer away.new.noted.pending }
+    ensures awake { away.new.noted.awake ≡ true }
     ensures device { met_fault (accept_answer result) ≡ false }
 {
     match refusal_shown(index, &change) {

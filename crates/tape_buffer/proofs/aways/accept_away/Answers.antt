@@ -1,13 +1,16 @@
-use Rattle.std.proofs.Common.{Ok, sym, subst, ◌∙◌}
+use Rattle.std.proofs.Common.{◌≡◌, [], ◌∷◌, Ok, sym, subst, true, ◌∙◌}
 use Rattle.volume_core.specs.Medium.{Accepts, block_bytes, volume_of}
+use Rattle.volume_core.specs.Stores.{Stores, stores_nowhere}
 use Rattle.object_index.specs.Shapes.{IsIndexOf}
 use Rattle.tape_buffer.specs.declared.aways.Away.{Away}
 use Rattle.tape_buffer.specs.Aways.{seen_as}
+use Rattle.tape_buffer.specs.Frames.{AcceptsInFrames}
 use Rattle.tape_buffer.specs.Limits.{FitsBuffer}
-use Rattle.tape_buffer.proofs.AwayLemmas.{Takes, accepts, fits_more, keeps_one, may_enter, seen_more, takes, takes_none}
+use Rattle.tape_buffer.proofs.AwayLemmas.{Takes, accepts, fits_more, frames_away, keeps_one, may_enter, seen_more, stores_away, takes, takes_none}
+use Rattle.tape_buffer.proofs.aways.accept_away.Goals.{In-None}
 use Rattle.tape_buffer.proofs.aways.accept_away.Goals as goal
 
-took : (c : goal.In-None) → Takes c.args.away.now.left (block_bytes c.args.change)
+took : (c : In-None) → Takes c.args.away.now.left (block_bytes c.args.change)
 took c =
     let away = c.args.away.now in
     let bytes = block_bytes c.args.change in
@@ -51,3 +54,24 @@ pub returns-in-None-clause-fits : goal.returns-in-None-clause-fits
 returns-in-None-clause-fits c =
     subst (λ (a : Away). FitsBuffer a.noted.pending) (sym c.keep.ensures)
     (fits_more c.args.index.now c.args.away.now c.args.change c.requires.knows c.requires.awake (took c))
+
+pub returns-in-None-clause-frames : goal.returns-in-None-clause-frames
+returns-in-None-clause-frames c =
+    let away = c.args.away.now in
+    let change = c.args.change in
+    subst (λ (a : Away). AcceptsInFrames change (Ok tt) [] away.noted.pending [] a.noted.pending) (sym c.keep.ensures)
+    (frames_away away.noted.pending change
+    (fits_more c.args.index.now away change c.requires.knows c.requires.awake (took c)))
+
+pub returns-in-Some-clause-stores : goal.returns-in-Some-clause-stores
+returns-in-Some-clause-stores c = stores_nowhere (seen_as c.args.away.now.noted)
+
+pub returns-in-None-clause-stores : goal.returns-in-None-clause-stores
+returns-in-None-clause-stores c =
+    let seen = c.args.away.now.noted in
+    let made = c.args.change ∷ [] in
+    subst (λ (a : Away). Stores (seen_as seen) made (seen_as a.noted)) (sym c.keep.ensures) (stores_away seen made)
+
+pub returns-in-None-clause-awake : goal.returns-in-None-clause-awake
+returns-in-None-clause-awake c =
+    subst (λ (a : Away). a.noted.awake ≡ true) (sym c.keep.ensures) c.requires.awake

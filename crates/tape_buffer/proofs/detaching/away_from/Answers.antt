@@ -3,7 +3,7 @@ use Rattle.volume_core.specs.Medium.{MediumState}
 use Rattle.tape_buffer.specs.Aways.{IsCut}
 use Rattle.tape_buffer.specs.declared.budgets.Budget.{Budget}
 use Rattle.tape_buffer.specs.Invariants.{buffer_of}
-use Rattle.tape_buffer.proofs.AwayLemmas.{knows_away, shows_away}
+use Rattle.tape_buffer.proofs.DetachingLemmas.{knows_away, shows_away}
 use Rattle.tape_buffer.proofs.detaching.away_from.Goals as goal
 
 pub returns-clause-away : goal.returns-clause-away

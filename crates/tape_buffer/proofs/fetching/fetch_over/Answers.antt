@@ -12,6 +12,7 @@ use Rattle.tape_buffer.specs.State.{open_buffer}
 use Rattle.tape_buffer.proofs.CoreLemmas.{rests}
 use Rattle.tape_buffer.proofs.FetchingLemmas.{copied_block, copied_memory, copied_short, copied_well, fetched, fetched_lack}
 use Rattle.tape_buffer.proofs.fetching.fetch_over.Given.{Over}
+use Rattle.tape_buffer.proofs.fetching.fetch_over.Goals.{In-None, In-Some}
 use Rattle.tape_buffer.proofs.fetching.fetch_over.Goals as goal
 
 pub returns-then-has_failed-clause-advances : goal.returns-then-has_failed-clause-advances
@@ -25,7 +26,7 @@ waiting_block-requires g c =
     (volume_made c.args.cartridge.now.contents, c.requires.held.apply, c.requires.block)
 
 -- what waits
-waits : (g : Over) (c : goal.In-Some g)
+waits : (g : Over) (c : In-Some g)
     → (block_at (after (volume_made c.args.cartridge.now.contents) c.args.pending.now) c.args.part c.args.at
     ≡ Some c.in-Some.block.now)
     × (length c.in-Some.block.now ≤ MAX_BLOCK)
@@ -37,7 +38,7 @@ waits g c =
     c.requires.held.apply c.requires.block
 
 -- what is stored
-stored : (g : Over) (c : goal.In-None g)
+stored : (g : Over) (c : In-None g)
     → slice_get (objects_of (after (volume_made c.args.cartridge.now.contents) c.args.pending.now) c.args.part)
     c.args.at
     ≡ slice_get (objects_of (volume_made c.args.cartridge.now.contents) c.args.part) c.args.at

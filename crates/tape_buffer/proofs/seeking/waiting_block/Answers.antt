@@ -10,8 +10,8 @@ bounds-changes-number c =
     last_inside c.requires.0 c.args.changes.now c.args.part c.args.at c.in-Some.number
     (c.in-Some.ensures c.requires.0 c.requires.1) c.requires.2
 
-pub returns-in-Put-clause-waits : goal.returns-in-Put-clause-waits
-returns-in-Put-clause-waits c = λ volume all block.
+pub returns-clause-waits : goal.returns-clause-waits
+returns-clause-waits c = λ volume all block.
     let changes = c.args.changes.now in
     let number = c.in-Some.number in
     let change = c.index-changes-number.result in
