@@ -2,7 +2,7 @@
 RT := $(shell command -v rt)
 
 .PHONY: demo vtl check wrong rows rows-wrong nomemory mutants faults explained hostile memory endings examples stops kills \
-	mended cluster iscsi hosts page bench gate fmt definitions install manual need-rt
+	mended tools cluster iscsi hosts page bench gate fmt definitions install manual need-rt
 .DEFAULT_GOAL := demo
 
 need-rt:
@@ -23,7 +23,7 @@ EXAMPLES = $(filter-out %.tape %.tape.2 %.pr,$(wildcard examples/*.*))
 
 vtl: need-rt
 	@python3 checks/build.py
-	@cd crates/vtl && rt run -- run < stdin > /dev/null
+	@cd crates/vtl && out/vtl run < stdin | cmp - stdout
 	@echo "the proved program is crates/vtl/out/vtl"
 
 # The program that is there: whoever installs may lack rt.
@@ -43,6 +43,7 @@ install: crates/vtl/out/vtl
 	install -D -m 644 $(ISCSI)/vtl-iscsi.service $(DESTDIR)$(PREFIX)/lib/systemd/system/vtl-iscsi.service
 	install -d $(DESTDIR)$(PREFIX)/share/vtl/vtl_iscsi $(DOC)/iscsi
 	install -m 644 $(ISCSI)/vtl_iscsi/*.py $(DESTDIR)$(PREFIX)/share/vtl/vtl_iscsi
+	install -m 755 tools/cartridge.py $(DESTDIR)$(PREFIX)/share/vtl
 	install -m 644 $(ISCSI)/README.md $(DOC)/iscsi
 	install -d $(DOC)/examples/cluster
 	install -m 644 examples/cluster/*.* $(DOC)/examples/cluster
@@ -120,6 +121,10 @@ mended: $(if $(PROGRAM),,vtl)
 	python3 checks/mended_faults.py --selftest
 	python3 checks/mended_faults.py $(if $(PROGRAM),--program $(PROGRAM)) $(if $(COUNT),--runs $(COUNT)) $(if $(SEED),--seed $(SEED))
 
+tools: $(if $(PROGRAM),,vtl)
+	python3 checks/cartridge_tool.py $(if $(PROGRAM),--program $(PROGRAM)) $(if $(COUNT),--count $(COUNT)) \
+		$(if $(SEED),--seed $(SEED))
+
 # Debian's packages that `make cluster` wants; it runs as root.
 CLUSTER = glusterfs-server glusterfs-client ceph-mon ceph-mgr ceph-osd ceph-mds ceph-fuse pacemaker corosync crmsh \
 	resource-agents psmisc kmod iproute2 fuse3
@@ -156,3 +161,4 @@ fmt: need-rt
 definitions:
 	python3 checks/definitions.py
 	python3 checks/edits.py
+	python3 checks/headline.py

@@ -156,7 +156,7 @@ def copied(room, names, rows):
     shutil.copy(os.path.join(TOP, "HANDLES"), room)
     with open(os.path.join(room, "crates.txt"), "w", encoding="utf-8") as file:
         file.writelines(f"{rows[it][0]}\n" for it in names)
-    leave = shutil.ignore_patterns("out", "wrong")
+    leave = shutil.ignore_patterns("out", "wrong.edits")
     for name in names:
         shutil.copytree(os.path.join(TOP, "crates", name), os.path.join(room, "crates", name), ignore=leave)
     subprocess.run(["git", "init", "-q", room], check=True)

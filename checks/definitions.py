@@ -198,18 +198,27 @@ def public_names(path):
 
 
 def parts_of(path):
-    """Each part of a file of specs/: the name that it defines, whether it is a law, and the part."""
+    """Each part of a file of specs/: the name that it defines, whether it is a law, the part, and the heads of the
+    modules around it."""
     # what stands in a module is read as if it stood alone
-    inside, lines = False, []
+    heads, parts, part = [], [], []
     for line in read(path).splitlines():
-        inside = line.startswith("module ") or inside and (not line or line.startswith(" "))
-        lines.append(line.removeprefix("  ") if inside else line)
-    for part in re.split(r"\n(?=--|\S)", "\n".join(lines)):
-        named = DEFINED.match(part)
-        if part.startswith(("use ", "--")):
+        column = len(line) - len(line.lstrip())
+        heads = [head for head in heads if not line or column > head[0]]
+        if line.lstrip().startswith("module "):
+            heads = [*heads, (column, line.strip())]
+            part = []
             continue
-        head = re.match(r"\S+", part)
-        yield named[3] if named else head[0] if head else "", bool(named) and named[2].strip() == "pub", part
+        bare = line[heads[-1][0] + 2:] if heads else line
+        if re.match(r"--|\S", bare):
+            part = []
+            parts.append((part, [head for _, head in heads]))
+        part.append(bare)
+    for lines, around in parts:
+        text = "\n".join(lines)
+        named, head = DEFINED.match(text), re.match(r"\S+", text)
+        if not re.match(r"(pub )?use |--", text):
+            yield named[3] if named else head[0], bool(named) and named[2].strip() == "pub", text, around
 
 
 def unreached():
@@ -219,7 +228,7 @@ def unreached():
         for path in files_below(crate, "src", ".rt"):
             seeds |= public_names(path)
         for path in specification(crate):
-            for name, is_law, part in parts_of(path):
+            for name, is_law, part, _ in parts_of(path):
                 bodies[name] = bodies.get(name, "") + "\n" + part
                 seeds |= {name} if is_law else set()
     reached, left = set(), list(seeds & set(bodies))

@@ -1,5 +1,5 @@
 #!/usr/bin/env python3
-"""Writes EDITS.md: each edit of crates/*/must-fail and crates/*/wrong, under the function that it changes.
+"""Writes EDITS.md: each edit of crates/*/must-fail and crates/*/wrong.edits, under the function that it changes.
 
 edits.py           writes the file
 edits.py --check   says where the file differs; ends with 1 where it does
@@ -9,23 +9,17 @@ import re
 import sys
 
 from definitions import crates, read
+from wrong_edits import edits_in
 
 TOP = os.path.dirname(os.path.dirname(os.path.abspath(__file__)))
 DOCS = os.path.join(TOP, "docs")
 HEAD = """# Edits
 
-An index, made by `checks/edits.py` from `crates/*/must-fail` and `crates/*/wrong`. Each edit makes a function wrong,
-and the prover has to refuse the crate with it. Its text is the file `NAME.edit`. The gate tries the edits of
-`must-fail/`, which stand here in bold. `make wrong` tries those of `wrong/`; `make wrong CRATE=name EDIT=name` tries
-one. An edit that changes several functions stands under each. [CLAIMS.md](CLAIMS.md) names one edit for each claim.
+An index, made by `checks/edits.py` from `crates/*/must-fail` and `crates/*/wrong.edits`. Each edit makes a function
+wrong, and the prover has to refuse the crate with it. The gate tries the edits of `must-fail/`, a file `NAME.edit`
+each, which stand here in bold. `make wrong` tries those of `wrong.edits`; `make wrong CRATE=name EDIT=name` tries one.
+An edit that changes several functions stands under each. [CLAIMS.md](CLAIMS.md) names one edit for each claim.
 """
-
-
-def edits_in(crate, folder):
-    """The edits of the crate in the folder: the name and the text of each."""
-    place = os.path.join(TOP, "crates", crate, folder)
-    files = sorted(os.listdir(place)) if os.path.isdir(place) else []
-    return [(file.removesuffix(".edit"), read(place, file)) for file in files if file.endswith(".edit")]
 
 
 def places_of(crate, edit):
@@ -71,8 +65,8 @@ def item_at(text, old):
 def rows(crate):
     """The functions of the crate that edits change, by file, each with the names of its edits."""
     found = {}
-    for folder, form in (("must-fail", "**`{}`**"), ("wrong", "`{}`")):
-        for name, text in edits_in(crate, folder):
+    for folder, form in (("must-fail", "**`{}`**"), ("wrong.edits", "`{}`")):
+        for name, text in sorted(edits_in(crate, folder).items()):
             places = list(places_of(crate, text))
             # a line `use` alone is no function, unless nothing else is changed
             for place in {it for it in places if it[1]} or set(places):
@@ -83,10 +77,10 @@ def rows(crate):
 def whole():
     text, every = [], 0
     for crate in crates():
-        gated, others = len(edits_in(crate, "must-fail")), len(edits_in(crate, "wrong"))
+        gated, others = len(edits_in(crate, "must-fail")), len(edits_in(crate, "wrong.edits"))
         every += gated + others
         if gated + others:
-            text.append(f"\n## {crate}\n\n{gated} in `must-fail/`, {others} in `wrong/`.\n\n")
+            text.append(f"\n## {crate}\n\n{gated} in `must-fail/`, {others} in `wrong.edits`.\n\n")
             text.append("| File | Function | Edits |\n|---|---|---|\n")
             text += [f"| {path.removeprefix('src/')} | `{item}` | {', '.join(names)} |\n".replace("``", "")
                      for (path, item), names in rows(crate)]

@@ -129,7 +129,7 @@ def installed():
     wanted = {path: 0o644 for path in ["share/man/man1/vtl.1", *own]}
     programs = ("tape.py", "cluster/ceph.sh", "cluster/library", "cluster/vtl-socket")
     wanted |= {f"share/doc/vtl/examples/{name}": 0o755 for name in programs}
-    wanted |= {"bin/vtl": 0o755, "bin/vtl-iscsi": 0o755}
+    wanted |= {"bin/vtl": 0o755, "bin/vtl-iscsi": 0o755, "share/vtl/cartridge.py": 0o755}
     return [f"make install: {path} has mode {found.get(path, 0):o} in the place of {wanted.get(path, 0):o}"
             for path in sorted({*found, *wanted}) if found.get(path) != wanted.get(path)]
 

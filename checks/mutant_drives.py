@@ -65,6 +65,8 @@ EDITS = [
      "        let mut said = read_all(&mut self.looked.file, at, buffer);\n        if said.is_err() {\n"
      "            said = read_all(&mut self.looked.file, at, buffer);\n        }\n        match said {",
      ["each_error_is_counted"]),
+    ("a file is made for others to read", "file_disk", "src/opening.rt", "    options.mode(OWNER_ALONE);\n",
+     "    options.mode(OWNER_ALONE | 0o044);\n", ["a_file_is_read_back"]),
     ("create opens a file that is there, and empties it", "file_disk", "src/opening.rt",
      "    options.read(true).write(true).create_new(true);",
      "    options.read(true).write(true).create(true).truncate(true);",
@@ -88,6 +90,12 @@ EDITS = [
     ("the blocks of the first partition alone are read", "check_lines", "src/reading.rt",
      "    for part in 0..cartridge.parts() {\n        if let Err(fault) = read_partition(",
      "    for part in 0..1 {\n        if let Err(fault) = read_partition(", ["a_check_opens_both_files_to_read"]),
+    ("what was read and all are reported the other way round", "check_lines", "src/reading.rt",
+     "        reports.read(before.saturating_add(used), all);\n",
+     "        reports.read(all, before.saturating_add(used));\n", ["a_check_opens_both_files_to_read"]),
+    ("what was read of the partitions before is not reported", "check_lines", "src/reading.rt",
+     "        reports.read(before.saturating_add(used), all);\n",
+     "        let _ = before;\n        reports.read(used, all);\n", ["a_check_opens_both_files_to_read"]),
     ("a check of a configuration ends at a file that is not read", "vtl_files", "src/config_checks.rt",
      "    let Ok(report) = check_report(alloc, word, label, &lines) else {\n",
      "    if let Err(fault) = &lines {\n        return Err(*fault);\n    }\n"

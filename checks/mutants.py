@@ -126,7 +126,7 @@ def main():
         shutil.copy(os.path.join(TOP, "crates.txt"), room)
         shutil.copy(os.path.join(TOP, "HANDLES"), room)
         shutil.copytree(os.path.join(TOP, "crates"), os.path.join(room, "crates"),
-                        ignore=shutil.ignore_patterns("out", "must-fail", "wrong"))
+                        ignore=shutil.ignore_patterns("out", "must-fail", "wrong.edits"))
         os.makedirs(os.path.join(room, "checks"))
         shutil.copy(os.path.join(TOP, "checks", "unproved.py"), os.path.join(room, "checks"))
         subprocess.run(["git", "init", "-q", room], check=True)

@@ -1,5 +1,6 @@
 #!/usr/bin/env python3
-"""Tries whether the rows find wrong code: each edit of rows/wrong.txt, CRATE/NAME of crates/CRATE/wrong/NAME.edit.
+"""Tries whether the rows find wrong code: each edit of rows/wrong.txt, CRATE/NAME, the edit NAME of
+crates/CRATE/wrong.edits.
 
 On a copy of the repository each is made, the program is built without its proofs, and the rows are run as they stand,
 those of its subject first, until one differs: it is named. An edit that no row finds, or that does not build, is an
@@ -35,7 +36,7 @@ def edited(room, name):
     """Makes the edit in the copy; the old texts by path."""
     crate, _, edit = name.partition("/")
     old, texts, path = None, {}, None
-    for line in wrong_edits.read(TOP, "crates", crate, "wrong", f"{edit}.edit").removesuffix("\n").split("\n"):
+    for line in wrong_edits.edits_in(crate, "wrong.edits")[edit].removesuffix("\n").split("\n"):
         word, _, rest = line.partition(":")
         rest = rest[1:]
         if word == "file":
@@ -55,7 +56,7 @@ def copied(room):
     for name in ("crates.txt", "HANDLES"):
         shutil.copy(os.path.join(TOP, name), room)
     shutil.copytree(os.path.join(TOP, "crates"), os.path.join(room, "crates"),
-                    ignore=shutil.ignore_patterns("out", "must-fail", "wrong"))
+                    ignore=shutil.ignore_patterns("out", "must-fail", "wrong.edits"))
     os.makedirs(os.path.join(room, "checks"))
     shutil.copy(os.path.join(TOP, "checks", "unproved.py"), os.path.join(room, "checks"))
     subprocess.run(["git", "init", "-q", room], check=True)
@@ -103,8 +104,8 @@ def main():
     names = given.names or listed()
     for name in names:
         crate, _, edit = name.partition("/")
-        path = os.path.join(TOP, "crates", crate, "wrong", f"{edit}.edit")
-        why = wrong_edits.fault_in(crate, path) if os.path.isfile(path) else "there is no such edit"
+        edits = wrong_edits.edits_in(crate, "wrong.edits")
+        why = wrong_edits.fault_in(crate, edits[edit]) if edit in edits else "there is no such edit"
         if why:
             sys.exit(f"{name}: {why}")
     ordered, said = rows.read_all([os.path.join(TOP, "rows")])

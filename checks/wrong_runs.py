@@ -7,7 +7,8 @@ import sys
 import threading
 
 import wrong_batches
-from wrong_edits import TOP, libraries_below, lowest_first, read
+from wrong_edits import (TOP, UNTRIED, edits_in, file_of, first_line, libraries_below, lowest_first, parted, read,
+                         sum_of)
 
 SAID = re.compile(r"rt: must-fail (\w+)/([\w.-]+)\.edit: (refused, as it must be|NOT REFUSED|BAD EDIT)(.*)")
 BY_NAME = "refused by a name alone"
@@ -19,7 +20,7 @@ def copied(room, chosen, known):
     """A repository like this one, over which each library below the chosen edits is built."""
     for file in ("crates.txt", "HANDLES"):
         shutil.copy(os.path.join(TOP, file), room)
-    leave = shutil.ignore_patterns("out", "must-fail", "wrong")
+    leave = shutil.ignore_patterns("out", "must-fail", "wrong.edits")
     for crate in known:
         shutil.copytree(os.path.join(TOP, "crates", crate), os.path.join(room, "crates", crate), ignore=leave)
     subprocess.run(["git", "init", "-q", room], check=True)
@@ -55,13 +56,23 @@ def own_room(room, crate, known):
 
 
 class Results:
-    """What became of each edit, as (name, kind, words), printed and added to a file."""
+    """What became of each edit, as (name, kind), printed and added to a file: there behind a sum of edit and text."""
 
-    def __init__(self, path):
+    def __init__(self, path, chosen):
         self.path, self.rows, self.lock = path, [], threading.Lock()
-        self.had = set()
-        if path and os.path.isfile(path):
-            self.had = {line.partition(": ")[0] for line in read(path).splitlines()}
+        self.sums = {f"{crate}/{name}": sum_of(crate, {name: edit})
+                     for crate, edits in chosen.items() for name, edit in edits.items()}
+        # the first line of each file and its edits, as they are before any is tried
+        self.files = {crate: (parted(read(file_of(crate)))[0], edits_in(crate, "wrong.edits")) for crate in chosen}
+        found = re.findall(r"(?m)^(\w+) (\w+/\w+): ([^:\n]*): ", read(path)) if path and os.path.isfile(path) else []
+        self.had = {name: kind for sum_then, name, kind in found
+                    if sum_then == self.sums.get(name) and not kind.startswith("NOT TRIED")}
+
+    def left(self, chosen):
+        """The edits that have no result yet."""
+        left = {crate: {name: edit for name, edit in edits.items() if f"{crate}/{name}" not in self.had}
+                for crate, edits in chosen.items()}
+        return {crate: edits for crate, edits in left.items() if edits}
 
     def note(self, crate, name, kind, words):
         line = f"{crate}/{name}: {kind}: {' '.join(words.split())[:240]}"
@@ -70,15 +81,29 @@ class Results:
             print(line, flush=True)
             if self.path:
                 with open(self.path, "a", encoding="utf-8") as file:
-                    file.write(line + "\n")
+                    file.write(f"{self.sums[f'{crate}/{name}']} {line}\n")
+
+    def mark(self, crate):
+        """Writes the first line of the crate's file, as its results have it."""
+        first, edits = self.files[crate]
+        kinds = {name: kind for name, kind in [*self.had.items(), *self.rows] if name.startswith(f"{crate}/")}
+        refused = {name.partition("/")[2] for name, kind in kinds.items() if kind.startswith("refused")}
+        has_hole = any(kind.startswith("PROVED") for kind in kinds.values())
+        line = UNTRIED if has_hole else first_line(crate, first, edits, refused)
+        now, rest = read(file_of(crate)).split("\n", 1)
+        # what somebody wrote there since stays
+        if now == first:
+            with open(file_of(crate), "w", encoding="utf-8") as file:
+                file.write(f"{line}\n{rest}")
 
 
 def tried_alone(own, crate, edits, results):
     """Has the gate's tool try each edit, on a copy of its own."""
     folder = os.path.join(own, "crates", crate, "must-fail")
     os.mkdir(folder)
-    for edit in edits.values():
-        shutil.copy(edit, folder)
+    for name, edit in edits.items():
+        with open(os.path.join(folder, f"{name}.edit"), "w", encoding="utf-8") as file:
+            file.write(edit)
     done = subprocess.run(["rt", "must-fail", crate], cwd=own, stdout=subprocess.PIPE, stderr=subprocess.STDOUT,
                           text=True, errors="replace")
     said, lines = {}, done.stdout.splitlines()
@@ -104,7 +129,7 @@ def tried(room, crate, edits, known, results, is_alone):
                 results.note(crate, name, "NOT TRIED", f"the crate isn't proved as it is: {' '.join(said)[-160:]}")
             return
         note = lambda *words: results.note(crate, *words)
-        names = wrong_batches.tried(opened, {name: read(edit) for name, edit in edits.items()}, note)
+        names = wrong_batches.tried(opened, edits, note)
         left = {name: edits[name] for name in names}
     if left:
         tried_alone(own, crate, left, results)

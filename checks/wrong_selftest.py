@@ -1,9 +1,14 @@
-"""Tiny cases for wrong_bodies.py and wrong_batches.py: edits that are put together, and checks that are read."""
+"""Tiny cases for wrong_edits.py, wrong_runs.py, wrong_bodies.py and wrong_batches.py: files of edits, what is noted of
+them, edits that are put together, and checks that are read."""
+import contextlib
+import io
 import os
 import tempfile
 
 import wrong_batches
 import wrong_bodies
+import wrong_edits
+import wrong_runs
 
 CODE = """//! A text.
 const STEP: u32 = 1;
@@ -81,6 +86,71 @@ fn box::more::odd: not proved; it rests on something that is not proved
 logic=not-proved
 """
 
+EDITS = """untried
+
+one
+One thing
+file: src/a.rt
+old: x
+new: y
+
+two
+Another thing
+file: src/a.rt
+old: x
+new:
+file: src/b.rt
+old: y
+new: z
+"""
+# a change of that file, and what is said of its form
+MISSHAPEN = [("untried", "tried", "its first line"), ("untried", "tried: 12", "its first line"),
+             ("two\n", "one\n", "one stands there twice"), ("two\n", "two things\n", "a line that is no name"),
+             ("\ntwo", "\n\ntwo", "a line that is no name"), ("One thing\n", "", "one: no line says"),
+             ("Another thing", " ", "two: no line says")]
+
+
+def cases_of_edits():
+    pairs = "file: src/a.rt\nold: x\nnew:"
+    yield "a file of edits", wrong_edits.parted(EDITS), ("untried", [
+        ["one", "One thing", f"{pairs} y"], ["two", "Another thing", f"{pairs}\nfile: src/b.rt\nold: y\nnew: z"]])
+    yield "its form", list(wrong_edits.form_faults(EDITS)), []
+    for old, new, why in MISSHAPEN:
+        said = list(wrong_edits.form_faults(EDITS.replace(old, new, 1)))
+        yield f"{old!r} as {new!r}", len(said) == 1 and said[0].startswith(why), True
+    sums = [wrong_edits.sum_of("vtl_base", edits) for edits in ({"a": "1"}, {"a": "2"}, {"b": "1"}, {})]
+    yield "sums of edits", len({*sums, wrong_edits.sum_of("ledgers", {"a": "1"})}), 5
+    with tempfile.TemporaryDirectory(prefix="wrong_") as room:
+        seen = set()
+        for file, text in (("src/a", "1"), ("src/a", "2"), ("src/b", "2"), ("specs/a", "1"), ("proofs/more/a", "1")):
+            os.makedirs(os.path.dirname(os.path.join(room, file)), exist_ok=True)
+            with open(os.path.join(room, file), "w", encoding="utf-8") as to:
+                to.write(text)
+            seen.add(wrong_edits.sum_of_files(room))
+        yield "sums of files", len(seen), 5
+        with open(os.path.join(room, "README.md"), "w", encoding="utf-8") as to:
+            to.write("1")
+        yield "a file of no sum", wrong_edits.sum_of_files(room) in seen, True
+
+
+def cases_of_results():
+    edits, tried = {"a": "1", "b": "2"}, lambda edits: f"tried: {wrong_edits.sum_of('vtl_base', edits)}"
+    line = lambda first, refused: wrong_edits.first_line("vtl_base", first, edits, refused)
+    yield "all were refused", line("untried", {"a", "b"}), tried(edits)
+    yield "one was refused", line("untried", {"a"}), "untried"
+    yield "the others were before", line(tried({"b": "2"}), {"a"}), tried(edits)
+    yield "another text was before", line(tried({"b": "3"}), {"a"}), tried({"b": "3"})
+    yield "none was, this time", line(tried(edits), set()), tried(edits)
+    with tempfile.TemporaryDirectory(prefix="wrong_") as room, contextlib.redirect_stdout(io.StringIO()):
+        path = os.path.join(room, "results")
+        for name, kind in (("a", "refused alone"), ("b", "NOT TRIED")):
+            wrong_runs.Results(path, {"vtl_base": edits}).note("vtl_base", name, kind, "a: word\nand more")
+        yield "what is left", wrong_runs.Results(path, {"vtl_base": edits}).left({"vtl_base": edits}), {
+            "vtl_base": {"b": "2"}}
+        other = {"a": "3"}
+        yield "another edit", wrong_runs.Results(path, {"vtl_base": other}).left({"vtl_base": other}), {
+            "vtl_base": other}
+
 
 def cases_of_bodies(box):
     """Each case as its name, what came, and what was to come."""
@@ -150,7 +220,7 @@ def cases_of_files():
 
 def main():
     box = wrong_batches.Crate("box", "", "", {"src/more.rt": CODE}, NAMES)
-    cases = [*cases_of_bodies(box), *cases_of_checks(box), *cases_of_files()]
+    cases = [*cases_of_edits(), *cases_of_results(), *cases_of_bodies(box), *cases_of_checks(box), *cases_of_files()]
     for name, came, wanted in cases:
         if came != wanted:
             print(f"{name}: {came!r}, and not {wanted!r}")

@@ -26,10 +26,11 @@ impl<D: Disk> Keeper for AptplStore<D> {
 
     ghost below = { store_below D.state };
 
-    /// Saves `reservations` as one frame, in four calls of the disk, two of which are syncs. At Ok, where the disk is
-    /// honest, no crash loses them. A save for which memory is reserved allocates none. After `Device` the store has
-    /// failed, and writes nothing more; where the disk is honest, the side then has the whole frame or nothing of it.
-    /// After every other error nothing has changed.
+    /// Saves `reservations` as one frame, in four calls of the disk, two of which are syncs; the first save over bytes
+    /// behind the end gate makes a call more, which cuts them off. At Ok, where the disk is honest, no crash loses
+    /// them. A save for which memory is reserved allocates none. After `Device` the store has failed, and writes
+    /// nothing more; where the disk is honest, the side then has the whole frame or nothing of it. After every other
+    /// error nothing has changed.
     fn save(&mut self, reservations: &Reservations) -> Result<(), KeeperError>
         ensures answer { Saves (store_kept self.old) reservations.now result (store_kept self.new) }
         ensures advances { Advances (store_below D.state)

@@ -1,6 +1,7 @@
 -- Two disks that are opened as a cartridge, and then the first as a store.
-use Rattle.std.proofs.Common.{◌≡◌, inl, inr, ℕ, List, refl, sym, ap, ◌∙◌, subst, arith, Result, Ok, Err, IfOk, IfErr}
-use Rattle.tape_disk.specs.Disk.{DiskState, IsDisk, Only}
+use Rattle.std.proofs.Common.{◌≡◌, inl, inr, ℕ, Bool, List, refl, sym, ap, ◌∙◌, subst, arith, Result, Ok, Err, IfOk, IfErr, OnOk}
+use Rattle.vtl_base.specs.declared.faults.DevFault.{DevFault}
+use Rattle.tape_disk.specs.Disk.{DiskCall, DiskState, IsDisk, Only}
 use Rattle.tape_disk.specs.Moments as Moments
 use Rattle.tape_disk.specs.Moments.{LeavesOnly}
 use Rattle.tape_disk.specs.TwoDisks.{AreHonest, EachOfTwo, Images, KeepsDisks, MayLeave, TwoDisks, TwoLeave, two_in_sequence, seen_of_two}
@@ -11,7 +12,7 @@ use Rattle.gate_journal.specs.Side.{Heading, IsName}
 use Rattle.cartridge.specs.declared.error.CartridgeError.{CartridgeError}
 use Rattle.cartridge.specs.declared.error.CartridgeError.TheVariants.{NotOurs, Damaged, BadRecord, SideFull, Device, Failed, NoMemory}
 use Rattle.cartridge.specs.Answers.{IsNotOpened}
-use Rattle.cartridge.specs.Contents.{IsNoCartridge}
+use Rattle.cartridge.specs.Contents.{Contents, GivesContents, IsNoCartridge}
 use Rattle.cartridge.specs.Disks.{NoneOfTwo, OnlyOfTwo}
 use Rattle.aptpl_store.specs.declared.error.StoreError.{StoreError}
 use Rattle.aptpl_store.specs.declared.error.StoreError.TheVariants as store
@@ -21,6 +22,7 @@ use Rattle.pr_core.specs.declared.states.PrState.{PrState}
 use Rattle.pr_core.specs.States.{power_loss}
 use Rattle.vtl_faults.specs.declared.faults.VtlFault.{VtlFault}
 use Rattle.vtl_faults.specs.declared.faults.VtlFault.TheVariants as faults
+use Rattle.check_lines.specs.Reading.{HaveRead, ReadsEach, wanted_lengths}
 use Rattle.check_lines.specs.SideText.{IsNotShown, IsStoreNotShown, SideText, PrintsStates, bad_record_line, damaged_line, not_a_side_line}
 
 -- the lines that a refusal of an opening as a cartridge has; where no side counts the first disk is opened as a store
@@ -53,6 +55,42 @@ module _ {D : Type 0} (state : D → DiskState) (old new : TwoDisks D) where
   refusal_shown NoMemory (Err fault) why is = tt
   refusal_shown SideFull (Err fault) why is = tt
   refusal_shown Failed (Err fault) why is = tt
+
+-- what was read where lines came
+module _ {D : Type 0} (state : D → DiskState) (effect : DiskCall → Result Unit DevFault → D → D → Type 0)
+    (wanted : Bool) (old mid new : TwoDisks D) where
+  -- of a cartridge that was opened
+  pub cartridge_read : (contents : Contents) (lines : Result (List ℕ) VtlFault)
+      → (AreHonest state old → GivesContents contents (seen_of_two state old) × OnlyOfTwo state old mid)
+      → OnOk lines (ReadsEach effect contents.which (wanted_lengths wanted contents) mid new)
+      → OnOk lines (AreHonest state old → HaveRead state effect wanted old new)
+  cartridge_read contents (Ok text) gives reads = λ honest.
+      inl (contents, (gives honest).0, (mid, (gives honest).1, reads))
+  cartridge_read contents (Err fault) gives reads = tt
+
+  -- of disks that give none
+  pub none_read_of : (lines : Result (List ℕ) VtlFault) → IsNotOpened state NotOurs old mid
+      → OnOk lines (AreHonest state old → HaveRead state effect wanted old new)
+  none_read_of (Ok text) why = λ honest. inr (inl (why.1 honest).0)
+  none_read_of (Err fault) why = tt
+
+  -- of a side that was refused
+  pub refusal_read : (error : CartridgeError) (lines : Result (List ℕ) VtlFault)
+      → IsNotOpened state error old mid → PrintsRefusal error lines
+      → OnOk lines (AreHonest state old → HaveRead state effect wanted old new)
+  refusal_read NotOurs lines why is = absurd is
+  refusal_read (Damaged at) (Ok text) why is = λ honest. inr (inr (at, inl (why.1 honest).0))
+  refusal_read (BadRecord at) (Ok text) why is = λ honest. inr (inr (at, inr (why.1 honest).0))
+  refusal_read (Device fault) (Ok text) why is = cc
+  refusal_read NoMemory (Ok text) why is = cc
+  refusal_read SideFull (Ok text) why is = absurd why
+  refusal_read Failed (Ok text) why is = absurd why
+  refusal_read (Damaged at) (Err fault) why is = tt
+  refusal_read (BadRecord at) (Err fault) why is = tt
+  refusal_read (Device other) (Err fault) why is = tt
+  refusal_read NoMemory (Err fault) why is = tt
+  refusal_read SideFull (Err fault) why is = tt
+  refusal_read Failed (Err fault) why is = tt
 
 -- the line that a refusal of an opening as a store has
 abbrev pub PrintsStoreRefusal : StoreError → Result (List ℕ) VtlFault → Type 0

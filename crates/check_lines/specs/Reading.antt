@@ -1,13 +1,14 @@
 -- What the reading of a cartridge's blocks leaves (own).
-use Rattle.std.specs.Prelude.{◌≡◌, ◌<◌, ℕ, List, [], ◌∷◌, flat_map, length, false, Option, None, Some, Result, OnOk, IfErr, slice_get}
+use Rattle.std.specs.Prelude.{◌≡◌, ◌⊎◌, ◌<◌, ℕ, Bool, List, [], ◌∷◌, flat_map, length, false, if◌then◌else◌, Option, None, Some, Result, OnOk, IfErr, slice_get}
 use Rattle.vtl_base.specs.declared.faults.DevFault.{DevFault}
 use Rattle.volume_core.specs.declared.objects.Object.{Object}
 use Rattle.volume_core.specs.declared.objects.Object.TheVariants.{Block, Mark}
 use Rattle.volume_core.specs.Volume.{Part, objects_of}
 use Rattle.tape_disk.specs.Disk.{DiskCall, DiskState}
-use Rattle.tape_disk.specs.TwoDisks.{AreHonest, KeepsDisks, TwoDisks, failures_of}
+use Rattle.tape_disk.specs.TwoDisks.{AreHonest, KeepsDisks, TwoDisks, failures_of, seen_of_two}
 use Rattle.cartridge_sides.specs.declared.which.Which.{Which}
-use Rattle.cartridge.specs.Disks.{NoneOfTwo, ReadsSide, UnwrittenTwo}
+use Rattle.cartridge.specs.Contents.{Contents, GivesContents, IsBadFrameAt, IsDamagedPairAt, IsNoCartridge, volume_made}
+use Rattle.cartridge.specs.Disks.{NoneOfTwo, OnlyOfTwo, ReadsSide, UnwrittenTwo}
 use Rattle.cartridge.specs.State.{OpenCartridge}
 use Rattle.vtl_faults.specs.declared.faults.VtlFault.{VtlFault}
 use Rattle.vtl_faults.specs.declared.faults.VtlFault.TheVariants.{Words, Config, Script, Frame, Device, NoMemory}
@@ -33,6 +34,11 @@ block_lengths objects = flat_map length_if_block objects
 -- the lengths of the blocks of these partitions, one partition after another (own)
 abbrev pub lengths_in : List Part → List ℕ
 lengths_in volume = flat_map (λ (part : Part). block_lengths part.objects) volume
+
+-- the lengths of the blocks of a cartridge's contents that are to be read: of all where that is wanted, else of none
+-- (own)
+abbrev pub wanted_lengths : Bool → Contents → List ℕ
+wanted_lengths wanted contents = if wanted then lengths_in (volume_made contents) else []
 
 module _ {D : Type 0} (effect : DiskCall → Result Unit DevFault → D → D → Type 0) (which : Which) where
   -- the disk of that side was read once for each of these lengths, in their order, each time so many bytes; nothing
@@ -64,3 +70,14 @@ module _ {D : Type 0} (state : D → DiskState) where
       pub each : OnOk result (ReadsEach effect old.contents.which lengths old.disks new.disks)
       pub cause : IfErr result (λ fault. IsNotRead fault old.disks new.disks)
       pub unwritten : AreHonest state old.disks → UnwrittenTwo state old.disks new.disks
+
+    -- Two disks were looked at. They give a cartridge, and behind its opening each of its blocks was read to its end,
+    -- from the side that counts, where that was wanted, and nothing else was called. Or they give none, or one that is
+    -- damaged or has a bad frame (own).
+    abbrev pub HaveRead : (wanted : Bool) → (old new : TwoDisks D) → Type 0
+    HaveRead wanted old new =
+        ((contents : Contents) × GivesContents contents (seen_of_two state old)
+        × ((mid : TwoDisks D) × OnlyOfTwo state old mid
+        × ReadsEach effect contents.which (wanted_lengths wanted contents) mid new))
+        ⊎ (IsNoCartridge (seen_of_two state old)
+        ⊎ ((at : ℕ) × (IsDamagedPairAt (seen_of_two state old) at ⊎ IsBadFrameAt (seen_of_two state old) at)))

@@ -12,7 +12,7 @@ ghost use Rattle.tape_disk.specs.TwoDisks.{AreHonest, KeepsDisks, MayLeave, TwoL
 ghost use Rattle.gate_journal.specs.Answers.{NoneFailed};
 ghost use Rattle.cartridge.specs.Disks.{NoneOfTwo, OnlyOfTwo, UnwrittenTwo};
 ghost use Rattle.check_lines.specs.Disks.{both, disks_checked};
-ghost use Rattle.check_lines.specs.Reading.{IsNotRead};
+ghost use Rattle.check_lines.specs.Reading.{HaveRead, IsNotRead, ReadsEach, wanted_lengths};
 ghost use Rattle.check_lines.specs.SideText.{IsNotShown, IsStoreNotShown, SideText, PrintsContents, PrintsStates, bad_record_line, cartridge_line, damaged_line, partition_lines, registrations_in, store_line};
 
 use crate::reading::{ReportsRead, read_wanted};
@@ -254,6 +254,8 @@ fn check_cartridge<D: Disk, P: ReportsRead>(
         IsNotRead D.state fault cartridge.disks (disks_checked result)) }
     ensures unwritten { AreHonest D.state cartridge.disks →
         UnwrittenTwo D.state cartridge.disks (disks_checked result) }
+    ensures read { OnOk result.lines (ReadsEach D.effect cartridge.contents.which
+        (wanted_lengths (is_some reports.entry) cartridge.contents) cartridge.disks (disks_checked result)) }
 {
     let mut cartridge = cartridge;
     let lines = match read_wanted(alloc, &mut cartridge, reports) {
@@ -287,6 +289,8 @@ pub fn check_side<D: Disk, P: ReportsRead>(
     ensures text { IfOk result.lines (λ text. AreHonest D.state (both first second) →
         SideText (seen_of_two D.state (both first second)) text
         × OnlyOfTwo D.state (both first second) (disks_checked result)) }
+    ensures read { OnOk result.lines (AreHonest D.state (both first second) →
+        HaveRead D.state D.effect (is_some reports.entry) (both first second) (disks_checked result)) }
     ensures cause { IfErr result.lines (λ fault.
         IsNotShown D.state fault (both first second) (disks_checked result)) }
     ensures any_moment { AreHonest D.state (both first second) →

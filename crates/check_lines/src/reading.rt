@@ -1,8 +1,8 @@
 //! Reads the blocks of a cartridge to their end.
-ghost use Rattle.std.specs.Prelude.{◌≡◌, [], false, if◌then◌else◌, is_some};
+ghost use Rattle.std.specs.Prelude.{◌≡◌, true, false, is_some, IfErr};
 ghost use Rattle.volume_core.specs.Volume.{objects_of};
 ghost use Rattle.cartridge.specs.Contents.{volume_made};
-ghost use Rattle.check_lines.specs.Reading.{IsRead, block_lengths, block_length_at, lengths_in};
+ghost use Rattle.check_lines.specs.Reading.{IsRead, block_lengths, block_length_at, lengths_in, wanted_lengths};
 
 use cartridge::{Cartridge, CartridgeError};
 use std::alloc::Global;
@@ -117,9 +117,9 @@ pub fn read_wanted<D: Disk, P: ReportsRead>(
     reports: Option<&P>,
 ) -> Result<(), VtlFault>
     requires { cartridge.old.failed ≡ false }
-    ensures { IsRead D.state D.effect
-        (if is_some reports.entry then lengths_in (volume_made cartridge.old.contents) else [])
-        cartridge.old cartridge.new result }
+    ensures read { IsRead D.state D.effect
+        (wanted_lengths (is_some reports.entry) cartridge.old.contents) cartridge.old cartridge.new result }
+    ensures wanted { IfErr result (λ fault. is_some reports.entry ≡ true) }
 {
     match reports {
         Some(reports) => read_blocks(alloc, cartridge, reports),

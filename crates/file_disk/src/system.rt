@@ -1,5 +1,5 @@
 //! A file of the operating system, and the calls of the system for it.
-ghost use Rattle.std.specs.Prelude.{◌≡◌, ◌≢◌, ◌<◌, ◌≤◌, None, Some, IfOk, length, not};
+ghost use Rattle.std.specs.Prelude.{◌≡◌, ◌≢◌, ◌<◌, ◌≤◌, None, Some, IfOk, false, length, not};
 ghost use Rattle.std.specs.IoError.{error_kind};
 ghost use Rattle.file_disk.specs.FailedCall.{failed_by, none_moved};
 ghost use Rattle.file_disk.specs.FileDisk.{lacks_locks, system_failed, system_file};
@@ -40,6 +40,7 @@ impl SystemFile {
     pub fn over(file: File) -> SystemFile
         ensures file { system_file result ≡ Some file }
         ensures failed { system_failed result ≡ None }
+        ensures locked { lacks_locks result ≡ false }
     {
         SystemFile::over_locked(file, true)
     }
@@ -62,6 +63,7 @@ impl SystemFile {
     pub fn none() -> SystemFile
         ensures file { system_file result ≡ None }
         ensures failed { system_failed result ≡ None }
+        ensures locked { lacks_locks result ≡ false }
     {
         SystemFile {
             file: None,

@@ -1,6 +1,7 @@
 pub mod Answers
 pub mod Behind
 pub mod Crash
+pub mod Cuts
 pub mod Decoding
 pub mod Followed
 pub mod Gates

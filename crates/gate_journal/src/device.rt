@@ -3,6 +3,7 @@
 ghost use Rattle.std.specs.Prelude.{◌≡◌, ◌+◌, ◌<◌, ◌≤◌, ◌^◌, [], ◌∷◌, ◌++◌, ℕ, length, take, drop, slice_index, OnOk, vec_capacity};
 ghost use Rattle.tape_disk.specs.Disk.{DiskState, Only, Passes, Smeared, overwritten};
 ghost use Rattle.tape_disk.specs.Moments.{LeavesOnly};
+ghost use Rattle.gate_journal.specs.Cuts.{CutsFirst};
 ghost use Rattle.gate_journal.specs.Followed.{KeepsRoom, followed};
 ghost use Rattle.gate_journal.specs.Side.{CLOSED, OPEN};
 ghost use Rattle.gate_journal.specs.Inner.Writing.{BehindOrGated, CutFrom, Touched, opened};
@@ -54,6 +55,8 @@ fn cut_behind<D: Disk>(disk: &mut D, len: u64) -> Result<(), DevFault>
         (CutFrom len (D.state disk.old).may_leave) }
     ensures cut { (D.state disk.old).honest → OnOk result
         ((D.state disk.new).seen ≡ take len (D.state disk.old).seen) }
+    ensures first { (D.state disk.old).honest → len < length (D.state disk.old).seen →
+        CutsFirst D.effect len disk.old }
 {
     if disk.len() <= len {
         return Ok(());
@@ -84,6 +87,8 @@ pub(crate) fn write_frame<D: Disk, P: BodyParts>(
         (((D.state disk.new).seen
         ≡ opened (take end (D.state disk.old).seen) (followed bytes.old.items (P.parts parts.now) ++ CLOSED ∷ []))
         × Only (D.state disk.new).seen (D.state disk.new).may_leave) }
+    ensures first { (D.state disk.old).honest → end + 1 < length (D.state disk.old).seen →
+        CutsFirst D.effect (end + 1) disk.old }
     ensures room { KeepsRoom (P.parts parts.now) (vec_capacity bytes.old) (vec_capacity bytes.new) }
 {
     cut_behind(disk, end + 1)?;

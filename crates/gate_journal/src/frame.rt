@@ -3,6 +3,7 @@ ghost use Rattle.std.specs.Prelude.{◌≡◌, ◌≤◌, ◌<◌, ◌+◌, ◌^
 ghost use Rattle.tape_disk.specs.Disk.{DiskState, Only, Passes};
 ghost use Rattle.tape_disk.specs.Moments.{LeavesOnly};
 ghost use Rattle.std.specs.Int.{to_be_bytes, w32};
+ghost use Rattle.gate_journal.specs.Cuts.{CutsFirst};
 ghost use Rattle.gate_journal.specs.Followed.{FrameHasRoom, KeepsRoom, followed};
 ghost use Rattle.gate_journal.specs.Side.{IsBody};
 ghost use Rattle.gate_journal.specs.Spelled.{body_taken};
@@ -153,6 +154,8 @@ impl Frame {
             (((D.state disk.new).seen
             ≡ opened (take end (D.state disk.old).seen) (tail_of (followed self.old.body (P.parts parts.now))))
             × Only (D.state disk.new).seen (D.state disk.new).may_leave) }
+        ensures first { (D.state disk.old).honest → end + 1 < length (D.state disk.old).seen →
+            CutsFirst D.effect (end + 1) disk.old }
     {
         let size = self.size_with(parts);
         put_size(&mut self.bytes, size);

@@ -6,6 +6,7 @@ ghost use Rattle.gate_journal.specs.Followed.{FrameHasRoom, KeepsRoom, followed}
 ghost use Rattle.gate_journal.specs.Side.{IsBody, StandsFor};
 ghost use Rattle.gate_journal.specs.Answers.{Appended, Broke, IsFault, MatchWrite, NoneFailed};
 ghost use Rattle.gate_journal.specs.Crash.{WithOrWithout};
+ghost use Rattle.gate_journal.specs.Cuts.{CutsFirst};
 ghost use Rattle.gate_journal.specs.State.{room_behind};
 
 use crate::{BodyParts, Frame, Journal, JournalError};
@@ -67,6 +68,10 @@ impl<D: Disk> Journal<D> {
         ensures sure { (D.state self.old.disk).honest → OnOk result
             (Each (D.state self.new.disk) (StandsFor self.new.front self.new.bodies)
             × (length (D.state self.new.disk).seen ≡ self.new.end + 1)) }
+        ensures first { (D.state self.old.disk).honest →
+            self.old.end + 1 < length (D.state self.old.disk).seen → MatchWrite result
+            (CutsFirst D.effect (self.old.end + 1) self.old.disk) (Unit {0}) (Unit {0})
+            (λ _. CutsFirst D.effect (self.old.end + 1) self.old.disk) (Unit {0}) }
         ensures any_moment { (D.state self.old.disk).honest → self.old.failed ≡ false →
             LeavesOnly (D.state self.old.disk) (D.state self.new.disk)
             (WithOrWithout self.old.front self.old.bodies (followed frame.old.body (P.parts parts.now))) }

@@ -9,6 +9,7 @@ use cartridge::Cartridge;
 use pr_core::Reservations;
 use std::alloc::Global;
 use tape_disk::Disk;
+use volume_core::are_capacities;
 use vtl_base::{Barcode, DriveNo};
 
 /// A new cartridge with this barcode, of one partition with this capacity, on these two disks. Creating it makes five
@@ -23,7 +24,11 @@ pub fn parked<D: Disk + Drop>(
     let Ok(barcode) = Barcode::parse(barcode) else {
         return Err("no barcode");
     };
-    match Cartridge::create(alloc, first, second, &barcode, &[capacity]) {
+    let capacities = [capacity];
+    if !are_capacities(&capacities) {
+        return Err("no capacity");
+    }
+    match Cartridge::create(alloc, first, second, &barcode, &capacities) {
         Ok(shelved) => Ok(Parked::of(alloc, shelved)),
         Err(_) => Err("no cartridge"),
     }

@@ -1,10 +1,9 @@
 //! Frames behind the end of the side in an open file.
-use crate::steps::{named, new_folder};
+use crate::steps::{Step, act, named, new_folder};
 use file_disk::{FileDisk, no_file, open};
 use std::fs;
 use std::process::Abort;
 use std::test::Fail;
-use tape_disk::Disk;
 use test_assertions::assert_equal;
 
 // A cartridge `T1` whose end gate stands at 35. Behind it stand a frame of a filemark, and the gate at 50.
@@ -12,8 +11,8 @@ const BEHIND: &'static [u8; 51] = b"\xa5VTLCART1\0\x01T1              \0\0\0\0\0
     \0\0\0\0\x0a\x02\0\0\0\0\0\0\0\0\x01\
     \xa5";
 
-fn changed(disk: &mut FileDisk, at: u64, byte: u8) -> Result<Option<u64>, Fail> {
-    disk.write_at(at, &[byte])?;
+fn changed(disk: &mut FileDisk, step: Step) -> Result<Option<u64>, Fail> {
+    act(disk, step)?;
     Ok(disk.file().frames_behind())
 }
 
@@ -23,12 +22,11 @@ fn of_ends(abort: &impl Abort, rt: &HostRuntime, path: &str) -> Result<(), Fail>
     let mut disk = open(rt, path)?;
     assert_equal!(abort; disk.file().frames_behind(), Some(35));
     // A closed gate behind the frame is one that a stop leaves. Where the end gate is open the side is damaged.
-    assert_equal!(abort; changed(&mut disk, 50, 0)?, None);
-    assert_equal!(abort; changed(&mut disk, 50, 0xa5)?, Some(35));
-    assert_equal!(abort; changed(&mut disk, 35, 0xa5)?, None);
-    assert_equal!(abort; changed(&mut disk, 35, 0)?, Some(35));
-    disk.cut(36)?;
-    assert_equal!(abort; disk.file().frames_behind(), None);
+    assert_equal!(abort; changed(&mut disk, Step::Put(50, &[0]))?, None);
+    assert_equal!(abort; changed(&mut disk, Step::Put(50, &[0xa5]))?, Some(35));
+    assert_equal!(abort; changed(&mut disk, Step::Put(35, &[0xa5]))?, None);
+    assert_equal!(abort; changed(&mut disk, Step::Put(35, &[0]))?, Some(35));
+    assert_equal!(abort; changed(&mut disk, Step::Cut(36))?, None);
     assert_equal!(abort; disk.file().failed().is_none(), true);
     drop(disk);
     Ok(())

@@ -1,4 +1,6 @@
 //! Loading and unloading that meet a fault, and a medium that is moved out of the drive.
+ghost use Rattle.std.specs.Prelude.{◌≡◌, false};
+
 use crate::asked::{
     A_NEW, Answer, BY_A, CHANGED, END, FAILED, GOOD, HELLO, LOAD, NO_MEDIUM, NONE, READ_5,
     REGISTER, RESERVE_5, Row, TEST_UNIT_READY, UNLOAD, WRITE_5, WRITE_ERROR,
@@ -87,7 +89,9 @@ static PUT_IN: &'static [Row<'static>] = &[
     (1, RESERVE_5, BY_A, GOOD),
 ];
 
-fn is_put_in(rt: &impl Abort, drive: &mut Plain, medium: StagedMedium) {
+fn is_put_in(rt: &impl Abort, drive: &mut Plain, medium: StagedMedium)
+    requires { medium.awake ≡ false }
+{
     stays(rt, drive, NO_MEDIUM);
     if !drive.is_empty() {
         assert_holds!(rt; false, "not empty");

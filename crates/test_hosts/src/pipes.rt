@@ -231,6 +231,20 @@ fn hosts_wait_for_each_other(rt: HostRuntime) -> Result<(), Fail> {
     Ok(())
 }
 
+// A command of host 1 waits for one of host 2, which comes behind 1,500 others: no round ends between.
+#[test]
+fn a_slow_host_ends_no_round(rt: HostRuntime) -> Result<(), Fail> {
+    let between = bytes_of(rt.alloc(), &["01 02 02 00 00000000 00000022 00000000"])?;
+    let mut input = bytes_of(rt.alloc(), &[MEETING[0]])?;
+    for _ in 0..1_500u32 {
+        input.extend_from_slice(between.as_slice())?;
+    }
+    input.extend_from_slice(bytes_of(rt.alloc(), &[MEETING[1]])?.as_slice())?;
+    let came = serving(&rt, rt.alloc(), input.as_slice(), Sent::AtOnce, ALL)?;
+    assert_equal!(rt; (came.0, came.2), (Ok(()), 1_502));
+    Ok(())
+}
+
 // Slow commands of host 1: one is carried out and one waits as the reader asks for another.
 #[test]
 fn the_reader_waits_for_a_slow_host(rt: HostRuntime) -> Result<(), Fail> {

@@ -136,7 +136,7 @@ fn add_bay<D: Disk + Drop>(
     store: D,
     cartridge: Option<Parked<D>>,
 ) -> Result<(), Fail> {
-    let number = drive(rt, sample.bays.len() as u8 % 16 + 1);
+    let number = drive(rt, (sample.bays.len() % 16) as u8 + 1);
     sample
         .bays
         .push(Some(bay(alloc, number, store, cartridge)?))?;

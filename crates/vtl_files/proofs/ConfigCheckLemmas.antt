@@ -1,7 +1,7 @@
 -- Files that are checked one after another.
 use Rattle.std.proofs.Common.{◌≡◌, ◌⊎◌, ℕ, inl, inr, List, [], ◌∷◌, ◌++◌, map, length, Option, Result, Ok, Err, OnErr, OnOk, IfErr, refl, sym, ap, ◌∙◌, append_assoc, take}
 use Rattle.std.proofs.lemmas.List.{append-nil, length-append, map-append}
-use Rattle.std.proofs.Math.Seq.{take-length, take-append-add}
+use Rattle.std.proofs.Math.Seq.{take-append-add}
 use Rattle.std.proofs.KnownBytes.{Appends-nil, Appends-trans}
 use Rattle.std.specs.Io.{StartsWith}
 use Rattle.std.specs.Io.KnownBytes.{Appends}
@@ -161,7 +161,7 @@ module _ {D : Type 0} (state : D → DiskState) (opens : List ℕ → Result D F
   -- memory ran out before the name of a file
   pub no_name : (word label path : List ℕ) (known : Option (List ℕ))
       → ChecksNamed state opens closes word label path known known (Err NoMemory)
-  no_name word label path known = ([], (inr refl, inl refl), Appends-nil known)
+  no_name word label path known = ([], inl (refl, inl refl), Appends-nil known)
 
   -- what is written of one file
   module _ (word label path : List ℕ) (name : List ℕ) (named : name ≡ name_line label path) where
@@ -169,12 +169,12 @@ module _ {D : Type 0} (state : D → DiskState) (opens : List ℕ → Result D F
     pub part_of_name : (fault : VtlFault) (before now : Option (List ℕ)) → fault ≡ Device
         → AppendsPart before now name → ChecksNamed state opens closes word label path before now (Err fault)
     part_of_name fault before now is part =
-        (part.0, (inl is, inl (rw (← named) part.1)), part.2)
+        (part.0, inr (is, inl (rw (← named) part.1)), part.2)
 
     -- memory ran out behind its name
     pub only_name : (before now : Option (List ℕ)) → Appends before now name
         → ChecksNamed state opens closes word label path before now (Err NoMemory)
-    only_name before now written = (name, (inr refl, inl (rw (← named) (take-length name))), written)
+    only_name before now written = (name, inl (refl, inr named), written)
 
     module _ (lines : Result (List ℕ) VtlFault) (gives : GivesLines state opens closes path lines)
         (report : List ℕ) (reported : report ≡ check_report word label lines) where
@@ -193,6 +193,6 @@ module _ {D : Type 0} (state : D → DiskState) (opens : List ℕ → Result D F
           → ChecksNamed state opens closes word label path before now (Err fault)
       part_of_report fault before mid now is first part = (
         name ++ part.0,
-        (inl is, inr (name ++ report, end_for word lines, checked, starts_more name report part.0 part.1)),
+        inr (is, inr (name ++ report, end_for word lines, checked, starts_more name report part.0 part.1)),
         Appends-trans before mid now name part.0 first part.2,
       )

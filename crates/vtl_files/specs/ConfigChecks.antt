@@ -73,13 +73,15 @@ module _ {D : Type 0} (state : D → DiskState) (opens_to_read : List ℕ → Re
       (lines : Result (List ℕ) VtlFault) × GivesLines state opens_to_read closes path lines
       × (text ≡ name_line label path ++ check_report word label lines) × (end ≡ end_for word lines)
 
-  -- of a file no more is written, since the writer failed or memory ran out for a line: a beginning of what was to be
-  -- written of it (own)
+  -- Of a file no more is written. Memory ran out for its name, so nothing is, or for what is written behind that. Or
+  -- the writer failed, and a beginning of what was to be written of it is (own).
   abbrev pub IsCutShort : (word label path : List ℕ) → VtlFault → List ℕ → Type 0
   IsCutShort word label path fault part =
-      ((fault ≡ Device) ⊎ (fault ≡ NoMemory))
+      ((fault ≡ NoMemory) × ((part ≡ []) ⊎ (part ≡ name_line label path)))
+      ⊎ ((fault ≡ Device)
       × (StartsWith (name_line label path) part
-      ⊎ ((text : List ℕ) × (end : Result Verdict VtlFault) × IsChecked word label path text end × StartsWith text part))
+      ⊎ ((text : List ℕ) × (end : Result Verdict VtlFault) × IsChecked word label path text end
+      × StartsWith text part)))
 
   -- what the check of a file writes (own)
   abbrev pub ChecksNamed : (word label path : List ℕ) → (before now : Option (List ℕ))

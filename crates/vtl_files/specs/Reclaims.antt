@@ -183,8 +183,8 @@ module _ {D : Type 0} (state : D → DiskState) (looks : List ℕ → Result Fil
     (pairs : List ℕ → Result Bool FileError → Type 0) (opens : List ℕ → Result D FileError → Type 0)
     (opens_second : Bool → List ℕ → Result D FileError → Type 0)
     (returns_disk closes_second : List ℕ → D → Type 0) (barcode : List ℕ) where
-  -- a cartridge is not reclaimed, since its second file is somebody else's: that is not opened, the first one's disk
-  -- was returned as it was opened, and the line says so (own)
+  -- a cartridge is not reclaimed, since its second file is somebody else's: the first one's disk was returned as it was
+  -- opened, and the line says so (own)
   abbrev pub ReclaimsNone : CartridgeEntry → (first : D) → (before now : Option (List ℕ)) → Result Verdict VtlFault
       → Type 0
   ReclaimsNone entry first before now result =

@@ -23,18 +23,18 @@ seats_of hosts = map (λ host. host.seat) hosts
 
 module _ {D : Type 0} (state : D → DiskState) where
   -- The hosts of these seats were served over one pipe, with moves and inventories between their commands; or memory
-  -- ran out before the first read (own).
+  -- ran out before the first read. The operator made the moves that were answered, and no other (own).
   abbrev pub ServesOpened : List Bool → List Label → (moved : ℕ) → List SeatState → (left before : Option (List ℕ))
-      → List SeatState → (left' now : Option (List ℕ)) → Result (Unit {0}) WireFault → Type 0
-  ServesOpened drives labels moved seats left before seats' left' now outcome =
+      → (moved' : ℕ) → List SeatState → (left' now : Option (List ℕ)) → Result (Unit {0}) WireFault → Type 0
+  ServesOpened drives labels moved seats left before moved' seats' left' now outcome =
       ((hosts : List OneHostState) × (desk : DeskState)
       × ServesHosts (AnswersHost state) (λ desk request. is_served desk.drives request) (AnswersDesk state)
       (λ desk request. TakesMemory request)
       (record { hosts = hosts_of drives seats; desk = record { drives = drives; labels = labels; moved = moved } })
       left before
       (record { hosts = hosts; desk = desk }) left' now outcome
-      × (seats' ≡ seats_of hosts))
-      ⊎ ((outcome ≡ Err NoMemory) × (seats' ≡ seats) × (left' ≡ left) × (now ≡ before))
+      × (seats' ≡ seats_of hosts) × (moved' ≡ desk.moved))
+      ⊎ ((outcome ≡ Err NoMemory) × (seats' ≡ seats) × (moved' ≡ moved) × (left' ≡ left) × (now ≡ before))
 
   -- The same of hosts whose seats were new, and of an operator who had made no move; then the library ended: the sum of
   -- what its drives counted is that of what the seats grew by; and where it ended well, what each drive counted is
@@ -43,7 +43,8 @@ module _ {D : Type 0} (state : D → DiskState) where
       (left before left' now : Option (List ℕ)) (outcome : Result (Unit {0}) WireFault)
       (bays' : List (Option (BayState D))) (counts : Result (List (Option ℕ)) FinishError) : Type 0 where
     pub seats : List SeatState
+    pub moved : ℕ
     pub serves :
-        ServesOpened (which_are_there bays) labels 0 (map new_seat hosts) left before seats left' now outcome
+        ServesOpened (which_are_there bays) labels 0 (map new_seat hosts) left before moved seats left' now outcome
     pub reported : IfOk counts (λ counted. counted ≡ counts_of bays')
     pub sums : sum_of_counts (counts_of bays') ≡ sum_of_seats seats

@@ -122,6 +122,13 @@ impl<'a, D: Disk + Drop, B: Parties + Rings, H: Parties, R> LibraryDesk<'a, D, B
             labels,
         }
     }
+
+    /// Returns the operator's token.
+    pub(crate) fn into_operator(self) -> Operator<H>
+        ensures { result ≡ self.entry.moved }
+    {
+        self.operator
+    }
 }
 
 impl<'a, D: Disk + Drop, B: Parties + Rings, H: Parties, R: Wait> Desk

@@ -43,10 +43,11 @@ pub struct ServedLibrary<D: Disk> {
     pub outcome: Result<(), WireFault>,
 }
 
-// The seats after the serving, and how the serving ended.
+// The seats and the operator after the serving, and how the serving ended.
 #[derive(Drop)]
 struct ServedFor<H: Parties> {
     seats: Vec<Seat<H>>,
+    operator: Operator<H>,
     outcome: Result<(), WireFault>,
 }
 
@@ -187,18 +188,21 @@ fn serve_opened<
 ) -> ServedFor<H>
     requires { length seats.items ≡ NEXUSES }
     ensures serves { ServesOpened D.state library.now labels operator seats.items (I.remaining reader.old)
-        (W.contents writer.old) result.seats.items (I.remaining reader.new) (W.contents writer.new) result.outcome }
+        (W.contents writer.old) result.operator result.seats.items (I.remaining reader.new) (W.contents writer.new)
+        result.outcome }
     ensures all { length result.seats.items ≡ NEXUSES }
 {
     let Ok(room) = Vec::with_capacity(alloc, NEXUSES as usize) else {
         return ServedFor {
             seats,
+            operator,
             outcome: Err(WireFault::NoMemory),
         };
     };
     let Ok(back) = Vec::with_capacity(alloc, NEXUSES as usize) else {
         return ServedFor {
             seats,
+            operator,
             outcome: Err(WireFault::NoMemory),
         };
     };
@@ -209,10 +213,12 @@ fn serve_opened<
     ) {
         Ok(Served { servers, outcome }) => ServedFor {
             seats: seats_in(back, servers),
+            operator: desk.into_operator(),
             outcome,
         },
         Err(servers) => ServedFor {
             seats: seats_in(back, servers),
+            operator: desk.into_operator(),
             outcome: Err(WireFault::NoMemory),
         },
     }
@@ -270,7 +276,11 @@ pub fn serve_library<
         bay_ledger,
         host_ledger,
     )?;
-    let ServedFor { seats, outcome } = serve_opened(
+    let ServedFor {
+        seats,
+        operator: _,
+        outcome,
+    } = serve_opened(
         rt, alloc, &library, seats, operator, labels, gate, reader, writer,
     );
     Ok(ServedLibrary {

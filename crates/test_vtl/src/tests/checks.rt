@@ -15,7 +15,7 @@ const LOOKED_AT_1: &str = "look 1;look 1.2;close 1;close 1.2;";
 
 const DATA: &str = "vtl check t --data";
 
-const READ: &str = "read block;read block;close t;close t.2;";
+const READ: &str = "read 21 of 42;read 42 of 42;close t;close t.2;";
 
 const EMPTY: &str = "cartridge T00001L6 partitions 1 frames 0\npartition 0 objects 0 used 0\n";
 
@@ -32,7 +32,7 @@ static CHECKS: &'static [Row<'static>] = &[
     (Call(2, InUse), CHECK, (2, "close t;"), "", FAILED),
     (Disk("t", 0), CHECK, (4, ""), "", FAILED),
     (Disk("t.2", 0), CHECK, (4, ""), "", FAILED),
-    // Each block is read to its end where that is asked for.
+    // Each block is read to its end where that is asked for, and behind each it is reported how far that is.
     (Side("t", WRITTEN), CHECK, (4, ""), BLOCKS, DONE),
     (Side("t", WRITTEN), DATA, (2, READ), BLOCKS, DONE),
 ];
@@ -53,7 +53,7 @@ const OTHERS: &str = "look u;look u.2;close u;close u.2;look 1;look 1.2;close 1;
 const CLOSED: &str = "close t;look u;look u.2;close u;close u.2;look 1;look 1.2;close 1;close 1.2;\
     look 2;look 2.2;close 2;close 2.2;";
 
-const BLOCKS_READ: &str = "read block;read block;close t;close t.2;\
+const BLOCKS_READ: &str = "read 21 of 42;read 42 of 42;close t;close t.2;\
     look u;look u.2;close u;close u.2;look 1;look 1.2;close 1;close 1.2;\
     look 2;look 2.2;close 2;close 2.2;";
 

@@ -66,10 +66,13 @@ enum Call {
 
 // Makes the call on a disk of four bytes.
 fn made<D: Disk>(disk: &mut D, call: Call) -> bool {
+    let end = disk.len();
+    let mut buffer = [0; 4];
+    let count = buffer.len().min(end as usize);
     match call {
-        Call::Read => disk.read_at(0, &mut [0; 4]),
-        Call::Write => disk.write_at(4, b"x"),
-        Call::Cut => disk.cut(4),
+        Call::Read => disk.read_at(0, &mut buffer[..count]),
+        Call::Write => disk.write_at(end.min(4), b"x"),
+        Call::Cut => disk.cut(end.min(4)),
         Call::Sync => disk.sync(),
     }
     .is_ok()

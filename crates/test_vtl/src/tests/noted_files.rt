@@ -187,8 +187,10 @@ impl ReadFiles<OnceDisk<MemDisk>> for NotedFiles {
 }
 
 impl ReportsRead for NotedFiles {
-    fn read(&self, _used: u64, _all: u64) {
-        let _ = self.noted("read", "block");
+    fn read(&self, used: u64, all: u64) {
+        if let Ok(bytes) = format!(in self.alloc; "{used} of {all}") {
+            let _ = self.noted("read", bytes.as_str());
+        }
     }
 }
 

@@ -4,7 +4,7 @@ use Rattle.test_gates.proofs.HostLemmas.{one_more}
 use Rattle.test_gates.proofs.opening.hosts.Goals as goal
 
 pub loop-number-preserved : goal.loop-number-preserved
-loop-number-preserved g c =
+loop-number-preserved c =
     let at = c.loop-number.number in
     let inv = c.loop-number.invariant in
     let host : c.in_ok-host.host ≡ 1 + at = omega (arith, c.in_ok-host.ensures) in
@@ -17,7 +17,7 @@ loop-number-preserved g c =
     }
 
 pub returns : goal.returns
-returns g c =
+returns c =
     let at = c.loop-number.number in
     let inv = c.loop-number.invariant in
     let end : at ≡ c.args.count = omega (arith, c.loop-number-test.false, c.loop-number.auto.number-end) in

@@ -33,5 +33,5 @@ spend_over-requires-clause-bay_ledger g c κs within = (
     cut = refl;
     one_each = refl;
   },
-  c.new.ensures ∙ rw c.as_slice.ensures.value at c.in_ok-drives.ensures.count,
+  c.new-2.ensures ∙ rw c.as_slice.ensures.value at c.in_ok-drives.ensures.count,
 )

@@ -18,20 +18,22 @@ returns-clause-serves g c =
     let now = g.W.Write.contents c.serve_opened-seats.new.writer in
     let outcome = c.serve_opened-seats.result.outcome in
     let after = c.serve_opened-seats.result.seats.items in
+    let moved = c.serve_opened-seats.result.operator in
     record {
       seats = after;
+      moved = moved;
       serves =
           subst
           (λ (drives : List Bool). ServesOpened state drives c.args.labels 0 (map new_seat c.args.hosts.now) left before
-          after left' now outcome)
+          moved after left' now outcome)
           c.in_ok-library.ensures.drives
           (subst
           (λ (seats : List SeatState). ServesOpened state c.in_ok-library.library c.args.labels 0 seats left before
-          after left' now outcome)
+          moved after left' now outcome)
           c.in_ok-library.ensures.seats
           (subst
           (λ (begun : ℕ). ServesOpened state c.in_ok-library.library c.args.labels begun c.in_ok-library.seats.items
-          left before after left' now outcome)
+          left before moved after left' now outcome)
           c.in_ok-library.ensures.operator c.serve_opened-seats.ensures.serves));
       reported =
           reported_of c.finish.result.counts (counts_of c.finish.result.bays.items)

@@ -1,4 +1,5 @@
 use Rattle.std.proofs.Common.{List, ap, inr, refl, ◌∙◌}
+use Rattle.vtl_serve.specs.Desks.{DeskState}
 use Rattle.vtl_serve.specs.Libraries.{seats_of}
 use Rattle.vtl_serve.specs.OneHost.{OneHostState}
 use Rattle.vtl_serve.proofs.SharedLemmas.{seats_back}
@@ -12,6 +13,8 @@ returns-clause-serves g c =
       c.seats_in-in-Err.ensures ∙ ap (λ (l : List OneHostState). seats_of l) back.0
           ∙ ap (λ (l : List OneHostState). seats_of l) c.hosts_of-hosts.ensures
           ∙ seats_back c.args.library.now c.args.seats.items,
+      c.into_operator-in-Err.ensures ∙ ap (λ (d : DeskState). d.moved) back.1
+          ∙ ap (λ (d : DeskState). d.moved) c.new-desk.ensures,
       ap g.I.Read.remaining back.2,
       ap g.W.Write.contents back.3,
     )
