@@ -25,7 +25,7 @@ pub record Takes (left : Budget) (bytes : ℕ) : Type 0 where
   pub short : bytes ≤ left.bytes
   pub fits : 15 + bytes ≤ left.room
 
-pub takes : (left : Budget) (bytes : ℕ) → takes_one left bytes ≡ true → Takes left bytes
+takes : (left : Budget) (bytes : ℕ) → takes_one left bytes ≡ true → Takes left bytes
 takes left bytes is =
     let parts = and_parts _ _ is in
     let more = and_parts _ _ parts.1 in
@@ -40,6 +40,11 @@ pub takes_none : (left : Budget) (loose : Option Change) (bytes : ℕ) → takes
     → (loose ≡ None) × (takes_one left bytes ≡ true)
 takes_none left None bytes is = (refl, is)
 takes_none left (Some change) bytes is = absurd (cc)
+
+-- where one change more is taken, nothing waits to be passed on
+pub took : (left : Budget) (loose : Option Change) (bytes : ℕ) → takes_loose left (loose_in loose) bytes ≡ true
+    → Takes left bytes
+took left loose bytes is = takes left bytes (takes_none left loose bytes is).1
 
 frame_of : (change : Change) → frame_size change ≡ 15 + block_bytes change
 frame_of (Put part at block) = refl

@@ -6,15 +6,8 @@ use Rattle.tape_buffer.specs.declared.aways.Away.{Away}
 use Rattle.tape_buffer.specs.Aways.{seen_as}
 use Rattle.tape_buffer.specs.Frames.{AcceptsInFrames}
 use Rattle.tape_buffer.specs.Limits.{FitsBuffer}
-use Rattle.tape_buffer.proofs.AwayLemmas.{Takes, accepts, fits_more, frames_away, keeps_one, may_enter, seen_more, stores_away, takes, takes_none}
-use Rattle.tape_buffer.proofs.aways.accept_away.Goals.{In-None}
+use Rattle.tape_buffer.proofs.AwayLemmas.{accepts, fits_more, frames_away, keeps_one, may_enter, seen_more, stores_away, takes_none, took}
 use Rattle.tape_buffer.proofs.aways.accept_away.Goals as goal
-
-took : (c : In-None) → Takes c.args.away.now.left (block_bytes c.args.change)
-took c =
-    let away = c.args.away.now in
-    let bytes = block_bytes c.args.change in
-    takes away.left bytes (takes_none away.left away.loose bytes c.requires.within).1
 
 pub enter_shown-requires : goal.enter_shown-requires
 enter_shown-requires c =
@@ -23,7 +16,8 @@ enter_shown-requires c =
     let seen = volume_of away.noted in (
       seen,
       may_enter c.args.index.now away.noted away.left.records change c.requires.shows c.requires.knows.roomy
-          (took c).few (sym (c.refusal_shown.ensures seen c.requires.shows) ∙ c.in-None.is),
+          (took away.left away.loose (block_bytes change) c.requires.within).few
+          (sym (c.refusal_shown.ensures seen c.requires.shows) ∙ c.in-None.is),
     )
 
 pub keep-requires-clause-loose : goal.keep-requires-clause-loose
@@ -32,7 +26,10 @@ keep-requires-clause-loose c =
     (takes_none away.left away.loose (block_bytes c.args.change) c.requires.within).0
 
 pub keep-requires-clause-within : goal.keep-requires-clause-within
-keep-requires-clause-within c = keeps_one c.args.away.now.left c.args.change (took c)
+keep-requires-clause-within c =
+    let away = c.args.away.now in
+    let change = c.args.change in
+    keeps_one away.left change (took away.left away.loose (block_bytes change) c.requires.within)
 
 pub returns-in-None-clause-shows : goal.returns-in-None-clause-shows
 returns-in-None-clause-shows c =
@@ -48,12 +45,16 @@ returns-in-None-clause-answer c =
     let change = c.args.change in
     let none = sym (c.refusal_shown.ensures (volume_of away.noted) c.requires.shows) ∙ c.in-None.is in
     subst (λ (a : Away). Accepts (seen_as away.noted) change (Ok tt) (seen_as a.noted)) (sym c.keep.ensures)
-    (accepts c.args.index.now away change c.requires.knows c.requires.awake (took c) none)
+    (accepts c.args.index.now away change c.requires.knows c.requires.awake
+    (took away.left away.loose (block_bytes change) c.requires.within) none)
 
 pub returns-in-None-clause-fits : goal.returns-in-None-clause-fits
 returns-in-None-clause-fits c =
+    let away = c.args.away.now in
+    let change = c.args.change in
     subst (λ (a : Away). FitsBuffer a.noted.pending) (sym c.keep.ensures)
-    (fits_more c.args.index.now c.args.away.now c.args.change c.requires.knows c.requires.awake (took c))
+    (fits_more c.args.index.now away change c.requires.knows c.requires.awake
+    (took away.left away.loose (block_bytes change) c.requires.within))
 
 pub returns-in-None-clause-frames : goal.returns-in-None-clause-frames
 returns-in-None-clause-frames c =
@@ -61,7 +62,8 @@ returns-in-None-clause-frames c =
     let change = c.args.change in
     subst (λ (a : Away). AcceptsInFrames change (Ok tt) [] away.noted.pending [] a.noted.pending) (sym c.keep.ensures)
     (frames_away away.noted.pending change
-    (fits_more c.args.index.now away change c.requires.knows c.requires.awake (took c)))
+    (fits_more c.args.index.now away change c.requires.knows c.requires.awake
+    (took away.left away.loose (block_bytes change) c.requires.within)))
 
 pub returns-in-Some-clause-stores : goal.returns-in-Some-clause-stores
 returns-in-Some-clause-stores c = stores_nowhere (seen_as c.args.away.now.noted)

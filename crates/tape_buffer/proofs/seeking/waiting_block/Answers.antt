@@ -20,6 +20,6 @@ returns-clause-waits c = λ volume all block.
     slice_get-get_or changes number change (last_inside volume changes c.args.part c.args.at number last block)
     ∙ ap Some (sym c.index-changes-number.is) in (
       puts_block volume changes c.args.part c.args.at number last block change is c.in-Put.part c.in-Put.at
-          c.in-Put.block.now c.in-Put.is,
-      short_block volume changes number c.in-Put.part c.in-Put.at c.in-Put.block.now all (is ∙ ap Some c.in-Put.is),
+          c.in-Put.block c.in-Put.is,
+      short_block volume changes number c.in-Put.part c.in-Put.at c.in-Put.block all (is ∙ ap Some c.in-Put.is),
     )

@@ -6,3 +6,6 @@ returns-then-has_failed-clause-advances g c = rests g.D.Disk.state g.met.D.Disk.
 
 pub returns-in-Open-clause-advances : goal.returns-in-Open-clause-advances
 returns-in-Open-clause-advances g c = rests g.D.Disk.state g.met.D.Disk.is_disk c.args.self.now
+
+pub returns-in-Err : goal.returns-in-Err
+returns-in-Err g c = ?
