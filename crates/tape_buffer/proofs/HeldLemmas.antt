@@ -1,5 +1,5 @@
 -- What is known of a cartridge that is held, open or closed.
-use Rattle.std.specs.Prelude.{◌≡◌, ◌⊎◌, ◌+◌, ◌++◌, ◌≤◌, ℕ, List, [], Bool, true, false, not, Option, None, Some, length, option_map, if◌then◌else◌, refl}
+use Rattle.std.specs.Prelude.{◌≡◌, ◌⊎◌, ◌+◌, ◌++◌, ◌≤◌, List, [], Bool, true, false, not, Option, None, Some, length, option_map, if◌then◌else◌, refl}
 use Rattle.std.proofs.Common.{inl, inr, sym, ◌∙◌, ap, subst, arith, ⊎_elim, length-append}
 use Rattle.std.proofs.lemmas.List.{take_at, take_all}
 use Rattle.tape_disk.specs.Disk.{DiskState, IsDisk}
