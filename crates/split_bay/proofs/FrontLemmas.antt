@@ -171,7 +171,7 @@ module _ {D : Type 0} (state : D → DiskState)
       let moments = (goes_on old answered (Execute request) holds (reply, step.1.step)).1 honest in
       (moments.0, moments.1))
 
-away_held : {C S : Type 0} (held : Holding C S) (span : Span) → OwesHeld held span → IsAway held
+pub away_held : {C S : Type 0} (held : Holding C S) (span : Span) → OwesHeld held span → IsAway held
 away_held (Holdings.Away a) span owes = tt
 away_held (Holdings.Open c) span owes = absurd owes
 away_held (Holdings.Closed c) span owes = absurd owes

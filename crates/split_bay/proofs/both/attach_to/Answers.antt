@@ -4,7 +4,7 @@ use Rattle.split_bay.specs.Both.{Attaches}
 use Rattle.split_bay.specs.Rings.{ReceivingState, SendingState}
 use Rattle.split_bay.specs.Spans.{KeepsLimits, medium_seen, span_of}
 use Rattle.split_bay.proofs.BothLemmas.{all_received, attaches, found_so}
-use Rattle.split_bay.proofs.FrontLemmas.{seen_sent}
+use Rattle.split_bay.proofs.FrontLemmas.{away_held, seen_sent}
 use Rattle.split_bay.proofs.both.attach_to.Goals as goal
 
 pub attach-requires-clause-found : goal.attach-requires-clause-found
@@ -40,3 +40,7 @@ returns-clause-attaches g c =
     c.take_known.ensures.takes g.met.D.Disk.is_disk medium c.attach.new.self seen c.attach.ensures c.requires.follows
     (subst (λ (s : SendingState). KeepsLimits (span_of s.sent)) (sym look.sending) c.known.ensures)
     c.known-2.ensures.core c.known-2.ensures.hand c.take_known.ensures.follows)
+
+pub attach-requires-clause-away : goal.attach-requires-clause-away
+attach-requires-clause-away g c =
+    away_held c.args.medium.now.held (span_of c.args.sending.now.sent) c.requires.owes

@@ -1,7 +1,8 @@
 use Rattle.std.proofs.Common.{ap, subst, sym, ◌∙◌}
-use Rattle.tape_buffer.specs.Detaching.{left_in}
+use Rattle.tape_buffer.specs.Detaching.{left_in, loose_of}
 use Rattle.tape_buffer.specs.declared.budgets.Budget.{Budget}
-use Rattle.tape_buffer.specs.Aways.{IsCut}
+use Rattle.tape_buffer.specs.Aways.{IsCut, loose_in}
+use Rattle.tape_buffer.specs.Moves.{IsAway}
 use Rattle.tape_buffer.specs.State.{BufferState}
 use Rattle.split_bay.specs.Backs.{FollowsSpan}
 use Rattle.split_bay.specs.Fronts.{OwesAway, OwesHeld}
@@ -44,3 +45,12 @@ returns-clause-detached g c =
       subst (λ (s : Span). FollowsSpan state lent s) (sym next)
           (follows_lent state old lent cut (lend_facts state old lent went.lends) went.state_is is),
     )
+
+pub left-left-requires : goal.left-left-requires
+left-left-requires g c =
+    subst (λ (b : BufferState g.row.D.Denot). IsAway b.held) (sym c.detach.ensures.new_is) tt
+
+pub returns-clause-passed : goal.returns-clause-passed
+returns-clause-passed g c =
+    ap (λ (b : BufferState g.row.D.Denot). loose_of b) c.detach.ensures.new_is
+    ∙ ap loose_in c.detach.ensures.away_is.loose

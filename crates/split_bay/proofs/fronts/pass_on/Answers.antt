@@ -1,15 +1,16 @@
 use Rattle.std.proofs.Common.{◌≡◌, [], ◌∷◌, ap, sym, subst, ◌∙◌}
 use Rattle.drive_commands.specs.declared.bays.Bay.{Bay}
-use Rattle.drive_commands.specs.State.{bay_of}
+use Rattle.positioning.specs.declared.positions.Pos.{Pos}
+use Rattle.drive_commands.specs.State.{IsBayPositioned, bay_of}
 use Rattle.tape_buffer.specs.Aways.{loose_in}
 use Rattle.tape_buffer.specs.Detaching.{passed}
-use Rattle.tape_buffer.specs.State.{BufferState}
+use Rattle.tape_buffer.specs.State.{BufferState, state_of}
 use Rattle.bay_moves.specs.Elements.{BayState}
 use Rattle.split_bay.specs.declared.items.Item.TheVariants.{Sent}
-use Rattle.split_bay.specs.Fronts.{IsFrontOf, loose_in_bay, span_since}
+use Rattle.split_bay.specs.Fronts.{AreAway, IsFrontOf, loose_in_bay, span_since}
 use Rattle.split_bay.specs.Rings.{SendingState}
 use Rattle.split_bay.specs.Spans.{span_of}
-use Rattle.split_bay.proofs.FrontLemmas.{stands_passed}
+use Rattle.split_bay.proofs.FrontLemmas.{away_bay, may_send, positioned_passed, stands_passed}
 use Rattle.split_bay.proofs.SpanLemmas.{span_next}
 use Rattle.split_bay.proofs.fronts.pass_on.Goals as goal
 
@@ -27,3 +28,36 @@ returns-in-Some-clause-stands g c =
     (sym (ap (λ (d : BayState g.row.D.Denot). d.bay) c.lower.ensures ∙ c.take_loose-loose.ensures.left
     ∙ ap (λ (b : Bay (BufferState g.row.D.Denot)). bay_of passed b) c.lift-bay.ensures.lifted))
     (stands_passed bay span (span_of c.send.new.self.sent) c.requires next)
+
+pub take_loose-loose-requires : goal.take_loose-loose-requires
+take_loose-loose-requires g c =
+    subst (λ (b : Bay (BufferState g.row.D.Denot)). AreAway b) (sym c.lift-bay.ensures.lifted)
+    (away_bay c.args.drive.now.bay (span_of c.args.sending.now.sent) c.requires)
+
+pub lower-requires-clause-positioned : goal.lower-requires-clause-positioned
+lower-requires-clause-positioned g c =
+    let state = g.D.Disk.state in
+    let lift = c.lift-bay.ensures in
+    let bay = c.args.drive.now.bay in
+    let left = c.take_loose-loose.ensures.left
+    ∙ ap (λ (b : Bay (BufferState g.row.D.Denot)). bay_of passed b) lift.lifted in
+    subst (λ (p : Pos). IsBayPositioned (state_of state) c.take_loose-loose.new.bay p)
+    (sym (ap (λ (d : BayState g.row.D.Denot). d.position) lift.left))
+    (subst (λ (b : Bay (BufferState g.row.D.Denot)). IsBayPositioned (state_of state) b c.args.drive.now.position)
+    (sym left) (positioned_passed state bay c.args.drive.now.position lift.positioned))
+
+pub send-requires-clause-applies : goal.send-requires-clause-applies
+send-requires-clause-applies g c =
+    let bay = c.args.drive.now.bay in
+    let loose : loose_in_bay bay ≡ c.in-Some.change ∷ [] =
+    sym (ap loose_in (sym c.in-Some.is) ∙ c.take_loose-loose.ensures.loose
+    ∙ ap (λ (b : Bay (BufferState g.row.D.Denot)). loose_in_bay b) c.lift-bay.ensures.lifted) in
+    (may_send bay (span_of c.args.sending.now.sent) c.in-Some.change c.requires loose).0
+
+pub send-requires-clause-within : goal.send-requires-clause-within
+send-requires-clause-within g c =
+    let bay = c.args.drive.now.bay in
+    let loose : loose_in_bay bay ≡ c.in-Some.change ∷ [] =
+    sym (ap loose_in (sym c.in-Some.is) ∙ c.take_loose-loose.ensures.loose
+    ∙ ap (λ (b : Bay (BufferState g.row.D.Denot)). loose_in_bay b) c.lift-bay.ensures.lifted) in
+    (may_send bay (span_of c.args.sending.now.sent) c.in-Some.change c.requires loose).1
