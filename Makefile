@@ -2,7 +2,7 @@
 RT := $(shell command -v rt)
 
 .PHONY: demo vtl check wrong rows rows-wrong nomemory mutants faults explained hostile memory endings examples stops kills \
-	mended tools cluster iscsi hosts page bench gate fmt definitions install manual need-rt
+	mended tools cluster iscsi hosts page bench gate fmt definitions words install manual need-rt
 .DEFAULT_GOAL := demo
 
 need-rt:
@@ -162,3 +162,7 @@ definitions:
 	python3 checks/definitions.py
 	python3 checks/edits.py
 	python3 checks/headline.py
+
+words:
+	python3 checks/words.py --selftest
+	python3 checks/words.py

@@ -6,9 +6,9 @@ TOP = os.path.dirname(os.path.dirname(os.path.abspath(__file__)))
 HEAD = """# The crates
 
 Made by `checks/definitions.py` from the comments of `crates.txt`. The lowest come first: a crate of the program uses
-only crates in rows above its own. [LAYERS](../docs/LAYERS.md) says what the crates above may use of each, and
-[CONTRIBUTING](../CONTRIBUTING.md#where-a-rule-has-its-one-place) in which file a rule stands: most are
-in a crate's `specs/`. A crate's own page says what each file of its `src/` has.
+only crates in rows above its own. [CLAIMS](../docs/CLAIMS.md) and [LAYERS](../docs/LAYERS.md) say what the crates
+above may use, and [CONTRIBUTING](../CONTRIBUTING.md#where-a-rule-has-its-one-place) in which file a rule stands: most
+are in a crate's `specs/`. A crate's own page says how it is used, and in which order its files are read.
 """
 KINDS = ("The program", "Tests", "Doubles and helpers of tests", "Programs that are timed")
 

@@ -96,7 +96,7 @@ LEFT_OUT = {
         "with_attention", "no_attentions", "invalid_field", "medium_not_present", "medium_failed",
         "invalid_operation_code", "attention_sense", "deferred_write_error", "fault_sense", "made_reply"), ()),
     LAYOUT: dict.fromkeys(("spell_side_head", "spell_front", "IsHead", "spell_state", "spell_change"), ()),
-    UPKEEP: dict.fromkeys(("contents_on", "room_found", "request_needs_disk", "NotedBeginning", "alone_near",
+    UPKEEP: dict.fromkeys(("contents_on", "room_found", "request_needs_disk", "NotedBeginning",
                            "refusal_in", "copy_frames", "Parts", "Looks"), ()) | {
         "StoresFound": ("answer", "frame", "stores"), "ExecutesBoth": ("stood", "positioned", "settled"),
         "Takes": ("stores", "counted"), "TakesTurn": ("step", "turns", "stores", "accepted"),
@@ -113,7 +113,7 @@ SECTIONS = {
     "Frames and gates": ("gate_journal",),
     "The cartridge and its two sides": ("cartridge_sides", "cartridge"),
     "What is accepted, stored and safe": ("accepted_changes",),
-    "The buffer": ("waiting_changes", "tape_buffer"),
+    "The buffer": ("tape_buffer",),
     "What hosts ask, and are answered": ("scsi_attention", "scsi_sense", "scsi_lists", "scsi_opcodes", "positioning"),
     "Reservations": ("pr_core",),
     "Saved reservations": ("aptpl_store",),
@@ -173,5 +173,6 @@ LIBRARY = {
     "big_number": "the number of these bytes, the highest first", "big_bytes": "these bytes, the highest first",
     "Bytes": "seen as a list of bytes", "Nexus": "a host: seen as its number, 1 to 64",
     "Shelved": "a closed cartridge: seen as a `ClosedCartridge`", "BeginningNote": "a note of proofs",
+    "SeenNote": "a note of proofs",
     "NotedValue": "a value that proofs alone see",
 }

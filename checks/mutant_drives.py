@@ -5,8 +5,8 @@ EDITS = [
      "    if pending.is_empty() {",
      ["writes_wait_for_one_frame"]),
     ("each write is stored at once", "tape_buffer", "src/adding.rt",
-     "    match add_over(cartridge, pending, change) {\n        Ok(()) => Ok(()),",
-     "    match add_over(cartridge, pending, change) {\n"
+     "    match add_over(index, cartridge, pending, change) {\n        Ok(()) => Ok(()),",
+     "    match add_over(index, cartridge, pending, change) {\n"
      "        Ok(()) => { let _ = settle_over(cartridge, pending); Ok(()) }",
      ["writes_wait_for_one_frame"]),
     ("a change is stored one change early", "tape_buffer", "src/adding.rt", "    if !pending.is_full_for(change) {",
@@ -144,8 +144,10 @@ EDITS = [
      "    let before = blocks_before(blocks, at);\n",
      "    let mut before = 0;\n    while before < blocks.len() && blocks[before].number < at {\n"
      "        before += 1;\n    }\n", ["questions_walk_through_no_table"]),
-    ("an erase is out of memory", "tape_buffer", "src/adding.rt", "    if !roomy {\n",
-     "    if !roomy || matches!(change, Change::Erase { .. }) {\n", ["rows/03-writing/erase.row"]),
+    ("an erase is out of memory", "tape_buffer", "src/adding.rt",
+     "    let Ok(()) = reserve_over(cartridge, pending, &change) else {\n",
+     "    if matches!(change, Change::Erase { .. }) {\n        return Err(change);\n    }\n"
+     "    let Ok(()) = reserve_over(cartridge, pending, &change) else {\n", ["rows/03-writing/erase.row"]),
     ("a damaged side is out of memory", "gate_journal", "src/opening.rt",
      "            Err(error) => Err(Refused { error, disk }),\n",
      "            Err(crate::JournalError::Damaged { .. }) => {\n"
@@ -226,15 +228,13 @@ STOPS = [
      "                Ok((store, last.power_loss()))\n", "                Ok((store, last))\n",
      ["a_stop_at_each_call_of_a_drive"]),
     ("a block over another is stored as a cut and a block", "tape_buffer", "src/adding.rt",
-     "    match add_over(cartridge, pending, change) {\n        Ok(()) => Ok(()),",
+     "    match add_over(index, cartridge, pending, change) {\n        Ok(()) => Ok(()),",
      "    if let Change::Put { part, at, .. } = &change {\n        let (part, at) = (*part, *at);\n"
      "        if pending.is_empty() && at < cartridge.count(part) {\n"
      "            let _ = reserve_over(cartridge, pending, &change);\n"
      "            let _ = cartridge.store(&[Change::Erase { part, at }]);\n        }\n    }\n"
-     "    match add_over(cartridge, pending, change) {\n        Ok(()) => Ok(()),",
+     "    match add_over(index, cartridge, pending, change) {\n        Ok(()) => Ok(()),",
      ["a_stop_at_each_call_of_a_drive"]),
-    ("what is pending over a cartridge that failed is kept", "tape_buffer", "src/closing.rt",
-     "    pending.clear();\n", "", ["a_fault_at_each_call_of_a_drive"]),
     ("a command that is to store is answered with nothing stored", "drive_commands", "src/storing.rt",
      "    match medium.settle() {\n",
      "    if medium.pending() < 256 {\n        return Ok(());\n    }\n    match medium.settle() {\n",

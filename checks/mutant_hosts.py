@@ -33,9 +33,10 @@ EDITS = [
      ("        let turn = self.turn(rt, gate);\n", "            gate.after_turn(turn);\n"),
      ("        let turn = self.turn(rt, gate);\n        gate.after_turn(turn);\n", ""),
      ["a_turn_in_which_the_device_fails"]),
-    ("hosts' halves never have room", "split_bay", "src/halving.rt", "        Ok(()) => (catalog, left),\n",
-     "        Ok(()) => (\n            catalog,\n            Budget {\n                records: 0,\n"
-     "                bytes: left.bytes,\n                room: left.room,\n            },\n        ),\n",
+    ("hosts' halves never have room", "tape_buffer", "src/detaching.rt",
+     "        let (away, left) = away_from(&mut self.catalog, &mut self.held);\n",
+     "        let (mut away, mut left) = away_from(&mut self.catalog, &mut self.held);\n"
+     "        left.records = 0;\n        away.left.records = 0;\n",
      ["hosts_do_not_wait_for_a_turn", "a_host_that_waits_for_room_holds_up_no_other"]),
     ("a turn does not look into the ring", "split_bay", "src/backs.rt", "        self.receiving.look();\n", "",
      ["a_flusher_rests_until_a_change_is_accepted"]),
@@ -180,11 +181,11 @@ EDITS = [
      "                let _ = bay;\n", ["a_flusher_rests_until_a_change_is_accepted"]),
     ("the ledgers are locked while a drive carries a command out", "library", "src/places/answers.rt",
      "    let before = front.accepted();\n"
-     "    let (reply, front, back) = execute_both(front, back, seat.nexus(), cdb, sent);\n"
+     "    let reply = execute_both(front, back, seat.nexus(), cdb, sent);\n"
      "    let after = front.accepted();\n    wait_at_limit(rt, before, cdb, &reply);\n    seat.count_answer(rt);\n"
      "    enter_if_risen(rt, tally, share, seat, before, after);\n",
      "    let mut held = tally.lock(rt);\n    let before = front.accepted();\n"
-     "    let (reply, front, back) = execute_both(front, back, seat.nexus(), cdb, sent);\n"
+     "    let reply = execute_both(front, back, seat.nexus(), cdb, sent);\n"
      "    let after = front.accepted();\n    wait_at_limit(rt, before, cdb, &reply);\n    seat.count_answer(rt);\n"
      "    if before != after {\n        seat.enter(rt, &mut held, share);\n    }\n",
      ["sixteen_hosts_of_a_phase_meet"]),

@@ -194,7 +194,10 @@ class Reader:
     def answered(self, number, text):
         run, text = self.open, text[1:] if text.startswith(b" ") else text
         if not run.lines:
-            run.output.append((number, text))
+            plain = unescaped(text)
+            if plain is None:
+                raise self.bad(number, "an escape that is none")
+            run.output.append((number, plain))
             return
         first = run.lines[-1].number
         if run.lines[-1].answer is not None:

@@ -3,8 +3,9 @@
 
 An exchange that is cut off behind each of its bytes, and one that comes in random pieces; each frame that is refused,
 behind two that are answered; a reader and a writer that fail; a front end that goes away behind each byte of the
-answers, of which nothing that was acknowledged may be lost; inventories and moves; a configuration that is refused, and
-files that are missing. --program PATH: another program than the proved one."""
+answers, of which nothing that was acknowledged may be lost; a block that a flusher stores with no further command;
+inventories and moves; a configuration that is refused, and files that are missing. --program PATH: another program than
+the proved one."""
 import argparse
 import os
 import random
@@ -24,6 +25,8 @@ CONFIG = b"""cartridge = [{ barcode = "T00001L6", file = "t1.tape", capacities =
 drive = [{ number = 1, reservations = "d1.pr" }]
 """
 PIECES = 10
+# Seconds in which a flusher, which rests ten milliseconds at most, stores a block: each of five times, and the fastest.
+LATEST, SOON = 20, 1
 
 
 def refused(number):
@@ -138,6 +141,42 @@ class Ends:
                 self.see(f"{what}: what was acknowledged is stored", True,
                          objects >= 2 * sum(length >= it for it in stored))
 
+    def kept_open(self, room):
+        """Writes a block without a filemark, waits for its frame with the input open, and kills the program. The
+        seconds that this took."""
+        child = subprocess.Popen([self.program, "serve", "--config", "library.toml"], cwd=room, bufsize=0,
+                                 stdin=subprocess.PIPE, stdout=subprocess.PIPE)
+        file = os.path.join(room, "t1.tape")
+        before, sent = os.path.getsize(file), [EXCHANGE[0], EXCHANGE[1]]
+        child.stdin.write(b"".join(it for it, _ in sent))
+        answers = b"".join(it for _, it in sent)
+        found = b""
+        while len(found) < len(answers):
+            found += child.stdout.read(len(answers) - len(found)) or b"an end"
+        begun = time.monotonic()
+        while os.path.getsize(file) < before + 18 and time.monotonic() - begun < LATEST:
+            time.sleep(0.001)
+        took = time.monotonic() - begun
+        time.sleep(0.05)
+        child.kill()
+        child.communicate()
+        self.see("what is answered before a flusher's turn", answers, found)
+        return took
+
+    def waits(self):
+        """What waits is stored by a flusher's turn, with no command behind it and the input open."""
+        took = []
+        for _ in range(5):
+            with tempfile.TemporaryDirectory(prefix="vtl-served-") as room:
+                with open(os.path.join(room, "library.toml"), "wb") as file:
+                    file.write(CONFIG)
+                run = lambda *words: subprocess.run([self.program, *words], cwd=room, capture_output=True)
+                run("create", "--config", "library.toml")
+                took.append(self.kept_open(room))
+                self.see("a block that waited is stored by a flusher", True,
+                         b"partition 0 objects 1 used 19\n" in run("check", "t1.tape").stdout)
+        self.see("the fastest of five turns comes soon", True, min(took) < SOON)
+
     def inventories(self):
         """What is in each drive and slot, before a move and behind it."""
         config = b"""cartridge = [{ barcode = "T00001L6", file = "t1.tape", capacities = [4096], home = 2 },
@@ -193,7 +232,7 @@ def wrong_in(program):
     """How many endings are not as they should be."""
     ends = Ends(program)
     for part in (ends.streams, ends.refused, ends.explained, ends.cut_off, ends.in_pieces, ends.inventories,
-                 ends.over_files, ends.goes_away):
+                 ends.over_files, ends.goes_away, ends.waits):
         part()
     print(f"served endings: {ends.count} looked at, {ends.wrong} are not as they should be")
     return ends.wrong

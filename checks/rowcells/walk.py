@@ -194,7 +194,8 @@ class Walk(Folder):
                     self.see("faults | 2 before 5")
                 self.ends(run, 1, "vtl: configuration refused", "the configuration's file is not UTF-8", [])
                 return
-        if raw is not None and not (asked.memory and asked.kind in ("run", "serve")) and names_nul(config):
+        if raw is not None and asked.kind != "check" and not (
+                asked.memory and asked.kind in ("run", "serve")) and names_nul(config):
             self.see("configuration | a name with a NUL")
             self.ends(run, 2, DEVICE, "a file is missing", [])
             return

@@ -17,9 +17,9 @@ use Rattle.accepted_changes.specs.Device.{two_disks}
 use Rattle.accepted_changes.specs.Events.{GivesAcknowledged, IsEvent, ShowsCore}
 use Rattle.accepted_changes.specs.Laws.{CrashesKeepAcknowledged, StepsKeepCores}
 use Rattle.tape_buffer.specs.declared.holding.Holding.{Holding}
-use Rattle.tape_buffer.specs.declared.holding.Holding.TheVariants.{Open, Closed, Between}
+use Rattle.tape_buffer.specs.declared.holding.Holding.TheVariants.{Open, Closed, Away}
 use Rattle.tape_buffer.specs.Rules.{medium_rules}
-use Rattle.tape_buffer.specs.Moves.{HonestOn, MediumMoves, MovesOn, buffer_below, medium_core, medium_moves_nowhere, medium_moves_on}
+use Rattle.tape_buffer.specs.Moves.{HonestOn, MediumMoves, MovesOn, buffer_below, medium_core, medium_moves_nowhere, medium_moves_on, moves_here, seen_here}
 use Rattle.tape_buffer.specs.State.{BufferState, core_held, disks_in, found_core, found_in, state_held, state_of, torn_in}
 use Rattle.drive_commands.specs.declared.bays.Bay.{Bay}
 use Rattle.drive_commands.specs.declared.bays.Bay.TheVariants.{Empty, Unloaded, Loaded}
@@ -119,7 +119,7 @@ module _ {D : Type 0} (state : D → DiskState) (is_disk : (disk : D) → (state
       → (state_held state held pending).pending ≡ [] → CanAcknowledge (core_held state held pending)
   safe_loaded (Open c) pending awake works none = safe_open c pending works none
   safe_loaded (Closed c) pending awake works none = absurd (cc)
-  safe_loaded Between pending awake works none = absurd (cc)
+  safe_loaded (Away away) pending awake works none = ((refl, refl), refl)
 
   -- where it is parked it is closed
   safe_parked : (held : Holding (OpenCartridge D) (ClosedCartridge D)) (pending : List Change)
@@ -127,7 +127,7 @@ module _ {D : Type 0} (state : D → DiskState) (is_disk : (disk : D) → (state
       → CanAcknowledge (core_held state held pending)
   safe_parked (Open c) pending parked sure = absurd (cc)
   safe_parked (Closed c) pending parked sure = safe_found (found_in state c) (torn_in state c) sure
-  safe_parked Between pending parked sure = ((refl, refl), refl)
+  safe_parked (Away away) pending parked sure = ((refl, refl), refl)
 
   module _ {K : Type 0} (kept : K → KeeperState) (honest : Type 0) where
     pub safe_in : (drive : DriveState (BufferState D) K) (bay : Bay (BufferState D)) (medium : BufferState D)
@@ -183,10 +183,12 @@ module _ {D : Type 0} (state : D → DiskState) (is_disk : (disk : D) → (state
     keep_media (Some a) (Some b) (Some c) medium made more is known one two safe =
         let same : a ≡ medium = cc in
         let known_a = subst (IsKnown state) (sym same) known in
+        let first = moves_here state a b made (seen_here state a.held known_a.disks known_a.disks_are) one in
+        let second = moves_here state b c more first.1 two in
         let found = keep_on (disks_in a.held) (disks_in b.held) (disks_in c.held) (medium_core state a)
         (medium_core state b)
-        (medium_core state c) made more known_a.disks known_a.disks_are known_a.honest known_a.core known_a.shows one
-        two (safe b refl) in
+        (medium_core state c) made more known_a.disks known_a.disks_are known_a.honest known_a.core known_a.shows
+        first.0 second.0 (safe b refl) in
         record {
           before = found.0;
           disks_before = found.1;

@@ -8,6 +8,7 @@ mod DrivesLemmas
 mod EndLemmas
 mod EventLemmas
 mod FinishLemmas
+mod HandLemmas
 mod JourneyLemmas
 mod LentLemmas
 mod LiftedLemmas

@@ -6,8 +6,6 @@ use Rattle.tape_disk.specs.TwoDisks.{TwoDisks}
 use Rattle.scsi_sense.specs.declared.replies.Reply.{Reply}
 use Rattle.pr_core.specs.declared.states.PrState.{PrState}
 use Rattle.volume_core.specs.declared.changes.Change.{Change}
-use Rattle.volume_core.specs.declared.media.MediumError.{MediumError}
-use Rattle.volume_core.specs.declared.media.MediumError.TheVariants as errors
 use Rattle.volume_core.specs.declared.media.Turn.{Turn}
 use Rattle.volume_core.specs.Medium.{turn_met_fault}
 use Rattle.vtl_base.specs.declared.faults.NoMemory.{NoMemory}
@@ -18,13 +16,12 @@ use Rattle.accepted_changes.specs.Events.{core_moves_nowhere}
 use Rattle.aptpl_store.specs.Contents.{ShowsStates}
 use Rattle.aptpl_store.specs.Kept.{StoreMoves, core_of, store_below, store_kept, store_rules}
 use Rattle.aptpl_store.specs.State.{OpenStore}
-use Rattle.tape_buffer.specs.Moves.{MovesOn, ShowsOn, buffer_below, medium_core}
+use Rattle.tape_buffer.specs.Moves.{MovesOn, ShowsOn, buffer_below, medium_core, moves_here}
 use Rattle.tape_buffer.specs.State.{BufferState, disks_in, state_of}
 use Rattle.drive_commands.specs.declared.bays.Bay.{Bay}
 use Rattle.drive_commands.specs.declared.bays.Bay.TheVariants.{Empty, Unloaded, Loaded}
 use Rattle.drive_commands.specs.Data.{AnswersLent}
 use Rattle.drive_commands.specs.Execute.{Answers, is_device_fault}
-use Rattle.drive_commands.specs.Load.{bay_when_on}
 use Rattle.drive_commands.specs.Media.{GoesOutOf, SwitchesOn, TakesIn, TakesTurn}
 use Rattle.drive_commands.specs.Relations.{Made, made_nothing}
 use Rattle.drive_commands.specs.State.{medium_in}
@@ -33,9 +30,9 @@ use Rattle.bay_moves.specs.Bays.{AnswersInEvent, AnswersLentInEvent, EventIn, Ev
 use Rattle.bay_moves.specs.Elements.{BayState}
 use Rattle.drive_commands.specs.Events.{Event, Execute, FlushTurn, Insert, Load, OfDrive, Unload}
 use Rattle.bay_moves.specs.Reservations.{GivesHeld, GoesBy, HoldingGives, HoldingGoesOn, IsHolding, disk_of}
-use Rattle.bay_moves.specs.Reservations as call
 use Rattle.bay_moves.proofs.EventLemmas.{ChangesBay, bay_stays}
 use Rattle.bay_moves.proofs.CartridgeLemmas.{Moved, moved_by, moved_nowhere}
+use Rattle.bay_moves.proofs.HandLemmas.{opened_in}
 use Rattle.bay_moves.proofs.StoreCoreLemmas.{to_core}
 
 module _ {D : Type 0} (state : D → DiskState) (is_disk : (disk : D) → (state disk).honest → IsDisk (state disk)) where
@@ -52,7 +49,7 @@ module _ {D : Type 0} (state : D → DiskState) (is_disk : (disk : D) → (state
   event_in (Some old) (Some new) made keeps moved =
       λ sure volume is. event_on (disks_in old.held) (disks_in new.held) (medium_core state old)
       (medium_core state new)
-      made (keeps.shows sure volume is) moved
+      made (keeps.shows sure volume is) (moves_here state old new made keeps.hand moved).0
   event_in None None made keeps moved = moved
   event_in None (Some new) made keeps moved = moved
   event_in (Some old) None made keeps moved = moved
@@ -97,22 +94,7 @@ module _ {D : Type 0} (state : D → DiskState) (is_disk : (disk : D) → (state
   out_moved (Loaded m) old (Err reply) new is goes =
       subst (λ (d : BayState D). Moved state is_disk (Some m) (medium_in d.bay) []) (sym goes.3) goes.1.2.moved
 
-  -- the medium of a drive that was just switched on is the one that was opened
-  abbrev in_some : Option (Bay (BufferState D)) → Option (BufferState D)
-  in_some None = None
-  in_some (Some bay) = medium_in bay
-
-  opened_in : (woke : Result Unit MediumError) (opened : BufferState D) (bay : Bay (BufferState D))
-      → bay_when_on woke opened ≡ Some bay → medium_in bay ≡ Some opened
-  opened_in (Ok done) opened bay is = ap in_some (sym is)
-  opened_in (Err errors.Failed) opened bay is = ap in_some (sym is)
-  opened_in (Err errors.Unreadable) opened bay is = ap in_some (sym is)
-  opened_in (Err errors.Device) opened bay is = ap in_some (sym is)
-  opened_in (Err errors.NoMemory) opened bay is = absurd (cc)
-  opened_in (Err errors.SideFull) opened bay is = absurd (cc)
-  opened_in (Err (errors.Refused refusal)) opened bay is = absurd (cc)
-
-  on_moved : (given : Option (BufferState D)) (reservations : PrState) (store : OpenStore D) (new : BayState D)
+  pub on_moved : (given : Option (BufferState D)) (reservations : PrState) (store : OpenStore D) (new : BayState D)
       → SwitchesOn (state_of state) (buffer_below state) given reservations store (Ok new)
       → Moved state is_disk given (medium_in new.bay) []
   on_moved None reservations store new on =
@@ -149,7 +131,7 @@ module _ {D : Type 0} (state : D → DiskState) (is_disk : (disk : D) → (state
             (gives new holding still));
       }
 
-  off_moved : (given : Option (BufferState D)) (reservations : PrState) (store : OpenStore D)
+  pub off_moved : (given : Option (BufferState D)) (reservations : PrState) (store : OpenStore D)
       (back : Option (BufferState D)) (left : OpenStore D) (reason : NoMemory)
       → SwitchesOn (state_of state) (buffer_below state) given reservations store (Err (back, left, reason))
       → Moved state is_disk given back [] × (left ≡ store)

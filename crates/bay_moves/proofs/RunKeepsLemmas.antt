@@ -7,7 +7,8 @@ use Rattle.volume_core.specs.declared.changes.Change.{Change}
 use Rattle.volume_core.specs.Volume.{Part}
 use Rattle.tape_buffer.specs.Moves.{ShowsOn, medium_core}
 use Rattle.tape_buffer.specs.declared.holding.Holding.{Holding}
-use Rattle.tape_buffer.specs.declared.holding.Holding.TheVariants.{Open, Closed, Between}
+use Rattle.tape_buffer.specs.declared.holding.Holding.TheVariants.{Open, Closed, Away}
+use Rattle.tape_buffer.specs.Moves.{IsHere}
 use Rattle.tape_buffer.specs.State.{BufferState, awake_is_read, disks_in, state_held, state_of}
 use Rattle.cartridge.specs.Contents.{volume_made}
 use Rattle.cartridge.specs.State.{ClosedCartridge, OpenCartridge}
@@ -95,18 +96,18 @@ module _ {D : Type 0} (state : D → DiskState) where
 
   -- the side of an awake cartridge gave a volume
   stored_in : (held : Holding (OpenCartridge D) (ClosedCartridge D)) (pending : List Change)
-      → (state_held state held pending).awake ≡ true
+      → (state_held state held pending).awake ≡ true → IsHere held
       → (volume : List Part) × ((state_held state held pending).stored ≡ Some volume)
-  stored_in (Open cartridge) pending awake = (volume_made cartridge.contents, refl)
-  stored_in (Closed cartridge) pending awake = absurd (cc)
-  stored_in Between pending awake = absurd (cc)
+  stored_in (Open cartridge) pending awake here = (volume_made cartridge.contents, refl)
+  stored_in (Closed cartridge) pending awake here = absurd (cc)
+  stored_in (Away away) pending awake here = absurd here
 
   -- the invariant of an awake cartridge on honest disks makes it known
   known_of : (medium : BufferState D) (disks : TwoDisks D) → KeepsCartridge state medium
       → disks_in medium.held ≡ Some disks → AreHonest state disks → (state_of state medium).awake ≡ true
       → IsKnown state medium
   known_of medium disks kept disks_are honest awake =
-      let stored = stored_in medium.held medium.pending awake in
+      let stored = stored_in medium.held medium.pending awake kept.hand in
       record {
         disks = disks;
         disks_are = disks_are;

@@ -13,7 +13,7 @@ use Rattle.cartridge.specs.Contents.{Start}
 use Rattle.accepted_changes.specs.Core.{CanAcknowledge, Core, IsCore}
 use Rattle.accepted_changes.specs.Device.{one_disk, two_disks}
 use Rattle.accepted_changes.specs.Events.{IsEvent, ShowsCore}
-use Rattle.tape_buffer.specs.Moves.{IsSafeOrPending, ShowsOn, buffer_below, medium_core}
+use Rattle.tape_buffer.specs.Moves.{IsHere, IsSafeOrPending, ShowsOn, buffer_below, medium_core}
 use Rattle.tape_buffer.specs.Rules.{medium_rules}
 use Rattle.tape_buffer.specs.State.{BufferState, IsSettledIn, disks_in, state_of}
 use Rattle.aptpl_store.specs.Contents.{ShowsStates}
@@ -34,10 +34,20 @@ module _ {D : Type 0} (state : D → DiskState) where
   abbrev pub IsOpenedOrSettled : BufferState D → Type 0
   IsOpenedOrSettled medium = ((state_of state medium).unread ≡ false) ⊎ IsSettledIn state medium.held
 
-  -- The invariant of a cartridge. What is safe is stored, and what is stored was accepted. While its device works and
-  -- nothing was stopped, all that is stored is safe, and the rest is pending. Where it was opened or is settled, and
-  -- gives a volume, each pair of images that a crash may leave now gives what is safe, or what is stored (own).
+  -- The invariant of a cartridge. Its disks are at hand. What is safe is stored, and what is stored was accepted. While
+  -- its device works and nothing was stopped, all that is stored is safe, and the rest is pending. Where it was opened
+  -- or is settled, and gives a volume, each pair of images that a crash may leave now gives what is safe, or what is
+  -- stored (own).
   pub record KeepsCartridge (medium : BufferState D) : Type 0 where
+    pub hand : IsHere medium.held
+    pub core : IsCore (medium_core state medium)
+    pub whole : IsSafeOrPending (medium_core state medium) medium.pending
+    pub shows :
+        IsOpenedOrSettled medium → (volume : List Part) → (state_of state medium).stored ≡ Some volume
+        → ShowsOn state (disks_in medium.held) (medium_core state medium)
+
+  -- the same, but that the disks are at hand (own)
+  pub record ShowsCartridge (medium : BufferState D) : Type 0 where
     pub core : IsCore (medium_core state medium)
     pub whole : IsSafeOrPending (medium_core state medium) medium.pending
     pub shows :
@@ -45,6 +55,11 @@ module _ {D : Type 0} (state : D → DiskState) where
         → ShowsOn state (disks_in medium.held) (medium_core state medium)
 
   -- the same for the cartridge in a drive, if there is one (own)
+  abbrev pub ShowsCartridgeIn : Option (BufferState D) → Type 0
+  ShowsCartridgeIn None = Unit {0}
+  ShowsCartridgeIn (Some medium) = ShowsCartridge medium
+
+  -- the invariant of the cartridge in a drive, if there is one (own)
   abbrev pub KeepsCartridgeIn : Option (BufferState D) → Type 0
   KeepsCartridgeIn None = Unit {0}
   KeepsCartridgeIn (Some medium) = KeepsCartridge medium
@@ -62,6 +77,11 @@ module _ {D : Type 0} (state : D → DiskState) where
       (events : List PrEvent) (failed : Option PrEvent) → pr_after_all empty_state events ≡ bay.reservations
       → bay.keeper.torn ≡ option_map (pr_after bay.reservations) failed → (state bay.keeper.disk).honest
       → Each (state bay.keeper.disk) (ShowsCore order_rules (orders_core bay.keeper.heading events failed))
+
+  -- each drive whose reservations agree with its store shows the orders that led to them (own)
+  abbrev pub HoldersShowOrders : Type 0
+  HoldersShowOrders =
+      (bay : BayState D) → IsHolding (state_of state) (buffer_below state) state bay → ShowsOrders bay
 
   -- From one core to the other, over two honest disks, the steps of one event accept exactly these changes. At each
   -- moment since, a crash leaves what is safe or stored after some of the steps; now, what is safe or stored in the end

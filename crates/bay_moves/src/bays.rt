@@ -2,20 +2,21 @@
 ghost use Rattle.std.specs.Prelude.{[], Some, ◌≡◌, ◌↔◌, IsTrue, IfOk, IfErr, IfSome, Err, false, is_some, option_map, None};
 ghost use Rattle.tape_disk.specs.Disk.{Each};
 ghost use Rattle.drive_commands.specs.declared.bays.Bay.TheVariants as Bays;
-ghost use Rattle.drive_commands.specs.State.{IsBayPositioned, left_of, machine_of, medium_in};
+ghost use Rattle.drive_commands.specs.State.{IsAtHand, IsBayPositioned, left_of, machine_of, medium_in};
 ghost use Rattle.drive_commands.specs.Data.{AnswersLent};
 ghost use Rattle.drive_commands.specs.Execute.{Answers, HonestIn, asked};
 ghost use Rattle.drive_commands.specs.Media.{GoesOut, SwitchesOn, TakesIn, TakesTurn};
 ghost use Rattle.drive_commands.specs.Relations.{made_nothing};
 ghost use Rattle.drive_commands.specs.Synchronize.{Acknowledges, IsSynchronizing, NothingPending};
-ghost use Rattle.tape_buffer.specs.Moves.{buffer_below};
+ghost use Rattle.tape_buffer.specs.Moves.{IsHere, buffer_below};
 ghost use Rattle.tape_buffer.specs.State.{state_of};
 ghost use Rattle.aptpl_store.specs.Kept.{store_below, store_kept};
-ghost use Rattle.bay_moves.specs.Bays.{AnswersInEvent, AnswersLentInEvent, EveryMoment, EveryMomentOff, EveryMomentOn, IsSafeIn, KeepsBoth, KeepsCartridgeIn, ShowsOrders, loaded_or_back, out_or_in};
+ghost use Rattle.bay_moves.specs.Bays.{AnswersInEvent, AnswersLentInEvent, EveryMoment, EveryMomentOff, EveryMomentOn, IsSafeIn, KeepsBoth, KeepsCartridgeIn, ShowsCartridgeIn, ShowsOrders, loaded_or_back, out_or_in};
 ghost use Rattle.bay_moves.specs.Inner.Going.{IsAwakeIn};
 ghost use Rattle.drive_commands.specs.Events.{FlushTurn, Insert, Load, Unload};
 ghost use Rattle.bay_moves.specs.Reservations.{GivesHeld};
 
+use crate::answering::{answer, take_turn};
 use crate::laws::reservations::reservations_outlive_each_stop;
 use crate::parked::Parked;
 use accepted_changes::Accepting;
@@ -25,7 +26,7 @@ use pr_core::Reservations;
 use scsi_sense::Reply;
 use std::alloc::Global;
 use std::marker::Model;
-use tape_buffer::Cataloged;
+use tape_buffer::Buffered;
 use tape_disk::Disk;
 use volume_core::{Medium, Turn};
 use vtl_base::{Bytes, Nexus, NoMemory};
@@ -44,7 +45,7 @@ pub struct NotOn<D: Disk> {
 /// invariant says what a stop may leave of the cartridge and of the store.
 #[derive(Drop)]
 pub struct Bay<D: Disk> {
-    pub(crate) drive: Drive<Cataloged<D>, AptplStore<D>>,
+    pub(crate) drive: Drive<Buffered<D>, AptplStore<D>>,
 }
 
 impl<D: Disk> Model for Bay<D> {
@@ -70,9 +71,10 @@ impl<D: Disk> Accepting for Bay<D> {
     ghost is_device = { one_is_device D.state };
 }
 
-// Establishes, for proofs, the invariant of the cartridge in a drive, if there is one.
-pub(crate) fn known<D: Disk>(drive: &Drive<Cataloged<D>, AptplStore<D>>)
-    ensures { KeepsCartridgeIn D.state (medium_in drive.now.bay) }
+/// Establishes, for proofs, what a crash may leave of the cartridge in a drive, if there is one. The call does nothing
+/// else.
+pub fn known<D: Disk>(drive: &Drive<Buffered<D>, AptplStore<D>>)
+    ensures { ShowsCartridgeIn D.state (medium_in drive.now.bay) }
 {
     if let Some(medium) = drive.medium() {
         medium.known();
@@ -80,7 +82,7 @@ pub(crate) fn known<D: Disk>(drive: &Drive<Cataloged<D>, AptplStore<D>>)
 }
 
 // The medium of a closed cartridge, if there is one.
-fn medium_of<D: Disk>(cartridge: Option<Parked<D>>) -> Option<Cataloged<D>>
+fn medium_of<D: Disk>(cartridge: Option<Parked<D>>) -> Option<Buffered<D>>
     ensures same { result ≡ cartridge }
     ensures parked { IfSome result (λ medium. (state_of D.state medium).awake ≡ false) }
     ensures keeps { KeepsCartridgeIn D.state result }
@@ -115,7 +117,7 @@ impl<D: Disk> Bay<D> {
             EveryMomentOff D.state cartridge store not.cartridge not.store) }
     {
         // The law, and the facts of store and reservations, for the proof alone.
-        reservations_outlive_each_stop::<Cataloged<D>, D>();
+        reservations_outlive_each_stop::<Buffered<D>, D>();
         store.known();
         let _ = reservations.state();
         match Drive::power_on(alloc, store, reservations, medium_of(cartridge)) {
@@ -153,7 +155,7 @@ impl<D: Disk> Bay<D> {
             → IsSafeIn D.state (medium_in self.new.bay) }
     {
         // The law, and the facts of what is in the drive, for the proof alone.
-        reservations_outlive_each_stop::<Cataloged<D>, D>();
+        reservations_outlive_each_stop::<Buffered<D>, D>();
         let reply = self.drive.execute(nexus, cdb, sent);
         known(&self.drive);
         let _ = self.drive.medium();
@@ -179,11 +181,7 @@ impl<D: Disk> Bay<D> {
             → Acknowledges result → HonestIn (buffer_below D.state) (medium_in self.old.bay)
             → IsSafeIn D.state (medium_in self.new.bay) }
     {
-        reservations_outlive_each_stop::<Cataloged<D>, D>();
-        let reply = self.drive.execute_lent(nexus, cdb, sent);
-        known(&self.drive);
-        let _ = self.drive.medium();
-        reply
+        answer(&mut self.drive, nexus, cdb, sent)
     }
 
     /// Takes a flusher's turn: stores the pending changes of the loaded medium, and returns what the turn did. The call
@@ -193,10 +191,7 @@ impl<D: Disk> Bay<D> {
         ensures moments { EveryMoment D.state self.old FlushTurn made_nothing (medium_in self.old.bay)
             (medium_in self.new.bay) self.new }
     {
-        reservations_outlive_each_stop::<Cataloged<D>, D>();
-        let turn = self.drive.turn();
-        known(&self.drive);
-        turn
+        take_turn(&mut self.drive)
     }
 
     /// Opens a cartridge and loads it into this drive, which must be empty. The condition 28/00 (the medium may have
@@ -208,7 +203,7 @@ impl<D: Disk> Bay<D> {
         ensures moments { EveryMoment D.state self.old (Load (state_of D.state cartridge)) made_nothing
             (Some cartridge) (loaded_or_back D.state result self.new) self.new }
     {
-        reservations_outlive_each_stop::<Cataloged<D>, D>();
+        reservations_outlive_each_stop::<Buffered<D>, D>();
         let medium = cartridge.into_medium();
         let loaded = self.drive.load(medium);
         known(&self.drive);
@@ -226,7 +221,7 @@ impl<D: Disk> Bay<D> {
         ensures moments { EveryMoment D.state self.old (Insert (state_of D.state cartridge)) made_nothing
             (Some cartridge) (medium_in self.new.bay) self.new }
     {
-        reservations_outlive_each_stop::<Cataloged<D>, D>();
+        reservations_outlive_each_stop::<Buffered<D>, D>();
         let medium = cartridge.into_medium();
         self.drive.insert(medium);
         known(&self.drive);
@@ -241,7 +236,7 @@ impl<D: Disk> Bay<D> {
         ensures moments { EveryMoment D.state self.old Unload made_nothing (medium_in self.old.bay)
             (out_or_in D.state result self.new) self.new }
     {
-        reservations_outlive_each_stop::<Cataloged<D>, D>();
+        reservations_outlive_each_stop::<Buffered<D>, D>();
         // Read for the proof: a loaded medium is awake.
         let _ = self.drive.medium();
         let out = self.drive.unload();
@@ -286,13 +281,14 @@ impl<D: Disk> Bay<D> {
         // A loaded medium is awake, and the position is on it. A medium that is not loaded is parked.
         ensures positioned { IsBayPositioned (state_of D.state) self.now.bay self.now.position }
     {
-        reservations_outlive_each_stop::<Cataloged<D>, D>();
+        reservations_outlive_each_stop::<Buffered<D>, D>();
         let _ = self.drive.medium();
     }
 
-    /// The drive, for reading.
-    pub fn drive(&self) -> &Drive<Cataloged<D>, AptplStore<D>>
-        ensures { result.now ≡ self.now }
+    /// The drive, for reading. The disks of what is in it are at hand.
+    pub fn drive(&self) -> &Drive<Buffered<D>, AptplStore<D>>
+        ensures same { result.now ≡ self.now }
+        ensures hand { IsAtHand (λ m. IsHere m.held) self.now.bay }
     {
         &self.drive
     }

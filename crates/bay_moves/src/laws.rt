@@ -9,7 +9,7 @@ use crate::bays::Bay;
 use accepted_changes::laws::{
     what_is_kept_begins, what_was_acknowledged_begins, what_was_acknowledged_is_kept,
 };
-use tape_buffer::Cataloged;
+use tape_buffer::Buffered;
 use tape_disk::Disk;
 
 /// Two laws, for every list of events, whatever stops come between. The first is about the changes of a cartridge, the
@@ -20,8 +20,8 @@ pub fn stop_keeps<D: Disk>()
     ensures changes { StopsKeepThrough medium_rules }
     ensures orders { StopsKeepAccepted order_rules }
 {
-    what_was_acknowledged_is_kept::<Cataloged<D>>();
-    what_was_acknowledged_begins::<Cataloged<D>>();
+    what_was_acknowledged_is_kept::<Buffered<D>>();
+    what_was_acknowledged_begins::<Buffered<D>>();
     what_was_acknowledged_is_kept::<Bay<D>>();
     what_is_kept_begins::<Bay<D>>();
 }

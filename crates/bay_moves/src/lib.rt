@@ -2,6 +2,7 @@
 //! drive is stopped.
 #![tactic(auto)]
 
+mod answering;
 mod apart;
 pub mod bays;
 mod finishing;
@@ -12,6 +13,7 @@ mod moves;
 pub mod parked;
 pub mod runs;
 
+pub use answering::{answer, take_turn};
 pub use bays::{Bay, NotOn};
 pub use finishing::Unwritten;
 pub use held::{Held, Inventory};

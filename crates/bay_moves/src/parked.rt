@@ -1,5 +1,6 @@
 //! A closed cartridge: in a slot, or on its way.
 ghost use Rattle.std.specs.Prelude.{◌≡◌, false};
+ghost use Rattle.tape_buffer.specs.Moves.{IsHere};
 ghost use Rattle.tape_buffer.specs.State.{closed_buffer, state_of};
 ghost use Rattle.tape_buffer.specs.declared.holding.Holding.TheVariants as Holdings;
 ghost use Rattle.bay_moves.specs.Bays.{KeepsCartridge};
@@ -7,7 +8,7 @@ ghost use Rattle.bay_moves.specs.Bays.{KeepsCartridge};
 use cartridge::Shelved;
 use std::alloc::Global;
 use std::marker::Model;
-use tape_buffer::Cataloged;
+use tape_buffer::Buffered;
 use tape_disk::Disk;
 
 /// A closed cartridge, in the form in which a slot holds it and a drive loads it. A contract sees its medium, which is
@@ -16,7 +17,7 @@ use tape_disk::Disk;
 /// return.
 #[derive(Drop)]
 pub struct Parked<D: Disk> {
-    medium: Cataloged<D>,
+    medium: Buffered<D>,
 }
 
 impl<D: Disk> Model for Parked<D> {
@@ -37,12 +38,13 @@ impl<D: Disk> Parked<D> {
     pub fn of(alloc: Global, shelved: Shelved<D>) -> Parked<D>
         ensures { result ≡ closed_buffer shelved }
     {
-        Parked::of_medium(Cataloged::parked(alloc, shelved))
+        Parked::of_medium(Buffered::parked(alloc, shelved))
     }
 
     /// Makes a closed cartridge of a medium, which must be parked.
-    pub fn of_medium(medium: Cataloged<D>) -> Parked<D>
-        requires { (state_of D.state medium).awake ≡ false }
+    pub fn of_medium(medium: Buffered<D>) -> Parked<D>
+        requires parked { (state_of D.state medium).awake ≡ false }
+        requires hand { IsHere medium.held }
         ensures { result ≡ medium }
     {
         medium.known();
@@ -50,7 +52,7 @@ impl<D: Disk> Parked<D> {
     }
 
     /// Returns the medium, which is parked.
-    pub fn into_medium(self) -> Cataloged<D>
+    pub fn into_medium(self) -> Buffered<D>
         ensures same { result ≡ self }
         ensures parked { (state_of D.state result).awake ≡ false }
         ensures keeps { KeepsCartridge D.state result }
@@ -75,8 +77,9 @@ impl<D: Disk> Parked<D> {
     }
 
     /// The medium, for reading.
-    pub fn medium(&self) -> &Cataloged<D>
-        ensures { result.now ≡ self.now }
+    pub fn medium(&self) -> &Buffered<D>
+        ensures same { result.now ≡ self.now }
+        ensures hand { IsHere self.now.held }
     {
         &self.medium
     }

@@ -16,7 +16,7 @@ use aptpl_store::AptplStore;
 use scsi_sense::Reply;
 use std::alloc::Global;
 use std::io::{Read, Write};
-use tape_buffer::Cataloged;
+use tape_buffer::Buffered;
 use tape_disk::Disk;
 use vtl_base::{DriveNo, NoMemory};
 use vtl_script::{Item, Line, Runner, ScriptFault, run_script};
@@ -111,9 +111,9 @@ pub fn run_held<D: Disk + Drop, R: Read, W: Write>(
         → RunKeeps D.state held.old held.new runs.items runs.replies }
 {
     // The laws of the machine, of scripts and of stops, for the proof alone.
-    drive_theorems::honest_steps::<Cataloged<D>>();
+    drive_theorems::honest_steps::<Buffered<D>>();
     drive_theorems::answers_are_determined();
-    drive_theorems::served_hosts_run::<Cataloged<D>, AptplStore<D>>();
+    drive_theorems::served_hosts_run::<Buffered<D>, AptplStore<D>>();
     vtl_script::laws::one_host_runs_in_order();
     a_stop_keeps_acknowledged_changes_of_what_is_moved::<D>();
     run_script(alloc, held, reader, writer)

@@ -1,9 +1,9 @@
 //! A drive over a cartridge in a file.
-use crate::drives::{Tape, switched_on};
 use crate::work::{TEST_UNIT_READY, Timed, writes};
 use cartridge::Cartridge;
 use file_disk::{FileDisk, create, open};
 use std::time::Instant;
+use test_tapes::drives::{Tape, switched_on};
 use vtl_base::limits::MAX_CAPACITY;
 use vtl_base::{Barcode, Nexus};
 

@@ -1,7 +1,6 @@
 //! A timed program: a drive writes to a cartridge in memory, and as many bytes are copied.
 #![tactic(auto)]
 
-mod drives;
 mod files;
 mod work;
 

@@ -1,9 +1,9 @@
 //! The work that is timed.
-use crate::drives::{Tape, switched_on};
 use scsi_sense::{Reply, Sense, Status};
 use std::alloc::Global;
 use std::time::Instant;
 use tape_disk::{Disk, MemDisk};
+use test_tapes::drives::{Tape, switched_on};
 use vtl_base::Nexus;
 
 const BLOCK: usize = 65_536;
@@ -46,8 +46,8 @@ fn ask<D: Disk + Drop>(drive: &mut Tape<D>, host: Nexus, cdb: &[u8], sent: &[u8]
 
 // The syncs of a drive's disk.
 fn syncs(drive: &Tape<MemDisk>) -> u64 {
-    match drive.medium() {
-        Some(medium) => medium.disk().syncs(),
+    match drive.disk() {
+        Some(disk) => disk.syncs(),
         None => 0,
     }
 }

@@ -29,7 +29,6 @@ pub mod Counted
 pub mod Execute
 pub mod Data
 pub mod Alone
-pub mod Apart
 pub mod ShownChanges
 pub mod Media
 pub mod Run

@@ -10,8 +10,8 @@ ghost use Rattle.drive_commands.specs.Alone.{request_needs_disk};
 ghost use Rattle.drive_commands.specs.Media.{TakesTurn, TakesIn, InsertSteps, LoadSteps, GoesOut, UnloadSteps, SwitchesOn, PowerOnSteps};
 
 mod alone;
-pub mod apart;
 mod lending;
+mod lifting;
 mod loading;
 mod looking;
 mod modes;

@@ -22,5 +22,4 @@ mod writes;
 pub use bays::Bay;
 pub use conditions::{Condition, Denial};
 pub use drives::Drive;
-pub use drives::apart::Rest;
 pub use faults::Fault;

@@ -1,5 +1,5 @@
 -- What the halves of a drive answer, and the share of the drive then.
-use Rattle.std.proofs.Common.{◌≡◌, ◌≢◌, ◌+◌, ◌∙◌, ℕ, List, Option, None, Some, is_some, true, false, Bool, refl, sym, ap, subst}
+use Rattle.std.proofs.Common.{◌≡◌, ◌≢◌, ◌+◌, ◌∙◌, ℕ, List, Option, None, Some, is_some, true, refl, sym, ap, subst}
 use Rattle.std.specs.Prelude.{IfSome}
 use Rattle.tape_disk.specs.Disk.{DiskState}
 use Rattle.library.specs.Seats.{SeatState}
@@ -7,18 +7,18 @@ use Rattle.scsi_sense.specs.declared.replies.Reply.{Reply}
 use Rattle.tape_buffer.specs.Moves.{buffer_below}
 use Rattle.tape_buffer.specs.State.{state_of}
 use Rattle.aptpl_store.specs.Kept.{store_below, store_kept}
+use Rattle.aptpl_store.specs.State.{OpenStore}
+use Rattle.bay_moves.specs.Bays.{SavesIn}
 use Rattle.bay_moves.specs.Elements.{BayState}
 use Rattle.bay_moves.specs.Lent.{KeepsCount}
-use Rattle.drive_commands.specs.Alone.{AnswersAlone}
 use Rattle.drive_commands.specs.Execute.{Answers}
 use Rattle.drive_commands.specs.State.{machine_of}
 use Rattle.drive_commands.specs.Synchronize.{Acknowledges, IsSynchronizing}
 use Rattle.drive_commands.specs.ShownChanges.{ShowsChanges}
 use Rattle.drive_commands.specs.Work.{Request}
 use Rattle.split_bay.specs.Backs.{BackState}
-use Rattle.split_bay.specs.Fronts.{FrontState, KeepsHostsHalf, LeavesOrders}
-use Rattle.split_bay.specs.Halves.{ExecutesBoth, ReportsBoth}
-use Rattle.split_bay.specs.Nears.{alone_near, near_below, state_near}
+use Rattle.split_bay.specs.Fronts.{AnswersOrWaits, FrontState, KeepsHostsHalf, LeavesOrders}
+use Rattle.split_bay.specs.Halves.{ExecutesBoth, Joins, Parts}
 use Rattle.split_bay.specs.Rings.{SendingState}
 use Rattle.library.specs.Halves.{EndsHeld, HasShare, HoldsBoth, JoinsHeld, PartsHeld}
 use Rattle.library.specs.Inner.Entering.{CanEnter}
@@ -27,63 +27,77 @@ use Rattle.library.specs.Served.{ServesFront, ServesHalves}
 use Rattle.library.proofs.CountLemmas.{seat_grows, share_stands}
 use Rattle.library.proofs.SaveLemmas.{saves_alone}
 
+-- what a drive accepted is the same once its disks are back
+joins_accepted : {D : Type 0} (state : D → DiskState) (front : FrontState D) (back : BackState D) (bay : BayState D)
+    (ends : SendingState) → Joins state front back bay ends → bay.accepted ≡ front.drive.accepted
+joins_accepted state front back bay ends joins = ap (λ (b : BayState _). b.accepted) joins.found
+
+-- and once they went away
+parts_accepted : {D : Type 0} (state : D → DiskState) (bay : BayState D) (ends : SendingState) (front : FrontState D)
+    (back : BackState D) → Parts state bay ends front back → front.drive.accepted ≡ bay.accepted
+parts_accepted state bay ends front back parts = ap (λ (b : BayState _). b.accepted) parts.same
+
 module _ {D : Type 0} (state : D → DiskState) where
   -- The hosts' half has answered, and the seat counted that, or it has not. The change that it accepted was entered for
   -- the seat.
   pub front_serves : (old new : FrontState D) (request : Request) (before counted after : SeatState)
-      (reply : Option Reply) (left : List ℕ) (low high : ℕ)
-      → AnswersAlone state_near store_kept alone_near near_below (store_below state) old.drive request reply new.drive
-      left
-      → new.end ≡ old.end
-      → (IsSynchronizing (machine_of state_near store_kept old.drive) request.cdb
+      (reply : Option Reply) (left : List ℕ) (low high : ℕ) → AnswersOrWaits state old request reply new left
+      → (IsSynchronizing (machine_of (state_of state) store_kept old.drive) request.cdb
       → IfSome reply (λ reply. Acknowledges reply → ⊥))
       → LeavesOrders state old.drive request reply new.drive
       → KeepsHostsHalf state old → KeepsHostsHalf state new → request.nexus ≡ before.nexus
-      → ((reply : Reply)
-      → (step : Answers state_near near_below store_kept (store_below state) old.drive request reply new.drive)
+      → ((reply : Reply) (answered : BayState D)
+      → (step :
+      Answers (state_of state) (buffer_below state) store_kept (store_below state) old.drive request reply answered)
       → ShowsChanges request.cdb reply step.taken.made.changes)
       → low ≡ old.drive.accepted → high ≡ new.drive.accepted → IfSome reply (λ reply. CanEnter low request.cdb reply)
       → (reply ≡ None → counted ≡ before)
       → (is_some reply ≡ true → counted ≡ record before { answered = before.answered + 1 })
       → (low ≡ high → after ≡ counted) → (low ≢ high → after ≡ record counted { amount = counted.amount + 1 })
       → ServesFront state old request before reply new left after
-  front_serves old new request before counted after (Some reply) left low high step end waits moments kept keeps host
-      law was is below none some same risen = (
-        step.1.step.taken.made.changes,
+  front_serves old new request before counted after (Some reply) left low high answers waits moments kept keeps host law
+      was is below none some same risen =
+      let answered = answers.answered in
+      let step = answers.step.1 in (
+        step.step.taken.made.changes,
         record {
-          step = step;
+          answers = answers;
           made_is = refl;
-          end = end;
           waits = waits;
           moments = moments;
           saves =
-              saves_alone state old new.drive.keeper step.1.step.taken.made.saved kept step.1.step.taken.saves.moved;
+              subst (λ (k : OpenStore D). SavesIn state old.drive.keeper k step.step.taken.made.saved)
+              (sym (ap (λ (d : BayState D). d.keeper) answers.drive))
+              (saves_alone state old answered.keeper step.step.taken.made.saved kept step.step.taken.saves.moved);
           old_keeps = kept;
           keeps = keeps;
         },
-        seat_grows state_near near_below store_kept (store_below state) old.drive request before counted reply new.drive
-            after low high step.1.step (law reply step.1.step) host was is below (some refl) same risen,
+        seat_grows (state_of state) (buffer_below state) store_kept (store_below state) old.drive request before counted
+            reply answered after low high step.step (law reply answered step.step) host was
+            (is ∙ ap (λ (d : BayState D). d.accepted) answers.drive) below (some refl) same risen,
       )
-  front_serves old new request before counted after None left low high step end waits moments kept keeps host law was
-      is below none some same risen =
-      (step, end, same (was ∙ sym (ap (λ drive. drive.accepted) step.1) ∙ sym is) ∙ none refl)
+  front_serves old new request before counted after None left low high answers waits moments kept keeps host law was is
+      below none some same risen =
+      (answers, same (was ∙ sym (ap (λ (f : FrontState D). f.drive.accepted) answers.1) ∙ sym is) ∙ none refl)
 
   -- the share of the drive then
   pub front_share : (old new : FrontState D) (request : Request) (reply : Option Reply) (left : List ℕ)
-      (low high held held' : ℕ)
-      → AnswersAlone state_near store_kept alone_near near_below (store_below state) old.drive request reply new.drive
-      left
-      → ((reply : Reply)
-      → (step : Answers state_near near_below store_kept (store_below state) old.drive request reply new.drive)
+      (low high held held' : ℕ) → AnswersOrWaits state old request reply new left
+      → ((reply : Reply) (answered : BayState D)
+      → (step :
+      Answers (state_of state) (buffer_below state) store_kept (store_below state) old.drive request reply answered)
       → ShowsChanges request.cdb reply step.taken.made.changes)
       → low ≡ old.drive.accepted → high ≡ new.drive.accepted → IfSome reply (λ reply. CanEnter low request.cdb reply)
       → held ≡ old.drive.accepted
       → (low ≡ high → held' ≡ held) → (low ≢ high → held' ≡ held + 1) → held' ≡ new.drive.accepted
-  front_share old new request (Some reply) left low high held held' step law was is below stood same risen =
-      share_stands state_near near_below store_kept (store_below state) old.drive request reply new.drive low high held
-      held' step.1.step (law reply step.1.step) was is below stood same risen
-  front_share old new request None left low high held held' step law was is below stood same risen =
-      let still : new.drive.accepted ≡ old.drive.accepted = ap (λ drive. drive.accepted) step.1 in
+  front_share old new request (Some reply) left low high held held' answers law was is below stood same risen =
+      let counts = ap (λ (d : BayState D). d.accepted) answers.drive in
+      share_stands (state_of state) (buffer_below state) store_kept (store_below state) old.drive request reply
+      answers.answered low high held held' answers.step.1.step (law reply answers.answered answers.step.1.step) was
+      (is ∙ counts) below stood same risen
+      ∙ sym counts
+  front_share old new request None left low high held held' answers law was is below stood same risen =
+      let still : new.drive.accepted ≡ old.drive.accepted = ap (λ (f : FrontState D). f.drive.accepted) answers.1 in
       same (was ∙ sym still ∙ sym is) ∙ stood ∙ sym still
 
   -- both halves have answered, the seat counted that, and the change that they accepted was entered for it
@@ -107,7 +121,8 @@ module _ {D : Type 0} (state : D → DiskState) where
         grows =
             seat_grows (state_of state) (buffer_below state) store_kept (store_below state) both.joined request before
             counted reply both.answered after low high step (law both.joined both.answered step) host
-            (was ∙ sym both.joins.accepted) (is ∙ both.parts.accepted) below one same risen;
+            (was ∙ sym (joins_accepted state front back both.joined front.sending both.holds.joins))
+            (is ∙ parts_accepted state both.answered front.sending front' back' both.holds.parts) below one same risen;
       }
 
   -- the share of the drive then
@@ -122,10 +137,12 @@ module _ {D : Type 0} (state : D → DiskState) where
       → (low ≡ high → held' ≡ held) → (low ≢ high → held' ≡ held + 1) → held' ≡ front'.drive.accepted
   halves_share front front' back back' request reply left low high held held' both law was is below stood same risen =
       let step = both.answers.step.step in
+      let joined = joins_accepted state front back both.joined front.sending both.holds.joins in
+      let parted = parts_accepted state both.answered front.sending front' back' both.holds.parts in
       share_stands (state_of state) (buffer_below state) store_kept (store_below state) both.joined request reply
-      both.answered low high held held' step (law both.joined both.answered step) (was ∙ sym both.joins.accepted)
-      (is ∙ both.parts.accepted) below (stood ∙ sym both.joins.accepted) same risen
-      ∙ sym both.parts.accepted
+      both.answered low high held held' step (law both.joined both.answered step) (was ∙ sym joined)
+      (is ∙ parted) below (stood ∙ sym joined) same risen
+      ∙ sym parted
 
   -- a drive that was put together and parts again, with its count as it was, has its share
   pub share_after : (front : Option (FrontState D)) (back : Option (BackState D)) (bay bay' : BayState D)
@@ -133,7 +150,8 @@ module _ {D : Type 0} (state : D → DiskState) where
       → HasShare front share → JoinsHeld state front back bay ends → bay'.accepted ≡ bay.accepted
       → PartsHeld state bay' ends front' back' → HasShare front' share
   share_after (Some front) (Some back) bay bay' ends (Some front') (Some back') share has joins same parts =
-      has ∙ sym joins.accepted ∙ sym same ∙ sym parts.accepted
+      has ∙ sym (joins_accepted state front back bay ends joins) ∙ sym same
+      ∙ sym (parts_accepted state bay' ends front' back' parts)
   share_after (Some front) (Some back) bay bay' ends (Some front') None share has joins same parts = absurd parts
   share_after (Some front) (Some back) bay bay' ends None back' share has joins same parts = absurd parts
   share_after (Some front) None bay bay' ends front' back' share has joins same parts = absurd joins
@@ -160,12 +178,6 @@ module _ {D : Type 0} (state : D → DiskState) where
   pub still_there : (bay : BayState D) (held : Option (BayState D)) → KeepsCount (Some bay) held → held ≡ None → ⊥
   still_there bay held keeps is = subst (λ (h : Option (BayState D)). KeepsCount (Some bay) h) is keeps
 
-  -- a fault that is reported leaves the count
-  pub reported_share : (fault : Bool) (front front' : FrontState D) (back back' : BackState D)
-      → ReportsBoth state fault front back front' back' → front'.drive.accepted ≡ front.drive.accepted
-  reported_share true front front' back back' reports = reports.parts.accepted ∙ reports.joins.accepted
-  reported_share false front front' back back' reports = ap (λ front. front.drive.accepted) reports.0
-
   -- both halves were held, by what their places are seen as
   pub holds_both : (front seen : Option (FrontState D)) (back other : Option (BackState D)) (bay bay' : BayState D)
       (ends : SendingState) (front' : Option (FrontState D)) (back' : Option (BackState D))
@@ -183,7 +195,8 @@ module _ {D : Type 0} (state : D → DiskState) where
   pub end_share : (front : Option (FrontState D)) (back : Option (BackState D)) (bay bay' : BayState D)
       (ends : SendingState) (share : ℕ) → HasShare front share → JoinsHeld state front back bay ends
       → bay'.accepted ≡ bay.accepted → share ≡ bay'.accepted
-  end_share (Some front) (Some back) bay bay' ends share has joins same = has ∙ sym joins.accepted ∙ sym same
+  end_share (Some front) (Some back) bay bay' ends share has joins same =
+      has ∙ sym (joins_accepted state front back bay ends joins) ∙ sym same
   end_share (Some front) None bay bay' ends share has joins same = absurd joins
   end_share None back bay bay' ends share has joins same = absurd has
 

@@ -9,3 +9,4 @@ mod SeatLemmas
 mod SeenLemmas
 mod ServedLemmas
 pub mod SessionLemmas
+mod SumLemmas

@@ -54,22 +54,23 @@ module _ {D : Type 0} (bays : List (Option (BayState D))) (total sum : ℕ)
       subst (λ (r : Result (List (Option ℕ)) FinishError). IfOk r (λ c. (c ≡ counts_of bays) × (sum_of_counts c ≡ sum)))
       (sym is) (of_counts written counts compared are same)
 
+module _ (counted held total sum : ℕ) (all : counted ≡ total) (summed : sum ≡ held) where
   of_missing : (written : Result Unit Unwritten) (counts : List (Option ℕ)) (compared : Result ℕ SeatsMissing)
       → IfErr compared (λ m. (m.total ≡ total) × (m.seats ≡ sum) × (m.seats < m.total))
-      → IfErr (outcome_of written counts compared) (λ e. IsShort e (sum_of_counts (counts_of bays)) sum)
+      → IfErr (outcome_of written counts compared) (λ e. IsShort e counted held)
   of_missing (Err unwritten) counts compared short = tt
   of_missing (Ok done) counts (Ok found) short = tt
   of_missing (Ok done) counts (Err missing) short =
-      (short.0 ∙ sym all, short.1, omega (arith, short.0, short.1, short.2, all))
+      (short.0 ∙ sym all, short.1 ∙ summed, omega (arith, short.0, short.1, short.2, all, summed))
 
-  pub reports_missing : (written : Result Unit Unwritten) (counts : List (Option ℕ)) (compared : Result ℕ SeatsMissing)
+  -- where seats are missing, both sums are reported
+  reports_missing : (written : Result Unit Unwritten) (counts : List (Option ℕ)) (compared : Result ℕ SeatsMissing)
       (result : Result (List (Option ℕ)) FinishError) → result ≡ outcome_of written counts compared
       → IfErr compared (λ m. (m.total ≡ total) × (m.seats ≡ sum) × (m.seats < m.total))
-      → IfErr result (λ e. IsShort e (sum_of_counts (counts_of bays)) sum)
+      → IfErr result (λ e. IsShort e counted held)
   reports_missing written counts compared result is short =
-      subst (λ (r : Result (List (Option ℕ)) FinishError).
-      IfErr r (λ e. IsShort e (sum_of_counts (counts_of bays)) sum))
-      (sym is) (of_missing written counts compared short)
+      subst (λ (r : Result (List (Option ℕ)) FinishError). IfErr r (λ e. IsShort e counted held)) (sym is)
+      (of_missing written counts compared short)
 
 -- where the seats have all changes, none is missing
 of_all : (total sum : ℕ) (written : Result Unit Unwritten) (counts : List (Option ℕ))
@@ -101,4 +102,5 @@ balances seats hosts counted held total sum written counts compared result is al
   within = omega (arith, all, summed, within);
   same = λ every. all ∙ sym (same every) ∙ summed;
   all = λ every. reports_all total sum written counts compared result is (same every) short;
+  missing = reports_missing counted held total sum all summed written counts compared result is short;
 }

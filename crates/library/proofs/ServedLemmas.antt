@@ -26,7 +26,7 @@ module _ {D : Type 0} (state : D → DiskState) where
       answered = inl (record { old = old; new = new; left = left; answers = serves.1 });
       grows = serves.2;
     },
-    serves.1.step.1.data_is ∙ ap (λ (l : List Change). data_left l request.sent) (sym serves.1.made_is),
+    serves.1.answers.step.1.data_is ∙ ap (λ (l : List Change). data_left l request.sent) (sym serves.1.made_is),
   )
   served_alone (Some old) None request before after reply left serves = absurd serves
   served_alone None new request before after reply left serves = absurd serves
@@ -60,7 +60,7 @@ module _ {D : Type 0} (state : D → DiskState) where
   -- where the hosts' half did not answer, the seat and the data are as they were
   as_before : (old new : Option (FrontState D)) (request : Request) (before after : SeatState) (left : List ℕ)
       → ServesAlone state old request before None new left after → (left ≡ request.sent) × (after ≡ before)
-  as_before (Some old) (Some new) request before after left serves = (serves.0.2, serves.2)
+  as_before (Some old) (Some new) request before after left serves = (serves.0.0.2, serves.1)
   as_before (Some old) None request before after left serves = absurd serves
   as_before None new request before after left serves = absurd serves
 

@@ -4,17 +4,16 @@ use Rattle.tape_disk.specs.Disk.{DiskState}
 use Rattle.library.specs.Seats.{SeatState}
 use Rattle.scsi_sense.specs.declared.replies.Reply.{Reply}
 use Rattle.volume_core.specs.declared.changes.Change.{Change}
-use Rattle.aptpl_store.specs.Kept.{store_below, store_kept}
+use Rattle.aptpl_store.specs.Kept.{store_kept}
 use Rattle.bay_moves.specs.Bays.{SavesIn}
-use Rattle.drive_commands.specs.Alone.{AnswersAlone}
 use Rattle.drive_commands.specs.State.{machine_of}
 use Rattle.drive_commands.specs.Synchronize.{Acknowledges, IsSynchronizing}
 use Rattle.drive_commands.specs.ShownChanges.{IsChanging, ShowsWriteError}
 use Rattle.drive_commands.specs.Work.{Request}
 use Rattle.split_bay.specs.Backs.{BackState}
-use Rattle.split_bay.specs.Fronts.{FrontState, KeepsHostsHalf, LeavesOrders}
+use Rattle.split_bay.specs.Fronts.{AnswersHalf, AnswersOrWaits, FrontState, KeepsHostsHalf, LeavesOrders}
 use Rattle.split_bay.specs.Halves.{ExecutesBoth}
-use Rattle.split_bay.specs.Nears.{alone_near, near_below, state_near}
+use Rattle.tape_buffer.specs.State.{state_of}
 
 -- A seat grows as the reply to its host's command says. An acknowledged WRITE of at least one byte, WRITE FILEMARKS of
 -- at least one, or ERASE adds one; a write error adds one or nothing; every other reply adds nothing (own).
@@ -42,15 +41,12 @@ module _ {D : Type 0} (state : D → DiskState) where
   pub record AnswersFront
       (old : FrontState D) (request : Request) (reply : Reply) (made : List Change) (new : FrontState D) (left : List ℕ)
       : Type 0 where
-    pub step :
-        AnswersAlone state_near store_kept alone_near near_below (store_below state) old.drive request (Some reply)
-        new.drive left
-    pub made_is : made ≡ step.1.step.taken.made.changes
-    pub end : new.end ≡ old.end
+    pub answers : AnswersHalf state old request reply new left
+    pub made_is : made ≡ answers.step.1.step.taken.made.changes
     pub waits :
-        IsSynchronizing (machine_of state_near store_kept old.drive) request.cdb → Acknowledges reply → ⊥
+        IsSynchronizing (machine_of (state_of state) store_kept old.drive) request.cdb → Acknowledges reply → ⊥
     pub moments : LeavesOrders state old.drive request (Some reply) new.drive
-    pub saves : SavesIn state old.drive.keeper new.drive.keeper step.1.step.taken.made.saved
+    pub saves : SavesIn state old.drive.keeper new.drive.keeper answers.step.1.step.taken.made.saved
     pub old_keeps : KeepsHostsHalf state old
     pub keeps : KeepsHostsHalf state new
 
@@ -93,8 +89,7 @@ module _ {D : Type 0} (state : D → DiskState) where
   ServesFront old request before (Some reply) new left after =
       (made : List Change) × AnswersFront old request reply made new left × SeatGrows request before reply made after
   ServesFront old request before None new left after =
-      AnswersAlone state_near store_kept alone_near near_below (store_below state) old.drive request None new.drive left
-      × (new.end ≡ old.end) × (after ≡ before)
+      AnswersOrWaits state old request None new left × (after ≡ before)
 
   -- both halves of a drive answer the host of a seat (own)
   pub record ServesHalves

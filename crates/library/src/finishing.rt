@@ -1,18 +1,18 @@
 //! The end of a library: every buffer is written out, and the changes that the drives counted are compared with those
-//! that were entered for the seats.
-ghost use Rattle.std.specs.Prelude.{◌≡◌, ◌≢◌, ◌+◌, ℕ, Err, Some, IfOk, IfErr, OnOk, OnErr, is_some, length, vec_len};
+//! that were entered for the seats. The answers and the moves of all seats are added up.
+ghost use Rattle.std.specs.Prelude.{◌≡◌, ◌≢◌, ◌+◌, ℕ, Err, Some, IfOk, OnOk, OnErr, is_some, length, vec_len};
 ghost use Rattle.vtl_base.specs.declared.limits.TheConstants.{DRIVES};
 ghost use Rattle.ledgers.specs.Ledgers.{no_share};
 ghost use Rattle.bay_moves.specs.Elements.{bay_at};
 ghost use Rattle.bay_moves.specs.Finish.{HasFailedAt, IsWrittenAt};
 ghost use Rattle.library.specs.Counts.{count_of_drive, one_if_there, or_none, which_are_there};
-ghost use Rattle.library.specs.Ends.{Balances, IsShort, counts_of, sum_of_counts, sum_of_seats};
+ghost use Rattle.library.specs.Ends.{AddsUp, Balances, counts_of, sum_of_counts, sum_of_seats};
 ghost use Rattle.library.specs.Inner.Ending.{HaveEnded, outcome_of, worse_of};
 ghost use Rattle.library.specs.Keeps.{AreLeft, IsLeftAt, IsLeftByTurn};
 
 use crate::inventories::known_slots;
 use crate::libraries::Library;
-use crate::places::{EndedPlace, Seat};
+use crate::places::{EndedPlace, Operator, Seat};
 use crate::rows::Row;
 use crate::shared::SharedBay;
 use bay_moves::{Bay, Parked, Unwritten};
@@ -49,14 +49,19 @@ pub struct Finished<D: Disk> {
     /// These counts add up to the number of changes that were entered for the seats. Otherwise: why the library did not
     /// end well.
     pub counts: Result<[Option<u64>; 16], FinishError>,
+    /// How many commands were answered for the hosts of the returned seats, all together, modulo 2^64.
+    pub answered: u64,
+    /// How many moves these hosts and the operator made, all together, modulo 2^64.
+    pub moved: u64,
 }
 
 impl<D: Disk + Drop, B: Parties + Rings, H: Parties> Library<D, B, H> {
     /// Ends the library, which nothing else shares any more. Each drive takes a turn, which writes its buffer out. Then
     /// the number of changes that the drives accepted is compared with the number entered for `seats`. Drives and slots
     /// are returned even after an error. A failed medium, or a deferred error that stands, is reported before missing
-    /// seats. The call allocates no memory.
-    pub fn finish<R: Wait>(self, rt: &R, seats: Vec<Seat<H>>) -> Finished<D>
+    /// seats. The answers of the seats are added up, and so are their moves and those of `operator`. The call allocates
+    /// no memory.
+    pub fn finish<R: Wait>(self, rt: &R, seats: Vec<Seat<H>>, operator: Operator<H>) -> Finished<D>
         ensures drives { which_are_there result.bays.items ≡ self }
         ensures counts { IfOk result.counts (λ counts. (counts ≡ counts_of result.bays.items)
             × (sum_of_counts counts ≡ sum_of_seats seats.items)) }
@@ -66,12 +71,11 @@ impl<D: Disk + Drop, B: Parties + Rings, H: Parties> Library<D, B, H> {
             → (number : ℕ) × HasFailedAt D.state (bay_at result.bays.items number) }
         ensures written { result.counts ≢ Err FinishError.Unwritten
             → (number : ℕ) → IsWrittenAt D.state (bay_at result.bays.items number) }
-        ensures missing { IfErr result.counts (λ error.
-            IsShort error (sum_of_counts (counts_of result.bays.items)) (sum_of_seats seats.items)) }
 
-        // The two sums, whatever the result is.
+        // The sums, whatever the result is: of the changes, and of answers and moves.
         ensures sums { Balances (vec_len seats) H.all (sum_of_counts (counts_of result.bays.items))
             (sum_of_seats seats.items) result.counts }
+        ensures used { AddsUp seats.items operator result.answered result.moved }
         ensures left { AreLeft D.state result.slots result.bays.items }
     {
         let Library {
@@ -85,7 +89,7 @@ impl<D: Disk + Drop, B: Parties + Rings, H: Parties> Library<D, B, H> {
         let mut row = row.into_inner();
         let mut gathering = tally.into_inner().gather();
         let written = end_drives(rt, bays, &mut row, &mut gathering);
-        take_seats(seats, &mut gathering);
+        let Used { answered, moved } = take_seats(seats, operator, &mut gathering);
         let counts = outcome(written, counts_in(&row), gathering.compare());
         let slots = slots.into_inner().into_slots();
         known_slots(&slots);
@@ -93,6 +97,8 @@ impl<D: Disk + Drop, B: Parties + Rings, H: Parties> Library<D, B, H> {
             slots,
             bays: row.into_places(),
             counts,
+            answered,
+            moved,
         }
     }
 }
@@ -209,14 +215,32 @@ fn counts_in<D: Disk + Drop>(row: &Row<D>) -> [Option<u64>; 16]
     counts
 }
 
-// Takes back the seats.
-fn take_seats<B: Parties, H: Parties>(seats: Vec<Seat<H>>, gathering: &mut Gathering<B, H>)
+// How many commands were answered for the hosts of some seats, and how many moves they and the operator made, all
+// together, modulo 2^64.
+#[derive(Drop)]
+struct Used {
+    answered: u64,
+    moved: u64,
+}
+
+// Takes back the seats and the operator's token, and adds up what they counted.
+fn take_seats<B: Parties, H: Parties>(
+    seats: Vec<Seat<H>>,
+    operator: Operator<H>,
+    gathering: &mut Gathering<B, H>,
+) -> Used
     ensures shares { gathering.new.hosts.shares ≡ gathering.old.hosts.shares + vec_len seats }
     ensures changes { gathering.new.hosts.changes ≡ gathering.old.hosts.changes + sum_of_seats seats.items }
     ensures bays { (gathering.new.total ≡ gathering.old.total) × (gathering.new.bays ≡ gathering.old.bays) }
+    ensures used { AddsUp seats.items operator result.answered result.moved }
 {
     let mut seats = seats;
+    let mut answered = 0u64;
+    let mut moved = operator.moved();
     while let Some(seat) = seats.pop() {
+        answered = answered.wrapping_add(seat.answered());
+        moved = moved.wrapping_add(seat.moved());
         gathering.take_host(seat.into_share());
     }
+    Used { answered, moved }
 }

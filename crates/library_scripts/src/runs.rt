@@ -223,7 +223,8 @@ pub fn run_library<
     requires bay_ledger { IsBlankOf bay_ledger B.name B.parts B.all × (B.all ≡ places_filled bays.items) }
     requires host_ledger { IsBlankOf host_ledger H.name H.parts H.all × (H.all ≡ NEXUSES) }
     ensures runs { IfOk result (λ ran. RunsShared D.state bays.items hosts.now (I.remaining reader.old)
-        (O.contents writer.old) (O.contents writer.new) ran.outcome ran.finished.bays.items ran.finished.counts) }
+        (O.contents writer.old) (O.contents writer.new) ran.outcome ran.finished.bays.items ran.finished.counts
+        ran.finished.answered ran.finished.moved) }
     ensures past { IfOk result (λ ran. ran.outcome ≢ Err ScriptFault.ReadFault →
         TakesWithin (I.remaining reader.old) 0 (I.remaining reader.new)) }
     ensures ends { IfOk result (λ ran. EndsShared D.state bays.items ran.finished.bays.items ran.finished.slots
@@ -251,13 +252,13 @@ pub fn run_library<
     )?;
     let RanFor {
         seats,
-        operator: _,
+        operator,
         outcome,
     } = run_opened(
         rt, alloc, &library, rooms, seats, operator, gate, reader, writer,
     );
     Ok(Ran {
-        finished: library.finish(rt, seats),
+        finished: library.finish(rt, seats, operator),
         outcome,
     })
 }

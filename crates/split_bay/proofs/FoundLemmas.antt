@@ -11,43 +11,25 @@ use Rattle.drive_commands.specs.State.{Machine}
 use Rattle.drive_commands.specs.Turn.{after_turn}
 use Rattle.split_bay.specs.Found.{TurnedDrive, having_pending}
 use Rattle.split_bay.specs.Looks.{LookedIn, Looks, deferred_after, fails_anew}
-use Rattle.split_bay.proofs.LookLemmas.{not_both}
 use Rattle.split_bay.proofs.TurnedLemmas.{turned_before}
 
--- what works or has failed already does not fail anew
-never_anew : (awake failed : Bool) → (awake && failed) && not failed ≡ false
-never_anew true true = refl
-never_anew true false = refl
-never_anew false true = refl
-never_anew false false = refl
+never_both : (b : Bool) → b && not b ≡ false
+never_both true = refl
+never_both false = refl
 
-works_no_more : (awake failed : Bool) (other : Bool) → failed ≡ false → (awake && failed) && not other ≡ false
-works_no_more true false other works = refl
-works_no_more false false other works = refl
-works_no_more awake true other works = not_both true works refl
-
-fails_now : (awake failed before : Bool) → awake ≡ true → failed ≡ true → before ≡ false
-    → (awake && failed) && not before ≡ true
-fails_now true true false on broken works = refl
-fails_now false failed before on broken works = not_both false refl on
-fails_now true false before on broken works = not_both false refl broken
-fails_now true true true on broken works = not_both true works refl
-
--- the deferred error is as the turn leaves it
+-- the deferred error is as the turn leaves it: what works or has failed already does not fail anew
 deferred_so : (medium left : MediumState) (found since : List Change) (turn : Turn) (old : Machine)
-    → Turns (having_pending medium found) turn left
+    → medium.awake ≡ true → Turns (having_pending medium found) turn left
     → deferred_after (fails_anew (Loaded medium) (Loaded (having_pending left (left.pending ++ since)))) old.deferred
     ≡ (after_turn turn left old).deferred
-deferred_so medium left found since Idle old turns =
+deferred_so medium left found since Idle old awake turns =
     ap (λ (b : Bool). deferred_after b old.deferred)
     (ap (λ (m : MediumState). (m.awake && m.failed) && not medium.failed) turns.1
-    ∙ never_anew medium.awake medium.failed)
-deferred_so medium left found since (Stored n) old turns =
-    ap (λ (b : Bool). deferred_after b old.deferred)
-    (works_no_more left.awake left.failed medium.failed turns.4.works)
-deferred_so medium left found since Device old turns =
-    ap (λ (b : Bool). deferred_after b old.deferred)
-    (fails_now left.awake left.failed medium.failed turns.2.awake turns.2.broken turns.0)
+    ∙ (λ i. (awake i && medium.failed) && not medium.failed) ∙ never_both medium.failed)
+deferred_so medium left found since (Stored n) old awake turns =
+    λ i. deferred_after ((turns.4.awake i && turns.4.works i) && not medium.failed) old.deferred
+deferred_so medium left found since Device old awake turns =
+    λ i. deferred_after ((turns.2.awake i && turns.2.broken i) && not (turns.0 i)) old.deferred
 
 -- a turn leaves all else of a drive as it is
 left_so : (turn : Turn) (left now : MediumState) (old : Machine)
@@ -103,7 +85,8 @@ found_turned old new medium looks was awake =
               })
               ∙ (λ i. record old {
                 bay = Loaded now;
-                deferred = deferred_so medium before.left before.first before.since before.turn old before.turns i;
+                deferred =
+                    deferred_so medium before.left before.first before.since before.turn old awake before.turns i;
               })
               ∙ left_so before.turn before.left now old;
         }

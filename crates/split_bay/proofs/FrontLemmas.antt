@@ -1,101 +1,272 @@
--- The hosts' half of a bay.
-use Rattle.std.proofs.Common.{◌≡◌, ℕ, List, Bool, Option, None, Some, refl, sym, ◌∙◌, ap, subst}
-use Rattle.std.specs.Prelude.{is_some}
-use Rattle.vtl_base.specs.Below.{Below}
+-- A drive whose disks are away, and the end of its ring.
+use Rattle.std.proofs.Common.{◌≡◌, ◌+◌, ◌++◌, ℕ, List, [], ◌∷◌, length, sum_by, Bool, true, false, Option, None, Some, refl, sym, ◌∙◌, ap, subst, arith, append_assoc, length-append}
+use Rattle.std.specs.Prelude.{not, ◌&&◌, is_some}
+use Rattle.std.proofs.lemmas.List.{append-nil}
+use Rattle.std.proofs.lemmas.List.Sums.{sum_by-append}
+use Rattle.vtl_base.specs.Below.{Advances}
 use Rattle.tape_disk.specs.Disk.{DiskState}
 use Rattle.volume_core.specs.declared.changes.Change.{Change}
-use Rattle.volume_core.specs.Medium.{MediumState}
-use Rattle.scsi_sense.specs.declared.replies.Reply.{Reply}
+use Rattle.volume_core.specs.Medium.{MediumState, block_bytes, frame_size, volume_of}
+use Rattle.volume_core.specs.Volume.{AllApply, refusal_of}
+use Rattle.cartridge.specs.State.{ClosedCartridge, OpenCartridge}
 use Rattle.drive_commands.specs.declared.bays.Bay.{Bay}
 use Rattle.drive_commands.specs.declared.bays.Bay.TheVariants.{Empty, Unloaded, Loaded}
 use Rattle.drive_commands.specs.Alone.{AnswersAlone}
-use Rattle.drive_commands.specs.Apart.{rest_of_drive}
-use Rattle.drive_commands.specs.Execute.{AdvancesIn}
-use Rattle.drive_commands.specs.State.{DriveState, medium_in}
-use Rattle.drive_commands.specs.Work.{Request}
-use Rattle.aptpl_store.specs.Kept.{store_below, store_kept}
-use Rattle.aptpl_store.specs.State.{OpenStore}
 use Rattle.drive_commands.specs.Events.{Execute}
+use Rattle.drive_commands.specs.Execute.{AdvancesIn}
+use Rattle.drive_commands.specs.State.{IsBayPositioned, IsPositioned, bay_of, medium_in}
+use Rattle.drive_commands.specs.Work.{Request}
+use Rattle.scsi_sense.specs.declared.replies.Reply.{Reply}
+use Rattle.aptpl_store.specs.Kept.{store_below, store_kept}
+use Rattle.positioning.specs.declared.positions.Pos.{Pos}
+use Rattle.tape_buffer.specs.declared.aways.Away.{Away}
+use Rattle.tape_buffer.specs.declared.budgets.Budget.{Budget}
+use Rattle.tape_buffer.specs.declared.holding.Holding.{Holding}
+use Rattle.tape_buffer.specs.declared.holding.Holding.TheVariants as Holdings
+use Rattle.tape_buffer.specs.Aways.{MovesAway, loose_in, seen_as, seen_with}
+use Rattle.tape_buffer.specs.Budgets.{KeepsBudget, budget_after}
+use Rattle.tape_buffer.specs.Detaching.{loose_held, passed, passed_held}
+use Rattle.tape_buffer.specs.Moves.{IsAway, MovesIn, away_in, buffer_below, takes_alone_in}
+use Rattle.tape_buffer.specs.State.{BufferState, state_held, state_of}
+use Rattle.bay_moves.specs.Elements.{BayState}
 use Rattle.bay_moves.specs.Reservations.{HoldingGoesOn}
-use Rattle.split_bay.specs.declared.items.Item.{Item}
-use Rattle.split_bay.specs.declared.hosts.Hosts.{Hosts}
-use Rattle.split_bay.specs.Hosts.{IsApartIn, alone_hosts, drive_near, hosts_below, state_hosts}
-use Rattle.split_bay.specs.Fronts.{HasEnd, KeepsOrders, LeavesOrders}
-use Rattle.split_bay.specs.Nears.{IsThere, alone_near, near_below, state_near}
-use Rattle.split_bay.specs.Rings.{SendingState}
-use Rattle.split_bay.specs.Spans.{Span, span_of}
-use Rattle.split_bay.proofs.HostsLemmas.{alone_near_too, answers_near, holding_hosts, holding_near, leaves_with}
-use Rattle.split_bay.proofs.SpanLemmas.{span_more}
+use Rattle.split_bay.specs.Fronts.{AreAway, IsFrontOf, KeepsOrders, LeavesOrders, LeftIn, OwesAway, OwesHeld, OwesIn, loose_in_bay, passed_on, pending_of, span_since}
+use Rattle.split_bay.specs.Spans.{Span, TakesMore, medium_begun, medium_seen, volume_seen}
+use Rattle.split_bay.proofs.SpanLemmas.{frame_of}
 
--- what is in the drive stays there
-there_still : (old new : SendingState) (made : List Change) → near_below.moves old made new → IsThere old → IsThere new
-there_still old new made moves there =
-    ap (λ (l : List Item). is_some (span_of l).begin.seen) moves.1
-    ∙ ap (λ (s : Span). is_some s.begin.seen) (span_more old.sent made) ∙ there
+-- what is seen with these changes more
+seen_since : (span : Span) (changes : List Change)
+    → seen_with (medium_seen span) changes ≡ medium_seen (span_since span changes)
+seen_since span changes =
+    λ i. record (medium_begun span) {
+      pending = append_assoc (medium_begun span).pending span.since changes i;
+      unread = not (medium_begun span).awake && (medium_begun span).unread;
+    }
 
-stays : (near : SendingState) (new : Bay SendingState) (end : Option SendingState) (made : List Change) (fault : Bool)
-    → IsThere near → end ≡ None → AdvancesIn near_below (Some near) made fault (medium_in new) → HasEnd new end
-stays near Empty end made fault there none advances = absurd advances
-stays near (Unloaded new) end made fault there none advances =
-    subst (HasEnd (Unloaded new)) (sym none) (there_still near new made advances.moved there)
-stays near (Loaded new) end made fault there none advances =
-    subst (HasEnd (Loaded new)) (sym none) (there_still near new made advances.moved there)
+since_none : (span : Span) → span_since span [] ≡ span
+since_none span = λ i. record { begin = span.begin; since = append-nil span.since i }
 
--- and so does the end of the ring
-pub has_end_still : (old new : Bay SendingState) (end : Option SendingState) (made : List Change) (fault : Bool)
-    → AdvancesIn near_below (medium_in old) made fault (medium_in new) → HasEnd old end → HasEnd new end
-has_end_still Empty Empty end made fault advances has = has
-has_end_still Empty (Unloaded new) end made fault advances has = absurd advances
-has_end_still Empty (Loaded new) end made fault advances has = absurd advances
-has_end_still (Unloaded old) new None made fault advances has = stays old new None made fault has refl advances
-has_end_still (Loaded old) new None made fault advances has = stays old new None made fault has refl advances
-has_end_still (Unloaded old) new (Some end) made fault advances has = absurd has
-has_end_still (Loaded old) new (Some end) made fault advances has = absurd has
+-- what may be accepted still is what may be sent still
+left_more : (left : Budget) (made : List Change) (span : Span) → LeftIn left span → KeepsBudget left made
+    → LeftIn (budget_after left made) (span_since span made)
+left_more left made span is within =
+    record {
+      records = omega (arith, is.records, within.records, length-append span.since made);
+      bytes = omega (arith, is.bytes, within.bytes, sum_by-append block_bytes span.since made);
+      room = omega (arith, is.room, within.room, sum_by-append frame_size span.since made);
+    }
 
-module _ {M D : Type 0} (seen : M → MediumState) (below : Below M Change) (alone : M → ℕ → Bool)
-    (state : D → DiskState) (goes_on : HoldingGoesOn (state_hosts seen) (hosts_below below) state)
-    (old new : DriveState (Hosts SendingState M) (OpenStore D)) (end : Option SendingState) (request : Request)
-    (left : List ℕ) where
-  abbrev Answered : Option Reply → Type 0
-  Answered answer =
-      AnswersAlone (state_hosts seen) store_kept (alone_hosts alone) (hosts_below below) (store_below state) old request
-      answer new left
+-- what a medium accepts while its disks are away it owes to the ring
+owes_more : (old new : Away) (made : List Change) (span : Span) → OwesAway old span → loose_in old.loose ≡ []
+    → MovesAway old made new → OwesAway new span × (loose_in new.loose ≡ made)
+owes_more old new made span owes none moved =
+    let loose : loose_in new.loose ≡ made = moved.loose ∙ ap (λ (l : List Change). l ++ made) none in
+    let before : span_since span (loose_in old.loose) ≡ span = ap (span_since span) none ∙ since_none span in
+    let seen : seen_as old.noted ≡ medium_seen span = owes.seen ∙ ap medium_seen before in (
+      (record {
+        there = owes.there;
+        rests = owes.rests;
+        apply =
+            subst (λ (l : List Change). AllApply (volume_seen span) l) (sym loose)
+            (subst (λ (m : MediumState). AllApply (volume_of m) made) seen moved.apply);
+        seen =
+            ap seen_as moved.seen ∙ ap (λ (m : MediumState). seen_with m made) seen ∙ seen_since span made
+            ∙ (λ i. medium_seen (span_since span (sym loose i)));
+        left =
+            subst (λ (l : List Change). LeftIn new.left (span_since span l)) (sym loose)
+            (subst (λ (b : Budget). LeftIn b (span_since span made)) (sym moved.left)
+            (left_more old.left made span (subst (LeftIn old.left) before owes.left) moved.within));
+      }),
+      loose,
+    )
 
-  abbrev pub Kept : DriveState (Hosts SendingState M) (OpenStore D) → Type 0
-  Kept drive = IsApartIn drive.bay × HasEnd (drive_near drive).bay end × KeepsOrders state (drive_near drive)
+module _ {D : Type 0} (state : D → DiskState) where
+  -- disks that are away stay so
+  owes_held : (old new : BufferState D) (made : List Change) (span : Span)
+      (x y : Holding (OpenCartridge D) (ClosedCartridge D)) → OwesHeld x span → loose_held x ≡ []
+      → MovesIn state (away_in x) (away_in y) old made new → OwesHeld y span × (loose_held y ≡ made)
+  owes_held old new made span (Holdings.Away a) (Holdings.Away b) owes none moves =
+      owes_more a b made span owes none moves
+  owes_held old new made span (Holdings.Away a) (Holdings.Open c) owes none moves = absurd moves
+  owes_held old new made span (Holdings.Away a) (Holdings.Closed c) owes none moves = absurd moves
+  owes_held old new made span (Holdings.Open c) y owes none moves = absurd owes
+  owes_held old new made span (Holdings.Closed c) y owes none moves = absurd owes
 
-  -- what the type keeps
-  pub front_keeps : (answer : Option Reply) → Kept old → Answered answer → Kept new
-  front_keeps None keeps answered = subst Kept (sym answered.1) keeps
-  front_keeps (Some reply) keeps answered =
-      let step = answered.1.step in
-      let near = answers_near seen below store_kept (store_below state) old request keeps.0 reply new step in (
-        near.0,
-        has_end_still (drive_near old).bay (drive_near new).bay end near.1.taken.made.changes _
-            near.1.taken.advances keeps.1,
-        holding_near seen below state new
-            (goes_on old new (Execute request) (holding_hosts seen below state old keeps.2) (reply, step)).0,
-      )
+  owes_medium : (old new : BufferState D) (made : List Change) (fault : Bool) (span : Span) → OwesHeld old.held span
+      → loose_held old.held ≡ [] → Advances (buffer_below state) old made fault new
+      → OwesHeld new.held span × (loose_held new.held ≡ made)
+  owes_medium old new made fault span owes none advances =
+      owes_held old new made span old.held new.held owes none advances.moved
 
-  -- what is answered
-  pub front_answers : (answer : Option Reply) → Kept old → Answered answer
-      → AnswersAlone state_near store_kept alone_near near_below (store_below state) (drive_near old) request answer
-      (drive_near new) left
-  front_answers answer keeps answered =
-      (alone_near_too seen below store_kept (store_below state) old request keeps.0 alone new left answer answered).1
+  -- after a command the medium owes to the ring just what it made
+  pub owes_after : (old new : Bay (BufferState D)) (made : List Change) (fault : Bool) (span : Span)
+      → IsFrontOf old span → AdvancesIn (buffer_below state) (medium_in old) made fault (medium_in new)
+      → OwesIn new span × (loose_in_bay new ≡ made)
+  owes_after Empty Empty made fault span is advances = (is.0, sym advances.0)
+  owes_after Empty (Unloaded new) made fault span is advances = absurd advances
+  owes_after Empty (Loaded new) made fault span is advances = absurd advances
+  owes_after (Unloaded old) Empty made fault span is advances = absurd advances
+  owes_after (Unloaded old) (Unloaded new) made fault span is advances =
+      owes_medium old new made fault span is.0 is.1 advances
+  owes_after (Unloaded old) (Loaded new) made fault span is advances =
+      owes_medium old new made fault span is.0 is.1 advances
+  owes_after (Loaded old) Empty made fault span is advances = absurd advances
+  owes_after (Loaded old) (Unloaded new) made fault span is advances =
+      owes_medium old new made fault span is.0 is.1 advances
+  owes_after (Loaded old) (Loaded new) made fault span is advances =
+      owes_medium old new made fault span is.0 is.1 advances
 
-  -- what is left at each moment
-  pub front_moments : (answer : Option Reply) → Kept old → Answered answer
-      → LeavesOrders state (drive_near old) request answer (drive_near new)
-  front_moments None keeps answered =
-      ap (λ (d : DriveState (Hosts SendingState M) (OpenStore D)). drive_near d) answered.1
-  front_moments (Some reply) keeps answered =
-      λ honest.
-      let moments =
-      (goes_on old new (Execute request) (holding_hosts seen below state old keeps.2)
-      (reply, answered.1.step)).1 honest
-      in (
-        moments.0,
-        leaves_with seen below state (state old.keeper.disk) (state new.keeper.disk) old.bay (rest_of_drive old)
-            (Execute request) new keeps.0 moments.1,
-      )
+  -- what is passed on changes no state
+  passed_state : (held : Holding (OpenCartridge D) (ClosedCartridge D)) (pending : List Change)
+      → state_held state (passed_held held) pending ≡ state_held state held pending
+  passed_state (Holdings.Open c) pending = refl
+  passed_state (Holdings.Closed c) pending = refl
+  passed_state (Holdings.Away a) pending = refl
+
+  pub positioned_passed : (bay : Bay (BufferState D)) (position : Pos) → IsBayPositioned (state_of state) bay position
+      → IsBayPositioned (state_of state) (bay_of passed bay) position
+  positioned_passed Empty position on = on
+  positioned_passed (Unloaded medium) position on =
+      ap (λ (m : MediumState). m.awake) (passed_state medium.held medium.pending) ∙ on
+  positioned_passed (Loaded medium) position on =
+      subst (λ (m : MediumState). IsPositioned m position)
+      (sym (passed_state medium.held medium.pending)) on
+
+module _ {D : Type 0} (state : D → DiskState)
+    (goes_on : HoldingGoesOn (state_of state) (buffer_below state) state) (old answered new : BayState D)
+    (request : Request) (reply : Reply) (left : List ℕ) (holds : KeepsOrders state old)
+    (step :
+    AnswersAlone (state_of state) store_kept takes_alone_in (buffer_below state) (store_below state) old request
+    (Some reply) answered left)
+    (passes : new ≡ passed_on answered) where
+  -- a drive that was asked keeps its reservations, also once it passed on what it made
+  pub orders_passed : KeepsOrders state new
+  orders_passed =
+      let kept = (goes_on old answered (Execute request) holds (reply, step.1.step)).0 in
+      subst (λ (d : BayState D). KeepsOrders state d) (sym passes)
+      (record { sound = kept.sound; saved = kept.saved; at_rest = kept.at_rest; shows = kept.shows })
+
+  -- and at each moment of that its store gives them
+  pub moments_passed : LeavesOrders state old request (Some reply) new
+  moments_passed =
+      subst (λ (d : BayState D). LeavesOrders state old request (Some reply) d) (sym passes)
+      (λ honest.
+      let moments = (goes_on old answered (Execute request) holds (reply, step.1.step)).1 honest in
+      (moments.0, moments.1))
+
+pub away_held : {C S : Type 0} (held : Holding C S) (span : Span) → OwesHeld held span → IsAway held
+away_held (Holdings.Away a) span owes = tt
+away_held (Holdings.Open c) span owes = absurd owes
+away_held (Holdings.Closed c) span owes = absurd owes
+
+pub there_held : {C S : Type 0} (held : Holding C S) (span : Span) → OwesHeld held span
+    → is_some span.begin.seen ≡ true
+there_held (Holdings.Away a) span owes = owes.there
+there_held (Holdings.Open c) span owes = absurd owes
+there_held (Holdings.Closed c) span owes = absurd owes
+
+pub away_bay : {D : Type 0} (bay : Bay (BufferState D)) (span : Span) → OwesIn bay span → AreAway bay
+away_bay Empty span owes = tt
+away_bay (Unloaded medium) span owes = away_held medium.held span owes
+away_bay (Loaded medium) span owes = away_held medium.held span owes
+
+owes_passed : {C S : Type 0} (held : Holding C S) (span : Span) → OwesHeld held span
+    → OwesHeld (passed_held held) (span_since span (loose_held held)) × (loose_held (passed_held held) ≡ [])
+owes_passed (Holdings.Away a) span owes =
+    let next = span_since span (loose_in a.loose) in
+    let none = sym (since_none next) in (
+      (record {
+        there = owes.there;
+        rests = owes.rests;
+        apply = tt;
+        seen = owes.seen ∙ ap medium_seen none;
+        left = subst (LeftIn a.left) none owes.left;
+      }),
+      refl,
+    )
+owes_passed (Holdings.Open c) span owes = absurd owes
+owes_passed (Holdings.Closed c) span owes = absurd owes
+
+-- what is passed on is sent
+pub stands_passed : {D : Type 0} (bay : Bay (BufferState D)) (span next : Span) → OwesIn bay span
+    → next ≡ span_since span (loose_in_bay bay) → IsFrontOf (bay_of passed bay) next
+stands_passed Empty span next owes is = (is ∙ since_none span ∙ owes, refl)
+stands_passed (Unloaded medium) span next owes is =
+    let left = owes_passed medium.held span owes in
+    (subst (λ (s : Span). OwesHeld (passed_held medium.held) s) (sym is) left.0, left.1)
+stands_passed (Loaded medium) span next owes is =
+    let left = owes_passed medium.held span owes in
+    (subst (λ (s : Span). OwesHeld (passed_held medium.held) s) (sym is) left.0, left.1)
+
+one : {C S : Type 0} (held : Holding C S) (span : Span) (change : Change) → OwesHeld held span
+    → loose_held held ≡ change ∷ []
+    → (refusal_of (volume_seen span) change ≡ None) × TakesMore span (block_bytes change)
+one (Holdings.Open c) span change owes is = absurd owes
+one (Holdings.Closed c) span change owes is = absurd owes
+one (Holdings.Away a) span change owes is =
+    let left = subst (λ (l : List Change). LeftIn a.left (span_since span l)) is owes.left in (
+      (subst (λ (l : List Change). AllApply (volume_seen span) l) is owes.apply).0,
+      record {
+        few = omega (arith, left.records, length-append span.since (change ∷ []));
+        short = omega (arith, left.bytes, sum_by-append block_bytes span.since (change ∷ []));
+        fits = omega (arith, left.room, frame_of change, sum_by-append frame_size span.since (change ∷ []));
+      },
+    )
+
+-- what a medium owes may be sent
+pub may_send : {D : Type 0} (bay : Bay (BufferState D)) (span : Span) (change : Change) → OwesIn bay span
+    → loose_in_bay bay ≡ change ∷ []
+    → (refusal_of (volume_seen span) change ≡ None) × TakesMore span (block_bytes change)
+may_send Empty span change owes is = absurd (cc)
+may_send (Unloaded medium) span change owes is = one medium.held span change owes is
+may_send (Loaded medium) span change owes is = one medium.held span change owes is
+
+-- hosts see just what was sent, where nothing is owed
+pub seen_sent : {D : Type 0} (state : D → DiskState) (medium : BufferState D) (span : Span)
+    → OwesHeld medium.held span → loose_held medium.held ≡ [] → state_of state medium ≡ medium_seen span
+seen_sent state medium span owes none = by medium.held owes none
+  where
+    by : (held : Holding (OpenCartridge _) (ClosedCartridge _)) → OwesHeld held span → loose_held held ≡ []
+        → state_held state held medium.pending ≡ medium_seen span
+    by (Holdings.Open c) owes none = absurd owes
+    by (Holdings.Closed c) owes none = absurd owes
+    by (Holdings.Away a) owes none =
+        owes.seen ∙ ap (λ (l : List Change). medium_seen (span_since span l)) none ∙ ap medium_seen (since_none span)
+
+rests_held : {C S : Type 0} (held : Holding C S) (span : Span) → OwesHeld held span → (medium_begun span).awake ≡ false
+    → length (medium_begun span).pending + length span.since ≡ 0
+rests_held (Holdings.Away a) span owes asleep =
+    let rests = owes.rests asleep in
+    omega (
+      arith,
+      owes.left.records,
+      rests.0,
+      ap (λ (l : List Change). length l) rests.1,
+      length-append span.since (loose_in a.loose),
+    )
+rests_held (Holdings.Open c) span owes asleep = absurd owes
+rests_held (Holdings.Closed c) span owes asleep = absurd owes
+
+-- of one that is not awake nothing is pending
+pub pending_none : {D : Type 0} (state : D → DiskState) (medium : BufferState D) (span : Span)
+    → OwesHeld medium.held span → loose_held medium.held ≡ [] → (state_of state medium).awake ≡ false
+    → length (state_of state medium).pending ≡ 0
+pending_none state medium span owes none asleep =
+    let seen = seen_sent state medium span owes none in
+    omega (
+      arith,
+      ap (λ (m : MediumState). length m.pending) seen,
+      length-append (medium_begun span).pending span.since,
+      rests_held medium.held span owes (sym (ap (λ (m : MediumState). m.awake) seen) ∙ asleep),
+    )
+
+pub pending_in : {D : Type 0} (state : D → DiskState) (bay : Bay (BufferState D)) (medium : BufferState D) (span : Span)
+    → IsFrontOf bay span → Some medium ≡ medium_in bay → (state_of state medium).awake ≡ false
+    → 0 ≡ pending_of state (medium_in bay)
+pending_in state Empty medium span is there asleep = refl
+pending_in state (Unloaded m) medium span is there asleep =
+    let same : m ≡ medium = cc in
+    sym (pending_none state m span is.0 is.1 (ap (λ (b : BufferState _). (state_of state b).awake) same ∙ asleep))
+pending_in state (Loaded m) medium span is there asleep =
+    let same : m ≡ medium = cc in
+    sym (pending_none state m span is.0 is.1 (ap (λ (b : BufferState _). (state_of state b).awake) same ∙ asleep))

@@ -1,198 +1,153 @@
--- The two halves of a bay.
-use Rattle.std.proofs.Common.{◌≡◌, List, Bool, Option, refl, sym, ◌∙◌, ap, subst}
+-- Both halves of a drive: its disks go away, once they came back.
+use Rattle.std.proofs.Common.{◌≡◌, true, false, not, Bool, Option, None, Some, refl, sym, ◌∙◌, ap, subst}
+use Rattle.std.specs.Prelude.{◌&&◌}
 use Rattle.tape_disk.specs.Disk.{DiskState}
 use Rattle.positioning.specs.declared.positions.Pos.{Pos}
-use Rattle.positioning.specs.Motion.{IsOnTape}
 use Rattle.volume_core.specs.Medium.{MediumState}
-use Rattle.volume_core.specs.Volume.{Part}
 use Rattle.drive_commands.specs.declared.bays.Bay.{Bay}
 use Rattle.drive_commands.specs.declared.bays.Bay.TheVariants.{Empty, Unloaded, Loaded}
-use Rattle.drive_commands.specs.Apart.{RestState, drive_with, rest_of_drive}
-use Rattle.drive_commands.specs.State.{DriveState, IsBayPositioned, bay_of, machine_of}
+use Rattle.drive_commands.specs.State.{IsBayPositioned, IsPositioned, bay_of, has_failed_in, machine_of}
 use Rattle.aptpl_store.specs.Kept.{store_kept}
-use Rattle.aptpl_store.specs.State.{OpenStore}
-use Rattle.tape_buffer.specs.Moves.{buffer_below}
+use Rattle.tape_buffer.specs.Aways.{seen_as}
 use Rattle.tape_buffer.specs.State.{BufferState, state_of}
+use Rattle.tape_buffer.specs.Taking.{DisksState}
+use Rattle.bay_moves.specs.Bays.{KeepsBoth}
 use Rattle.bay_moves.specs.Elements.{BayState}
-use Rattle.bay_moves.specs.Reservations.{IsHolding}
-use Rattle.split_bay.specs.Backs.{BackState}
-use Rattle.split_bay.specs.Fronts.{FrontState, HasEnd, KeepsOrders}
-use Rattle.split_bay.specs.Halves.{Joins, JoinsBay, Parts, PartsBay}
-use Rattle.split_bay.specs.Looks.{LookedIn, deferred_after}
-use Rattle.split_bay.specs.Nears.{state_near}
+use Rattle.split_bay.specs.Backs.{BackState, FollowsIn, KeepsDiskHalf, is_stuck_in}
+use Rattle.split_bay.specs.Both.{BeginsNext, DetachesIn, DetachesTo}
+use Rattle.split_bay.specs.Fronts.{FrontState, IsFrontOf, KeepsHostsHalf, KeepsOrders, hosts_half}
+use Rattle.split_bay.specs.Halves.{HoldsHalves, Joins, Parts, ReportsBoth, ReportsFault, is_unreported}
+use Rattle.split_bay.specs.Looks.{deferred_after}
 use Rattle.split_bay.specs.Rings.{SendingState}
-use Rattle.split_bay.specs.Spans.{begins}
+use Rattle.split_bay.specs.Spans.{span_of}
+use Rattle.split_bay.proofs.BothLemmas.{read_so}
+use Rattle.split_bay.proofs.JoiningLemmas.{joined_found, orders_still}
 
 module _ {D : Type 0} (state : D → DiskState) where
-  -- the position is on what is found, as on what was seen
-  pub positioned_still : (old : Bay SendingState) (new : Bay (BufferState D)) (position : Pos)
-      → LookedIn (bay_of state_near old) (bay_of (state_of state) new) → IsBayPositioned state_near old position
-      → IsBayPositioned (state_of state) new position
-  positioned_still Empty Empty position looked on = tt
-  positioned_still (Unloaded near) (Unloaded medium) position looked on = looked.awake ∙ on
-  positioned_still (Loaded near) (Loaded medium) position looked on =
+  -- What is in a drive whose disks went away is to hosts what it was. The position is on it still.
+  pub record GoneIn (old new : Bay (BufferState D)) : Type 0 where
+    pub seen : bay_of (state_of state) new ≡ bay_of (state_of state) old
+    pub failed : has_failed_in (state_of state) new ≡ has_failed_in (state_of state) old
+    pub on :
+        (position : Pos) → IsBayPositioned (state_of state) old position
+        → IsBayPositioned (state_of state) new position
+
+  seen_away : (old : BufferState D) (lent : Option (DisksState D)) (new : BufferState D)
+      → DetachesTo state old lent new → state_of state new ≡ state_of state old
+  seen_away old None new went = absurd went
+  seen_away old (Some lent) new went =
+      ap (state_of state) went.new_is ∙ ap seen_as went.away_is.noted ∙ read_so state old
+
+  pub gone_in : (old : Bay (BufferState D)) (lent : Option (DisksState D)) (new : Bay (BufferState D))
+      → DetachesIn state old lent new → GoneIn old new
+  gone_in Empty lent Empty went = record { seen = refl; failed = refl; on = λ position on. on }
+  gone_in (Unloaded m) lent (Unloaded n) went =
+      let seen = seen_away m lent n went in
       record {
-        awake = looked.awake ∙ on.awake;
-        on_tape = subst (λ (v : List Part). IsOnTape v position) (sym looked.volume) on.on_tape;
+        seen = ap Unloaded seen;
+        failed = refl;
+        on = λ position on. ap (λ (s : MediumState). s.awake) seen ∙ on;
       }
-  positioned_still Empty (Unloaded medium) position looked on = absurd looked
-  positioned_still Empty (Loaded medium) position looked on = absurd looked
-  positioned_still (Unloaded near) Empty position looked on = absurd looked
-  positioned_still (Unloaded near) (Loaded medium) position looked on = absurd looked
-  positioned_still (Loaded near) Empty position looked on = absurd looked
-  positioned_still (Loaded near) (Unloaded medium) position looked on = absurd looked
+  gone_in (Loaded m) lent (Loaded n) went =
+      let seen = seen_away m lent n went in
+      record {
+        seen = ap Loaded seen;
+        failed = ap (λ (s : MediumState). s.failed) seen;
+        on = λ position on. subst (λ (s : MediumState). IsPositioned s position) (sym seen) on;
+      }
+  gone_in Empty lent (Unloaded n) went = absurd went
+  gone_in Empty lent (Loaded n) went = absurd went
+  gone_in (Unloaded m) lent Empty went = absurd went
+  gone_in (Unloaded m) lent (Loaded n) went = absurd went
+  gone_in (Loaded m) lent Empty went = absurd went
+  gone_in (Loaded m) lent (Unloaded n) went = absurd went
 
-  -- what is known of the reservations does not speak of the medium
-  pub holding_whole : (drive : DriveState SendingState (OpenStore D)) (bay : BayState D) → KeepsOrders state drive
-      → bay.reservations ≡ drive.reservations → bay.keeper ≡ drive.keeper
-      → IsHolding (state_of state) (buffer_below state) state bay
-  holding_whole drive bay keeps orders keeper =
-      subst (λ (b : BayState D). IsHolding (state_of state) (buffer_below state) state b)
-      (λ i. record bay { reservations = sym orders i; keeper = sym keeper i })
-      (record { sound = keeps.sound; saved = keeps.saved; at_rest = keeps.at_rest; shows = keeps.shows })
+  module _ (old new : BayState D) (lifted bay : Bay (BufferState D)) (is : lifted ≡ old.bay)
+      (new_is : new ≡ record old { bay = bay }) where
+    -- the disks of a drive go away
+    pub parts_so : (ends sending : SendingState) (back : BackState D) → BeginsNext ends sending
+        → DetachesIn state lifted back.medium bay → back.number ≡ sending.number → back.received ≡ sending.sent
+        → IsFrontOf bay (span_of sending.sent) → FollowsIn state back.medium (span_of back.received)
+        → Parts state old ends (hosts_half new sending) back
+    parts_so ends sending back begins detaches number level stands follows =
+        let went = subst (λ (b : Bay (BufferState D)). DetachesIn state b back.medium bay) is detaches in
+        subst (λ (d : BayState D). Parts state old ends (hosts_half d sending) back) (sym new_is)
+        (record {
+          begins = begins;
+          detaches = went;
+          same = refl;
+          machine =
+              λ i. record (machine_of (state_of state) store_kept old) {
+                bay = (gone_in old.bay back.medium bay went).seen i;
+              };
+          number = number;
+          level = level;
+          stands = stands;
+          follows = follows;
+        })
 
-  pub holding_half : (drive : DriveState SendingState (OpenStore D)) (bay : BayState D)
-      → IsHolding (state_of state) (buffer_below state) state bay
-      → drive.reservations ≡ bay.reservations → drive.keeper ≡ bay.keeper → KeepsOrders state drive
-  holding_half drive bay keeps orders keeper =
-      subst (KeepsOrders state)
-      (λ i. record drive { reservations = sym orders i; keeper = sym keeper i })
-      (record { sound = keeps.sound; saved = keeps.saved; at_rest = keeps.at_rest; shows = keeps.shows })
+    -- it keeps its reservations
+    pub orders_gone : KeepsOrders state old → KeepsOrders state new
+    orders_gone keeps =
+        orders_still state old new keeps (ap (λ (d : BayState D). d.reservations) new_is)
+        (ap (λ (d : BayState D). d.keeper) new_is)
 
-  -- both halves are the bay
-  pub joins_whole : (front : FrontState D) (back : BackState D) (bay : Bay (BufferState D)) (ends : SendingState)
-      (fails : Bool) (new : BayState D)
-      → JoinsBay state front.drive.bay front.end back.received back.medium bay ends fails
-      → new ≡ drive_with bay
-      (record (rest_of_drive front.drive) { deferred = deferred_after fails front.drive.deferred })
-      → Joins state front back new ends
-  joins_whole front back bay ends fails new joins is =
-      subst (λ (b : BayState D). Joins state front back b ends) (sym is)
-      (record {
-        waiting = joins.waiting;
-        ends_are = joins.ends_are;
-        prefix = joins.prefix;
-        medium = joins.medium_is;
-        advances = joins.advances;
-        looks =
-            record {
-              bay = joins.looked;
-              others =
-                  λ i. record (machine_of state_near store_kept front.drive) {
-                    bay = bay_of (state_of state) bay;
-                    deferred = deferred_after (joins.fails_is i) front.drive.deferred;
-                  };
-            };
-        keeper = refl;
-        accepted = refl;
-      })
+  -- the disks are back, the drive becomes another, and they go away again; of halves as they are inside their types
+  pub holds_both : (seen front : FrontState D) (seen_back back : BackState D) (joined left : BayState D)
+      (ends : SendingState) (front' : FrontState D) (back' : BackState D) → seen ≡ front → seen_back ≡ back
+      → KeepsHostsHalf state front → KeepsDiskHalf state back → Joins state seen seen_back joined ends
+      → KeepsBoth state joined → KeepsBoth state left → IsBayPositioned (state_of state) left.bay left.position
+      → Parts state left ends front' back' → HoldsHalves state front back joined left front' back'
+  holds_both seen front seen_back back joined left ends front' back' is back_is front_keeps back_keeps joins
+      joined_keeps keeps positioned parts =
+      let same : ends ≡ front.sending = joins.ends_are ∙ ap (λ (f : FrontState D). f.sending) is in
+      let joins_so = subst (λ (s : SendingState). Joins state front back joined s) same
+      (subst (λ (b : BackState D). Joins state front b joined ends) back_is
+      (subst (λ (f : FrontState D). Joins state f seen_back joined ends) is joins)) in
+      let found = joined_found state front back joined front.sending joins_so in
+      record {
+        front_keeps = front_keeps;
+        back_keeps = back_keeps;
+        joins = joins_so;
+        joined_keeps = joined_keeps;
+        stood =
+            subst (λ (p : Pos). IsBayPositioned (state_of state) joined.bay p)
+            (sym (ap (λ (b : BayState D). b.position) joins_so.found))
+            (found.on front.drive.position front_keeps.positioned);
+        keeps = keeps;
+        positioned = positioned;
+        parts = subst (λ (s : SendingState). Parts state left s front' back') same parts;
+      }
 
-  -- the position goes by what is seen of a medium
-  of_seen : {M : Type 0} (seen : M → MediumState) (bay : Bay M) (position : Pos)
-      → IsBayPositioned (λ (m : MediumState). m) (bay_of seen bay) position → IsBayPositioned seen bay position
-  of_seen seen Empty position on = on
-  of_seen seen (Unloaded medium) position on = on
-  of_seen seen (Loaded medium) position on = on
+  -- a fault that was not told is told
+  reports_fault : (front front' : FrontState D) (back back' : BackState D) (joined : BayState D)
+      → HoldsHalves state front back joined joined front' back' → is_stuck_in state back.medium ≡ true
+      → has_failed_in (state_of state) front.drive.bay ≡ false → ReportsFault state front back front' back'
+  reports_fault front front' back back' joined holds stuck not_seen =
+      let told = (joined_found state front back joined front.sending holds.joins).anew front.drive.position
+      holds.front_keeps.positioned stuck (ap not not_seen) in
+      record {
+        joined = joined;
+        holds = holds;
+        deferred =
+            ap (λ (b : BayState D). b.deferred) holds.parts.same
+            ∙ ap (λ (b : BayState D). b.deferred) holds.joins.found
+            ∙ ap (λ (b : Bool). deferred_after b front.drive.deferred) told.0;
+        failed = (gone_in joined.bay back'.medium front'.drive.bay holds.parts.detaches).failed ∙ told.1;
+      }
 
-  to_seen : {M : Type 0} (seen : M → MediumState) (bay : Bay M) (position : Pos)
-      → IsBayPositioned seen bay position → IsBayPositioned (λ (m : MediumState). m) (bay_of seen bay) position
-  to_seen seen Empty position on = on
-  to_seen seen (Unloaded medium) position on = on
-  to_seen seen (Loaded medium) position on = on
+  -- where there is nothing to tell, nothing has changed
+  pub reports_nothing : (front : FrontState D) (back : BackState D) → is_unreported state front back ≡ false
+      → ReportsBoth state (is_unreported state front back) front back front back
+  reports_nothing front back none =
+      subst (λ (b : Bool). ReportsBoth state b front back front back) (sym none) (refl, refl)
 
-  pub positioned_half : (near : Bay SendingState) (bay : Bay (BufferState D)) (position : Pos)
-      → bay_of state_near near ≡ bay_of (state_of state) bay
-      → IsBayPositioned (state_of state) bay position → IsBayPositioned state_near near position
-  positioned_half near bay position seen on =
-      of_seen state_near near position
-      (subst (λ (b : Bay MediumState). IsBayPositioned (λ (m : MediumState). m) b position) (sym seen)
-      (to_seen (state_of state) bay position on))
-
-  -- the bay is both halves
-  pub parts_halves : (bay : BayState D) (ends : SendingState) (near : Bay SendingState) (end : Option SendingState)
-      (back : BackState D) (front : FrontState D) → PartsBay state bay.bay ends near end back
-      → front ≡ record { drive = drive_with near (rest_of_drive bay); end = end } → Parts state bay ends front back
-  parts_halves bay ends near end back front parts is =
-      subst (λ (f : FrontState D). Parts state bay ends f back) (sym is)
-      (record {
-        begins = parts.begins;
-        number = parts.number;
-        level = parts.level;
-        lent = parts.lent;
-        machine = λ i. record (machine_of (state_of state) store_kept bay) { bay = parts.seen i };
-        keeper = refl;
-        accepted = refl;
-        allowed = parts.allowed;
-      })
-
--- all else of a drive, once a fault was looked for
-abbrev pub rest_reported : {K : Type 0} → Bool → RestState K → RestState K
-rest_reported fails rest = record rest { deferred = deferred_after fails rest.deferred }
-
-module _ {D : Type 0} (state : D → DiskState) (drive : DriveState SendingState (OpenStore D)) (old : Bay SendingState)
-    (rest rest' : RestState (OpenStore D)) (fails : Bool) (bay : Bay (BufferState D)) (apart : old ≡ drive.bay)
-    (rest_is : rest ≡ rest_of_drive drive) (told : rest' ≡ rest_reported fails rest) where
-  reported_is : rest' ≡ rest_reported fails (rest_of_drive drive)
-  reported_is = told ∙ ap (rest_reported fails) rest_is
-
-  -- the position is on what is put together
-  pub positioned_whole : LookedIn (bay_of state_near old) (bay_of (state_of state) bay)
-      → IsBayPositioned state_near drive.bay drive.position → IsBayPositioned (state_of state) bay rest'.position
-  positioned_whole looked on =
-      subst (λ (p : Pos). IsBayPositioned (state_of state) bay p)
-      (sym (ap (λ (r : RestState (OpenStore D)). r.position) reported_is))
-      (positioned_still state drive.bay bay drive.position
-      (subst (λ (b : Bay SendingState). LookedIn (bay_of state_near b) (bay_of (state_of state) bay)) apart looked) on)
-
-  module _ (new : BayState D) (is : new ≡ drive_with bay rest') where
-    new_is : new ≡ drive_with bay (rest_reported fails (rest_of_drive drive))
-    new_is = is ∙ ap (λ (r : RestState (OpenStore D)). drive_with bay r) reported_is
-
-    -- what is known of its reservations
-    pub holding_joined : KeepsOrders state drive → IsHolding (state_of state) (buffer_below state) state new
-    holding_joined keeps =
-        holding_whole state drive new keeps (ap (λ (b : BayState D). b.reservations) new_is)
-        (ap (λ (b : BayState D). b.keeper) new_is)
-
-    pub joins_apart : (end : Option SendingState) (back : BackState D) (ends : SendingState)
-        → JoinsBay state old end back.received back.medium bay ends fails
-        → Joins state (record { drive = drive; end = end }) back new ends
-    joins_apart end back ends joins =
-        joins_whole state (record { drive = drive; end = end }) back bay ends fails new
-        (subst
-        (λ (b : Bay SendingState). JoinsBay state b end back.received back.medium bay ends fails)
-        apart joins) new_is
-
-module _ {D : Type 0} (state : D → DiskState) (bay : BayState D) (old : Bay (BufferState D))
-    (rest : RestState (OpenStore D)) (near : Bay SendingState) (end : Option SendingState) (back : BackState D)
-    (ends : SendingState) (apart : old ≡ bay.bay) (rest_is : rest ≡ rest_of_drive bay)
-    (parts : PartsBay state old ends near end back) where
-  -- the position is on the hosts' half
-  pub positioned_parted : IsBayPositioned (state_of state) bay.bay bay.position
-      → IsBayPositioned state_near near rest.position
-  positioned_parted on =
-      subst (λ (p : Pos). IsBayPositioned state_near near p)
-      (sym (ap (λ (r : RestState (OpenStore D)). r.position) rest_is))
-      (positioned_half state near bay.bay bay.position
-      (parts.seen ∙ ap (bay_of (state_of state)) apart) on)
-
-  module _ (new : DriveState SendingState (OpenStore D)) (is : new ≡ drive_with near rest) where
-    half_is : new ≡ drive_with near (rest_of_drive bay)
-    half_is = is ∙ ap (λ (r : RestState (OpenStore D)). drive_with near r) rest_is
-
-    -- what the type of the hosts' half keeps
-    pub keeps_parted : IsHolding (state_of state) (buffer_below state) state bay
-        → HasEnd new.bay end × KeepsOrders state new
-    keeps_parted keeps = (
-      subst (λ (b : Bay SendingState). HasEnd b end)
-          (sym (ap (λ (d : DriveState SendingState (OpenStore D)). d.bay) half_is)) parts.has_end,
-      holding_half state new bay keeps
-          (ap (λ (d : DriveState SendingState (OpenStore D)). d.reservations) half_is)
-          (ap (λ (d : DriveState SendingState (OpenStore D)). d.keeper) half_is),
-    )
-
-    pub parts_apart : Parts state bay ends (record { drive = new; end = end }) back
-    parts_apart =
-        parts_halves state bay ends near end back (record { drive = new; end = end })
-        (subst (λ (b : Bay (BufferState D)). PartsBay state b ends near end back) apart parts)
-        (λ i. record { drive = half_is i; end = end })
+  -- else it is told
+  pub reports_both : (front front' : FrontState D) (back back' : BackState D) (joined : BayState D)
+      → HoldsHalves state front back joined joined front' back' → is_stuck_in state back.medium ≡ true
+      → has_failed_in (state_of state) front.drive.bay ≡ false
+      → ReportsBoth state (is_unreported state front back) front back front' back'
+  reports_both front front' back back' joined holds stuck not_seen =
+      subst (λ (b : Bool). ReportsBoth state b front back front' back')
+      (sym (λ i. stuck i && not (not_seen i)))
+      (reports_fault front front' back back' joined holds stuck not_seen)

@@ -1,15 +1,16 @@
 -- Both ends of a ring.
-use Rattle.std.proofs.Common.{◌≡◌, ◌≤◌, ◌+◌, ◌++◌, ◌%◌, ◌^◌, ℕ, List, [], ◌∷◌, length, sum_by, refl, sym, ◌∙◌, ap, subst, arith, length-append}
+use Rattle.std.proofs.Common.{◌≡◌, ◌≤◌, ◌+◌, ◌++◌, ◌%◌, ◌^◌, ℕ, List, [], ◌∷◌, length, map, sum_by, refl, sym, ◌∙◌, ap, subst, arith, length-append}
 use Rattle.std.proofs.lemmas.List.{append-nil}
 use Rattle.std.proofs.lemmas.List.Sums.{sum_by-append, sum_by-cons}
+use Rattle.volume_core.specs.declared.changes.Change.{Change}
 use Rattle.volume_core.specs.Medium.{block_bytes, frame_size}
 use Rattle.split_bay.specs.declared.items.Item.{Item}
 use Rattle.split_bay.specs.declared.items.Item.TheVariants.{Begins, Sent}
 use Rattle.split_bay.specs.declared.noted.NotedBeginning.{NotedBeginning}
 use Rattle.split_bay.specs.Beginnings.{Beginning}
 use Rattle.split_bay.specs.Rings.{IsCounted}
-use Rattle.split_bay.specs.Spans.{KeepsLimits, NoChangeFirst, Span, begins, new_span, no_span, span_after, span_of, span_with, spans_in}
-use Rattle.split_bay.proofs.SpanLemmas.{span_append, span_next}
+use Rattle.split_bay.specs.Spans.{KeepsLimits, NoChangeFirst, Span, begins, new_span, span_of, span_with, spans_in}
+use Rattle.split_bay.proofs.SpanLemmas.{span_more, span_next}
 
 one_at_most : (item : Item) → begins item ≤ 1
 one_at_most (Sent change) = omega arith
@@ -49,38 +50,41 @@ pub spans_behind : (waiting first rest : List Item) → waiting ≡ first ++ res
 spans_behind waiting first rest is none =
     omega (arith, none, ap spans_in is, sum_by-append begins first rest)
 
--- where no span begins, all items are changes of the span
-since_grows : (span : Span) (items : List Item) → spans_in items ≡ 0
-    → length (span_after span items).since ≡ length span.since + length items
-since_grows span [] none = omega arith
-since_grows span (Sent change ∷ items) none =
-    omega (
-      arith,
-      since_grows (span_with span (Sent change)) items (omega (arith, none, sum_by-cons begins (Sent change) items)),
-      length-append span.since (change ∷ []),
-    )
-since_grows span (Begins noted ∷ items) none =
-    absurd (omega (arith, none, sum_by-cons begins (Begins noted) items))
+-- where no span begins, all items are changes
+pub changes_in : (items : List Item) → spans_in items ≡ 0 → (changes : List Change) × (items ≡ map Sent changes)
+changes_in [] none = ([], refl)
+changes_in (Sent change ∷ items) none =
+    let rest = changes_in items (omega (arith, none, sum_by-cons begins (Sent change) items)) in
+    (change ∷ rest.0, ap (λ (l : List Item). Sent change ∷ l) rest.1)
+changes_in (Begins noted ∷ items) none = absurd (omega (arith, none, sum_by-cons begins (Begins noted) items))
 
-empty_of : (items : List Item) → length items ≤ 0 → items ≡ []
+-- and the span goes on with them
+pub span_waits : (sent received waiting : List Item) → received ++ waiting ≡ sent → (none : spans_in waiting ≡ 0)
+    → span_of sent
+    ≡ record { begin = (span_of received).begin; since = (span_of received).since ++ (changes_in waiting none).0 }
+span_waits sent received waiting fifo none =
+    let changes = changes_in waiting none in
+    ap span_of (sym fifo ∙ ap (λ (l : List Item). received ++ l) changes.1) ∙ span_more received changes.0
+
+empty_of : (changes : List Change) → length changes ≤ 0 → changes ≡ []
 empty_of [] none = refl
-empty_of (item ∷ items) none = absurd (omega (arith, none))
+empty_of (change ∷ changes) none = absurd (omega (arith, none))
 
 -- where nothing may be sent, nothing waits
 pub level_none : (sent received waiting : List Item) → received ++ waiting ≡ sent → spans_in waiting ≡ 0
     → KeepsLimits (span_of sent) → (span_of sent).begin.left ≡ 0 → received ≡ sent
 level_none sent received waiting fifo none within left =
-    let nothing : waiting ≡ [] =
-    empty_of waiting
+    let changes = changes_in waiting none in
+    let nothing = empty_of changes.0
     (omega (
       arith,
       within.few,
       left,
-      ap (λ (l : List Item). length (span_of l).since) fifo,
-      ap (λ (s : Span). length s.since) (span_append no_span received waiting),
-      since_grows (span_of received) waiting none,
+      ap (λ (s : Span). length s.since) (span_waits sent received waiting fifo none),
+      length-append (span_of received).since changes.0,
     )) in
-    sym (append-nil received) ∙ ap (λ (l : List Item). received ++ l) (sym nothing) ∙ fifo
+    sym (append-nil received)
+    ∙ ap (λ (l : List Item). received ++ l) (sym (changes.1 ∙ ap (map Sent) nothing)) ∙ fifo
 
 -- a span begins
 pub begun_so : (items now : List Item) (noted : NotedBeginning) (begin : Beginning)

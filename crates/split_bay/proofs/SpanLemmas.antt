@@ -1,6 +1,5 @@
 -- Spans, and what is sent in them.
-use Rattle.std.proofs.Common.{◌≡◌, ◌≤◌, ◌+◌, ◌++◌, ◌-◌, ◌%◌, ◌^◌, ℕ, List, [], ◌∷◌, length, map, sum_by, None, true, refl, sym, ◌∙◌, ap, subst, arith, append_assoc, length-append}
-use Rattle.std.proofs.lemmas.Bool.{and_parts, leb-true, ltb-true}
+use Rattle.std.proofs.Common.{◌≡◌, ◌≤◌, ◌+◌, ◌++◌, ◌-◌, ◌%◌, ◌^◌, ℕ, List, [], ◌∷◌, length, map, sum_by, None, refl, sym, ◌∙◌, ap, subst, arith, append_assoc, length-append}
 use Rattle.std.proofs.lemmas.List.{append-nil}
 use Rattle.std.proofs.lemmas.List.Sums.{sum_by-append}
 use Rattle.volume_core.specs.declared.changes.Change.{Change}
@@ -11,7 +10,7 @@ use Rattle.volume_core.specs.Volume.{AllApply, Part, after, changed, refusal_of}
 use Rattle.split_bay.specs.declared.items.Item.{Item}
 use Rattle.split_bay.specs.declared.items.Item.TheVariants.{Sent}
 use Rattle.split_bay.specs.Rings.{IsCounted}
-use Rattle.split_bay.specs.Spans.{KeepsLimits, Span, begins, medium_begun, no_span, span_after, span_of, span_with, spans_in, takes_more, volume_seen}
+use Rattle.split_bay.specs.Spans.{KeepsLimits, Span, TakesMore, begins, medium_begun, no_span, span_after, span_of, span_with, spans_in, volume_seen}
 
 pub span_append : (span : Span) (xs ys : List Item)
     → span_after span (xs ++ ys) ≡ span_after (span_after span xs) ys
@@ -53,25 +52,9 @@ frame_of (Put part at block) = refl
 frame_of (Marks part at count) = refl
 frame_of (Erase part at) = refl
 
--- what it means that one change more is taken
-pub record Takes (span : Span) (bytes : ℕ) : Type 0 where
-  pub few : length span.since + 1 ≤ span.begin.left
-  pub short : sum_by block_bytes span.since + bytes ≤ span.begin.bytes
-  pub fits : sum_by frame_size span.since + (15 + bytes) ≤ span.begin.room
-
-pub taken : (span : Span) (bytes : ℕ) → takes_more span bytes ≡ true → Takes span bytes
-taken span bytes is =
-    let parts = and_parts _ _ is in
-    let more = and_parts _ _ parts.1 in
-    record {
-      few = omega (arith, ltb-true (length span.since) span.begin.left parts.0);
-      short = leb-true (sum_by block_bytes span.since + bytes) span.begin.bytes more.0;
-      fits = leb-true (sum_by frame_size span.since + (15 + bytes)) span.begin.room more.1;
-    }
-
 -- a span with one change more keeps its limits
 pub within_more : (span : Span) (change : Change) → KeepsLimits span → refusal_of (volume_seen span) change ≡ None
-    → Takes span (block_bytes change) → KeepsLimits (span_with span (Sent change))
+    → TakesMore span (block_bytes change) → KeepsLimits (span_with span (Sent change))
 within_more span change is none takes =
     record {
       limit = is.limit;
@@ -90,7 +73,7 @@ no_more_spans items change = omega (arith, sum_by-append begins items (Sent chan
 -- the counts, once a change is sent
 pub counted_more : (items : List Item) (change : Change) (spans left bytes room size : ℕ)
     → IsCounted items spans left bytes room → refusal_of (volume_seen (span_of items)) change ≡ None
-    → Takes (span_of items) (block_bytes change) → size ≡ frame_size change
+    → TakesMore (span_of items) (block_bytes change) → size ≡ frame_size change
     → IsCounted (items ++ Sent change ∷ []) spans (left - 1) (bytes - (size - 15)) (room - size)
 counted_more items change spans left bytes room size counted none takes is =
     let span = span_of items in

@@ -14,13 +14,14 @@ use Rattle.volume_core.specs.Volume.{Part, refusal_of}
 use Rattle.cartridge.specs.State.{ClosedCartridge, OpenCartridge}
 use Rattle.tape_buffer.specs.declared.budgets.Budget.{Budget}
 use Rattle.tape_buffer.specs.declared.holding.Holding.{Holding}
-use Rattle.tape_buffer.specs.declared.holding.Holding.TheVariants.{Open, Closed, Between}
+use Rattle.tape_buffer.specs.declared.holding.Holding.TheVariants.{Open, Closed, Away}
 use Rattle.tape_buffer.specs.Moves.{StoresBehind, buffer_below, medium_moves_on, with_changes}
 use Rattle.tape_buffer.specs.State.{BufferState, awake_is_read, state_held, state_of}
-use Rattle.tape_buffer.specs.Taking.{KeepsBudget, LentState, budget_after}
+use Rattle.tape_buffer.specs.Budgets.{KeepsBudget, budget_after}
+use Rattle.tape_buffer.specs.Taking.{DisksState}
 use Rattle.split_bay.specs.declared.items.Item.{Item}
 use Rattle.split_bay.specs.declared.items.Item.TheVariants.{Sent}
-use Rattle.split_bay.specs.Backs.{FollowsSpan, LeavesBudget, TurnsBack}
+use Rattle.split_bay.specs.Backs.{FollowsSpan, LeavesBudget, TurnsBack, disks_half}
 use Rattle.split_bay.specs.Rings.{ReceivingState}
 use Rattle.split_bay.specs.Spans.{KeepsLimits, Span, medium_begun, medium_seen, span_with, volume_seen}
 use Rattle.split_bay.specs.Taken.{TakesKnown, TakesWaiting}
@@ -54,49 +55,26 @@ module _ (span : Span) (change : Change) (within : KeepsLimits (span_with span (
       (sym (after_append (volume_or_empty (medium_begun span).stored) (medium_begun span).pending span.since))
       (apply_rest (volume_of (medium_begun span)) span.since (change ∷ []) within.apply).0
 
-  -- what it is sent to is awake
-  pub awake_next : ((medium_begun span).awake ≡ false → span.begin.left ≡ 0) → (medium_begun span).awake ≡ true
-  awake_next rests = by (medium_begun span).awake rests
-    where
-      by : (b : Bool) → (b ≡ false → span.begin.left ≡ 0) → b ≡ true
-      by true rests = refl
-      by false rests =
-          absurd (omega (arith, rests refl, within.few, length-append span.since (change ∷ [])))
-
 module _ {D : Type 0} (state : D → DiskState) where
-  -- what is pending in a medium that is awake is so to a drive
-  pub pending_more : (buffer : BufferState D) (change : Change) → (state_of state buffer).awake ≡ true
-      → state_of state (with_changes buffer (change ∷ [])) ≡ with_more (state_of state buffer) change
-  pending_more buffer change = by buffer.held
-    where
-      by : (held : Holding (OpenCartridge D) (ClosedCartridge D)) → (state_held state held buffer.pending).awake ≡ true
-          → state_held state held (buffer.pending ++ change ∷ [])
-          ≡ with_more (state_held state held buffer.pending) change
-      by (Open cartridge) awake = refl
-      by (Closed cartridge) awake = absurd (cc)
-      by Between awake = absurd (cc)
-
   -- the medium follows, once a change more is received and taken
-  pub follows_next : (span : Span) (change : Change) (old new : LentState D)
+  pub follows_next : (span : Span) (change : Change) (old new : DisksState D)
       → KeepsLimits (span_with span (Sent change)) → FollowsSpan state old span
       → new ≡ record { buffer = with_changes old.buffer (change ∷ []); left = budget_after old.left (change ∷ []) }
+      → state_of state new.buffer ≡ with_more (state_of state old.buffer) change
       → FollowsSpan state new (span_with span (Sent change))
-  follows_next span change old new within follows is =
+  follows_next span change old new within follows is more =
       record {
         there = follows.there;
         looked =
-            looked_next span change (state_of state old.buffer) (state_of state new.buffer) follows.looked
-            (ap (λ (l : LentState D). state_of state l.buffer) is
-            ∙ pending_more old.buffer change
-            (follows.looked.awake ∙ awake_next span change within follows.rests));
+            looked_next span change (state_of state old.buffer) (state_of state new.buffer) follows.looked more;
         left =
-            subst (λ (l : LentState D). LeavesBudget (span_with span (Sent change)) l.left) (sym is)
+            subst (λ (l : DisksState D). LeavesBudget (span_with span (Sent change)) l.left) (sym is)
             (leaves_next span change within old.left follows.left);
         rests = follows.rests;
       }
 
   -- nothing is taken yet
-  pub takes_none : (receiving : ReceivingState) (medium : LentState D)
+  pub takes_none : (receiving : ReceivingState) (medium : DisksState D)
       → Advances (buffer_below state) medium.buffer [] false medium.buffer
       → TakesWaiting state receiving medium receiving medium
   takes_none receiving medium nowhere =
@@ -110,7 +88,7 @@ module _ {D : Type 0} (state : D → DiskState) where
       }
 
   -- one more is taken
-  pub takes_more : (old mid new : ReceivingState) (medium medium' medium'' : LentState D) (change : Change)
+  pub takes_more : (old mid new : ReceivingState) (medium medium' medium'' : DisksState D) (change : Change)
       → TakesWaiting state old medium mid medium' → new.number ≡ mid.number
       → new.received ≡ mid.received ++ Sent change ∷ [] → mid.waiting ≡ Sent change ∷ new.waiting
       → medium''.buffer ≡ with_changes medium'.buffer (change ∷ [])
@@ -140,32 +118,22 @@ module _ {D : Type 0} (state : D → DiskState) where
             medium''.buffer takes.found (change ∷ []) false (takes.advances works) (advances (failed ∙ works));
       }
 
-  -- what is pending does not say whether the device has failed
-  pub failed_still : (buffer : BufferState D) (changes : List Change)
-      → (state_of state (with_changes buffer changes)).failed ≡ (state_of state buffer).failed
-  failed_still buffer changes = by buffer.held
+  -- what is pending does not say whether it is awake, nor whether the device has failed
+  pub still : (buffer : BufferState D) (changes : List Change)
+      → ((state_of state (with_changes buffer changes)).awake ≡ (state_of state buffer).awake)
+      × ((state_of state (with_changes buffer changes)).failed ≡ (state_of state buffer).failed)
+  still buffer changes = by buffer.held
     where
       by : (held : Holding (OpenCartridge D) (ClosedCartridge D))
-          → (state_held state held (buffer.pending ++ changes)).failed
-          ≡ (state_held state held buffer.pending).failed
-      by (Open cartridge) = refl
-      by (Closed cartridge) = refl
-      by Between = refl
-
-  -- nor whether it is awake
-  pub awake_still : (buffer : BufferState D) (changes : List Change)
-      → (state_of state (with_changes buffer changes)).awake ≡ (state_of state buffer).awake
-  awake_still buffer changes = by buffer.held
-    where
-      by : (held : Holding (OpenCartridge D) (ClosedCartridge D))
-          → (state_held state held (buffer.pending ++ changes)).awake
-          ≡ (state_held state held buffer.pending).awake
-      by (Open cartridge) = refl
-      by (Closed cartridge) = refl
-      by Between = refl
+          → ((state_held state held (buffer.pending ++ changes)).awake ≡ (state_held state held buffer.pending).awake)
+          × ((state_held state held (buffer.pending ++ changes)).failed
+          ≡ (state_held state held buffer.pending).failed)
+      by (Open cartridge) = (refl, refl)
+      by (Closed cartridge) = (refl, refl)
+      by (Away away) = (refl, refl)
 
   -- the medium follows, through a turn
-  pub follows_turn : (span : Span) (old new : LentState D) (turn : Turn) → FollowsSpan state old span
+  pub follows_turn : (span : Span) (old new : DisksState D) (turn : Turn) → FollowsSpan state old span
       → (state_of state old.buffer).awake ≡ true → Turns (state_of state old.buffer) turn (state_of state new.buffer)
       → Stores (state_of state old.buffer) [] (state_of state new.buffer) → new.left ≡ old.left
       → FollowsSpan state new span
@@ -182,7 +150,7 @@ module _ {D : Type 0} (state : D → DiskState) where
       }
 
   -- what a turn does
-  pub turns_back : (old looked new : ReceivingState) (medium taken medium' : LentState D) (turn : Turn)
+  pub turns_back : (old looked new : ReceivingState) (medium taken medium' : DisksState D) (turn : Turn)
       → looked ≡ record old { waiting = looked.waiting } → IsPrefix old.waiting looked.waiting
       → TakesKnown state looked medium new taken → (state_of state medium.buffer).failed ≡ false
       → Turns (state_of state taken.buffer) turn (state_of state medium'.buffer)
@@ -190,13 +158,15 @@ module _ {D : Type 0} (state : D → DiskState) where
       → Stores (state_of state taken.buffer) [] (state_of state medium'.buffer)
       → Advances (buffer_below state) taken.buffer [] (turn_met_fault turn) medium'.buffer
       → StoresBehind state taken.buffer medium'.buffer
-      → TurnsBack state true
-      (record { number = old.number; received = old.received; waiting = old.waiting; medium = Some medium })
-      turn
-      (record { number = new.number; received = new.received; waiting = new.waiting; medium = Some medium' })
+      → TurnsBack state true (disks_half old (Some medium)) turn (disks_half new (Some medium'))
   turns_back old looked new medium taken medium' turn same more takes works answer frame stores advances behind =
       let some = takes.takes in
-      let found = some.found in (
+      let found = some.found in
+      let told = subst (λ (b : BufferState D).
+      Turns (state_of state b) turn (state_of state medium'.buffer)
+      × IsOneFrameIn turn (frames_in b) b.pending (frames_in medium'.buffer)
+      × Stores (state_of state b) [] (state_of state medium'.buffer) × StoresBehind state b medium'.buffer)
+      some.pending (answer, frame, stores, behind) in (
         looked.waiting,
         more,
         record {
@@ -209,16 +179,9 @@ module _ {D : Type 0} (state : D → DiskState) where
           all = takes.all;
           stores =
               record {
-                answer =
-                    subst (λ (b : BufferState D). Turns (state_of state b) turn (state_of state medium'.buffer))
-                    some.pending answer;
-                frame =
-                    subst
-                    (λ (b : BufferState D). IsOneFrameIn turn (frames_in b) b.pending (frames_in medium'.buffer))
-                    some.pending frame;
-                stores =
-                    subst (λ (b : BufferState D). Stores (state_of state b) [] (state_of state medium'.buffer))
-                    some.pending stores;
+                answer = told.0;
+                frame = told.1;
+                stores = told.2;
                 advances =
                     subst
                     (λ (l : List Change).
@@ -226,8 +189,7 @@ module _ {D : Type 0} (state : D → DiskState) where
                     (append-nil found)
                     (advances_on (buffer_below state) (medium_moves_on state) medium.buffer taken.buffer
                     medium'.buffer found [] (turn_met_fault turn) (some.advances works) advances);
-                behind =
-                    subst (λ (b : BufferState D). StoresBehind state b medium'.buffer) some.pending behind;
+                behind = told.3;
               };
         },
       )

@@ -2,8 +2,9 @@
 use Rattle.std.proofs.Common.{◌≡◌, ◌≤◌, ◌++◌, ℕ, zero, suc, List, [], ◌∷◌, length, take, drop, Bool, true, false, Option, None, Some, refl, sym, ◌∙◌, ap, subst, arith, length-append, append_assoc, inl, inr, ◌⊎◌}
 use Rattle.std.proofs.lemmas.List.{append-nil, drop_at, length-take-le, take-append-drop, take_at}
 use Rattle.volume_core.specs.declared.changes.Change.{Change}
+use Rattle.volume_core.specs.declared.media.Turn.{Turn}
 use Rattle.volume_core.specs.declared.media.Turn.TheVariants.{Device, Idle, Stored}
-use Rattle.volume_core.specs.Medium.{LeavesRoom, MediumState, volume_of, volume_or_empty}
+use Rattle.volume_core.specs.Medium.{LeavesRoom, MediumState, Turns, volume_of, volume_or_empty}
 use Rattle.volume_core.specs.Stores.{Stores, after_append, stored_after, stores_nowhere}
 use Rattle.volume_core.specs.Volume.{Part, after}
 use Rattle.split_bay.specs.Found.{TurnedBefore, having_pending}
@@ -90,62 +91,56 @@ module _
   found_first : new ≡ having_pending medium_left (left ++ rest)
   found_first = λ i. record new { pending = parts i }
 
--- all that a turn found was stored
-stored_before : (old new : MediumState) (looked : Looked old new) → old.awake ≡ true → old.failed ≡ false
-    → new.failed ≡ false → 1 ≤ looked.stores.count → TurnedBefore old new
-stored_before old new looked awake before works some =
-    let left : List Change = [] in
-    record {
-      first = first old new looked left new.pending refl;
-      since = new.pending;
-      pending = split old new looked left new.pending refl;
-      turn = Stored (length (first old new looked left new.pending refl));
-      left = medium_left old new looked left new.pending refl;
-      turns = (
-        before,
-        omega (
-          arith,
-          some,
-          many old new looked left new.pending refl,
-          length-append (stored old new looked left new.pending refl) left,
-        ),
-        refl,
-        refl,
-        record {
-          volume_is = volume_first old new looked left new.pending refl;
-          works = works;
-          awake = looked.awake ∙ awake;
-        },
-      );
-      stores = stores_first old new looked left new.pending refl;
-      found = found_first old new looked left new.pending refl;
-    }
+  -- a turn that found what was stored, and these, is the one
+  turned_so : (turn : Turn) → Turns (having_pending old first) turn medium_left → TurnedBefore old new
+  turned_so turn turns =
+      record {
+        first = first;
+        since = rest;
+        pending = split;
+        turn = turn;
+        left = medium_left;
+        turns = turns;
+        stores = stores_first;
+        found = found_first;
+      }
 
--- the device failed while these were stored
-broken_before : (old new : MediumState) (looked : Looked old new) (left rest : List Change) → new.pending ≡ left ++ rest
-    → old.awake ≡ true → old.failed ≡ false → new.failed ≡ true → 1 ≤ length left
-    → (new.torn ≡ []) ⊎ (new.torn ≡ left) → TurnedBefore old new
-broken_before old new looked left rest parts awake before failed some torn =
-    record {
-      first = first old new looked left rest parts;
-      since = rest;
-      pending = split old new looked left rest parts;
-      turn = Device;
-      left = medium_left old new looked left rest parts;
-      turns = (
+  -- the device failed while these were stored
+  broken_before : old.awake ≡ true → old.failed ≡ false → new.failed ≡ true → 1 ≤ length left
+      → (new.torn ≡ []) ⊎ (new.torn ≡ left) → TurnedBefore old new
+  broken_before awake before failed some torn =
+      turned_so Device (
         before,
-        omega (arith, some, length-append (stored old new looked left rest parts) left),
+        omega (arith, some, length-append stored left),
         record {
-          volume_is = volume_first old new looked left rest parts;
+          volume_is = volume_first;
           broken = failed;
           awake = looked.awake ∙ awake;
           some_pending = some;
           torn = torn;
         },
-      );
-      stores = stores_first old new looked left rest parts;
-      found = found_first old new looked left rest parts;
-    }
+      )
+
+-- all that a turn found was stored
+stored_before : (old new : MediumState) (looked : Looked old new) → old.awake ≡ true → old.failed ≡ false
+    → new.failed ≡ false → 1 ≤ looked.stores.count → TurnedBefore old new
+stored_before old new looked awake before works some =
+    turned_so old new looked [] new.pending refl (Stored (length (first old new looked [] new.pending refl))) (
+      before,
+      omega (
+        arith,
+        some,
+        many old new looked [] new.pending refl,
+        length-append (stored old new looked [] new.pending refl) [],
+      ),
+      refl,
+      refl,
+      record {
+        volume_is = volume_first old new looked [] new.pending refl;
+        works = works;
+        awake = looked.awake ∙ awake;
+      },
+    )
 
 -- what is found of a medium that is awake
 pub turned_before : (old new : MediumState) → Looked old new → old.awake ≡ true → TurnedBefore old new

@@ -15,8 +15,8 @@ use Rattle.accepted_changes.specs.Device.{two_disks, two_is_device}
 use Rattle.accepted_changes.specs.Events.{CoreMoves, core_moves_nowhere, core_moves_on}
 use Rattle.accepted_changes.specs.Kinds.{moves_accepting}
 use Rattle.tape_buffer.specs.declared.holding.Holding.{Holding}
-use Rattle.tape_buffer.specs.declared.holding.Holding.TheVariants.{Open, Closed, Between}
-use Rattle.tape_buffer.specs.Moves.{MovesOn, MovesUnreported, as_told, medium_core, with_changes}
+use Rattle.tape_buffer.specs.declared.holding.Holding.TheVariants.{Open, Closed, Away}
+use Rattle.tape_buffer.specs.Moves.{IsHere, MovesOn, MovesUnreported, as_told, medium_core, with_changes}
 use Rattle.tape_buffer.specs.Rules.{applies_behind, is_unrefused, medium_rules}
 use Rattle.tape_buffer.specs.State.{BufferState, core_held, disks_in, found_core, found_in, open_core, state_held, state_of, torn_in}
 use Rattle.split_bay.specs.Spans.{KeepsLimits, Span, medium_begun, medium_seen}
@@ -103,17 +103,18 @@ module _ {D : Type 0} (state : D → DiskState) (is_disk : (disk : D) → (state
   taken_held : (held : Holding (OpenCartridge D) (ClosedCartridge D)) (pending changes : List Change)
       → AllApply (volume_of (state_held state held pending)) changes
       → ((state_held state held pending).awake ≡ false → changes ≡ []) → IsCore (core_held state held pending)
+      → IsHere held
       → MovesOn state (disks_in held) (disks_in held) (as_told false (core_held state held pending))
       (as_told false (core_held state held (pending ++ changes))) changes
-  taken_held (Open c) pending changes apply none core = taken_open c pending changes apply core
-  taken_held (Closed c) pending changes apply none core =
+  taken_held (Open c) pending changes apply none core here = taken_open c pending changes apply core
+  taken_held (Closed c) pending changes apply none core here =
       let rests = as_told false (found_core (found_in state c) (torn_in state c)) in
       subst
       (λ (l : List Change). CoreMoves medium_rules (two_disks state) c.disks c.disks rests rests l)
       (sym (none refl))
       (core_moves_nowhere medium_rules (two_disks state) (two_is_device state) c.disks rests
       (λ honest. (is_disk c.disks.first honest.0, is_disk c.disks.second honest.1)))
-  taken_held Between pending changes apply none core = none refl
+  taken_held (Away away) pending changes apply none core here = absurd here
 
   -- what waits in a span is accepted
   pub accepts_waiting : (span : Span) (medium : BufferState D) (changes : List Change)
@@ -121,8 +122,9 @@ module _ {D : Type 0} (state : D → DiskState) (is_disk : (disk : D) → (state
       → (state_of state medium).awake ≡ (medium_begun span).awake
       → ((medium_begun span).awake ≡ false → span.begin.left ≡ 0)
       → KeepsLimits (record span { since = span.since ++ changes }) → IsCore (medium_core state medium)
+      → IsHere medium.held
       → MovesUnreported state medium changes (with_changes medium changes)
-  accepts_waiting span medium changes volume awake rests within core =
+  accepts_waiting span medium changes volume awake rests within core here =
       taken_held medium.held medium.pending changes
       (subst (λ (v : List Part). AllApply v changes)
       (sym (volume ∙ seen_since))
@@ -133,7 +135,7 @@ module _ {D : Type 0} (state : D → DiskState) (is_disk : (disk : D) → (state
         within.few,
         rests (sym awake ∙ asleep),
         length-append span.since changes,
-      ))) core
+      ))) core here
     where
       seen_since : volume_of (medium_seen span) ≡ after (volume_of (medium_begun span)) span.since
       seen_since =

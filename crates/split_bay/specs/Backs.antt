@@ -12,11 +12,12 @@ use Rattle.tape_buffer.specs.declared.budgets.Budget.{Budget}
 use Rattle.tape_buffer.specs.Frames.{IsOneFrameIn, frames_in}
 use Rattle.tape_buffer.specs.Moves.{StoresBehind, buffer_below, with_changes}
 use Rattle.tape_buffer.specs.State.{BufferState, state_of}
-use Rattle.tape_buffer.specs.Taking.{LentState}
+use Rattle.tape_buffer.specs.Taking.{DisksState}
 use Rattle.bay_moves.specs.Bays.{KeepsCartridgeIn}
 use Rattle.split_bay.specs.declared.items.Item.{Item}
 use Rattle.split_bay.specs.declared.items.Item.TheVariants.{Sent}
 use Rattle.split_bay.specs.Looks.{Looked, is_broken}
+use Rattle.split_bay.specs.Rings.{ReceivingState}
 use Rattle.split_bay.specs.Spans.{KeepsLimits, NoChangeFirst, Span, medium_begun, medium_seen, span_of}
 
 -- The disk's half of a bay: its drive's number, all items that it ever received, those that are known to wait, and the
@@ -25,7 +26,16 @@ pub record BackState (D : Type 0) : Type 0 where
   pub number : ℕ
   pub received : List Item
   pub waiting : List Item
-  pub medium : Option (LentState D)
+  pub medium : Option (DisksState D)
+
+-- the disk's half that is this end of the ring with these disks (own)
+abbrev pub disks_half : {D : Type 0} → ReceivingState → Option (DisksState D) → BackState D
+disks_half receiving disks = record {
+  number = receiving.number;
+  received = receiving.received;
+  waiting = receiving.waiting;
+  medium = disks;
+}
 
 -- what may still be sent in a span is no more than this (own)
 pub record LeavesBudget (span : Span) (budget : Budget) : Type 0 where
@@ -36,14 +46,14 @@ pub record LeavesBudget (span : Span) (budget : Budget) : Type 0 where
 module _ {D : Type 0} (state : D → DiskState) where
   -- The medium of the disk's half stands as the span says: it is as hosts see it, as far as it was stored; it takes
   -- what may still be sent; and to one that is not awake nothing is sent (own).
-  pub record FollowsSpan (medium : LentState D) (span : Span) : Type 0 where
+  pub record FollowsSpan (medium : DisksState D) (span : Span) : Type 0 where
     pub there : is_some span.begin.seen ≡ true
     pub looked : Looked (medium_seen span) (state_of state medium.buffer)
     pub left : LeavesBudget span medium.left
     pub rests : (medium_begun span).awake ≡ false → span.begin.left ≡ 0
 
   -- the same of the medium that is in the drive, if one is; else the span began with none (own)
-  abbrev pub FollowsIn : Option (LentState D) → Span → Type 0
+  abbrev pub FollowsIn : Option (DisksState D) → Span → Type 0
   FollowsIn None span = span.begin.seen ≡ None
   FollowsIn (Some medium) span = FollowsSpan medium span
 
@@ -55,12 +65,12 @@ module _ {D : Type 0} (state : D → DiskState) where
     pub within : KeepsLimits (span_of back.received)
 
   -- a medium is there, awake, and its device has not failed (own)
-  abbrev pub works_in : Option (LentState D) → Bool
+  abbrev pub works_in : Option (DisksState D) → Bool
   works_in None = false
   works_in (Some medium) = (state_of state medium.buffer).awake && not (state_of state medium.buffer).failed
 
   -- a medium is there, awake, and its device has failed (own)
-  abbrev pub is_stuck_in : Option (LentState D) → Bool
+  abbrev pub is_stuck_in : Option (DisksState D) → Bool
   is_stuck_in None = false
   is_stuck_in (Some medium) = is_broken (state_of state medium.buffer)
 
@@ -76,7 +86,7 @@ module _ {D : Type 0} (state : D → DiskState) where
     pub behind : StoresBehind state (with_changes old found) new
 
   -- the same of a medium that is in the drive (own)
-  abbrev pub StoresFoundIn : Option (LentState D) → List Change → Turn → Option (LentState D) → Type 0
+  abbrev pub StoresFoundIn : Option (DisksState D) → List Change → Turn → Option (DisksState D) → Type 0
   StoresFoundIn (Some old) found turn (Some new) = StoresFound old.buffer found turn new.buffer
   StoresFoundIn _ found turn _ = ⊥
 

@@ -1,10 +1,8 @@
 -- What both halves of a bay know when a span begins.
-use Rattle.std.specs.Prelude.{ℕ, List, Bool, Option, None, refl}
-use Rattle.std.specs.Coded.{Coded, code_by, coded×, coded_bool, coded_ℕ, coded_list, coded_option}
-use Rattle.volume_core.specs.declared.changes.Change.{Change}
-use Rattle.volume_core.specs.Volume.{Part}
+use Rattle.std.specs.Prelude.{ℕ, Option, None, refl}
+use Rattle.std.specs.Coded.{Coded, code_by, coded×, coded_ℕ, coded_option}
 use Rattle.volume_core.specs.Medium.{MediumState}
-use Rattle.cartridge.specs.Codes.{change_code, part_code}
+use Rattle.tape_buffer.specs.SeenCodes.{medium_code}
 
 -- A span begins where both halves were held and part again: the medium that is then in the drive, if one is, and how
 -- much may be sent, as it is taken without memory: so many records, bytes of blocks, and room of the side, each record
@@ -18,25 +16,6 @@ pub record Beginning : Type 0 where
 -- nothing is in the drive, and nothing may be sent (own)
 abbrev pub nothing_begins : Beginning
 nothing_begins = record { seen = None; left = 0; bytes = 0; room = 0 }
-
--- a medium as plain data (own)
-abbrev pub medium_code : Coded MediumState
-medium_code =
-    code_by (Bool × (Option (List Part) × (List Change × (List Change × (Bool × (Option ℕ × Bool))))))
-    (coded× coded_bool
-    (coded× (coded_option (coded_list part_code))
-    (coded× (coded_list change_code)
-    (coded× (coded_list change_code) (coded× coded_bool (coded× (coded_option coded_ℕ) coded_bool))))))
-    (λ m. (m.awake, (m.stored, (m.pending, (m.torn, (m.failed, (m.room, m.unread)))))))
-    (λ p. record {
-      awake = p.0;
-      stored = p.1.0;
-      pending = p.1.1.0;
-      torn = p.1.1.1.0;
-      failed = p.1.1.1.1.0;
-      room = p.1.1.1.1.1.0;
-      unread = p.1.1.1.1.1.1;
-    }) (λ _. refl)
 
 -- the beginning of a span as plain data (own)
 abbrev pub beginning_code : Coded Beginning

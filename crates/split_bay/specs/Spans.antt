@@ -1,5 +1,5 @@
 -- What goes through a drive's ring, and what the hosts' half may send.
-use Rattle.std.specs.Prelude.{◌≤◌, ◌+◌, ◌++◌, ℕ, List, [], ◌∷◌, length, sum_by, Bool, false, not, nat_lt, nat_le, ◌&&◌, Option, None, Some}
+use Rattle.std.specs.Prelude.{◌≤◌, ◌+◌, ◌++◌, ℕ, List, [], ◌∷◌, length, sum_by, false, not, ◌&&◌, Option, None, Some}
 use Rattle.volume_core.specs.declared.changes.Change.{Change}
 use Rattle.volume_core.specs.Volume.{AllApply, Part}
 use Rattle.volume_core.specs.Medium.{MediumState, block_bytes, frame_size, volume_of}
@@ -72,12 +72,11 @@ pub record KeepsLimits (span : Span) : Type 0 where
   pub short : sum_by block_bytes span.since ≤ span.begin.bytes
   pub fits : sum_by frame_size span.since ≤ span.begin.room
 
--- one change more is sent within its limits, whose block has so many bytes, 0 for a change with no block (own)
-abbrev pub takes_more : Span → ℕ → Bool
-takes_more span bytes =
-    nat_lt (length span.since) span.begin.left
-    && (nat_le (sum_by block_bytes span.since + bytes) span.begin.bytes
-    && nat_le (sum_by frame_size span.since + (15 + bytes)) span.begin.room)
+-- one change more is within its limits, whose block has so many bytes, 0 for a change with no block (own)
+pub record TakesMore (span : Span) (bytes : ℕ) : Type 0 where
+  pub few : length span.since + 1 ≤ span.begin.left
+  pub short : sum_by block_bytes span.since + bytes ≤ span.begin.bytes
+  pub fits : sum_by frame_size span.since + (15 + bytes) ≤ span.begin.room
 
 -- with an item the span keeps its limits (own)
 abbrev pub MayFollow : List Item → Item → Type 0

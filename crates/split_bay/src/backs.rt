@@ -8,17 +8,17 @@ ghost use Rattle.split_bay.specs.Spans.{KeepsLimits, span_of};
 use crate::ends::{Receiving, Rings};
 use crate::taking::take_known;
 use std::marker::Model;
-use tape_buffer::Lent;
+use tape_buffer::Disks;
 use tape_disk::Disk;
 use volume_core::Turn;
 
-/// The disk's half of a bay: the medium in the drive, if there is one, with its pending changes; and the receiving end
-/// of the ring, which brings the changes that the hosts' half accepted. After a device fault the half is stuck, and
-/// stores nothing more.
+/// The disk's half of a bay: the disks of what is in the drive, if there is something, with the pending changes; and
+/// the receiving end of the ring, which brings the changes that the hosts' half accepted. After a device fault the half
+/// is stuck, and stores nothing more.
 #[derive(Drop)]
 pub struct Back<D: Disk, R: Rings> {
     pub(crate) receiving: Receiving<R>,
-    pub(crate) medium: Option<Lent<D>>,
+    pub(crate) disks: Option<Disks<D>>,
 }
 
 impl<D: Disk, R: Rings> Model for Back<D, R> {
@@ -31,10 +31,10 @@ impl<D: Disk, R: Rings> Model for Back<D, R> {
       number = b.receiving.number;
       received = b.receiving.received;
       waiting = b.receiving.waiting;
-      medium = b.medium;
+      medium = b.disks;
     } };
 
-    ghost invariant = { λ b. FollowsIn D.state b.medium (span_of b.receiving.received) };
+    ghost invariant = { λ b. FollowsIn D.state b.disks (span_of b.receiving.received) };
 }
 
 impl<D: Disk, R: Rings> Back<D, R> {
@@ -48,19 +48,19 @@ impl<D: Disk, R: Rings> Back<D, R> {
             return Turn::Idle;
         }
         self.receiving.look();
-        let Some(medium) = &mut self.medium else {
+        let Some(disks) = &mut self.disks else {
             unreachable!()
         };
-        take_known(&mut self.receiving, medium);
-        medium.flush_turn()
+        take_known(&mut self.receiving, disks);
+        disks.flush_turn()
     }
 
     /// Whether a medium is loaded whose device has not failed.
     pub fn works(&self) -> bool
         ensures { result ≡ works_in D.state self.now.medium }
     {
-        match &self.medium {
-            Some(medium) => medium.is_awake() && !medium.has_failed(),
+        match &self.disks {
+            Some(disks) => disks.is_awake() && !disks.has_failed(),
             None => false,
         }
     }
@@ -69,8 +69,8 @@ impl<D: Disk, R: Rings> Back<D, R> {
     pub fn is_stuck(&self) -> bool
         ensures { result ≡ is_stuck_in D.state self.now.medium }
     {
-        match &self.medium {
-            Some(medium) => medium.is_awake() && medium.has_failed(),
+        match &self.disks {
+            Some(disks) => disks.is_awake() && disks.has_failed(),
             None => false,
         }
     }
@@ -86,8 +86,8 @@ impl<D: Disk, R: Rings> Back<D, R> {
         ensures within { KeepsLimits (span_of self.now.received) }
     {
         self.receiving.known();
-        if let Some(medium) = &self.medium {
-            medium.known();
+        if let Some(disks) = &self.disks {
+            disks.known();
         }
     }
 
@@ -98,8 +98,8 @@ impl<D: Disk, R: Rings> Back<D, R> {
             disk_in medium.buffer.held ≡ Some disk.now)) }
         ensures none { result ≡ None → self.now.medium ≡ None }
     {
-        match &self.medium {
-            Some(medium) => Some(medium.disk()),
+        match &self.disks {
+            Some(disks) => Some(disks.disk()),
             None => None,
         }
     }

@@ -1,16 +1,15 @@
 //! The two ends of the ring through which changes go from the hosts' half of a bay to the disk's.
-ghost use Rattle.std.specs.Prelude.{◌≡◌, ◌+◌, ◌<◌, ◌≤◌, ◌++◌, ◌↔◌, [], ◌∷◌, IsTrue, None, true, sum_by};
+ghost use Rattle.std.specs.Prelude.{◌≡◌, ◌++◌, [], ◌∷◌, IsTrue, None};
 ghost use mathlib.Core.List.{IsPrefix};
-ghost use Rattle.rtrb.specs.Ring.{known_free, known_items, producer_capacity, received, sent};
-ghost use Rattle.volume_core.specs.Medium.{block_bytes, frame_size};
+ghost use Rattle.rtrb.specs.Ring.{known_items, producer_capacity, received, sent};
+ghost use Rattle.volume_core.specs.Medium.{block_bytes};
 ghost use Rattle.volume_core.specs.Volume.{refusal_of};
 ghost use Rattle.split_bay.specs.declared.items.TheConstants.{RING_RECORDS};
 ghost use Rattle.split_bay.specs.declared.items.Item.TheVariants as Items;
-ghost use Rattle.split_bay.specs.Rings.{AreEnds, ReceivesFrom, SendsInto};
-ghost use Rattle.split_bay.specs.Spans.{IsChangeFirst, KeepsLimits, NoChangeFirst, span_of, takes_more, volume_seen};
+ghost use Rattle.split_bay.specs.Rings.{ReceivesFrom, SendsInto};
+ghost use Rattle.split_bay.specs.Spans.{IsChangeFirst, KeepsLimits, NoChangeFirst, TakesMore, span_of, volume_seen};
 
 use crate::items::{Item, RING_RECORDS};
-use crate::noted::NotedBeginning;
 use crate::protocol::InSpans;
 use rtrb::{Consumer, Producer};
 use std::alloc::Global;
@@ -113,13 +112,6 @@ impl<R: Rings> Sending<R> {
         }
     }
 
-    /// The number of the drive whose ring this is.
-    pub(crate) fn number(&self) -> DriveNo
-        ensures { result ≡ self.now.number }
-    {
-        self.number
-    }
-
     /// Establishes, for proofs, that what was sent keeps the limits of its span.
     pub(crate) fn known(&self)
         ensures { KeepsLimits (span_of self.now.sent) }
@@ -128,27 +120,10 @@ impl<R: Rings> Sending<R> {
         let _ = &self.producer;
     }
 
-    /// Whether this span has room for one more frame: 15 bytes and a block of `bytes` bytes.
-    pub(crate) fn has_room(&self, bytes: u32) -> bool
-        ensures { IsTrue result
-            ↔ sum_by frame_size (span_of self.now.sent).since + (15 + bytes) ≤ (span_of self.now.sent).begin.room }
-    {
-        15 + bytes as u64 <= self.room
-    }
-
-    /// Whether the limits of this span allow one more change, whose block has `bytes` bytes (0 for a change without a
-    /// block).
-    pub(crate) fn takes(&self, bytes: u32) -> bool
-        ensures { result ≡ takes_more (span_of self.now.sent) bytes }
-    {
-        let bytes = bytes as u64;
-        self.left > 0 && bytes <= self.bytes && 15 + bytes <= self.room
-    }
-
     /// Sends a change, within the limits of its span. It allocates no memory, and waits for nothing.
     pub(crate) fn send(&mut self, change: Change)
         requires applies { refusal_of (volume_seen (span_of self.old.sent)) change ≡ None }
-        requires within { takes_more (span_of self.old.sent) (block_bytes change) ≡ true }
+        requires within { TakesMore (span_of self.old.sent) (block_bytes change) }
         ensures { self.new ≡ record self.old { sent = self.old.sent ++ Items.Sent change ∷ [] } }
     {
         let size = change.frame_size();
@@ -173,13 +148,6 @@ impl<R: Rings> Receiving<R> {
             spans: 0,
             of: PhantomData,
         }
-    }
-
-    /// The number of the drive whose ring this is.
-    pub(crate) fn number(&self) -> DriveNo
-        ensures { result ≡ self.now.number }
-    {
-        self.number
     }
 
     /// Establishes, for proofs, that what was received keeps the limits of its span.

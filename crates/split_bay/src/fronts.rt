@@ -1,80 +1,80 @@
-//! The hosts' half of a bay.
-ghost use Rattle.std.specs.Prelude.{◌≡◌, ◌↔◌, [], IfSome, IsTrue, None, Some, is_some};
-ghost use Rattle.aptpl_store.specs.Kept.{store_below, store_kept};
+//! The hosts' half of a bay: a drive whose disks are away, and the end of the ring to whoever has them.
+ghost use Rattle.std.specs.Prelude.{◌≡◌, ◌↔◌, IfSome, IsTrue, None, Some, is_some};
+ghost use Rattle.aptpl_store.specs.Kept.{store_kept};
 ghost use Rattle.drive_commands.specs.declared.bays.Bay.TheVariants as Bays;
-ghost use Rattle.drive_commands.specs.Alone.{AnswersAlone};
 ghost use Rattle.drive_commands.specs.Execute.{asked};
-ghost use Rattle.drive_commands.specs.State.{has_failed_in, machine_of, medium_in};
+ghost use Rattle.drive_commands.specs.State.{bay_of, has_failed_in, machine_of, medium_in};
 ghost use Rattle.drive_commands.specs.Synchronize.{Acknowledges, IsSynchronizing};
-ghost use Rattle.split_bay.specs.Fronts.{GivesOrders, KeepsHostsHalf, LeavesOrders, end_of, pending_of};
-ghost use Rattle.split_bay.specs.Nears.{alone_near, near_below, state_near};
+ghost use Rattle.tape_buffer.specs.Aways.{loose_in};
+ghost use Rattle.tape_buffer.specs.Detaching.{passed};
+ghost use Rattle.tape_buffer.specs.State.{state_of};
+ghost use Rattle.bay_moves.specs.Bays.{ShowsOrders};
+ghost use Rattle.split_bay.specs.Fronts.{AnswersOrWaits, AreAway, GivesOrders, IsFrontOf, KeepsHostsHalf, LeavesOrders, OwesIn, loose_in_bay, passed_on, pending_of, sending_with};
 ghost use Rattle.split_bay.specs.Rings.{AreEnds};
-ghost use Rattle.split_bay.specs.Spans.{KeepsLimits, span_of};
+ghost use Rattle.split_bay.specs.Spans.{span_of};
 
 use crate::backs::Back;
 use crate::ends::{Rings, Sending};
-use crate::hosts::Hosts;
 use crate::joined::are_ends;
-use crate::near::Near;
 use aptpl_store::AptplStore;
-use bay_moves::laws::reservations::reservations_outlive_each_stop;
-use drive_commands::Drive;
+use bay_moves::laws::reservations::{reservations_outlive_each_stop, stores_show_orders};
+use drive_commands::{Bay, Drive};
 use scsi_sense::Reply;
 use std::marker::Model;
-use tape_buffer::Cataloged;
+use tape_buffer::Buffered;
 use tape_disk::Disk;
+use volume_core::{Change, Medium};
 use vtl_base::{Bytes, Nexus};
 
-/// The hosts' half of a bay: the drive, over the hosts' half of its medium, with its store of reservations. The medium
-/// has the sending end of the ring; where the drive is empty, this half itself has it.
+/// The hosts' half of a bay: the drive, whose disks are away, with its store of reservations; and the sending end of
+/// the ring.
 #[derive(Drop)]
 pub struct Front<D: Disk, R: Rings> {
-    pub(crate) drive: Drive<Hosts<Near<R>, Cataloged<D>>, AptplStore<D>>,
-    pub(crate) end: Option<Sending<R>>,
+    pub(crate) drive: Drive<Buffered<D>, AptplStore<D>>,
+    pub(crate) sending: Sending<R>,
 }
 
 impl<D: Disk, R: Rings> Model for Front<D, R> {
-    ghost use Rattle.split_bay.specs.Fronts.{FrontState, HasEnd, KeepsOrders};
-    ghost use Rattle.split_bay.specs.Hosts.{IsApartIn, drive_near};
+    ghost use Rattle.split_bay.specs.Fronts.{FrontState, IsFrontOf, KeepsOrders};
+    ghost use Rattle.split_bay.specs.Spans.{span_of};
 
     ghost Value = { FrontState D };
 
-    ghost view = { λ f. record { drive = drive_near f.drive; end = f.end } };
+    ghost view = { λ f. record { drive = f.drive; sending = f.sending } };
 
-    ghost invariant = { λ f. IsApartIn f.drive.bay × HasEnd (drive_near f.drive).bay f.end
-        × KeepsOrders D.state (drive_near f.drive) };
+    ghost invariant = { λ f. IsFrontOf f.drive.bay (span_of f.sending.sent) × KeepsOrders D.state f.drive };
 }
 
 impl<D: Disk, R: Rings> Front<D, R> {
-    /// Answers a command of the host `nexus`, if the command needs no disk. `cdb` is the command block, and `sent`
-    /// holds the data that are lent with it. Where both halves are needed, the result is None and nothing has changed:
-    /// the data are still in `sent`.
+    /// Answers a command of the host `nexus`, if the command needs no disk, and sends the change that it made, if it
+    /// made one. `cdb` is the command block, and `sent` holds the data that are lent with it. Where both halves are
+    /// needed, the result is None and nothing has changed: the data are still in `sent`.
     pub fn execute_lent(&mut self, nexus: Nexus, cdb: &[u8], sent: &mut Bytes) -> Option<Reply>
-        ensures step { AnswersAlone state_near store_kept alone_near near_below (store_below D.state)
-            self.old.drive (asked nexus cdb.now sent.old) result self.new.drive sent.new }
-        ensures end { self.new.end ≡ self.old.end }
+        ensures step { AnswersOrWaits D.state self.old (asked nexus cdb.now sent.old) result self.new sent.new }
 
         // A synchronizing command is never acknowledged by this half alone.
-        ensures waits { IsSynchronizing (machine_of state_near store_kept self.old.drive) cdb.now
+        ensures waits { IsSynchronizing (machine_of (state_of D.state) store_kept self.old.drive) cdb.now
             → IfSome result (λ reply. Acknowledges reply → ⊥) }
 
         // What a crash leaves of the reservations at every moment inside the call.
         ensures moments { LeavesOrders D.state self.old.drive (asked nexus cdb.now sent.old) result self.new.drive }
     {
         // The law, for the proof alone.
-        reservations_outlive_each_stop::<Hosts<Near<R>, Cataloged<D>>, D>();
-        self.drive.execute_alone(nexus, cdb, sent)
+        reservations_outlive_each_stop::<Buffered<D>, D>();
+        match self.drive.execute_alone(nexus, cdb, sent) {
+            Some(reply) => {
+                pass_on(&mut self.drive, &mut self.sending);
+                Some(reply)
+            }
+            None => None,
+        }
     }
 
     /// Whether this half and `back` have the same drive number, and equally many spans began in both, modulo 2^64.
     pub fn fits(&self, back: &Back<D, R>) -> bool
-        ensures { IsTrue result ↔ AreEnds (end_of self.now) back.now.number back.now.received }
+        ensures { IsTrue result ↔ AreEnds self.now.sending back.now.number back.now.received }
     {
-        match (self.drive.medium(), &self.end) {
-            (Some(Hosts::Apart(near)), _) => near.fits(back),
-            (None, Some(sending)) => are_ends(sending, &back.receiving),
-            _ => unreachable!(),
-        }
+        are_ends(&self.sending, &back.receiving)
     }
 
     /// Whether the drive is empty: no cartridge is in it, loaded or not.
@@ -100,7 +100,7 @@ impl<D: Disk, R: Rings> Front<D, R> {
 
     /// Whether hosts see the loaded medium as failed; false where none is loaded.
     pub fn has_failed(&self) -> bool
-        ensures { result ≡ has_failed_in state_near self.now.drive.bay }
+        ensures { result ≡ has_failed_in (state_of D.state) self.now.drive.bay }
     {
         self.drive.has_failed()
     }
@@ -108,12 +108,17 @@ impl<D: Disk, R: Rings> Front<D, R> {
     /// How many changes are pending, as hosts see it: those that were pending when both halves were last held, and all
     /// that were accepted since. A turn may have stored some of them. Without a cartridge the result is 0.
     pub fn pending(&self) -> usize
-        ensures { result ≡ pending_of (medium_in self.now.drive.bay) }
+        ensures { result ≡ pending_of D.state (medium_in self.now.drive.bay) }
     {
         match self.drive.medium() {
-            Some(Hosts::Apart(near)) => near.pending(),
+            Some(medium) => {
+                if medium.is_awake() {
+                    medium.pending()
+                } else {
+                    0
+                }
+            }
             None => 0,
-            _ => unreachable!(),
         }
     }
 
@@ -124,27 +129,51 @@ impl<D: Disk, R: Rings> Front<D, R> {
         self.drive.keeper()
     }
 
-    // Establishes, for proofs, that what was sent keeps the limits of its span.
-    fn known_end(&self)
-        ensures { KeepsLimits (span_of (end_of self.now).sent) }
-    {
-        match (self.drive.medium(), &self.end) {
-            (Some(Hosts::Apart(near)), _) => near.sending.known(),
-            (None, Some(sending)) => sending.known(),
-            _ => unreachable!(),
-        }
-    }
-
     /// Establishes, for proofs, the type's invariant. Over an honest disk, each image of the store that a crash may
     /// leave now opens as the reservations that a loss of power leaves, either of those held now or of those whose save
-    /// failed. No more changes were sent than the span allows. The position is on the volume that hosts see.
+    /// failed; and it gives the orders that led to them. No more changes were sent than the span allows. The position
+    /// is on the volume that hosts see.
     pub fn known(&self)
         ensures keeps { KeepsHostsHalf D.state self.now }
         ensures opens { GivesOrders D.state self.now.drive }
+        ensures orders { ShowsOrders D.state self.now.drive }
     {
-        reservations_outlive_each_stop::<Hosts<Near<R>, Cataloged<D>>, D>();
-        self.known_end();
+        reservations_outlive_each_stop::<Buffered<D>, D>();
+        stores_show_orders::<D>();
+        self.sending.known();
         // Read for the proof: the facts are the type's invariant.
         let _ = self.drive.medium();
+    }
+}
+
+// Sends what the medium in a drive accepted.
+fn pass_on<D: Disk, R: Rings>(
+    drive: &mut Drive<Buffered<D>, AptplStore<D>>,
+    sending: &mut Sending<R>,
+)
+    requires { OwesIn drive.old.bay (span_of sending.old.sent) }
+    ensures stands { IsFrontOf drive.new.bay (span_of sending.new.sent) }
+    ensures drive { drive.new ≡ passed_on drive.old }
+    ensures sending { sending.new ≡ sending_with sending.old (loose_in_bay drive.old.bay) }
+{
+    let mut bay = drive.lift();
+    let loose = take_loose(&mut bay);
+    drive.lower(bay);
+    match loose {
+        Some(change) => sending.send(change),
+        None => {}
+    }
+}
+
+// Takes out what the medium in a drive accepted.
+fn take_loose<D: Disk>(bay: &mut Bay<Buffered<D>>) -> Option<Change>
+    requires { AreAway bay.old }
+    ensures loose { loose_in result ≡ loose_in_bay bay.old }
+    ensures left { bay.new ≡ bay_of passed bay.old }
+{
+    match bay {
+        Bay::Empty => None,
+        Bay::Unloaded(medium) => medium.take_loose(),
+        Bay::Loaded(medium) => medium.take_loose(),
     }
 }

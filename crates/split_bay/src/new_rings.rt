@@ -2,9 +2,9 @@
 ghost use Rattle.std.specs.Prelude.{◌≡◌, [], Some};
 
 use crate::ends::{Receiving, Rings, Sending};
-use crate::halving::Ends;
 use crate::items::{Item, RING_RECORDS};
 use crate::protocol::InSpans;
+use crate::wholes::Ends;
 use rtrb::{Consumer, Producer, RingBuffer};
 use std::alloc::Global;
 use std::marker::Model;

@@ -6,7 +6,7 @@ ghost use Rattle.split_bay.specs.Beginnings.{Beginning};
 
 use noted_values::{NotedValue, note};
 use std::marker::Model;
-use tape_buffer::Lent;
+use tape_buffer::Disks;
 use tape_disk::Disk;
 
 /// The kind of note that says how a span began. No value of this type is made.
@@ -33,7 +33,7 @@ impl NotedBeginning {
     /// Notes the medium in the drive, or that there is none, and how much may be sent: `left` changes, `bytes` bytes of
     /// blocks, and frames of `room` bytes in all.
     pub(crate) fn of<D: Disk>(
-        medium: &Option<Lent<D>>,
+        medium: &Option<Disks<D>>,
         left: &usize,
         bytes: &u64,
         room: &u64,
@@ -51,7 +51,7 @@ impl NotedBeginning {
 
 // A note of the beginning that the caller names in its ghost argument. The other arguments serve to name it.
 fn by_medium<D: Disk>(
-    _medium: &Option<Lent<D>>,
+    _medium: &Option<Disks<D>>,
     _left: &usize,
     _bytes: &u64,
     _room: &u64,

@@ -1,5 +1,5 @@
 -- A change more is pending.
-use Rattle.std.specs.Prelude.{◌≡◌, ◌+◌, ◌++◌, ◌≤◌, ℕ, List, [], ◌∷◌, Bool, true, false, None, Ok, Err, IsTrue, length, sum_by, not, refl}
+use Rattle.std.specs.Prelude.{◌≡◌, ◌+◌, ◌++◌, ◌≤◌, ℕ, List, [], ◌∷◌, Bool, true, false, None, Ok, Err, IsTrue, length, sum_by, refl}
 use Rattle.std.proofs.Common.{inl, sym, ◌∙◌, ap, subst, arith, append_assoc}
 use Rattle.std.proofs.lemmas.Bool.{and_parts, leb-true}
 use Rattle.std.proofs.lemmas.List.{append-nil}
@@ -22,13 +22,13 @@ use Rattle.accepted_changes.specs.Core.{Core, with_item}
 use Rattle.accepted_changes.specs.Device.{two_disks, two_is_device}
 use Rattle.accepted_changes.specs.Events.{CoreMoves}
 use Rattle.accepted_changes.specs.Kinds.{moves_accepting}
-use Rattle.waiting_changes.specs.Limits.{FitsBuffer}
+use Rattle.tape_buffer.specs.Limits.{FitsBuffer}
 use Rattle.tape_buffer.specs.Moves.{buffer_below, medium_moves_on}
 use Rattle.tape_buffer.specs.Rules.{applies_behind, is_unrefused, medium_rules}
 use Rattle.tape_buffer.specs.State.{IsPendingOver, IsReservedFor, open_buffer, open_core, open_state}
 use Rattle.tape_buffer.proofs.CoreLemmas.{open_is_core}
-use Rattle.waiting_changes.proofs.ChangeLemmas.{well_formed}
-use Rattle.waiting_changes.proofs.PendingLemmas.{records_of}
+use Rattle.tape_buffer.proofs.ChangeLemmas.{well_formed}
+use Rattle.tape_buffer.proofs.PendingLemmas.{records_of}
 use Rattle.tape_buffer.proofs.TwoLemmas.{are_disks}
 
 -- what may be pending is short
@@ -88,6 +88,16 @@ accepts_broken c m pending between change NoMemory none works room settled = abs
 accepts_broken c m pending between change SideFull none works room settled = absurd settled
 accepts_broken c m pending between change Unreadable none works room settled = absurd settled
 
+-- then the same volume is seen
+pub volume_kept : (old new : MediumState) (error : MediumError) → Settles old (Err error) new
+    → volume_of new ≡ volume_of old
+volume_kept old new Device settled = settled.2.volume_is
+volume_kept old new Failed settled = ap volume_of settled.1
+volume_kept old new (Refused cause) settled = absurd settled
+volume_kept old new NoMemory settled = absurd settled
+volume_kept old new SideFull settled = absurd settled
+volume_kept old new Unreadable settled = absurd settled
+
 -- once all is stored there is way
 pub way_after : {D : Type 0} (c c' : OpenCartridge D) (pending pending' : List Change) (change : Change)
     → FitsBuffer (change ∷ []) → sum_by frame_size (pending ++ change ∷ []) ≤ c.room
@@ -131,6 +141,9 @@ module _ {D : Type 0} (c m c' : OpenCartridge D) (pending between pending' : Lis
   same_state : open_state c' between ≡ open_state m between
   same_state = ap (λ (k : OpenCartridge D). open_state k between) same
 
+  pub volume_still : pending' ≡ between → volume_of (open_state c' pending') ≡ volume_of (open_state m between)
+  volume_still is = ap volume_of (ap (λ (l : List Change). open_state c' l) is ∙ same_state)
+
   pub stores_nothing_more : pending' ≡ between
       → Stores (open_state c pending) [] (open_state c' pending')
   stores_nothing_more is =
@@ -140,6 +153,9 @@ module _ {D : Type 0} (c m c' : OpenCartridge D) (pending between pending' : Lis
   module _ (is : pending' ≡ between ++ change ∷ []) where
     new_state : open_state c' pending' ≡ open_state m (between ++ change ∷ [])
     new_state = λ i. open_state (same i) (is i)
+
+    pub volume_more : volume_of (open_state c' pending') ≡ changed (volume_of (open_state m between)) change
+    volume_more = ap volume_of new_state ∙ after_append (volume_made m.contents) between (change ∷ [])
 
     pub accepts_more : refusal_of (volume_of (open_state c pending)) change ≡ None → c.failed ≡ false
         → sum_by frame_size (pending ++ change ∷ []) ≤ c.room

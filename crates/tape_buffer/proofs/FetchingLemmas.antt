@@ -1,8 +1,8 @@
 -- A block is read: from a pending change, or from the disk.
-use Rattle.std.specs.Prelude.{◌≡◌, ◌<◌, ◌≤◌, ℕ, zero, suc, List, [], ◌∷◌, true, false, Bool, Option, Some, Result, Ok, Err, OnOk, IfSome, length, slice_get, slice_index_or, refl}
+use Rattle.std.specs.Prelude.{◌≡◌, ◌<◌, ◌≤◌, ℕ, zero, suc, List, [], ◌∷◌, true, false, Bool, Option, Some, Result, Ok, Err, OnOk, IfSome, length, slice_get, refl}
 use Rattle.std.proofs.Common.{sym, ◌∙◌, ap, subst, arith}
 use Rattle.std.proofs.lemmas.Bool.{and_parts, leb-true}
-use Rattle.std.proofs.lemmas.Option.{get_or_from_slice_get, slice_get_within}
+use Rattle.std.proofs.lemmas.Result.{on_ok_weaker}
 use Rattle.vtl_base.specs.Below.{Advances}
 use Rattle.vtl_base.specs.declared.limits.TheConstants.{MAX_BLOCK}
 use Rattle.tape_disk.specs.Disk.{DiskState, IsDisk}
@@ -11,18 +11,18 @@ use Rattle.volume_core.specs.declared.changes.Change.{Change}
 use Rattle.volume_core.specs.declared.changes.Change.TheVariants.{Put}
 use Rattle.volume_core.specs.declared.media.MediumError.{MediumError}
 use Rattle.volume_core.specs.declared.media.MediumError.TheVariants.{Refused, NoMemory, SideFull, Device, Failed, Unreadable}
-use Rattle.volume_core.specs.Volume.{AllApply, Part, after, block_at, changed}
+use Rattle.volume_core.specs.Volume.{AllApply, Part, changed}
 use Rattle.volume_core.specs.Medium.{met_fault}
 use Rattle.cartridge.specs.Disks.{UnwrittenTwo}
 use Rattle.cartridge.specs.State.{OpenCartridge}
 use Rattle.accepted_changes.specs.Device.{two_disks, two_is_device, two_keep, two_rest}
 use Rattle.accepted_changes.specs.Events.{ShowsCore}
 use Rattle.accepted_changes.specs.Kinds.{moves_faulting, moves_resting}
-use Rattle.tape_buffer.specs.Inner.Fetching.{IsCopyOfBlock, IsFetched, IsPut}
+use Rattle.tape_buffer.specs.Inner.Fetching.{IsCopyOf, IsFetched}
 use Rattle.tape_buffer.specs.Moves.{buffer_below}
 use Rattle.tape_buffer.specs.Rules.{medium_rules}
 use Rattle.tape_buffer.specs.State.{open_buffer, open_core}
-use Rattle.waiting_changes.proofs.ChangeLemmas.{well_formed}
+use Rattle.tape_buffer.proofs.ChangeLemmas.{well_formed}
 use Rattle.tape_buffer.proofs.TwoLemmas.{are_disks, stay_honest, were_honest}
 
 -- the block of a change that applies is no longer than a block
@@ -36,70 +36,42 @@ short_block volume (change ∷ changes) zero part staying block all at =
 short_block volume (change ∷ changes) (suc i) part staying block all at =
     short_block (changed volume change) changes i part staying block all.1 at
 
--- a block that is seen, and that is the block of the pending change of that number
-abbrev pub IsPendingBlock : List Part → List Change → ℕ → ℕ → ℕ → Type 0
-IsPendingBlock volume pending part at i =
-    (of : ℕ) × (staying : ℕ) × (block : List ℕ) × (slice_get pending i ≡ Some (Put of staying block))
-    × (block_at (after volume pending) part at ≡ Some block)
+-- what a copy of a block is
+module _ (block : List ℕ) (capacity : ℕ) where
+  pub copied : (result : Result Unit MediumError) (bytes : List ℕ) → IsCopyOf block capacity result bytes
+      → OnOk result (bytes ≡ block)
+  copied (Ok done) bytes same = same
+  copied (Err error) bytes same = tt
 
-module _ (volume : List Part) (pending : List Change) (part at i : ℕ) (all : AllApply volume pending)
-    (seen : IsPendingBlock volume pending part at i) where
-  pub block_inside : i < length pending
-  block_inside = slice_get_within pending i (Put seen.0 seen.1 seen.2) seen.3
+  pub copied_well : (result : Result Unit MediumError) (bytes : List ℕ) → IsCopyOf block capacity result bytes
+      → met_fault result ≡ false
+  copied_well (Ok done) bytes same = refl
+  copied_well (Err NoMemory) bytes same = refl
+  copied_well (Err (Refused cause)) bytes same = refl
+  copied_well (Err SideFull) bytes same = refl
+  copied_well (Err Failed) bytes same = refl
+  copied_well (Err Unreadable) bytes same = refl
+  copied_well (Err Device) bytes same = absurd same
 
-  module _ (change : Change) (is : change ≡ slice_index_or pending i change) where
-    is_put : change ≡ Put seen.0 seen.1 seen.2
-    is_put = is ∙ get_or_from_slice_get pending i (Put seen.0 seen.1 seen.2) change seen.3
+  pub copied_lack : (result : Result Unit MediumError) (bytes : List ℕ) → IsCopyOf block capacity result bytes
+      → result ≡ Err NoMemory → capacity < length block
+  copied_lack result bytes same none =
+      subst (λ (r : Result Unit MediumError). IsCopyOf block capacity r bytes) none same
 
-    pub can_copy : IsPut change
-    can_copy = subst IsPut (sym is_put) tt
+  module _ (seen : Option (List ℕ)) (is : seen ≡ Some block) (result : Result Unit MediumError) (bytes : List ℕ)
+      (same : IsCopyOf block capacity result bytes) where
+    pub copied_block : OnOk result (seen ≡ Some bytes)
+    copied_block = on_ok_weaker result (λ same. is ∙ ap Some (sym same)) (copied result bytes same)
 
-    pub copied_block : (capacity : ℕ) (result : Result Unit MediumError) (bytes : List ℕ)
-        → IsCopyOfBlock change capacity result bytes
-        → OnOk result (block_at (after volume pending) part at ≡ Some bytes)
-    copied_block capacity result bytes copied =
-        by result (subst (λ (c : Change). IsCopyOfBlock c capacity result bytes) is_put copied)
-      where
-        by : (result : Result Unit MediumError) → IsCopyOfBlock (Put seen.0 seen.1 seen.2) capacity result bytes
-            → OnOk result (block_at (after volume pending) part at ≡ Some bytes)
-        by (Ok done) same = seen.4 ∙ ap Some (sym same)
-        by (Err error) same = tt
+    pub copied_short : length block ≤ MAX_BLOCK → OnOk result (length bytes ≤ MAX_BLOCK)
+    copied_short short =
+        on_ok_weaker result (λ same. omega (arith, ap (λ (l : List ℕ). length l) same, short))
+        (copied result bytes same)
 
-    pub copied_short : (capacity : ℕ) (result : Result Unit MediumError) (bytes : List ℕ)
-        → IsCopyOfBlock change capacity result bytes
-        → OnOk result (length bytes ≤ MAX_BLOCK)
-    copied_short capacity result bytes copied =
-        by result (subst (λ (c : Change). IsCopyOfBlock c capacity result bytes) is_put copied)
-      where
-        by : (result : Result Unit MediumError) → IsCopyOfBlock (Put seen.0 seen.1 seen.2) capacity result bytes
-            → OnOk result (length bytes ≤ MAX_BLOCK)
-        by (Ok done) same =
-            omega (arith, ap length same, short_block volume pending i seen.0 seen.1 seen.2 all seen.3)
-        by (Err error) same = tt
-
-    pub copied_well : (capacity : ℕ) (result : Result Unit MediumError) (bytes : List ℕ)
-        → IsCopyOfBlock change capacity result bytes
-        → met_fault result ≡ false
-    copied_well capacity result bytes copied =
-        by result (subst (λ (c : Change). IsCopyOfBlock c capacity result bytes) is_put copied)
-      where
-        by : (result : Result Unit MediumError) → IsCopyOfBlock (Put seen.0 seen.1 seen.2) capacity result bytes
-            → met_fault result ≡ false
-        by (Ok done) same = refl
-        by (Err NoMemory) same = refl
-        by (Err (Refused cause)) same = refl
-        by (Err SideFull) same = refl
-        by (Err Failed) same = refl
-        by (Err Unreadable) same = refl
-        by (Err Device) same = absurd same
-
-    pub copied_lack : (capacity : ℕ) (result : Result Unit MediumError) (bytes : List ℕ)
-        → IsCopyOfBlock change capacity result bytes → result ≡ Err NoMemory
-        → IfSome (block_at (after volume pending) part at) (λ block. capacity < length block)
-    copied_lack capacity result bytes copied none =
-        subst (λ (o : Option (List ℕ)). IfSome o (λ block. capacity < length block)) (sym seen.4)
-        (subst (λ (r : Result Unit MediumError). IsCopyOfBlock (Put seen.0 seen.1 seen.2) capacity r bytes) none
-        (subst (λ (c : Change). IsCopyOfBlock c capacity result bytes) is_put copied))
+    pub copied_memory : result ≡ Err NoMemory → IfSome seen (λ block. capacity < length block)
+    copied_memory none =
+        subst (λ (o : Option (List ℕ)). IfSome o (λ block. capacity < length block)) (sym is)
+        (copied_lack result bytes same none)
 
 -- memory ran out for its cause
 pub fetched_lack : (memory : Type 0) (failed : Bool) (before now : ℕ) (result : Result Unit MediumError)

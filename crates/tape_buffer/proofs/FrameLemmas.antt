@@ -5,7 +5,7 @@ use Rattle.volume_core.specs.declared.media.MediumError.{MediumError}
 use Rattle.volume_core.specs.declared.media.MediumError.TheVariants.{Refused, NoMemory, SideFull, Device, Failed, Unreadable}
 use Rattle.volume_core.specs.Medium.{MediumState, Settles}
 use Rattle.tape_buffer.specs.Frames.{AcceptsInFrames, MakesWay, with_pending}
-use Rattle.waiting_changes.specs.Limits.{FitsBuffer}
+use Rattle.tape_buffer.specs.Limits.{FitsBuffer}
 
 -- while a change may wait, nothing is stored for it
 pub way_as_it_is : (full : Bool) (frames : List (List Change)) (pending : List Change) (change : Change)

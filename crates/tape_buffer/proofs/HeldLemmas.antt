@@ -1,25 +1,24 @@
 -- What is known of a cartridge that is held, open or closed.
-use Rattle.std.specs.Prelude.{◌≡◌, ◌⊎◌, ◌+◌, ◌++◌, ◌≤◌, ℕ, List, [], Bool, true, false, not, Option, None, Some, length, option_map, if◌then◌else◌, refl}
+use Rattle.std.specs.Prelude.{◌≡◌, ◌⊎◌, ◌+◌, ◌++◌, ◌≤◌, List, [], Bool, true, false, not, Option, None, Some, length, option_map, if◌then◌else◌, refl}
 use Rattle.std.proofs.Common.{inl, inr, sym, ◌∙◌, ap, subst, arith, ⊎_elim, length-append}
 use Rattle.std.proofs.lemmas.List.{take_at, take_all}
 use Rattle.tape_disk.specs.Disk.{DiskState, IsDisk}
 use Rattle.tape_disk.specs.TwoDisks.{AreHonest, EachOfTwo, Images, seen_of_two}
 use Rattle.volume_core.specs.declared.changes.Change.{Change}
-use Rattle.volume_core.specs.Volume.{Part, capacity_of}
-use Rattle.volume_core.specs.Medium.{volume_of}
+use Rattle.volume_core.specs.Volume.{Part}
 use Rattle.gate_journal.specs.Heads.{base_of}
 use Rattle.cartridge.specs.Contents.{Contents, GivesContents, IsContents, ShowsContents, changes_of, changes_since, start_of, volume_made}
 use Rattle.cartridge.specs.ContentsOn.{contents_on, contents_on_gives}
-use Rattle.cartridge.specs.State.{ClosedCartridge, OpenCartridge}
+use Rattle.cartridge.specs.State.{ClosedCartridge}
 use Rattle.accepted_changes.specs.Core.{IsCore}
 use Rattle.accepted_changes.specs.Events.{ShowsCore}
 use Rattle.tape_buffer.specs.declared.holding.Holding.{Holding}
-use Rattle.tape_buffer.specs.declared.holding.Holding.TheVariants.{Open, Closed, Between}
-use Rattle.tape_buffer.specs.Invariants.{IsHeld}
-use Rattle.tape_buffer.specs.Moves.{IsSafeOrPending, ShowsOn}
+use Rattle.tape_buffer.specs.declared.holding.Holding.TheVariants.{Open, Closed, Away}
+use Rattle.tape_buffer.specs.declared.holding.Opened.{Opened}
+use Rattle.tape_buffer.specs.Invariants.{IsHeld, buffer_of}
+use Rattle.tape_buffer.specs.Moves.{IsSafeOrPending, ShowsOn, medium_core}
 use Rattle.tape_buffer.specs.Rules.{GivesChanges, medium_rules}
-use Rattle.tape_buffer.specs.State.{IsPendingOver, IsSettledIn, IsSettledOn, closed_state, core_held, disks_in, found_core, found_in, state_held, torn_in}
-use Rattle.waiting_changes.proofs.VolumeLemmas.{stays_so}
+use Rattle.tape_buffer.specs.State.{IsPendingOver, IsSettledOn, closed_state, found_core, found_in, open_core, torn_in}
 use Rattle.tape_buffer.proofs.CoreLemmas.{gives_changes, gives_more, open_is_core, open_shows}
 
 -- a closed cartridge's core is one
@@ -90,81 +89,41 @@ module _ {D : Type 0} (state : D → DiskState) (is_disk : (disk : D) → (state
   settled_where c (inl read) unknown = let e : true ≡ false = sym (ap not unknown) ∙ read in cc
   settled_where c (inr settled) unknown = settled unknown
 
-  module _ (held : Holding (OpenCartridge D) (ClosedCartridge D)) (pending : List Change)
-      (is : IsHeld held pending) where
-    pub held_is_core : IsCore (core_held state held pending)
-    held_is_core = by held is
-      where
-        by : (h : Holding (OpenCartridge D) (ClosedCartridge D)) → IsHeld h pending → IsCore
-            (core_held state h pending)
-        by (Open c) over = open_is_core c pending over.torn
-        by (Closed c) over = found_is_core (found_in state c) (torn_in state c)
-        by Between over = absurd over
+  -- so does a medium by what it holds
+  pub shows_open : (opened : Opened D) → IsPendingOver opened.cartridge opened.pending
+      → IsContents opened.cartridge.contents
+      → (AreHonest state opened.cartridge.disks
+      → EachOfTwo state opened.cartridge.disks (ShowsContents opened.cartridge.contents opened.cartridge.torn))
+      → ShowsOn state (Some opened.cartridge.disks) (open_core opened.cartridge opened.pending)
+  shows_open opened over contents shows honest images left =
+      open_shows opened.cartridge opened.pending over.torn contents.copied images (shows honest images left)
 
-    pub shows_open : (c : OpenCartridge D) → held ≡ Open c
-        → IsContents c.contents
-        → (AreHonest state c.disks → EachOfTwo state c.disks (ShowsContents c.contents c.torn))
-        → ((state_held state held pending).unread ≡ false) ⊎ IsSettledIn state held
-        → (volume : List Part) → (state_held state held pending).stored ≡ Some volume
-        → ShowsOn state (disks_in held) (core_held state held pending)
-    shows_open c same contents shows sure volume some =
-        let over = subst (λ (h : Holding (OpenCartridge D) (ClosedCartridge D)). IsHeld h pending) same is in
-        subst (λ (h : Holding (OpenCartridge D) (ClosedCartridge D)).
-        ShowsOn state (disks_in h) (core_held state h pending)) (sym same)
-        (λ honest images left. open_shows c pending over.torn contents.copied images (shows honest images left))
+  pub shows_closed : (c : ClosedCartridge D) → (c.known ≡ true → IsContents c.contents)
+      → (c.known ≡ true → AreHonest state c.disks → EachOfTwo state c.disks (ShowsContents c.contents c.torn))
+      → ((closed_state state c).unread ≡ false) ⊎ IsSettledOn state c
+      → (volume : List Part) → (closed_state state c).stored ≡ Some volume
+      → ShowsOn state (Some c.disks) (found_core (found_in state c) (torn_in state c))
+  shows_closed c contents shows sure volume some =
+      closed_shows c (settled_where c sure) contents shows volume some
 
-    pub shows_closed : (c : ClosedCartridge D) → held ≡ Closed c
-        → (c.known ≡ true → IsContents c.contents)
-        → (c.known ≡ true → AreHonest state c.disks → EachOfTwo state c.disks (ShowsContents c.contents c.torn))
-        → ((state_held state held pending).unread ≡ false) ⊎ IsSettledIn state held
-        → (volume : List Part) → (state_held state held pending).stored ≡ Some volume
-        → ShowsOn state (disks_in held) (core_held state held pending)
-    shows_closed c same contents shows sure volume some =
-        let settled = settled_where c (subst (λ (h : Holding (OpenCartridge D) (ClosedCartridge D)).
-        ((state_held state h pending).unread ≡ false) ⊎ IsSettledIn state h) same sure) in
-        let gives = subst (λ (h : Holding (OpenCartridge D) (ClosedCartridge D)).
-        (state_held state h pending).stored ≡ Some volume) same some in
-        subst (λ (h : Holding (OpenCartridge D) (ClosedCartridge D)).
-        ShowsOn state (disks_in h) (core_held state h pending)) (sym same)
-        (closed_shows c settled contents shows volume gives)
-
--- the partitions and capacities of a medium that is open are its cartridge's
-module _ {D : Type 0} (state : D → DiskState) (held : Holding (OpenCartridge D) (ClosedCartridge D))
-    (pending : List Change) (is : IsHeld held pending) (c : OpenCartridge D) (same : held ≡ Open c) where
-  over : IsPendingOver c pending
-  over = subst (λ (h : Holding (OpenCartridge D) (ClosedCartridge D)). IsHeld h pending) same is
-
-  pub parts_held : length (volume_of (state_held state held pending)) ≡ length (volume_made c.contents)
-  parts_held =
-      ap (λ (h : Holding (OpenCartridge D) (ClosedCartridge D)). length (volume_of (state_held state h pending))) same
-      ∙ (stays_so (volume_made c.contents) pending over.apply).parts
-
-  pub capacity_held : (part : ℕ)
-      → capacity_of (volume_of (state_held state held pending)) part ≡ capacity_of (volume_made c.contents) part
-  capacity_held part =
-      ap (λ (h : Holding (OpenCartridge D) (ClosedCartridge D)).
-      capacity_of (volume_of (state_held state h pending)) part) same
-      ∙ (stays_so (volume_made c.contents) pending over.apply).capacities part
+  pub held_is_core : (held : Holding (Opened D) (ClosedCartridge D)) → IsHeld held
+      → IsCore (medium_core state (buffer_of held))
+  held_is_core (Open opened) over = open_is_core opened.cartridge opened.pending over.torn
+  held_is_core (Closed c) over = found_is_core (found_in state c) (torn_in state c)
+  held_is_core (Away away) over = found_is_core None []
 
 -- what of an open medium that works is stored is safe, and the rest is pending
-module _ {D : Type 0} (state : D → DiskState) (held : Holding (OpenCartridge D) (ClosedCartridge D))
-    (pending : List Change) where
-  pub whole_open : (c : OpenCartridge D) → held ≡ Open c → (c.failed ≡ false → c.torn ≡ [])
-      → IsSafeOrPending (core_held state held pending) pending
-  whole_open c same at_rest =
-      subst (λ (h : Holding (OpenCartridge D) (ClosedCartridge D)). IsSafeOrPending (core_held state h pending) pending)
-      (sym same)
-      (λ works going. (
-        omega (arith, ap (λ (t : List (List Change)). length (changes_of t)) (at_rest works)),
-        ap (λ (l : List Change). l ++ pending)
-            (sym (take_at (changes_since c.contents) pending (length (changes_since c.contents)) refl)),
-      ))
+pub whole_open : {D : Type 0} (opened : Opened D)
+    → (opened.cartridge.failed ≡ false → opened.cartridge.torn ≡ [])
+    → IsSafeOrPending (open_core opened.cartridge opened.pending) opened.pending
+whole_open opened at_rest works going = (
+  omega (arith, ap (λ (t : List (List Change)). length (changes_of t)) (at_rest works)),
+  ap (λ (l : List Change). l ++ opened.pending)
+      (sym (take_at (changes_since opened.cartridge.contents) opened.pending
+      (length (changes_since opened.cartridge.contents)) refl)),
+)
 
-  pub whole_closed : (c : ClosedCartridge D) → held ≡ Closed c → IsSafeOrPending (core_held state held pending) pending
-  whole_closed c same =
-      subst (λ (h : Holding (OpenCartridge D) (ClosedCartridge D)). IsSafeOrPending (core_held state h pending) pending)
-      (sym same) (by (found_in state c))
-    where
-      by : (found : Option Contents) → IsSafeOrPending (found_core found (torn_in state c)) pending
-      by None works going = absurd (cc)
-      by (Some contents) works going = absurd (cc)
+-- a closed one was stopped
+pub whole_closed : (found : Option Contents) (torn : List Change) → IsSafeOrPending (found_core found torn) []
+whole_closed None torn works going = absurd (cc)
+whole_closed (Some contents) torn works going = absurd (cc)

@@ -1,6 +1,7 @@
 -- A medium that is lent takes a change more, and stores what is pending.
-use Rattle.std.specs.Prelude.{◌≡◌, ◌+◌, ◌++◌, ◌≤◌, ◌<◌, ℕ, List, [], ◌∷◌, None, false, length, sum_by, refl}
+use Rattle.std.specs.Prelude.{◌≡◌, ◌⊎◌, ◌+◌, ◌++◌, ◌≤◌, ◌<◌, ℕ, List, [], ◌∷◌, None, false, length, sum_by, refl}
 use Rattle.std.proofs.Common.{inl, inr, sym, ◌∙◌, ap, subst, arith, append_assoc, length-append}
+use Rattle.std.proofs.lemmas.Bool.{cases_lt}
 use Rattle.std.proofs.lemmas.List.Sums.{sum_by-append}
 use Rattle.vtl_base.specs.Below.{Advances}
 use Rattle.vtl_base.specs.declared.limits.TheConstants.{BUFFER_BYTES, BUFFER_RECORDS}
@@ -14,17 +15,17 @@ use Rattle.cartridge.specs.Contents.{Contents, volume_made}
 use Rattle.cartridge.specs.Extending.{volume_more}
 use Rattle.cartridge.specs.State.{OpenCartridge}
 use Rattle.tape_buffer.specs.declared.budgets.Budget.{Budget}
-use Rattle.tape_buffer.specs.Inner.Lending.{LendsOver}
 use Rattle.tape_buffer.specs.Inner.Storing.{IsRoomyFor}
-use Rattle.waiting_changes.specs.Limits.{FitsBuffer}
+use Rattle.tape_buffer.specs.Limits.{FitsBuffer}
 use Rattle.tape_buffer.specs.Moves.{buffer_below}
-use Rattle.tape_buffer.specs.State.{BufferState, IsPendingOver, IsReservedFor, IsTornFrom, open_buffer, open_state, state_of}
-use Rattle.tape_buffer.specs.Taking.{KeepsBudget, LentState, LendsRecords, budget_after, longest_body}
+use Rattle.tape_buffer.specs.State.{IsPendingOver, IsReservedFor, IsTornFrom, open_buffer, open_state}
+use Rattle.tape_buffer.specs.Budgets.{KeepsBudget, budget_after}
+use Rattle.tape_buffer.specs.Taking.{LendsRecords, longest_body}
 use Rattle.tape_buffer.proofs.AddingLemmas.{advances_more, apply_more, pending_still, ready_as_it_is, spelled_short}
-use Rattle.waiting_changes.proofs.ChangeLemmas.{inside_of}
+use Rattle.tape_buffer.proofs.ChangeLemmas.{inside_of}
 use Rattle.tape_buffer.proofs.CoreLemmas.{rests}
 use Rattle.tape_buffer.proofs.RoomLemmas.{few_entries, one_frame_fits, reserved_more, reserved_still}
-use Rattle.waiting_changes.proofs.VolumeLemmas.{stays_so}
+use Rattle.tape_buffer.proofs.VolumeLemmas.{stays_so}
 
 -- what is pending was stored, or was not
 module _ {D : Type 0} (c c' : OpenCartridge D) (changes : List Change) (left : Budget)
@@ -42,11 +43,11 @@ module _ {D : Type 0} (c c' : OpenCartridge D) (changes : List Change) (left : B
         fits = omega (arith, roomy.fits, stored.room, one_frame_fits changes some);
         frames = omega (arith, roomy.one_more some, stored.reserved.frames);
         one_more = λ more. absurd (omega (arith, more));
-        body = omega (arith, roomy.body, stored.reserved.body);
-        entries = λ part inside.
+        body = λ takes. omega (arith, roomy.body takes, stored.reserved.body);
+        entries = λ takes part inside.
             omega (
               arith,
-              roomy.entries part (omega (arith, inside, parts)),
+              roomy.entries takes part (omega (arith, inside, parts)),
               stored.reserved.entries part,
               few_entries part changes,
             );
@@ -60,11 +61,11 @@ module _ {D : Type 0} (c c' : OpenCartridge D) (changes : List Change) (left : B
         fits = omega (arith, roomy.fits, broken.room);
         frames = omega (arith, roomy.frames, broken.reserved.frames);
         one_more = λ some. omega (arith, roomy.one_more some, broken.reserved.frames);
-        body = omega (arith, roomy.body, broken.reserved.body);
-        entries = λ part inside.
+        body = λ takes. omega (arith, roomy.body takes, broken.reserved.body);
+        entries = λ takes part inside.
             omega (
               arith,
-              roomy.entries part
+              roomy.entries takes part
                   (omega (arith, inside, ap (λ (k : Contents). length (volume_made k)) broken.contents)),
               broken.reserved.entries part,
             );
@@ -85,6 +86,9 @@ torn_more torn pending more (inr some) =
 module _ {D : Type 0} (c : OpenCartridge D) (pending : List Change) (left : Budget) (change : Change)
     (over : IsPendingOver c pending) (roomy : IsRoomyFor c pending left) (keeps : KeepsBudget left (change ∷ []))
   where
+    takes : 1 ≤ left.records
+    takes = omega (arith, keeps.records)
+
     pub fits_taken : FitsBuffer (pending ++ change ∷ [])
     fits_taken =
         record {
@@ -100,9 +104,9 @@ module _ {D : Type 0} (c : OpenCartridge D) (pending : List Change) (left : Budg
           fits = omega (arith, roomy.fits, keeps.room, sum_by-append frame_size pending (change ∷ []));
           frames = omega (arith, roomy.frames);
           one_more = λ some. omega (arith, roomy.frames, keeps.records);
-          body = roomy.body;
-          entries = λ part inside.
-              omega (arith, roomy.entries part inside, keeps.records, length-append pending (change ∷ []));
+          body = λ more. roomy.body takes;
+          entries = λ more part inside.
+              omega (arith, roomy.entries takes part inside, keeps.records, length-append pending (change ∷ []));
         }
 
     pub room_taken : sum_by frame_size (pending ++ change ∷ []) ≤ c.room
@@ -121,9 +125,9 @@ module _ {D : Type 0} (c : OpenCartridge D) (pending : List Change) (left : Budg
       reserved_taken =
           reserved_more c.reserved c.reserved pending change
           (record { body = omega arith; frames = omega arith; entries = λ part. omega arith }) over.reserved
-          (omega (arith, spelled_short (pending ++ change ∷ []) fits_taken, roomy.body))
+          (omega (arith, spelled_short (pending ++ change ∷ []) fits_taken, roomy.body takes))
           (omega (arith, keeps.records, roomy.frames))
-          (omega (arith, roomy.entries (part_of change) there, keeps.records))
+          (omega (arith, roomy.entries takes (part_of change) there, keeps.records))
 
       pub pending_taken : (pending' : List Change) → pending' ≡ pending ++ change ∷ [] → IsPendingOver c pending'
       pending_taken pending' is =
@@ -154,57 +158,54 @@ stores_taken c pending pending' change is =
     subst (λ (l : List Change). Stores (open_state c pending) (change ∷ []) (open_state c l)) (sym is)
     (record { count = 0; fits = omega arith; stored = refl; pending = refl; room = omega arith })
 
--- an open cartridge is lent
-module _ {D : Type 0} (c c' : OpenCartridge D) (pending pending' : List Change)
-    (same : c' ≡ record c { reserved = c'.reserved }) (is : pending' ≡ pending) where
-  same_room : c'.room ≡ c.room
-  same_room = ap (λ (k : OpenCartridge D). k.room) same
-
-  -- with room for all that its budget has
-  pub roomy_new : (left : Budget) (count : ℕ) → FitsBuffer pending
-      → HasReserved BUFFER_RECORDS longest_body BUFFER_RECORDS c'.reserved → count ≡ length (volume_made c'.contents)
-      → count ≡ length c'.reserved.entries → left.records + length pending ≡ BUFFER_RECORDS
-      → left.bytes + sum_by block_bytes pending ≡ BUFFER_BYTES → left.room + sum_by frame_size pending ≡ c.room
-      → IsRoomyFor c' pending' left
-  roomy_new left count fits reserved parts entries records bytes room =
-      subst (λ (l : List Change). IsRoomyFor c' l left) (sym is)
-      (record {
-        few = omega (arith, records);
-        short = omega (arith, bytes);
-        fits = omega (arith, room, same_room);
-        frames = omega (arith, records, reserved.frames);
-        one_more = λ some. omega (arith, some, records, reserved.frames);
-        body = reserved.longest;
-        entries = λ part inside.
-            omega (arith, records, reserved.each part (omega (arith, inside, parts, entries)));
-      })
-
+-- an open cartridge is lent, and what is reserved may grow
+module _ {D : Type 0} (c c' : OpenCartridge D) (pending : List Change)
+    (same : c' ≡ record c { reserved = c'.reserved }) where
   -- what is pending over it is pending still
-  pub pending_lent : IsPendingOver c pending → KeepsReserved c.reserved c'.reserved → IsPendingOver c' pending'
+  pub pending_lent : IsPendingOver c pending → KeepsReserved c.reserved c'.reserved → IsPendingOver c' pending
   pending_lent over grows =
-      pending_still c c' pending pending' over same
-      (reserved_still c.reserved c'.reserved pending grows over.reserved) is
+      pending_still c c' pending pending over same (reserved_still c.reserved c'.reserved pending grows over.reserved)
+      refl
 
-  module _ (new : LentState D) (of_buffer : new.buffer ≡ open_buffer c' pending') where
-    pub lends_as : LendsRecords c pending new.left.records
-        → new.left.bytes + sum_by block_bytes pending ≡ BUFFER_BYTES
-        → new.left.room + sum_by frame_size pending ≡ c.room → LendsOver c pending new
-    lends_as records bytes room =
-        subst (λ (buffer : BufferState D). LendsOver c pending (record { buffer = buffer; left = new.left }))
-        (sym of_buffer)
-        (record { pending_is = is; held = record { same = same; records = records; bytes = bytes; room = room } })
+  -- there is room for all that its budget has
+  pub roomy_new : (left : Budget) (count : ℕ) → FitsBuffer pending → IsPendingOver c' pending
+      → (1 ≤ left.records → HasReserved BUFFER_RECORDS longest_body BUFFER_RECORDS c'.reserved)
+      → count ≡ length (volume_made c'.contents) → count ≡ length c'.reserved.entries
+      → LendsRecords c pending left.records
+      → left.bytes + sum_by block_bytes pending ≡ BUFFER_BYTES → left.room + sum_by frame_size pending ≡ c.room
+      → IsRoomyFor c' pending left
+  roomy_new left count fits over reserved parts entries records bytes room =
+      record {
+        few = few records;
+        short = omega (arith, bytes);
+        fits = omega (arith, room, ap (λ (k : OpenCartridge D). k.room) same);
+        frames = frames (cases_lt 0 left.records);
+        one_more = λ some. one_more some (cases_lt 0 left.records);
+        body = λ takes. (reserved takes).longest;
+        entries = λ takes part inside.
+            omega (arith, few records, (reserved takes).each part (omega (arith, inside, parts, entries)));
+      }
+    where
+      few : LendsRecords c pending left.records → length pending + left.records ≤ BUFFER_RECORDS
+      few (inl all) = omega (arith, all.1)
+      few (inr none) = omega (arith, none, fits.few)
 
-    pub state_lent : (state : D → DiskState) → state_of state new.buffer ≡ open_state c pending
-    state_lent state =
-        ap (state_of state) of_buffer ∙ (λ i. open_state (same i) (is i))
+      frames : (0 < left.records) ⊎ (left.records ≤ 0) → left.records ≤ c'.reserved.frames
+      frames (inl takes) = omega (arith, few records, (reserved (omega (arith, takes))).frames)
+      frames (inr none) = omega (arith, none)
 
-    pub advances_lent : (state : D → DiskState) → ((disk : D) → (state disk).honest → IsDisk (state disk))
-        → Advances (buffer_below state) (open_buffer c pending) [] false new.buffer
-    advances_lent state is_disk =
-        let stays = rests state is_disk (open_buffer c pending) in
-        subst (λ (buffer : BufferState D). Advances (buffer_below state) (open_buffer c pending) [] false buffer)
-        (sym of_buffer)
-        (subst (λ (p : OpenCartridge D × List Change).
-        Advances (buffer_below state) (open_buffer c pending) [] false (open_buffer p.0 p.1))
-        (λ i. ((sym same) i, (sym is) i))
-        (record { moved = stays.moved; counted = stays.counted; honesty = stays.honesty; hand = stays.hand }))
+      one_more : 1 ≤ length pending → (0 < left.records) ⊎ (left.records ≤ 0)
+          → left.records + 1 ≤ c'.reserved.frames
+      one_more some (inl takes) = omega (arith, some, few records, (reserved (omega (arith, takes))).frames)
+      one_more some (inr none) = omega (arith, none, over.reserved.frames some)
+
+  pub state_lent : open_state c' pending ≡ open_state c pending
+  state_lent = λ i. open_state (same i) pending
+
+  pub advances_lent : (state : D → DiskState) → ((disk : D) → (state disk).honest → IsDisk (state disk))
+      → Advances (buffer_below state) (open_buffer c pending) [] false (open_buffer c' pending)
+  advances_lent state is_disk =
+      let stays = rests state is_disk (open_buffer c pending) in
+      subst (λ (k : OpenCartridge D).
+      Advances (buffer_below state) (open_buffer c pending) [] false (open_buffer k pending)) (sym same)
+      (record { moved = stays.moved; counted = stays.counted; honesty = stays.honesty; hand = stays.hand })

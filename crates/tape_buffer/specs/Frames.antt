@@ -7,15 +7,16 @@ use Rattle.volume_core.specs.declared.media.Turn.{Turn}
 use Rattle.volume_core.specs.declared.media.Turn.TheVariants.{Idle, Stored, Device}
 use Rattle.cartridge.specs.State.{ClosedCartridge, OpenCartridge}
 use Rattle.tape_buffer.specs.declared.holding.Holding.{Holding}
-use Rattle.tape_buffer.specs.declared.holding.Holding.TheVariants.{Open, Closed, Between}
-use Rattle.waiting_changes.specs.Limits.{FitsBuffer}
+use Rattle.tape_buffer.specs.declared.holding.Holding.TheVariants.{Open, Closed, Away}
+use Rattle.tape_buffer.specs.Limits.{FitsBuffer}
 use Rattle.tape_buffer.specs.State.{BufferState}
 
--- the frames of a cartridge that is held, each the changes that it spells; of a closed one those that are known (own)
+-- the frames of a cartridge that is held, each the changes that it spells; of a closed one those that are known; none
+-- while the disks are away (own)
 abbrev pub frames_held : {D : Type 0} → Holding (OpenCartridge D) (ClosedCartridge D) → List (List Change)
 frames_held (Open cartridge) = cartridge.contents.frames
 frames_held (Closed cartridge) = if cartridge.known then cartridge.contents.frames else []
-frames_held Between = []
+frames_held (Away away) = []
 
 -- the frames of the cartridge of a buffered medium (own)
 abbrev pub frames_in : {D : Type 0} → BufferState D → List (List Change)

@@ -2,5 +2,6 @@
 pub mod Adding
 pub mod Fetching
 pub mod Lending
+pub mod Seeking
 pub mod Storing
 pub mod Waking

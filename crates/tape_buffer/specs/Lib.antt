@@ -1,9 +1,14 @@
+pub mod Aways
+pub mod Budgets
 pub mod Catalogs
+pub mod Detaching
 pub mod Frames
 pub mod Inner
 pub mod Invariants
+pub mod Limits
 pub mod Moves
 pub mod Reclaiming
 pub mod Rules
+pub mod SeenCodes
 pub mod State
 pub mod Taking

@@ -7,10 +7,15 @@ use Rattle.tape_disk.specs.Moments.{LeavesOnly, no_call}
 use Rattle.tape_disk.specs.TwoDisks.{AreHonest, EachOfTwo, MayLeave, TwoDisks, TwoLeave, failures_of, two_rest_still}
 use Rattle.volume_core.specs.declared.changes.Change.{Change}
 use Rattle.cartridge.specs.Contents.{Start}
+use Rattle.cartridge.specs.State.{ClosedCartridge, OpenCartridge}
 use Rattle.cartridge.specs.Disks.{EachStays}
 use Rattle.accepted_changes.specs.Core.{Core}
 use Rattle.accepted_changes.specs.Device.{two_disks, two_is_device}
 use Rattle.accepted_changes.specs.Events.{CoreMoves, ShowsCore, core_moves_nowhere, core_moves_on}
+use Rattle.tape_buffer.specs.declared.aways.Away.{Away}
+use Rattle.tape_buffer.specs.declared.holding.Holding.{Holding}
+use Rattle.tape_buffer.specs.declared.holding.Holding.TheVariants as Holdings
+use Rattle.tape_buffer.specs.Aways.{MovesAway, away_moves_nowhere, away_moves_on, loose_in, takes_loose}
 use Rattle.tape_buffer.specs.Rules.{medium_rules}
 use Rattle.tape_buffer.specs.State.{BufferState, core_held, disks_in}
 
@@ -30,6 +35,34 @@ as_told false core = record core { fault = false; stuck = core.fault }
 -- a medium with these changes pending more (own)
 abbrev pub with_changes : {D : Type 0} → BufferState D → List Change → BufferState D
 with_changes medium changes = record medium { pending = medium.pending ++ changes }
+
+-- what is known of a medium whose disks are away; None where they are at hand (own)
+abbrev pub away_in : {C S : Type 0} → Holding C S → Option Away
+away_in (Holdings.Open cartridge) = None
+away_in (Holdings.Closed cartridge) = None
+away_in (Holdings.Away away) = Some away
+
+-- the disks are at hand (own)
+abbrev pub IsHere : {C S : Type 0} → Holding C S → Type 0
+IsHere (Holdings.Open cartridge) = Unit {0}
+IsHere (Holdings.Closed cartridge) = Unit {0}
+IsHere (Holdings.Away away) = ⊥
+
+-- the disks are away (own)
+abbrev pub IsAway : {C S : Type 0} → Holding C S → Type 0
+IsAway (Holdings.Open cartridge) = ⊥
+IsAway (Holdings.Closed cartridge) = ⊥
+IsAway (Holdings.Away away) = Unit {0}
+
+-- whether a change with a block of so many bytes is taken without the disks; with them at hand, never (own)
+abbrev pub alone_held : {C S : Type 0} → Holding C S → ℕ → Bool
+alone_held (Holdings.Open cartridge) bytes = false
+alone_held (Holdings.Closed cartridge) bytes = false
+alone_held (Holdings.Away away) bytes = takes_loose away.left (loose_in away.loose) bytes
+
+-- the same of a medium (own)
+abbrev pub takes_alone_in : {D : Type 0} → BufferState D → ℕ → Bool
+takes_alone_in medium bytes = alone_held medium.held bytes
 
 module _ {D : Type 0} (state : D → DiskState) where
   -- what a medium has accepted, and how much of it is stored and safe (own)
@@ -53,9 +86,17 @@ module _ {D : Type 0} (state : D → DiskState) where
   MovesOn None None old new made = made ≡ []
   MovesOn _ _ old new made = ⊥
 
+  -- the same of two media by whether their disks are away; no call takes the disks away, or brings them back (own)
+  abbrev pub MovesIn :
+      Option Away → Option Away → BufferState D → List Change → BufferState D → Type 0
+  MovesIn None None old made new =
+      MovesOn (disks_in old.held) (disks_in new.held) (medium_core old) (medium_core new) made
+  MovesIn (Some old) (Some new) before made after = MovesAway old made new
+  MovesIn _ _ old made new = ⊥
+
   -- from one medium to the other just these were accepted (own)
   abbrev pub MediumMoves : BufferState D → List Change → BufferState D → Type 0
-  MediumMoves old made new = MovesOn (disks_in old.held) (disks_in new.held) (medium_core old) (medium_core new) made
+  MediumMoves old made new = MovesIn (away_in old.held) (away_in new.held) old made new
 
   -- the same of a medium whose fault, if it has one, was not reported to its hosts (own)
   abbrev pub MovesUnreported : BufferState D → List Change → BufferState D → Type 0
@@ -69,13 +110,14 @@ module _ {D : Type 0} (state : D → DiskState) where
   abbrev pub StoresBehind : BufferState D → BufferState D → Type 0
   StoresBehind old new = (more : List Change) → MovesUnreported (with_changes old more) [] (with_changes new more)
 
-  -- what is seen below a buffered medium: the failures and the honesty of its disks, and its steps (own)
+  -- what is seen below a buffered medium: the failures and the honesty of its disks, whether they are at hand, and its
+  -- steps (own)
   abbrev pub buffer_below : Below (BufferState D) Change
   buffer_below =
       record {
         failures = λ buffer. failures_on (disks_in buffer.held);
         honest = λ buffer. HonestOn (disks_in buffer.held);
-        at_hand = λ buffer. Unit {0};
+        at_hand = λ buffer. IsHere buffer.held;
         moves = MediumMoves;
       }
 
@@ -127,13 +169,17 @@ module _ {D : Type 0} (state : D → DiskState) where
   -- a run without a call accepts nothing
   pub medium_moves_nowhere : ((disk : D) → (state disk).honest → IsDisk (state disk))
       → (buffer : BufferState D) → MediumMoves buffer [] buffer
-  medium_moves_nowhere is_disk buffer = by (disks_in buffer.held)
+  medium_moves_nowhere is_disk buffer = by (away_in buffer.held)
     where
-      by : (disks : Option (TwoDisks D)) → MovesOn disks disks (medium_core buffer) (medium_core buffer) []
-      by None = refl
-      by (Some disks) =
+      on : (disks : Option (TwoDisks D)) → MovesOn disks disks (medium_core buffer) (medium_core buffer) []
+      on None = refl
+      on (Some disks) =
           core_moves_nowhere medium_rules (two_disks state) (two_is_device state) disks (medium_core buffer)
           (λ honest. (is_disk disks.first honest.0, is_disk disks.second honest.1))
+
+      by : (away : Option Away) → MovesIn away away buffer [] buffer
+      by None = on (disks_in buffer.held)
+      by (Some away) = away_moves_nowhere away
 
   -- a run without a call stores nothing, whatever more is accepted
   pub stores_behind_nowhere : ((disk : D) → (state disk).honest → IsDisk (state disk))
@@ -152,16 +198,47 @@ module _ {D : Type 0} (state : D → DiskState) where
   -- two runs, one after the other, accept the changes of both
   pub medium_moves_on : (a b c : BufferState D) (first second : List Change)
       → MediumMoves a first b → MediumMoves b second c → MediumMoves a (first ++ second) c
-  medium_moves_on a b c first second = by (disks_in a.held) (disks_in b.held) (disks_in c.held)
+  medium_moves_on a b c first second = by (away_in a.held) (away_in b.held) (away_in c.held)
     where
-      by : (x y z : Option (TwoDisks D)) → MovesOn x y (medium_core a) (medium_core b) first
+      on : (x y z : Option (TwoDisks D)) → MovesOn x y (medium_core a) (medium_core b) first
           → MovesOn y z (medium_core b) (medium_core c) second
           → MovesOn x z (medium_core a) (medium_core c) (first ++ second)
-      by None None None one two = (λ i. one i ++ second) ∙ two
+      on None None None one two = (λ i. one i ++ second) ∙ two
+      on None None (Some z) one two = absurd two
+      on None (Some y) z one two = absurd one
+      on (Some x) None z one two = absurd one
+      on (Some x) (Some y) None one two = absurd two
+      on (Some x) (Some y) (Some z) one two =
+          core_moves_on medium_rules (two_disks state) (two_is_device state) x y z (medium_core a)
+          (medium_core b) (medium_core c) first second one two
+
+      by : (x y z : Option Away) → MovesIn x y a first b → MovesIn y z b second c → MovesIn x z a (first ++ second) c
+      by None None None one two = on (disks_in a.held) (disks_in b.held) (disks_in c.held) one two
       by None None (Some z) one two = absurd two
       by None (Some y) z one two = absurd one
       by (Some x) None z one two = absurd one
       by (Some x) (Some y) None one two = absurd two
-      by (Some x) (Some y) (Some z) one two =
-          core_moves_on medium_rules (two_disks state) (two_is_device state) x y z (medium_core a)
-          (medium_core b) (medium_core c) first second one two
+      by (Some x) (Some y) (Some z) one two = away_moves_on x y z first second one two
+
+  -- a medium whose disks are at hand moves by what is on them, and they are at hand still
+  pub moves_here : (old new : BufferState D) (made : List Change) → IsHere old.held → MediumMoves old made new
+      → MovesOn (disks_in old.held) (disks_in new.held) (medium_core old) (medium_core new) made × IsHere new.held
+  moves_here old new made here moves = by old.held new.held here moves
+    where
+      by : (x y : Holding (OpenCartridge D) (ClosedCartridge D)) → IsHere x
+          → MovesIn (away_in x) (away_in y) old made new
+          → MovesOn (disks_in old.held) (disks_in new.held) (medium_core old) (medium_core new) made × IsHere y
+      by (Holdings.Open c) (Holdings.Open c') here moves = (moves, tt)
+      by (Holdings.Open c) (Holdings.Closed c') here moves = (moves, tt)
+      by (Holdings.Closed c) (Holdings.Open c') here moves = (moves, tt)
+      by (Holdings.Closed c) (Holdings.Closed c') here moves = (moves, tt)
+      by (Holdings.Open c) (Holdings.Away a) here moves = absurd moves
+      by (Holdings.Closed c) (Holdings.Away a) here moves = absurd moves
+      by (Holdings.Away a) y here moves = absurd here
+
+  -- disks that are seen are at hand
+  pub seen_here : (held : Holding (OpenCartridge D) (ClosedCartridge D)) (disks : TwoDisks D)
+      → disks_in held ≡ Some disks → IsHere held
+  seen_here (Holdings.Open c) disks is = tt
+  seen_here (Holdings.Closed c) disks is = tt
+  seen_here (Holdings.Away a) disks is = absurd (cc)

@@ -1,5 +1,6 @@
 -- What contracts see of a buffered medium.
-use Rattle.std.specs.Prelude.{◌≡◌, ◌⊎◌, ◌+◌, ◌++◌, ◌≤◌, ℕ, List, [], ◌∷◌, Option, None, Some, true, false, not, length, sum_by, slice_index_or, if◌then◌else◌, option_map, refl}
+use Rattle.std.specs.Prelude.{◌≡◌, ◌⊎◌, ◌+◌, ◌++◌, ◌≤◌, ◌&&◌, ℕ, List, [], ◌∷◌, Bool, Option, None, Some, true, false, not, length, sum_by, slice_index_or, if◌then◌else◌, option_map, refl}
+use Rattle.std.proofs.Common.{ap}
 use Rattle.tape_disk.specs.Disk.{DiskState}
 use Rattle.tape_disk.specs.TwoDisks.{AreHonest, TwoDisks, seen_of_two}
 use Rattle.volume_core.specs.declared.changes.Change.{Change}
@@ -16,9 +17,11 @@ use Rattle.cartridge.specs.Disks.{OnlyOfTwo, disk_at}
 use Rattle.cartridge.specs.State.{ClosedCartridge, OpenCartridge, Reserved}
 use Rattle.accepted_changes.specs.Core.{Core, IsPrefix}
 use Rattle.tape_buffer.specs.declared.holding.Holding.{Holding}
-use Rattle.tape_buffer.specs.declared.holding.Holding.TheVariants.{Open, Closed, Between}
+use Rattle.tape_buffer.specs.declared.holding.Holding.TheVariants.{Open, Closed, Away}
+use Rattle.tape_buffer.specs.Aways.{seen_as}
 
--- a buffered medium: its cartridge, open or closed, and the changes that were accepted and are not stored yet (own)
+-- a buffered medium: its cartridge, open or closed, or how hosts see it while its disks are away; and the changes that
+-- were accepted and are not stored yet (own)
 pub record BufferState (D : Type 0) : Type 0 where
   pub held : Holding (OpenCartridge D) (ClosedCartridge D)
   pub pending : List Change
@@ -72,17 +75,17 @@ module _ {D : Type 0} where
   abbrev pub closed_buffer : ClosedCartridge D → BufferState D
   closed_buffer cartridge = record { held = Closed cartridge; pending = [] }
 
-  -- the two disks of a cartridge that is held (own)
+  -- the two disks of a cartridge that is held; none that are away (own)
   abbrev pub disks_in : Holding (OpenCartridge D) (ClosedCartridge D) → Option (TwoDisks D)
   disks_in (Open cartridge) = Some cartridge.disks
   disks_in (Closed cartridge) = Some cartridge.disks
-  disks_in Between = None
+  disks_in (Away away) = None
 
   -- the disk of a cartridge that is shown: that of the side that counts, and of a closed one the first (own)
   abbrev pub disk_in : Holding (OpenCartridge D) (ClosedCartridge D) → Option D
   disk_in (Open cartridge) = Some (disk_at cartridge.contents.which cartridge.disks)
   disk_in (Closed cartridge) = Some cartridge.disks.first
-  disk_in Between = None
+  disk_in (Away away) = None
 
   -- an open cartridge, and what is pending over it, to a drive (own)
   abbrev pub open_state : OpenCartridge D → List Change → MediumState
@@ -143,12 +146,12 @@ module _ {D : Type 0} where
           unread = not cartridge.known;
         }
 
-    -- a cartridge that is held, and what is pending, to a drive (own)
+    -- a cartridge that is held, and what is pending, to a drive; while its disks are away, the medium as it is seen
+    -- (own)
     abbrev pub state_held : Holding (OpenCartridge D) (ClosedCartridge D) → List Change → MediumState
     state_held (Open cartridge) pending = open_state cartridge pending
     state_held (Closed cartridge) pending = closed_state cartridge
-    state_held Between pending =
-        record { awake = false; stored = None; pending = []; torn = []; failed = false; room = None; unread = false }
+    state_held (Away away) pending = seen_as away.noted
 
     -- a buffered medium to a drive (own)
     abbrev pub state_of : BufferState D → MediumState
@@ -162,13 +165,13 @@ module _ {D : Type 0} where
             → (state_held held buffer.pending).unread ≡ false
         by (Open cartridge) awake = refl
         by (Closed cartridge) awake = cc
-        by Between awake = refl
+        by (Away away) awake = ap (λ (b : Bool). not b && away.noted.unread) awake
 
     -- what a buffered medium has accepted, and how much of it is stored and safe (own)
     abbrev pub core_held : Holding (OpenCartridge D) (ClosedCartridge D) → List Change → Core Start Change
     core_held (Open cartridge) pending = open_core cartridge pending
     core_held (Closed cartridge) pending = found_core (found_in cartridge) (torn_in cartridge)
-    core_held Between pending = found_core None []
+    core_held (Away away) pending = found_core None []
 
     -- nothing else may be left by a crash than what a read gives, where nothing is known of a closed cartridge (own)
     abbrev pub IsSettledOn : ClosedCartridge D → Type 0
@@ -180,4 +183,4 @@ module _ {D : Type 0} where
     abbrev pub IsSettledIn : Holding (OpenCartridge D) (ClosedCartridge D) → Type 0
     IsSettledIn (Open cartridge) = Unit {0}
     IsSettledIn (Closed cartridge) = IsSettledOn cartridge
-    IsSettledIn Between = Unit {0}
+    IsSettledIn (Away away) = Unit {0}

@@ -1,5 +1,5 @@
 -- How many changes a medium may take without memory and without its device, and what is then pending.
-use Rattle.std.specs.Prelude.{◌≡◌, ◌⊎◌, ◌+◌, ◌*◌, ◌-◌, ◌≤◌, ℕ, List, false, length, sum_by}
+use Rattle.std.specs.Prelude.{◌≡◌, ◌⊎◌, ◌+◌, ◌*◌, ℕ, List, false, length, sum_by}
 use Rattle.vtl_base.specs.declared.limits.TheConstants.{BUFFER_BYTES, BUFFER_RECORDS}
 use Rattle.volume_core.specs.declared.changes.Change.{Change}
 use Rattle.volume_core.specs.Medium.{block_bytes, frame_size}
@@ -10,24 +10,9 @@ use Rattle.tape_buffer.specs.declared.holding.Holding.TheVariants.{Open, Closed}
 use Rattle.tape_buffer.specs.State.{BufferState}
 
 -- a medium that is lent to take changes, and how many it may still take (own)
-pub record LentState (D : Type 0) : Type 0 where
+pub record DisksState (D : Type 0) : Type 0 where
   pub buffer : BufferState D
   pub left : Budget
-
--- these changes are no more records, with no more bytes of blocks, and take no more of the side, each as a frame of its
--- own (own)
-pub record KeepsBudget (budget : Budget) (changes : List Change) : Type 0 where
-  pub records : length changes ≤ budget.records
-  pub bytes : sum_by block_bytes changes ≤ budget.bytes
-  pub room : sum_by frame_size changes ≤ budget.room
-
--- what is left of a budget once these changes were taken (own)
-abbrev pub budget_after : Budget → List Change → Budget
-budget_after budget changes = record {
-  records = budget.records - length changes;
-  bytes = budget.bytes - sum_by block_bytes changes;
-  room = budget.room - sum_by frame_size changes;
-}
 
 -- the bytes of the longest body of what is pending (own)
 abbrev pub longest_body : ℕ
@@ -58,6 +43,6 @@ module _ {D : Type 0} where
   LendsHeld _ pending _ left = ⊥
 
   -- a medium is lent, with what is pending (own)
-  pub record LendsFrom (old : BufferState D) (new : LentState D) : Type 0 where
+  pub record LendsFrom (old : BufferState D) (new : DisksState D) : Type 0 where
     pub pending : new.buffer.pending ≡ old.pending
     pub held : LendsHeld old.held old.pending new.buffer.held new.left

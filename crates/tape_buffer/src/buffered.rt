@@ -1,41 +1,48 @@
 //! A buffered medium.
-ghost use Rattle.std.specs.Prelude.{◌≡◌, ◌⊎◌, List, Some, true, false};
+ghost use Rattle.std.specs.Prelude.{◌≡◌, ◌⊎◌, IfNone, IfSome, List, Some, false};
 ghost use Rattle.volume_core.specs.Volume.{Part};
 ghost use Rattle.accepted_changes.specs.Core.{IsCore};
-ghost use Rattle.waiting_changes.specs.Limits.{FitsBuffer};
+ghost use Rattle.tape_buffer.specs.Limits.{FitsBuffer};
 ghost use Rattle.tape_buffer.specs.Rules.{medium_rules};
 ghost use Rattle.tape_buffer.specs.State.{IsSettledIn, closed_buffer, disk_in, disks_in, state_of};
-ghost use Rattle.tape_buffer.specs.Moves.{IsSafeOrPending, ShowsOn, medium_core};
+ghost use Rattle.tape_buffer.specs.Moves.{IsAway, IsHere, IsSafeOrPending, ShowsOn, medium_core};
 ghost use Rattle.tape_buffer.specs.declared.holding.Holding.TheVariants as Holdings;
 
-use crate::holding::Holding;
+use crate::holding::{Holding, Opened, disk_of, known_in};
 use accepted_changes::Accepting;
-use cartridge::{Cartridge, Shelved};
+use cartridge::Shelved;
+use object_index::Index;
 use std::alloc::Global;
 use std::marker::Model;
 use tape_disk::Disk;
-use waiting_changes::pending::Pending;
 
 /// A medium over a cartridge on two disks, open or parked (closed, so that it may be moved). What it accepts waits in
 /// memory until all of it is stored as one frame. That is done at the latest when the caller asks for it, before a
 /// 257th change is accepted, and before the blocks that wait would have more than 4,194,304 bytes. After a device fault
-/// the medium accepts nothing until it is parked and woken.
+/// the medium accepts nothing until it is parked and woken. While it is open, it has a catalog of the volume that a
+/// caller sees.
+///
+/// Its disks are at hand, or they are away (`detach`), behind a lock of their own. While they are away, it answers from
+/// its catalog, and accepts one change at a time, within a budget. That change is to be passed on (`take_loose`) to
+/// whoever has the disks.
 #[derive(Drop)]
 pub struct Buffered<D: Disk> {
     pub(crate) alloc: Global,
-    pub(crate) held: Holding<Cartridge<D>, Shelved<D>>,
-    pub(crate) pending: Pending,
+    pub(crate) catalog: Option<Index>,
+    pub(crate) held: Holding<Opened<D>, Shelved<D>>,
 }
 
 impl<D: Disk> Model for Buffered<D> {
+    ghost use Rattle.tape_buffer.specs.Catalogs.{IsCataloged};
     ghost use Rattle.tape_buffer.specs.State.{BufferState};
-    ghost use Rattle.tape_buffer.specs.Invariants.{IsHeld};
+    ghost use Rattle.tape_buffer.specs.Invariants.{IsHeld, KnowsIn, buffer_of};
 
     ghost Value = { BufferState D };
 
-    ghost view = { λ b. record { held = b.held; pending = b.pending } };
+    ghost view = { λ b. buffer_of b.held };
 
-    ghost invariant = { λ b. IsHeld b.held b.pending };
+    ghost invariant = { λ b. IsHeld b.held × IsCataloged D.state (buffer_of b.held) b.catalog
+        × KnowsIn b.held b.catalog };
 }
 
 impl<D: Disk> Accepting for Buffered<D> {
@@ -57,21 +64,22 @@ impl<D: Disk> Buffered<D> {
     {
         Buffered {
             alloc,
+            catalog: None,
             held: Holding::Closed(shelved),
-            pending: Pending::new(alloc),
         }
     }
 
     /// Returns the closed cartridge of a parked medium. `parked` makes the same medium of it again.
     pub fn into_shelved(self) -> Shelved<D>
-        requires { (state_of D.state self).awake ≡ false }
+        requires parked { (state_of D.state self).awake ≡ false }
+        requires hand { IsHere self.held }
         ensures { self.held ≡ Holdings.Closed result }
     {
         let Buffered { held, .. } = self;
         match held {
             Holding::Closed(shelved) => shelved,
-            Holding::Open(_open) => unreachable!(),
-            Holding::Between => unreachable!(),
+            Holding::Open(_opened) => unreachable!(),
+            Holding::Away(_away) => unreachable!(),
         }
     }
 
@@ -89,33 +97,25 @@ impl<D: Disk> Buffered<D> {
             (volume : List Part) → (state_of D.state self.now).stored ≡ Some volume →
             ShowsOn D.state (disks_in self.now.held) (medium_core D.state self.now) }
     {
-        self.pending.within();
-        match &self.held {
-            Holding::Open(cartridge) => cartridge.known(),
-            Holding::Closed(shelved) => shelved.known(),
-            Holding::Between => unreachable!(),
-        }
+        known_in(&self.held);
     }
 
     /// Whether the medium is open.
     pub fn is_awake(&self) -> bool
         ensures { result ≡ (state_of D.state self.now).awake }
     {
-        match &self.held {
-            Holding::Open(_) => true,
-            Holding::Closed(_) => false,
-            Holding::Between => unreachable!(),
-        }
+        self.catalog.is_some()
     }
 
-    /// For reading: the disk of the side that counts, or the first disk where the medium is parked.
-    pub fn disk(&self) -> &D
-        ensures { disk_in self.now.held ≡ Some result.now }
+    /// For reading: the disk of the side that counts, or the first disk where the medium is parked; None while they
+    /// are away.
+    pub fn disk(&self) -> Option<&D>
+        ensures disk { IfSome result (λ disk. disk_in self.now.held ≡ Some disk.now) }
+        ensures none { IfNone result (IsAway self.now.held) }
     {
         match &self.held {
-            Holding::Open(cartridge) => cartridge.disk(),
-            Holding::Closed(shelved) => shelved.disk(),
-            Holding::Between => unreachable!(),
+            Holding::Away(_) => None,
+            Holding::Open(_) | Holding::Closed(_) => Some(disk_of(&self.held)),
         }
     }
 }

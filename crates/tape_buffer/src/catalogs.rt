@@ -1,10 +1,28 @@
 //! The catalog of a buffered medium's volume: the volume that is stored, with the pending changes carried out on it.
+ghost use Rattle.std.specs.Prelude.{◌≡◌, true};
+ghost use Rattle.volume_core.specs.Medium.{volume_of};
+ghost use Rattle.object_index.specs.Shapes.{IsIndexOf};
+ghost use Rattle.tape_buffer.specs.State.{state_of};
+
 use crate::buffered::Buffered;
-use crate::holding::Holding;
-use crate::seen::{count_seen, kind_seen, mark_seen, marks_seen, used_seen};
+use object_index::Index;
+use object_index::laws::a_volume_is_seen_by_its_shape;
 use tape_disk::Disk;
 use volume_core::{Catalog, Kind};
 use vtl_base::{ObjNo, PartNo};
+
+impl<D: Disk> Buffered<D> {
+    // The catalog of a medium that is open.
+    fn shown(&self) -> &Index
+        requires { (state_of D.state self.now).awake ≡ true }
+        ensures { IsIndexOf result.now (volume_of (state_of D.state self.now)) }
+    {
+        match &self.catalog {
+            Some(index) => index,
+            None => unreachable!(),
+        }
+    }
+}
 
 impl<D: Disk> Catalog for Buffered<D> {
     ghost use Rattle.tape_buffer.specs.State.{state_of};
@@ -12,58 +30,36 @@ impl<D: Disk> Catalog for Buffered<D> {
     ghost state = { state_of D.state };
 
     fn parts(&self) -> PartNo {
-        match &self.held {
-            Holding::Open(cartridge) => cartridge.parts(),
-            Holding::Closed(_) => unreachable!(),
-            Holding::Between => unreachable!(),
-        }
+        self.shown().parts()
     }
 
     fn capacity(&self, part: PartNo) -> u64 {
-        match &self.held {
-            Holding::Open(cartridge) => cartridge.capacity(part),
-            Holding::Closed(_) => unreachable!(),
-            Holding::Between => unreachable!(),
-        }
+        a_volume_is_seen_by_its_shape();
+        self.shown().capacity(part)
     }
 
     fn count(&self, part: PartNo) -> u32 {
-        match &self.held {
-            Holding::Open(cartridge) => count_seen(cartridge, &self.pending, part),
-            Holding::Closed(_) => unreachable!(),
-            Holding::Between => unreachable!(),
-        }
+        a_volume_is_seen_by_its_shape();
+        self.shown().count(part)
     }
 
     fn kind_at(&self, part: PartNo, at: ObjNo) -> Option<Kind> {
-        match &self.held {
-            Holding::Open(cartridge) => kind_seen(cartridge, &self.pending, part, at),
-            Holding::Closed(_) => unreachable!(),
-            Holding::Between => unreachable!(),
-        }
+        a_volume_is_seen_by_its_shape();
+        self.shown().kind_at(part, at)
     }
 
     fn used(&self, part: PartNo, n: ObjNo) -> u64 {
-        match &self.held {
-            Holding::Open(cartridge) => used_seen(cartridge, &self.pending, part, n),
-            Holding::Closed(_) => unreachable!(),
-            Holding::Between => unreachable!(),
-        }
+        a_volume_is_seen_by_its_shape();
+        self.shown().used(part, n)
     }
 
     fn marks_upto(&self, part: PartNo, n: ObjNo) -> u32 {
-        match &self.held {
-            Holding::Open(cartridge) => marks_seen(cartridge, &self.pending, part, n),
-            Holding::Closed(_) => unreachable!(),
-            Holding::Between => unreachable!(),
-        }
+        a_volume_is_seen_by_its_shape();
+        self.shown().marks_upto(part, n)
     }
 
     fn mark_at(&self, part: PartNo, k: u32) -> ObjNo {
-        match &self.held {
-            Holding::Open(cartridge) => mark_seen(cartridge, &self.pending, part, k),
-            Holding::Closed(_) => unreachable!(),
-            Holding::Between => unreachable!(),
-        }
+        a_volume_is_seen_by_its_shape();
+        self.shown().mark_at(part, k)
     }
 }

@@ -2,7 +2,7 @@
 ghost use Rattle.std.specs.Prelude.{◌≡◌, ◌<◌, ◌≤◌, [], Some, Err, OnOk, IfSome, length, vec_capacity, false};
 ghost use Rattle.tape_disk.specs.TwoDisks.{AreHonest, KeepsDisks, failures_of};
 ghost use Rattle.cartridge.specs.Disks.{UnwrittenTwo};
-ghost use Rattle.tape_buffer.specs.Inner.Fetching.{IsCopyOfBlock, IsFetched, IsPut};
+ghost use Rattle.tape_buffer.specs.Inner.Fetching.{IsCopyOf, IsFetched};
 ghost use Rattle.vtl_base.specs.Below.{Advances};
 ghost use Rattle.vtl_base.specs.declared.limits.TheConstants.{MAX_BLOCK};
 ghost use Rattle.volume_core.specs.declared.objects.Kind.TheVariants as Kinds;
@@ -14,13 +14,12 @@ ghost use Rattle.cartridge.specs.Contents.{volume_made};
 ghost use Rattle.tape_buffer.specs.State.{IsPendingOver, open_buffer, open_state};
 ghost use Rattle.tape_buffer.specs.Moves.{buffer_below};
 
-use crate::seen::front_of;
+use crate::pending::Pending;
+use crate::seeking::waiting_block;
 use cartridge::{Cartridge, CartridgeError};
-use object_index::Placed;
 use tape_disk::Disk;
-use volume_core::{Change, MediumError};
-use vtl_base::{ObjNo, PartNo};
-use waiting_changes::pending::Pending;
+use volume_core::MediumError;
+use vtl_base::{Bytes, ObjNo, PartNo};
 
 // Reads a block of the volume that is seen into `into`, in place of what that held.
 pub(crate) fn fetch_over<D: Disk>(
@@ -48,31 +47,20 @@ pub(crate) fn fetch_over<D: Disk>(
         return Err(MediumError::Failed);
     }
     cartridge.known();
-    let tail = pending.tail();
-    let front = front_of(cartridge, tail, part);
-    if at < front {
-        return fetch_stored(cartridge, part, at, into);
-    }
-    let changes = pending.as_slice();
-    match tail.place(part, at - front) {
-        Some(Placed::Block { place, .. }) => copy_block(&changes[place as usize], into),
-        Some(Placed::Mark) => unreachable!(),
-        None => unreachable!(),
+    match waiting_block(pending.as_slice(), part, at) {
+        Some(block) => copy_block(block, into),
+        None => fetch_stored(cartridge, part, at, into),
     }
 }
 
-// Copies the block of a change.
-fn copy_block(change: &Change, into: &mut Vec<u8>) -> Result<(), MediumError>
-    requires { IsPut change.now }
-    ensures { IsCopyOfBlock change.now (vec_capacity into.old) result into.new.items }
+// Copies a block.
+fn copy_block(block: &Bytes, into: &mut Vec<u8>) -> Result<(), MediumError>
+    ensures { IsCopyOf block.now (vec_capacity into.old) result into.new.items }
 {
     into.clear();
-    match change {
-        Change::Put { block, .. } => match into.extend_from_slice(block.as_slice()) {
-            Ok(()) => Ok(()),
-            Err(_) => Err(MediumError::NoMemory),
-        },
-        Change::Marks { .. } | Change::Erase { .. } => unreachable!(),
+    match into.extend_from_slice(block.as_slice()) {
+        Ok(()) => Ok(()),
+        Err(_) => Err(MediumError::NoMemory),
     }
 }
 
@@ -104,10 +92,12 @@ fn fetch_stored<D: Disk>(
         Ok(()) => Ok(()),
         Err(CartridgeError::NoMemory) => Err(MediumError::NoMemory),
         Err(CartridgeError::Device(_)) => Err(MediumError::Device),
-        Err(CartridgeError::Failed) => unreachable!(),
-        Err(CartridgeError::SideFull) => unreachable!(),
-        Err(CartridgeError::NotOurs) => unreachable!(),
-        Err(CartridgeError::Damaged { .. }) => unreachable!(),
-        Err(CartridgeError::BadRecord { .. }) => unreachable!(),
+        Err(
+            CartridgeError::Failed
+            | CartridgeError::SideFull
+            | CartridgeError::NotOurs
+            | CartridgeError::Damaged { .. }
+            | CartridgeError::BadRecord { .. },
+        ) => unreachable!(),
     }
 }

@@ -2,25 +2,25 @@
 #![tactic(auto)]
 
 mod adding;
+pub mod aways;
 pub mod budgets;
 mod buffered;
-mod cataloged;
-mod cataloging;
 mod catalogs;
 mod closing;
+mod detaching;
+pub mod disks;
 mod fetching;
 pub mod holding;
 mod lending;
-pub mod lent;
 mod media;
+mod pending;
 mod reclaiming;
-mod seen;
+mod seeking;
 mod storing;
-mod waking;
 
+pub use aways::Away;
 pub use budgets::Budget;
 pub use buffered::Buffered;
-pub use cataloged::Cataloged;
+pub use disks::Disks;
 pub use holding::Holding;
-pub use lent::Lent;
 pub use reclaiming::reclaim;

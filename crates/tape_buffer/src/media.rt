@@ -2,15 +2,16 @@
 ghost use Rattle.std.specs.Prelude.{◌≡◌, ◌≢◌, [], true, IfErr, OnErr};
 ghost use Rattle.vtl_base.specs.Below.{Advances};
 ghost use Rattle.volume_core.specs.declared.media.MediumError.TheVariants as Errors;
-ghost use Rattle.volume_core.specs.Medium.{Accepts, Parks, Settles, Turns, Wakes, accept_answer, accepted_by, met_fault, turn_met_fault};
+ghost use Rattle.volume_core.specs.Medium.{Accepts, Parks, Settles, Turns, Wakes, accept_answer, accepted_by, block_bytes, met_fault, turn_met_fault};
 ghost use Rattle.volume_core.specs.Stores.{Stores};
 ghost use Rattle.tape_buffer.specs.State.{IsSettledIn, disks_in, state_of};
 ghost use Rattle.tape_buffer.specs.Frames.{AcceptsInFrames, IsOneFrame, IsOneFrameIn, ParksInFrames, frames_in};
-ghost use Rattle.tape_buffer.specs.Moves.{HonestOn, LeavesAlone, LeavesEachAlone, StoresBehind, buffer_below};
+ghost use Rattle.tape_buffer.specs.Moves.{HonestOn, IsHere, LeavesAlone, LeavesEachAlone, StoresBehind, takes_alone_in, buffer_below};
 
-use crate::adding::has_room_over;
+use crate::adding::{accept_over, has_room_over};
+use crate::aways::{accept_away, nothing_away};
 use crate::buffered::Buffered;
-use crate::closing::park_over;
+use crate::closing::{park_over, wake_closed};
 use crate::fetching::fetch_over;
 use crate::holding::{Holding, hold};
 use crate::storing::{settle_over, turn_over};
@@ -24,16 +25,17 @@ impl<D: Disk> Medium for Buffered<D> {
     ghost use Rattle.vtl_base.specs.Below.{advances_nowhere};
     ghost use Rattle.volume_core.specs.Stores.{stores_nowhere};
     ghost use Rattle.tape_buffer.specs.State.{awake_is_read, state_of};
-    ghost use Rattle.tape_buffer.specs.Moves.{buffer_below, medium_moves_nowhere, medium_moves_on};
+    ghost use Rattle.tape_buffer.specs.Moves.{takes_alone_in, buffer_below, medium_moves_nowhere, medium_moves_on};
 
     ghost below = { buffer_below D.state };
 
-    ghost alone = { λ medium bytes. false };
+    ghost alone = { takes_alone_in };
 
     // The trait's clauses, and which frames are stored on the way: none while the change may wait beside what is
     // pending, else one.
     fn accept(&mut self, change: Change) -> Result<(), NotAccepted>
-        requires { (state_of D.state self.old).awake ≡ true }
+        requires awake { (state_of D.state self.old).awake ≡ true }
+        requires hand { takes_alone_in self.old (block_bytes change) ≡ false → IsHere self.old.held }
         ensures answer { Accepts (state_of D.state self.old) change (accept_answer result)
             (state_of D.state self.new) }
         ensures returned { IfErr result (λ refused. refused.change ≡ change) }
@@ -43,36 +45,56 @@ impl<D: Disk> Medium for Buffered<D> {
             (state_of D.state self.new) }
         ensures advances { Advances (buffer_below D.state) self.old (accepted_by (accept_answer result) change)
             (met_fault (accept_answer result)) self.new }
+        ensures device { takes_alone_in self.old (block_bytes change) ≡ true
+            → met_fault (accept_answer result) ≡ false }
     {
-        self.accept_if(change, true)
+        let Some(index) = &mut self.catalog else {
+            unreachable!()
+        };
+        match &mut self.held {
+            Holding::Open(opened) => accept_over(
+                index,
+                &mut opened.cartridge,
+                &mut opened.pending,
+                change,
+            ),
+            Holding::Away(away) => accept_away(index, away, change),
+            Holding::Closed(_) => unreachable!(),
+        }
     }
 
     fn fetch(&mut self, part: PartNo, at: ObjNo, into: &mut Vec<u8>) -> Result<(), MediumError> {
         match &mut self.held {
-            Holding::Open(cartridge) => fetch_over(cartridge, &self.pending, part, at, into),
-            Holding::Closed(_) => unreachable!(),
-            Holding::Between => unreachable!(),
+            Holding::Open(opened) => fetch_over(
+                &mut opened.cartridge,
+                &opened.pending,
+                part,
+                at,
+                into,
+            ),
+            Holding::Closed(_) | Holding::Away(_) => unreachable!(),
         }
     }
 
     // The trait's clauses, and that all that is pending is stored as one frame.
     fn settle(&mut self) -> Result<(), MediumError>
-        requires { (state_of D.state self.old).awake ≡ true }
+        requires awake { (state_of D.state self.old).awake ≡ true }
+        requires hand { IsHere self.old.held }
         ensures answer { Settles (state_of D.state self.old) result (state_of D.state self.new) }
         ensures frame { IsOneFrame result (frames_in self.old) self.old.pending (frames_in self.new) }
         ensures stores { Stores (state_of D.state self.old) [] (state_of D.state self.new) }
         ensures advances { Advances (buffer_below D.state) self.old [] (met_fault result) self.new }
     {
         match &mut self.held {
-            Holding::Open(cartridge) => settle_over(cartridge, &mut self.pending),
-            Holding::Closed(_) => unreachable!(),
-            Holding::Between => unreachable!(),
+            Holding::Open(opened) => settle_over(&mut opened.cartridge, &mut opened.pending),
+            Holding::Closed(_) | Holding::Away(_) => unreachable!(),
         }
     }
 
     // The trait's clauses, and that all that is pending is stored as one frame.
     fn flush_turn(&mut self) -> Turn
-        requires { (state_of D.state self.old).awake ≡ true }
+        requires awake { (state_of D.state self.old).awake ≡ true }
+        requires hand { IsHere self.old.held }
         ensures answer { Turns (state_of D.state self.old) result (state_of D.state self.new) }
         ensures frame { IsOneFrameIn result (frames_in self.old) self.old.pending (frames_in self.new) }
         ensures stores { Stores (state_of D.state self.old) [] (state_of D.state self.new) }
@@ -80,16 +102,16 @@ impl<D: Disk> Medium for Buffered<D> {
         ensures behind { StoresBehind D.state self.old self.new }
     {
         match &mut self.held {
-            Holding::Open(cartridge) => turn_over(cartridge, &mut self.pending),
-            Holding::Closed(_) => unreachable!(),
-            Holding::Between => unreachable!(),
+            Holding::Open(opened) => turn_over(&mut opened.cartridge, &mut opened.pending),
+            Holding::Closed(_) | Holding::Away(_) => unreachable!(),
         }
     }
 
     // The trait's clauses, and one more: all that is pending is stored as one frame, or nothing where the medium has
     // failed.
     fn park(&mut self) -> Result<(), MediumError>
-        requires { (state_of D.state self.old).awake ≡ true }
+        requires awake { (state_of D.state self.old).awake ≡ true }
+        requires hand { IsHere self.old.held }
         ensures answer { Parks (HonestOn D.state (disks_in self.old.held)) (state_of D.state self.old) result
             (state_of D.state self.new) }
         ensures frame { ParksInFrames (state_of D.state self.old).failed result (frames_in self.old)
@@ -97,10 +119,11 @@ impl<D: Disk> Medium for Buffered<D> {
         ensures stores { OnErr result (Stores (state_of D.state self.old) [] (state_of D.state self.new)) }
         ensures advances { Advances (buffer_below D.state) self.old [] (met_fault result) self.new }
     {
-        match mem::replace(&mut self.held, Holding::Between) {
-            Holding::Open(cartridge) => match park_over(cartridge, &mut self.pending) {
+        match mem::replace(&mut self.held, Holding::Away(nothing_away())) {
+            Holding::Open(opened) => match park_over(opened) {
                 Ok(shelved) => {
                     hold(&mut self.held, Holding::Closed(shelved));
+                    self.catalog = None;
                     Ok(())
                 }
                 Err(broken) => {
@@ -109,7 +132,7 @@ impl<D: Disk> Medium for Buffered<D> {
                 }
             },
             Holding::Closed(_other) => unreachable!(),
-            Holding::Between => unreachable!(),
+            Holding::Away(_away) => unreachable!(),
         }
     }
 
@@ -119,6 +142,7 @@ impl<D: Disk> Medium for Buffered<D> {
     /// both disks are honest and neither fails, a crash after the opening of a parked medium leaves just what a read
     /// gives.
     fn wake(&mut self) -> Result<(), MediumError>
+        requires hand { IsHere self.old.held }
         ensures answer { Wakes ((buffer_below D.state).honest self.old) (state_of D.state self.old) result
             (state_of D.state self.new) }
         ensures advances { Advances (buffer_below D.state) self.old [] (met_fault result) self.new }
@@ -126,36 +150,60 @@ impl<D: Disk> Medium for Buffered<D> {
         ensures each { LeavesEachAlone D.state self.old self.new }
         ensures settled { IfErr result (λ error. error ≢ Errors.Device → IsSettledIn D.state self.new.held) }
     {
-        match self.wake_as(false) {
-            Ok(_) => Ok(()),
-            Err(error) => Err(error),
+        if let Holding::Open(opened) = &self.held {
+            if opened.cartridge.has_failed() {
+                return Err(MediumError::Failed);
+            }
+            return Ok(());
+        }
+        match mem::replace(&mut self.held, Holding::Away(nothing_away())) {
+            Holding::Closed(shelved) => match wake_closed(self.alloc, shelved) {
+                Ok((opened, index)) => {
+                    hold(&mut self.held, Holding::Open(opened));
+                    self.catalog = Some(index);
+                    Ok(())
+                }
+                Err((error, shelved)) => {
+                    hold(&mut self.held, Holding::Closed(shelved));
+                    Err(error)
+                }
+            },
+            Holding::Open(_other) => unreachable!(),
+            Holding::Away(_away) => unreachable!(),
         }
     }
 
     fn has_room_for(&self, bytes: u32) -> bool {
         match &self.held {
-            Holding::Open(cartridge) => {
-                has_room_over(cartridge, &self.pending, 15 + bytes as u64)
+            Holding::Open(opened) => {
+                has_room_over(&opened.cartridge, &opened.pending, 15 + bytes as u64)
             }
+            Holding::Away(away) => 15 + bytes as u64 <= away.left.room,
             Holding::Closed(_) => unreachable!(),
-            Holding::Between => unreachable!(),
         }
     }
 
-    // A full buffer is stored before a change is accepted, whatever its size; its disks are always at hand.
-    fn takes_alone(&self, _bytes: u32) -> bool {
-        false
+    // Over disks that are at hand a full buffer is stored before a change is accepted, whatever its size.
+    fn takes_alone(&self, bytes: u32) -> bool {
+        match &self.held {
+            Holding::Away(away) => away.takes(bytes),
+            Holding::Open(_) | Holding::Closed(_) => false,
+        }
     }
 
     fn pending(&self) -> usize {
-        self.pending.len()
+        match &self.held {
+            Holding::Open(opened) => opened.pending.len(),
+            Holding::Away(away) => away.waiting,
+            Holding::Closed(_) => 0,
+        }
     }
 
     fn has_failed(&self) -> bool {
         match &self.held {
-            Holding::Open(cartridge) => cartridge.has_failed(),
+            Holding::Open(opened) => opened.cartridge.has_failed(),
+            Holding::Away(away) => away.failed,
             Holding::Closed(_) => unreachable!(),
-            Holding::Between => unreachable!(),
         }
     }
 

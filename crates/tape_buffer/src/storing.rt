@@ -4,18 +4,18 @@ ghost use Rattle.vtl_base.specs.Below.{Advances};
 ghost use Rattle.volume_core.specs.Volume.{part_of};
 ghost use Rattle.volume_core.specs.Medium.{Settles, Turns, met_fault, turn_met_fault};
 ghost use Rattle.volume_core.specs.Stores.{Stores};
-ghost use Rattle.waiting_changes.specs.Limits.{FitsBuffer};
+ghost use Rattle.tape_buffer.specs.Limits.{FitsBuffer};
 ghost use Rattle.tape_buffer.specs.State.{IsPendingOver, IsReservedFor, open_buffer, open_state};
 ghost use Rattle.tape_buffer.specs.Moves.{StoresBehind, buffer_below};
 ghost use Rattle.tape_buffer.specs.Frames.{IsOneFrame, IsOneFrameIn};
 ghost use Rattle.tape_buffer.specs.Inner.Storing.{IsRoomyFor, left_of};
 ghost use Rattle.tape_buffer.specs.declared.budgets.Budget.{Budget};
 
+use crate::pending::Pending;
 use cartridge::{Cartridge, CartridgeError};
 use tape_disk::Disk;
 use volume_core::{Change, MediumError, Turn};
 use vtl_base::NoMemory;
-use waiting_changes::pending::Pending;
 
 // Stores these changes, which are all that is pending over an open cartridge. It takes no memory. At Ok none of them is
 // pending any more.
@@ -71,6 +71,8 @@ pub(crate) fn settle_over<D: Disk>(
         (open_buffer cartridge.new pending.new) }
     ensures behind { StoresBehind D.state (open_buffer cartridge.old pending.old)
         (open_buffer cartridge.new pending.new) }
+    ensures roomy { (left : Budget) → IsRoomyFor cartridge.old pending.old left →
+        IsRoomyFor cartridge.new pending.new left }
 {
     // Called for the proof: no more is pending than the limits allow.
     pending.within();
@@ -94,6 +96,8 @@ pub(crate) fn turn_over<D: Disk>(cartridge: &mut Cartridge<D>, pending: &mut Pen
         (turn_met_fault result) (open_buffer cartridge.new pending.new) }
     ensures behind { StoresBehind D.state (open_buffer cartridge.old pending.old)
         (open_buffer cartridge.new pending.new) }
+    ensures roomy { (left : Budget) → IsRoomyFor cartridge.old pending.old left →
+        IsRoomyFor cartridge.new pending.new left }
 {
     if cartridge.has_failed() {
         return Turn::Idle;

@@ -33,7 +33,10 @@ fn are_held(rt: &impl Abort, slots: &[Option<Parked<Once>>], wanted: &[(usize, &
     let mut found = 0usize;
     for (at, place) in slots.iter().enumerate() {
         if let Some(parked) = place {
-            let bytes = parked.medium().disk().inner().bytes();
+            let bytes = match parked.medium().disk() {
+                Some(disk) => disk.inner().bytes(),
+                None => &[],
+            };
             let barcode = bytes.get(11..27).unwrap_or(&[]);
             assert_equal!(rt; wanted.get(found), Some(&(at, barcode)));
             found = found.saturating_add(1);

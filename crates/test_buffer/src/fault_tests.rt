@@ -1,8 +1,8 @@
 //! A fault at each call of either disk in a storing, a turn and a loading, and sides that are refused.
 use crate::samples::{
     CHANGED, EMPTY, END, ERASE, FAILED, GOOD, INQUIRED, INQUIRY, LATE_ERROR, LOAD, MARK, MODE_0,
-    NO_MEDIUM, NONE, ONE, READ_1, READ_ERROR, REWIND, Row, SELECT_4, TEST_UNIT_READY, Tape, UNLOAD,
-    WRITE_1, WRITE_ERROR, WRITE_OUT, Wanted, ask, asks, greeted, reads, switch_off,
+    NO_MEDIUM, NONE, ONE, READ_1, READ_ERROR, READY, REWIND, Row, SELECT_4, Tape, UNLOAD, WRITE_1,
+    WRITE_ERROR, WRITE_OUT, Wanted, ask, asks, greeted, reads, switch_off,
 };
 use std::alloc::Global;
 use std::process::Abort;
@@ -75,11 +75,11 @@ fn failing(
 
 // The tape has failed. It is unloaded and loaded.
 static FOUND_AGAIN: &'static [Row<'static>] = &[
-    (1, TEST_UNIT_READY, NONE, FAILED),
+    (1, READY, NONE, FAILED),
     (1, READ_1, NONE, FAILED),
     (1, LOAD, NONE, FAILED),
     (1, UNLOAD, NONE, GOOD),
-    (1, TEST_UNIT_READY, NONE, NO_MEDIUM),
+    (1, READY, NONE, NO_MEDIUM),
     (1, LOAD, NONE, GOOD),
 ];
 
@@ -111,9 +111,9 @@ fn a_fault_at_each_call_of_a_storing(rt: HostRuntime) -> Result<(), Fail> {
 // A turn failed. That is reported to one host in place of its command, and to no other.
 static REPORTED_ONCE: &'static [Row<'static>] = &[
     (1, INQUIRY, NONE, INQUIRED),
-    (2, TEST_UNIT_READY, NONE, LATE_ERROR),
-    (1, TEST_UNIT_READY, NONE, FAILED),
-    (2, TEST_UNIT_READY, NONE, FAILED),
+    (2, READY, NONE, LATE_ERROR),
+    (1, READY, NONE, FAILED),
+    (2, READY, NONE, FAILED),
     (2, INQUIRY, NONE, INQUIRED),
 ];
 
@@ -140,26 +140,26 @@ fn a_fault_at_each_call_of_a_turn(rt: HostRuntime) -> Result<(), Fail> {
 
 // The tape was not loaded at power on, but it is at the second command.
 const LOADED_LATE: &'static [Row<'static>] = &[
-    (1, TEST_UNIT_READY, NONE, NO_MEDIUM),
+    (1, READY, NONE, NO_MEDIUM),
     (1, LOAD, NONE, GOOD),
-    (2, TEST_UNIT_READY, NONE, CHANGED),
-    (2, TEST_UNIT_READY, NONE, GOOD),
+    (2, READY, NONE, CHANGED),
+    (2, READY, NONE, GOOD),
 ];
 
 // The tape is unloaded, and loaded only at the second command; that is reported to the other host once.
 const LOADED_AGAIN: &'static [Row<'static>] = &[
     (1, UNLOAD, NONE, GOOD),
     (1, LOAD, NONE, READ_ERROR),
-    (1, TEST_UNIT_READY, NONE, NO_MEDIUM),
+    (1, READY, NONE, NO_MEDIUM),
     (1, LOAD, NONE, GOOD),
-    (2, TEST_UNIT_READY, NONE, CHANGED),
-    (2, TEST_UNIT_READY, NONE, GOOD),
+    (2, READY, NONE, CHANGED),
+    (2, READY, NONE, GOOD),
 ];
 
 // A block could not be read.
 const READ_AGAIN: &'static [Row<'static>] = &[
     (1, READ_1, NONE, READ_ERROR),
-    (2, TEST_UNIT_READY, NONE, FAILED),
+    (2, READY, NONE, FAILED),
     (1, UNLOAD, NONE, GOOD),
     (1, LOAD, NONE, GOOD),
 ];
@@ -196,11 +196,11 @@ fn a_fault_at_each_call_of_a_loading(rt: HostRuntime) -> Result<(), Fail> {
 
 // A refused side is in the drive, unloaded, and LOAD reports the error; UNLOAD changes nothing.
 static UNREADABLE: &'static [Row<'static>] = &[
-    (1, TEST_UNIT_READY, NONE, NO_MEDIUM),
+    (1, READY, NONE, NO_MEDIUM),
     (1, LOAD, NONE, READ_ERROR),
     (1, UNLOAD, NONE, GOOD),
     (1, LOAD, NONE, READ_ERROR),
-    (2, TEST_UNIT_READY, NONE, NO_MEDIUM),
+    (2, READY, NONE, NO_MEDIUM),
 ];
 
 // No cartridge's side, one partition too many, a record of an unknown kind, and an open last gate.

@@ -150,9 +150,9 @@ fn goes(
         };
         assert_equal!(rt; syncs(drive).saturating_sub(before), wanted; (is_lent, at));
     }
-    match (wanted, drive.medium()) {
+    match (wanted, drive.disk()) {
         (None, _) => Ok(()),
-        (Some(wanted), Some(medium)) => is_left(rt, alloc, medium.disk(), wanted),
+        (Some(wanted), Some(disk)) => is_left(rt, alloc, disk, wanted),
         (Some(_), None) => Err(Fail::from("no medium")),
     }
 }

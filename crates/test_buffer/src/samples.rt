@@ -1,29 +1,19 @@
 //! A drive over a cartridge on two disks, and the commands of the tests.
 use cartridge::{Cartridge, Shelved};
-use drive_commands::Drive;
-use pr_core::{NoKeeper, Reservations};
 use scsi_sense::{Reply, Status};
 use std::alloc::Global;
 use std::process::Abort;
 use std::test::Fail;
-use tape_buffer::Buffered;
 use tape_disk::{Disk, MemDisk};
 use test_assertions::assert_equal;
+pub use test_tapes::commands::{
+    CHANGED, END, FAILED, GOOD, LATE_ERROR, LOAD, LOCATE_1, MARK, NONE, POWERED_ON, READ_1,
+    READ_ERROR, READY, REWIND, Row, SELECT_4, UNLOAD, WRITE_1, WRITE_ERROR, WRITE_OUT, Wanted,
+};
+use test_tapes::drives::switched_on;
+pub use test_tapes::drives::{Tape, switch_off};
 use volume_core::Kind;
 use vtl_base::{Bytes, Nexus};
-
-/// A drive over a cartridge on two disks, which saves no reservations.
-pub type Tape<D> = Drive<Buffered<D>, NoKeeper>;
-
-/// Switches a drive off, which drops it. It is proved once, for every disk.
-pub fn switch_off<D: Disk + Drop>(_drive: Tape<D>) {}
-
-// The expected reply: its sense data, if any, by bytes 0 and 2, INFORMATION, additional code and qualifier;
-// and its bytes.
-pub type Wanted<'a> = (Option<(u8, u8, u32, u8, u8)>, &'a [u8]);
-
-// A host, its command and the bytes that it sends, and the expected reply.
-pub type Row<'a> = (u8, &'a [u8], &'a [u8], Wanted<'a>);
 
 /// A cartridge `T00001L6` of one partition of 16,777,216 bytes, with no frames.
 pub static EMPTY: &'static [u8] = b"\xa5VTLCART1\0\x01T00001L6        \0\0\0\0\x01\0\0\0\0";
@@ -32,56 +22,17 @@ pub static EMPTY: &'static [u8] = b"\xa5VTLCART1\0\x01T00001L6        \0\0\0\0\x
 pub static ONE: &'static [u8] = b"\xa5VTLCART1\0\x01T00001L6        \0\0\0\0\x01\0\0\0\
     \xa5\0\0\0\x0b\x01\0\0\0\0\0\0\0\0\x01a\0";
 
-pub const NONE: &'static [u8] = &[];
-
-pub const TEST_UNIT_READY: &'static [u8] = &[0; 6];
-
-pub const REWIND: &'static [u8] = &[0x01, 0, 0, 0, 0, 0];
-
-pub const READ_1: &'static [u8] = &[0x08, 0, 0, 0, 1, 0];
-
-pub const WRITE_1: &'static [u8] = &[0x0a, 0, 0, 0, 1, 0];
-
-pub const WRITE_OUT: &'static [u8] = &[0x10, 0, 0, 0, 0, 0];
-
-pub const MARK: &'static [u8] = &[0x10, 0, 0, 0, 1, 0];
-
 pub const MARK_AT_ONCE: &'static [u8] = &[0x10, 1, 0, 0, 1, 0];
 
 pub const INQUIRY: &'static [u8] = &[0x12, 0, 0, 0, 36, 0];
 
-pub const SELECT_4: &'static [u8] = &[0x15, 0, 0, 0, 4, 0];
-
 pub const ERASE: &'static [u8] = &[0x19, 0, 0, 0, 0, 0];
-
-pub const LOAD: &'static [u8] = &[0x1b, 0, 0, 0, 1, 0];
-
-pub const UNLOAD: &'static [u8] = &[0x1b, 0, 0, 0, 0, 0];
-
-pub const LOCATE_1: &'static [u8] = &[0x2b, 0, 0, 0, 0, 0, 1, 0, 0, 0];
 
 pub const MODE_0: &'static [u8] = &[0, 0, 0, 0];
 
 pub const MODE_1: &'static [u8] = &[0, 0, 0x10, 0];
 
-pub const GOOD: Wanted<'static> = (None, &[]);
-
-pub const POWERED_ON: Wanted<'static> = (Some((0x70, 6, 0, 0x29, 0)), &[]);
-
-pub const CHANGED: Wanted<'static> = (Some((0x70, 6, 0, 0x28, 0)), &[]);
-
 pub const NO_MEDIUM: Wanted<'static> = (Some((0x70, 2, 0, 0x3a, 0)), &[]);
-
-pub const WRITE_ERROR: Wanted<'static> = (Some((0x70, 3, 0, 0x0c, 0)), &[]);
-
-pub const READ_ERROR: Wanted<'static> = (Some((0x70, 3, 0, 0x11, 0)), &[]);
-
-pub const LATE_ERROR: Wanted<'static> = (Some((0x71, 3, 0, 0x0c, 0)), &[]);
-
-pub const FAILED: Wanted<'static> = (Some((0x70, 4, 0, 0x44, 0)), &[]);
-
-// The end of data, for a request of one byte.
-pub const END: Wanted<'static> = (Some((0xf0, 8, 1, 0, 5)), &[]);
 
 // A filemark, for a request of one byte.
 pub const AT_MARK: Wanted<'static> = (Some((0xf0, 0x80, 1, 0, 1)), &[]);
@@ -149,8 +100,8 @@ pub fn asks<D: Disk + Drop>(rt: &impl Abort, drive: &mut Tape<D>, rows: &[Row]) 
 
 // The power on is reported to hosts 1 and 2.
 static GREETINGS: &'static [Row<'static>] = &[
-    (1, TEST_UNIT_READY, NONE, POWERED_ON),
-    (2, TEST_UNIT_READY, NONE, POWERED_ON),
+    (1, READY, NONE, POWERED_ON),
+    (2, READY, NONE, POWERED_ON),
 ];
 
 /// A drive that was switched on with the cartridge on two disks, which was reported to hosts 1 and 2.
@@ -160,8 +111,7 @@ pub fn greeted<D: Disk + Drop>(
     first: D,
     second: D,
 ) -> Result<Tape<D>, Fail> {
-    let medium = Buffered::parked(alloc, Shelved::of(first, second));
-    let Ok(mut drive) = Drive::power_on(alloc, NoKeeper, Reservations::empty(), Some(medium)) else {
+    let Some(mut drive) = switched_on(alloc, first, second) else {
         return Err(Fail::from("not switched on"));
     };
     asks(rt, &mut drive, GREETINGS);
@@ -183,8 +133,8 @@ pub fn reads<D: Disk + Drop>(rt: &impl Abort, drive: &mut Tape<D>, objects: &[u8
 
 /// The syncs of the disk with the side that counts.
 pub fn syncs(drive: &Tape<MemDisk>) -> u64 {
-    match drive.medium() {
-        Some(medium) => medium.disk().syncs(),
+    match drive.disk() {
+        Some(disk) => disk.syncs(),
         None => 0,
     }
 }

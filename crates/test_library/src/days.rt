@@ -21,7 +21,7 @@ use std::test::Fail;
 use std::thread;
 use std::thread::Threads;
 use std::time::Clock;
-use tape_buffer::Cataloged;
+use tape_buffer::Buffered;
 use tape_disk::Disk;
 use test_assertions::{assert_equal, assert_holds};
 use test_gates::{count_fresh, hosts};
@@ -98,11 +98,11 @@ fn spend_over<
     requires host_ledger { IsBlankOf host_ledger H.name H.parts H.all × (H.all ≡ length hosts.now) }
 {
     match Library::<D, B, H>::new(alloc, bays, rings, slots, hosts, bay_ledger, host_ledger) {
-        Ok((library, seats, _)) => {
+        Ok((library, seats, operator)) => {
             let mut seats = seats;
             all_play(rt, alloc, &library, stage, day.hosts, seats.as_mut_slice());
             have_amounts(rt, seats.as_slice(), day.amounts);
-            Ok(library.finish(rt, seats))
+            Ok(library.finish(rt, seats, operator))
         }
         Err(_) => Err(Fail::from("no library")),
     }
@@ -165,8 +165,11 @@ pub fn has_ended<D: Disk + Drop>(
 }
 
 // The number in the barcode of a cartridge, whose two digits are in its file after place 14.
-fn number_of(medium: &Cataloged<TestDisk>) -> usize {
-    match medium.disk().inner().inner().bytes().get(15..17) {
+fn number_of(medium: &Buffered<TestDisk>) -> usize {
+    let Some(disk) = medium.disk() else {
+        return 0;
+    };
+    match disk.inner().inner().bytes().get(15..17) {
         Some([tens, ones]) => usize::from(*tens % 16) * 10 + usize::from(*ones % 16),
         _ => 0,
     }

@@ -126,6 +126,7 @@ fn meet<R: Threads + Wait + Abort + Clock + Sync>(
         wanted.as_str(),
     )?;
     assert_equal!(rt; stage.value(FREED), u64::from(lines));
+    assert_equal!(rt; (finished.answered, finished.moved), (u64::from(lines) * 2, 0));
     are_in_their_places(rt, &finished);
     Ok(())
 }

@@ -118,7 +118,8 @@ fn serve_each<D: Disk + Drop, B: Parties + Rings, H: Parties, R: Wait + Abort>(
     Ok(back)
 }
 
-// The same over ledgers that the call picks; then the library ends well, and drive 2 has counted one change.
+// The same over ledgers that the call picks; then the library ends well, and drive 2 has counted one change. Four
+// commands were answered, and nothing was moved.
 fn serve_over<D: Disk + Drop, B: Parties + Rings, H: Parties, R: Wait + Abort>(
     rt: &R,
     alloc: Global,
@@ -138,13 +139,14 @@ fn serve_over<D: Disk + Drop, B: Parties + Rings, H: Parties, R: Wait + Abort>(
     requires host_ledger { IsBlankOf host_ledger H.name H.parts H.all × (H.all ≡ length hosts.now) }
 {
     match Library::<D, B, H>::new(alloc, bays, rings, slots, hosts, bay_ledger, host_ledger) {
-        Ok((library, seats, _)) => {
+        Ok((library, seats, operator)) => {
             let seats = serve_each(rt, alloc, &library, seats, served)?;
-            let finished = library.finish(rt, seats);
+            let finished = library.finish(rt, seats, operator);
             let mut counts = [None; 16];
             counts[0] = Some(0);
             counts[1] = Some(1);
             assert_equal!(rt; finished.counts, Ok(counts));
+            assert_equal!(rt; (finished.answered, finished.moved), (4, 0));
             Ok(())
         }
         Err(_) => Err(Fail::from("no library")),

@@ -97,8 +97,8 @@ impl Disks {
 
 /// The disks below a drive, as it left them.
 pub fn reached<D: TestDisk>(drive: &Bay<D>) -> Result<Disks, Fail> {
-    match drive.drive().medium() {
-        Some(medium) => Ok(Disks::below(medium.disk(), drive.drive().keeper().disk())?),
+    match drive.drive().medium().and_then(|medium| medium.disk()) {
+        Some(disk) => Ok(Disks::below(disk, drive.drive().keeper().disk())?),
         None => Err(Fail::from("no cartridge")),
     }
 }

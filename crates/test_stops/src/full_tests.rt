@@ -96,8 +96,11 @@ fn does<D: Disk>(rt: &impl Abort, drive: &mut Bay<D>, zeros: &[u8], step: Step, 
         }
         Step::Turns(turn) => return assert_equal!(rt; drive.turn(), turn; at),
         Step::AtEnd => {
-            let len = drive.drive().medium().map(|medium| medium.disk().len());
-            return assert_equal!(rt; len, Some(1_099_511_627_776); at);
+            let len = drive
+                .drive()
+                .medium()
+                .map(|medium| medium.disk().map(|disk| disk.len()));
+            return assert_equal!(rt; len, Some(Some(1_099_511_627_776)); at);
         }
     };
     let row = (1, cdb, &zeros[..zeros.len().min(sent)], wanted);

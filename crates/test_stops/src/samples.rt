@@ -5,37 +5,13 @@ use std::fmt::Debug;
 use std::process::Abort;
 use tape_disk::Disk;
 use test_assertions::assert_equal;
+pub use test_tapes::commands::{
+    CHANGED, END, FAILED, GOOD, LATE_ERROR, LOAD, LOCATE_1, MARK, NONE, POWERED_ON, READ_1,
+    READ_ERROR, READY, REWIND, Row, SELECT_4, UNLOAD, WRITE_1, WRITE_ERROR, WRITE_OUT, Wanted,
+};
 use vtl_base::Nexus;
 
-/// The expected reply: its sense data, if any, by bytes 0 and 2, INFORMATION, code and qualifier; and its bytes.
-pub type Wanted<'a> = (Option<(u8, u8, u32, u8, u8)>, &'a [u8]);
-
-/// A host, its command and the bytes that it sends, and the expected reply.
-pub type Row<'a> = (u8, &'a [u8], &'a [u8], Wanted<'a>);
-
 pub type Rows = &'static [Row<'static>];
-
-pub const NONE: &'static [u8] = &[];
-
-pub const READY: &'static [u8] = &[0; 6];
-
-pub const REWIND: &'static [u8] = &[0x01, 0, 0, 0, 0, 0];
-
-pub const READ_1: &'static [u8] = &[0x08, 0, 0, 0, 1, 0];
-
-pub const WRITE_1: &'static [u8] = &[0x0a, 0, 0, 0, 1, 0];
-
-pub const WRITE_OUT: &'static [u8] = &[0x10, 0, 0, 0, 0, 0];
-
-pub const MARK: &'static [u8] = &[0x10, 0, 0, 0, 1, 0];
-
-pub const SELECT_4: &'static [u8] = &[0x15, 0, 0, 0, 4, 0];
-
-pub const LOAD: &'static [u8] = &[0x1b, 0, 0, 0, 1, 0];
-
-pub const UNLOAD: &'static [u8] = &[0x1b, 0, 0, 0, 0, 0];
-
-pub const LOCATE_1: &'static [u8] = &[0x2b, 0, 0, 0, 0, 0, 1, 0, 0, 0];
 
 pub const READ_KEYS: &'static [u8] = &[0x5e, 0, 0, 0, 0, 0, 0, 0, 0x10, 0];
 
@@ -64,26 +40,9 @@ pub const KEY_A: &'static [u8] = b"\0\0\0\0\0\0\0\x08\0\0\0\0\0\0\0\xa1";
 /// The data of READ RESERVATION for type 5, held with the key a1, with generation 0.
 pub const HELD_BY_A: &'static [u8] = b"\0\0\0\0\0\0\0\x10\0\0\0\0\0\0\0\xa1\0\0\0\0\0\x05\0\0";
 
-pub const GOOD: Wanted<'static> = (None, &[]);
-
-pub const POWERED_ON: Wanted<'static> = (Some((0x70, 6, 0, 0x29, 0)), &[]);
-
-pub const CHANGED: Wanted<'static> = (Some((0x70, 6, 0, 0x28, 0)), &[]);
-
 pub const MODE_CHANGED: Wanted<'static> = (Some((0x70, 6, 0, 0x2a, 1)), &[]);
 
 pub const NOT_PRESENT: Wanted<'static> = (Some((0x70, 2, 0, 0x3a, 0)), &[]);
-
-pub const WRITE_ERROR: Wanted<'static> = (Some((0x70, 3, 0, 0x0c, 0)), &[]);
-
-pub const READ_ERROR: Wanted<'static> = (Some((0x70, 3, 0, 0x11, 0)), &[]);
-
-pub const LATE_ERROR: Wanted<'static> = (Some((0x71, 3, 0, 0x0c, 0)), &[]);
-
-pub const FAILED: Wanted<'static> = (Some((0x70, 4, 0, 0x44, 0)), &[]);
-
-// The end of data, for a request of one byte.
-const END: Wanted<'static> = (Some((0xf0, 8, 1, 0, 5)), &[]);
 
 /// A cartridge `T00001L6` of one partition of 16,777,216 bytes, with no frames.
 pub const NEW_TAPE: &'static [u8] = b"\xa5VTLCART1\0\x01T00001L6        \0\0\0\0\x01\0\0\0\0";

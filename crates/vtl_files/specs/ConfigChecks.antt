@@ -1,9 +1,10 @@
 -- What `vtl check` of a configuration writes, and how it ends (own).
-use Rattle.std.specs.Prelude.{◌≡◌, ◌⊎◌, ◌==◌, ◌&&◌, ℕ, Bool, not, List, [], ◌∷◌, ◌++◌, codes, Option, Result, Ok, Err, if◌then◌else◌}
+use Rattle.std.specs.Prelude.{◌≡◌, ◌⊎◌, ◌==◌, ◌&&◌, ℕ, Bool, true, not, List, [], ◌∷◌, ◌++◌, codes, Option, Result, Ok, Err, if◌then◌else◌}
 use Rattle.std.specs.List.{starts_with}
 use Rattle.std.specs.Io.{StartsWith}
 use Rattle.std.specs.Io.KnownBytes.{Appends}
-use Rattle.tape_disk.specs.Disk.{DiskState}
+use Rattle.vtl_base.specs.declared.faults.DevFault.{DevFault}
+use Rattle.tape_disk.specs.Disk.{DiskCall, DiskState}
 use Rattle.file_disk.specs.declared.error.FileError.{FileError}
 use Rattle.vtl_files.specs.Checks.{GivesLines, is_done, verdict_of}
 use Rattle.vtl_files.specs.Creating.{SideFile, CartridgeFile, StoreFile, label_of}
@@ -65,12 +66,12 @@ first_end (Ok Done) next = next
 first_end (Ok Refused) next = Ok Refused
 first_end (Err fault) next = Err fault
 
-module _ {D : Type 0} (state : D → DiskState) (opens_to_read : List ℕ → Result D FileError → Type 0)
-    (closes : List ℕ → D → Type 0) where
-  -- a file was checked: this is written of it, and the check ends so (own)
+module _ {D : Type 0} (state : D → DiskState) (effect : DiskCall → Result Unit DevFault → D → D → Type 0)
+    (opens_to_read : List ℕ → Result D FileError → Type 0) (closes : List ℕ → D → Type 0) where
+  -- a file was checked, each block of a cartridge too: this is written of it, and the check ends so (own)
   abbrev pub IsChecked : (word label path : List ℕ) → (text : List ℕ) → Result Verdict VtlFault → Type 0
   IsChecked word label path text end =
-      (lines : Result (List ℕ) VtlFault) × GivesLines state opens_to_read closes path lines
+      (lines : Result (List ℕ) VtlFault) × GivesLines state effect opens_to_read closes path true lines
       × (text ≡ name_line label path ++ check_report word label lines) × (end ≡ end_for word lines)
 
   -- Of a file no more is written. Memory ran out for its name, so nothing is, or for what is written behind that. Or

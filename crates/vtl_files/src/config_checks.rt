@@ -130,7 +130,7 @@ fn check_file<D: Disk, F: ReadFiles<D> + ReportsRead, W: Write>(
     path: &str,
     writer: &mut W,
 ) -> Result<CheckEnd, VtlFault>
-    ensures { ChecksNamed D.state F.opens_to_read F.closes word.now label.now path.now
+    ensures { ChecksNamed D.state D.effect F.opens_to_read F.closes word.now label.now path.now
         (W.contents writer.old) (W.contents writer.new) result }
 {
     let Ok(name) = name_text(alloc, label, path) else {
@@ -156,7 +156,7 @@ fn check_cartridge<D: Disk, F: ReadFiles<D> + ReportsRead, W: Write>(
     entry: &CartridgeEntry,
     writer: &mut W,
 ) -> Result<CheckEnd, VtlFault>
-    ensures { ChecksAll D.state F.opens_to_read F.closes (CartridgeFile entry.now ∷ [])
+    ensures { ChecksAll D.state D.effect F.opens_to_read F.closes (CartridgeFile entry.now ∷ [])
         (W.contents writer.old) (W.contents writer.new) result }
 {
     let label = entry.barcode.as_bytes();
@@ -171,7 +171,7 @@ fn check_cartridges<D: Disk, F: ReadFiles<D> + ReportsRead, W: Write>(
     entries: Vec<CartridgeEntry>,
     writer: &mut W,
 ) -> Result<CheckEnd, VtlFault>
-    ensures { ChecksAll D.state F.opens_to_read F.closes (map CartridgeFile entries.items)
+    ensures { ChecksAll D.state D.effect F.opens_to_read F.closes (map CartridgeFile entries.items)
         (W.contents writer.old) (W.contents writer.new) result }
 {
     let mut first: CheckEnd = Ok(Verdict::Done);
@@ -191,7 +191,7 @@ fn check_store<D: Disk, F: ReadFiles<D> + ReportsRead, W: Write>(
     entry: &DriveEntry,
     writer: &mut W,
 ) -> Result<CheckEnd, VtlFault>
-    ensures { ChecksAll D.state F.opens_to_read F.closes (StoreFile entry.now ∷ [])
+    ensures { ChecksAll D.state D.effect F.opens_to_read F.closes (StoreFile entry.now ∷ [])
         (W.contents writer.old) (W.contents writer.new) result }
 {
     let Ok(label) = label_of(alloc, entry.number) else {
@@ -208,7 +208,7 @@ fn check_stores<D: Disk, F: ReadFiles<D> + ReportsRead, W: Write>(
     entries: Vec<DriveEntry>,
     writer: &mut W,
 ) -> Result<CheckEnd, VtlFault>
-    ensures { ChecksAll D.state F.opens_to_read F.closes (map StoreFile entries.items)
+    ensures { ChecksAll D.state D.effect F.opens_to_read F.closes (map StoreFile entries.items)
         (W.contents writer.old) (W.contents writer.new) result }
 {
     let mut first: CheckEnd = Ok(Verdict::Done);
@@ -228,7 +228,7 @@ fn check_files<D: Disk, F: ReadFiles<D> + ReportsRead, W: Write>(
     config: Config,
     writer: &mut W,
 ) -> Result<CheckEnd, VtlFault>
-    ensures { ChecksAll D.state F.opens_to_read F.closes (files_of config)
+    ensures { ChecksAll D.state D.effect F.opens_to_read F.closes (files_of config)
         (W.contents writer.old) (W.contents writer.new) result }
 {
     let Config { cartridges, drives } = config;
@@ -256,7 +256,7 @@ pub fn check_config<D: Disk, F: ReadFiles<D> + ReportsRead, W: Write>(
     config: Config,
     writer: &mut W,
 ) -> Result<Verdict, VtlFault>
-    ensures { ChecksConfig D.state F.opens_to_read F.closes (files_of config)
+    ensures { ChecksConfig D.state D.effect F.opens_to_read F.closes (files_of config)
         (W.contents writer.old) (W.contents writer.new) result }
 {
     match check_files::<D, F, W>(alloc, files, config, writer) {

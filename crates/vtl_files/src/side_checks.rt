@@ -68,7 +68,7 @@ pub fn lines_of<D: Disk, F: ReadFiles<D> + ReportsRead>(
     name: &str,
     blocks: bool,
 ) -> Result<Bytes, VtlFault>
-    ensures { GivesLines D.state F.opens_to_read F.closes name.now result }
+    ensures { GivesLines D.state D.effect F.opens_to_read F.closes name.now blocks result }
 {
     let Ok(second_name) = second_file(alloc, name) else {
         return Err(VtlFault::NoMemory);
@@ -80,16 +80,12 @@ pub fn lines_of<D: Disk, F: ReadFiles<D> + ReportsRead>(
         files.close(name, first);
         return Err(VtlFault::Device);
     };
+    let reports = if blocks { Some(files) } else { None };
     let Checked {
         lines,
         first,
         second,
-    } = check_side(
-        alloc,
-        first,
-        second,
-        if blocks { Some(files) } else { None },
-    );
+    } = check_side(alloc, first, second, reports);
     files.close(name, first);
     files.close(second_name.as_str(), second);
     lines
@@ -105,7 +101,7 @@ pub fn check_named<D: Disk, F: ReadFiles<D> + ReportsRead, W: Write>(
     blocks: bool,
     writer: &mut W,
 ) -> Result<Verdict, VtlFault>
-    ensures { ChecksOrder D.state F.opens_to_read F.closes name.now
+    ensures { ChecksOrder D.state D.effect F.opens_to_read F.closes name.now blocks
         (W.contents writer.old) (W.contents writer.new) result }
 {
     print_lines(lines_of::<D, F>(alloc, files, name, blocks), writer)

@@ -108,7 +108,8 @@ impl Notes {
     }
 
     /// Notes the answer to `call`, which opens or makes the file `file`, if the call failed. `Exists` is not noted: if
-    /// a file that was to be made is there already, that is not a failure.
+    /// a file that was to be made is there already, that is not a failure. A name with a NUL is not noted, since the
+    /// call fails by the name alone.
     pub fn open<D>(
         &self,
         alloc: Global,
@@ -118,7 +119,7 @@ impl Notes {
     ) {
         match answer {
             Ok(_) | Err(FileError::Exists) => {}
-            Err(error) if self.is_on => {
+            Err(error) if self.is_on && !file.as_bytes().contains(&0) => {
                 self.is_refused.set(true);
                 if let Ok(file) = String::from_str(alloc, file) {
                     self.keep_refused(alloc, FileReason::of_file(alloc, file, call, *error));

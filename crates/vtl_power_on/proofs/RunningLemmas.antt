@@ -62,21 +62,24 @@ module _ {D : Type 0} where
   pub ran_over : (state : D → DiskState) (old new : HeldState D) (bays after : List (Option (BayState D)))
       (shelves : List (Option (BufferState D))) (hosts : List ℕ) (left left' before now : Option (List ℕ))
       (ended : Result (Unit {0}) ScriptFault) (counts : Result (List (Option ℕ)) FinishError)
-      (outcome : Result (Unit {0}) VtlFault) → bays ≡ old.bays
+      (answers moves : ℕ) (outcome : Result (Unit {0}) VtlFault) → bays ≡ old.bays
       → hosts ≡ every_nexus → new.bays ≡ after → new.slots ≡ shelves
-      → RunsShared state bays hosts left before now ended after counts
+      → RunsShared state bays hosts left before now ended after counts answers moves
       → (ended ≢ Err ReadFault → TakesWithin left 0 left') → EndsShared state bays after shelves counts
       → outcome ≡ outcome_of ended counts → RunsStarted state old left left' before now new outcome
-  ran_over state old new bays after shelves hosts left left' before now ended counts outcome are all made shelved runs
-      takes ends printed =
+  ran_over state old new bays after shelves hosts left left' before now ended counts answers moves outcome are all made
+      shelved runs takes ends printed =
       record {
         ended = ended;
         counts = counts;
+        answers = answers;
+        moves = moves;
         runs =
             subst (λ (row : List (Option (BayState D))).
-            RunsShared state row every_nexus left before now ended new.bays counts) are
-            (subst (λ (xs : List ℕ). RunsShared state bays xs left before now ended new.bays counts) all
-            (subst (λ (row : List (Option (BayState D))). RunsShared state bays hosts left before now ended row counts)
+            RunsShared state row every_nexus left before now ended new.bays counts answers moves) are
+            (subst (λ (xs : List ℕ). RunsShared state bays xs left before now ended new.bays counts answers moves) all
+            (subst (λ (row : List (Option (BayState D))).
+            RunsShared state bays hosts left before now ended row counts answers moves)
             (sym made) runs));
         takes = takes;
         ends =

@@ -29,22 +29,26 @@ module _ {D : Type 0} where
   pub served_over : (state : D → DiskState) (old new : HeldState D) (labels : List Label)
       (bays after : List (Option (BayState D))) (shelves : List (Option (BufferState D))) (hosts : List ℕ)
       (left left' before now : Option (List ℕ)) (ended : Result (Unit {0}) WireFault)
-      (counts : Result (List (Option ℕ)) FinishError) (outcome : Result (Unit {0}) VtlFault) → bays ≡ old.bays
+      (counts : Result (List (Option ℕ)) FinishError) (answers moves : ℕ) (outcome : Result (Unit {0}) VtlFault)
+      → bays ≡ old.bays
       → hosts ≡ every_nexus → new.bays ≡ after → new.slots ≡ shelves
-      → ServesShared state bays labels hosts left before left' now ended after counts
+      → ServesShared state bays labels hosts left before left' now ended after counts answers moves
       → EndsShared state bays after shelves counts
       → outcome ≡ served_outcome ended counts → ServesStarted state old labels left left' before now new outcome
-  served_over state old new labels bays after shelves hosts left left' before now ended counts outcome are all made
-      shelved serves ends printed =
+  served_over state old new labels bays after shelves hosts left left' before now ended counts answers moves outcome are
+      all made shelved serves ends printed =
       record {
         ended = ended;
         counts = counts;
+        answers = answers;
+        moves = moves;
         serves =
             subst (λ (row : List (Option (BayState D))).
-            ServesShared state row labels every_nexus left before left' now ended new.bays counts) are
-            (subst (λ (xs : List ℕ). ServesShared state bays labels xs left before left' now ended new.bays counts) all
+            ServesShared state row labels every_nexus left before left' now ended new.bays counts answers moves) are
+            (subst (λ (xs : List ℕ).
+            ServesShared state bays labels xs left before left' now ended new.bays counts answers moves) all
             (subst (λ (row : List (Option (BayState D))).
-            ServesShared state bays labels hosts left before left' now ended row counts)
+            ServesShared state bays labels hosts left before left' now ended row counts answers moves)
             (sym made) serves));
         ends =
             subst (λ (row : List (Option (BayState D))). EndsShared state row new.bays new.slots counts) are

@@ -50,7 +50,9 @@ pub record RunsStarted {D : Type 0} (state : D → DiskState) (old : HeldState D
     (left left' before now : Option (List ℕ)) (new : HeldState D) (outcome : Result (Unit {0}) VtlFault) : Type 0 where
   pub ended : Result (Unit {0}) ScriptFault
   pub counts : Result (List (Option ℕ)) FinishError
-  pub runs : RunsShared state old.bays every_nexus left before now ended new.bays counts
+  pub answers : ℕ
+  pub moves : ℕ
+  pub runs : RunsShared state old.bays every_nexus left before now ended new.bays counts answers moves
   pub takes : ended ≢ Err ReadFault → TakesWithin left 0 left'
   pub ends : EndsShared state old.bays new.bays new.slots counts
   pub outcome_is : outcome ≡ outcome_of ended counts

@@ -47,7 +47,10 @@ pub record ServesStarted {D : Type 0} (state : D → DiskState) (old : HeldState
     (left left' before now : Option (List ℕ)) (new : HeldState D) (outcome : Result (Unit {0}) VtlFault) : Type 0 where
   pub ended : Result (Unit {0}) WireFault
   pub counts : Result (List (Option ℕ)) FinishError
-  pub serves : ServesShared state old.bays labels every_nexus left before left' now ended new.bays counts
+  pub answers : ℕ
+  pub moves : ℕ
+  pub serves :
+      ServesShared state old.bays labels every_nexus left before left' now ended new.bays counts answers moves
   pub ends : EndsShared state old.bays new.bays new.slots counts
   pub outcome_is : outcome ≡ served_outcome ended counts
 

@@ -137,6 +137,8 @@ pub fn run_shared<D: Disk + Drop + Send, R: Threads + Wait + Clock + Sync, I: Re
                 slots,
                 bays,
                 counts,
+                answered: _,
+                moved: _,
             } = finished;
             Left {
                 held: Held::from_parts(alloc, bays, slots),

@@ -84,6 +84,8 @@ pub fn serve_shared<
                 slots,
                 bays,
                 counts,
+                answered: _,
+                moved: _,
             } = finished;
             Left {
                 held: Held::from_parts(alloc, bays, slots),

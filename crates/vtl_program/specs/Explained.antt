@@ -2,7 +2,8 @@
 use Rattle.std.specs.Prelude.{ℕ, Bool, true, false, ◌&&◌, List, Option, Result, Ok, Err}
 use Rattle.std.specs.Io.KnownBytes.{Keeps}
 use Rattle.explanations.specs.Lines.{AreLines}
-use Rattle.tape_disk.specs.Disk.{DiskState}
+use Rattle.vtl_base.specs.declared.faults.DevFault.{DevFault}
+use Rattle.tape_disk.specs.Disk.{DiskCall, DiskState}
 use Rattle.vtl_script.specs.Text.{AppendsPart}
 use Rattle.vtl_words.specs.Explaining.{asks_to_explain}
 use Rattle.vtl_program.specs.Files.{FileAnswers}
@@ -23,9 +24,10 @@ Explains true before now = (lines : List ℕ) × AreLines lines × AppendsPart b
 -- The whole program runs as it does without an explanation: its files, its output, its status and the line of its fault
 -- are the same. Behind that line, on standard error alone, stand the lines that explain it, where they are asked for
 -- and that line was written (own).
-pub record RunsExplained {D : Type 0} (state : D → DiskState) (files : FileAnswers D)
+pub record RunsExplained {D : Type 0} (state : D → DiskState)
+    (effect : DiskCall → Result Unit DevFault → D → D → Type 0) (files : FileAnswers D)
     (words : Result (List (List ℕ)) VtlFault) (left left' before now errors errors' : Option (List ℕ))
     (ended : Ended) : Type 0 where
   pub reported : Option (List ℕ)
-  pub runs : RunsProgram state files words left left' before now errors reported ended
+  pub runs : RunsProgram state effect files words left left' before now errors reported ended
   pub explains : Explains (asks words && ended.is_reported) reported errors'

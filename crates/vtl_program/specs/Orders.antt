@@ -3,7 +3,8 @@ use Rattle.std.specs.Prelude.{◌≡◌, ◌⊎◌, ℕ, Bool, List, Option, Res
 use Rattle.std.specs.Io.KnownBytes.{Appends, Keeps}
 use Rattle.std.specs.declared.alloc.Global.{Global}
 use Rattle.std.specs.declared.io.Error.{Error}
-use Rattle.tape_disk.specs.Disk.{DiskState}
+use Rattle.vtl_base.specs.declared.faults.DevFault.{DevFault}
+use Rattle.tape_disk.specs.Disk.{DiskCall, DiskState}
 use Rattle.file_disk.specs.declared.error.FileError.{FileError}
 use Rattle.file_disk.specs.declared.looking.FileLook.{FileLook}
 use Rattle.vtl_script.specs.Text.{AppendsPart}
@@ -44,19 +45,21 @@ module _ {D : Type 0} (state : D → DiskState) where
       × CreatesNamed made config before now outcome
 
   -- the files of a configuration are checked; where there is no configuration, nothing is written (own)
-  abbrev pub ChecksIn : (opens_to_read : List ℕ → Result D FileError → Type 0) → (closes : List ℕ → D → Type 0)
+  abbrev pub ChecksIn : (effect : DiskCall → Result Unit DevFault → D → D → Type 0)
+      → (opens_to_read : List ℕ → Result D FileError → Type 0) → (closes : List ℕ → D → Type 0)
       → Result Config VtlFault → (before now : Option (List ℕ)) → Result Verdict VtlFault → Type 0
-  ChecksIn opens_to_read closes (Ok config) before now result =
-      ChecksConfig state opens_to_read closes (files_of config) before now result
-  ChecksIn opens_to_read closes (Err fault) before now result = (result ≡ Err fault) × Keeps before now
+  ChecksIn effect opens_to_read closes (Ok config) before now result =
+      ChecksConfig state effect opens_to_read closes (files_of config) before now result
+  ChecksIn effect opens_to_read closes (Err fault) before now result = (result ≡ Err fault) × Keeps before now
 
   -- what `vtl check --config` does, by the configuration that a file says (own)
-  abbrev pub ChecksConfigOrder : (List ℕ → Result (Vec ℕ Global) Error → Type 0)
+  abbrev pub ChecksConfigOrder : (effect : DiskCall → Result Unit DevFault → D → D → Type 0)
+      → (List ℕ → Result (Vec ℕ Global) Error → Type 0)
       → (opens_to_read : List ℕ → Result D FileError → Type 0) → (closes : List ℕ → D → Type 0)
       → (name : List ℕ) → (before now : Option (List ℕ)) → Result Verdict VtlFault → Type 0
-  ChecksConfigOrder reads opens_to_read closes name before now result =
+  ChecksConfigOrder effect reads opens_to_read closes name before now result =
       (config : Result Config VtlFault) × ReadsConfig reads name config
-      × ChecksIn opens_to_read closes config before now result
+      × ChecksIn effect opens_to_read closes config before now result
 
   -- what `vtl reclaim` does, by the configuration that a file says (own)
   abbrev pub ReclaimsOrder : (List ℕ → Result (Vec ℕ Global) Error → Type 0)
@@ -73,7 +76,8 @@ abbrev pub verdict_from : Result (Unit {0}) VtlFault → Result Verdict VtlFault
 verdict_from (Ok done) = Ok Done
 verdict_from (Err fault) = Err fault
 
-module _ {D : Type 0} (state : D → DiskState) (files : FileAnswers D) where
+module _ {D : Type 0} (state : D → DiskState) (effect : DiskCall → Result Unit DevFault → D → D → Type 0)
+    (files : FileAnswers D) where
   -- what an order does; except for a run and a serving nothing is read (own)
   abbrev pub DoesOrder : Asked → (left left' before now : Option (List ℕ)) → Result Verdict VtlFault → Type 0
   DoesOrder (run memory config) left left' before now result =
@@ -95,9 +99,10 @@ module _ {D : Type 0} (state : D → DiskState) (files : FileAnswers D) where
       before now outcome
       × (result ≡ verdict_from outcome) × Keeps left left'
   DoesOrder (check file blocks) left left' before now result =
-      ChecksOrder state files.opens_to_read files.closes file before now result × Keeps left left'
+      ChecksOrder state effect files.opens_to_read files.closes file blocks before now result × Keeps left left'
   DoesOrder (check_all config) left left' before now result =
-      ChecksConfigOrder state files.reads files.opens_to_read files.closes config before now result × Keeps left left'
+      ChecksConfigOrder state effect files.reads files.opens_to_read files.closes config before now result
+      × Keeps left left'
   DoesOrder (reclaim config barcode) left left' before now result =
       ReclaimsOrder state files.reads files.looks files.pairs files.opens files.opens_second files.returns_disk
       files.closes_second config barcode before now result
@@ -111,11 +116,12 @@ AnswersWords (Help text) before now (Err fault) =
 AnswersWords Refused before now result = (result ≡ Err Faults.Words) × Keeps before now
 AnswersWords NoMemory before now result = (result ≡ Err Faults.NoMemory) × Keeps before now
 
-module _ {D : Type 0} (state : D → DiskState) (files : FileAnswers D) where
+module _ {D : Type 0} (state : D → DiskState) (effect : DiskCall → Result Unit DevFault → D → D → Type 0)
+    (files : FileAnswers D) where
   -- what the program does for some words: the order that they give, or else what they are answered (own)
   abbrev pub Obeys : List (List ℕ) → (left left' before now : Option (List ℕ)) → Result Verdict VtlFault → Type 0
   Obeys words left left' before now result =
-      ((asked : Asked) × Asks words asked × DoesOrder state files asked left left' before now result)
+      ((asked : Asked) × Asks words asked × DoesOrder state effect files asked left left' before now result)
       ⊎ ((error : WordsError) × RefusesWords words error × AnswersWords error before now result × Keeps left left')
 
   -- what the program does for the words that the system gave, and for none that it did not (own)
@@ -131,9 +137,10 @@ given_words (Err fault) = Err fault
 
 -- the whole program over its streams: it does what its words ask for, and its status and line are those of the outcome
 -- (own)
-pub record RunsProgram {D : Type 0} (state : D → DiskState) (files : FileAnswers D)
+pub record RunsProgram {D : Type 0} (state : D → DiskState)
+    (effect : DiskCall → Result Unit DevFault → D → D → Type 0) (files : FileAnswers D)
     (words : Result (List (List ℕ)) VtlFault) (left left' before now errors errors' : Option (List ℕ))
     (ended : Ended) : Type 0 where
   pub outcome : Result Verdict VtlFault
-  pub obeys : ObeysGiven state files words left left' before now outcome
+  pub obeys : ObeysGiven state effect files words left left' before now outcome
   pub ends : EndsProgram outcome errors errors' ended

@@ -5,7 +5,7 @@ ghost use Rattle.vtl_program.specs.Explained.{Explains, RunsExplained, asks};
 ghost use Rattle.vtl_program.specs.Files.{answers_of};
 ghost use Rattle.vtl_program.specs.Orders.{given_words};
 
-use crate::nul_names::add_nul;
+use crate::nul_names::{add_each_nul, add_nul};
 use crate::orders::run;
 use bay_moves::Held;
 use check_lines::reading::ReportsRead;
@@ -191,8 +191,9 @@ fn add_frame(alloc: Global, notes: &Notes, lines: &mut Explanation) -> Result<()
 }
 
 // Adds the lines of what failed: of a store's file that was opened and is refused, or else of calls that failed, or
-// else of a second file beside which no first one is made, or of a name with a NUL. A call
-// for another file may have failed before that, as a cartridge was loaded; this does not end a run.
+// else of a second file beside which no first one is made, or of a name with a NUL. A call for another file may have
+// failed before that, as a cartridge was loaded; this does not end a run. Nothing is added of a check of a
+// configuration, of which `add_checked` adds them.
 fn add_failed(
     alloc: Global,
     notes: &Notes,
@@ -217,6 +218,20 @@ fn add_failed(
     }
 }
 
+// Adds the lines of what failed in a check of a configuration: of each call, and behind these of each name with a NUL.
+fn add_checked(alloc: Global, notes: &Notes, lines: &mut Explanation) -> Result<(), AllocError> {
+    notes.add_each_failed(alloc, lines)?;
+    let Some(config) = notes.config() else {
+        return Ok(());
+    };
+    let added = match read_config(alloc, config.text.as_slice()) {
+        Ok(config) => add_each_nul(alloc, &config, lines),
+        Err(_) => Ok(()),
+    };
+    notes.keep(config);
+    added
+}
+
 // The lines that explain why the program ends with this status.
 fn lines_for(
     alloc: Global,
@@ -226,7 +241,7 @@ fn lines_for(
 ) -> Result<Explanation, AllocError> {
     let mut lines = Explanation::new(alloc);
     if let Doubt::Checks = doubt {
-        notes.add_each_failed(alloc, &mut lines)?;
+        add_checked(alloc, notes, &mut lines)?;
     }
     match status {
         1 => match doubt {
@@ -297,7 +312,7 @@ pub fn run_explained<
     writer: &mut W,
     errors: &mut E,
 ) -> Ended
-    ensures { RunsExplained D.state
+    ensures { RunsExplained D.state D.effect
         (answers_of F.reads F.looks F.pairs F.opens_to_read F.closes F.opens F.returns_disk F.closes_all F.gives_up
         F.opens_second F.closes_second F.makes F.leaves F.takes_away)
         (given_words words)

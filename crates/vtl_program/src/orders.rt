@@ -51,7 +51,7 @@ fn check_order<D: Disk, F: TextFiles + ReadFiles<D> + ReportsRead, W: Write>(
     name: &str,
     writer: &mut W,
 ) -> Result<Verdict, VtlFault>
-    ensures { ChecksConfigOrder D.state F.reads F.opens_to_read F.closes name.now
+    ensures { ChecksConfigOrder D.state D.effect F.reads F.opens_to_read F.closes name.now
         (W.contents writer.old) (W.contents writer.new) result }
 {
     let config = config_in(alloc, files, name)?;
@@ -100,7 +100,7 @@ fn do_order<
     reader: &mut I,
     writer: &mut W,
 ) -> Result<Verdict, VtlFault>
-    ensures { DoesOrder D.state
+    ensures { DoesOrder D.state D.effect
         (answers_of F.reads F.looks F.pairs F.opens_to_read F.closes F.opens F.returns_disk F.closes_all F.gives_up
         F.opens_second F.closes_second F.makes F.leaves F.takes_away)
         (asked_of order)
@@ -168,7 +168,7 @@ pub fn obey<
     reader: &mut I,
     writer: &mut W,
 ) -> Result<Verdict, VtlFault>
-    ensures { Obeys D.state
+    ensures { Obeys D.state D.effect
         (answers_of F.reads F.looks F.pairs F.opens_to_read F.closes F.opens F.returns_disk F.closes_all F.gives_up
         F.opens_second F.closes_second F.makes F.leaves F.takes_away)
         (texts_of words.now)
@@ -207,7 +207,7 @@ pub fn run<
     writer: &mut W,
     errors: &mut E,
 ) -> Ended
-    ensures { RunsProgram D.state
+    ensures { RunsProgram D.state D.effect
         (answers_of F.reads F.looks F.pairs F.opens_to_read F.closes F.opens F.returns_disk F.closes_all F.gives_up
         F.opens_second F.closes_second F.makes F.leaves F.takes_away)
         (given_words words)

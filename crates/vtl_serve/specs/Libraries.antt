@@ -4,7 +4,7 @@ use Rattle.tape_disk.specs.Disk.{DiskState}
 use Rattle.library.specs.Seats.{SeatState}
 use Rattle.bay_moves.specs.Elements.{BayState}
 use Rattle.library.specs.Counts.{new_seat, which_are_there}
-use Rattle.library.specs.Ends.{counts_of, sum_of_counts, sum_of_seats}
+use Rattle.library.specs.Ends.{AddsUp, counts_of, sum_of_counts, sum_of_seats}
 use Rattle.library.specs.declared.finishing.FinishError.{FinishError}
 use Rattle.vtl_wire.specs.declared.faults.WireFault.{WireFault}
 use Rattle.vtl_wire.specs.declared.faults.WireFault.TheVariants.{NoMemory}
@@ -37,14 +37,17 @@ module _ {D : Type 0} (state : D → DiskState) where
       ⊎ ((outcome ≡ Err NoMemory) × (seats' ≡ seats) × (moved' ≡ moved) × (left' ≡ left) × (now ≡ before))
 
   -- The same of hosts whose seats were new, and of an operator who had made no move; then the library ended: the sum of
-  -- what its drives counted is that of what the seats grew by; and where it ended well, what each drive counted is
-  -- returned (own).
+  -- what its drives counted is that of what the seats grew by; the answers and the moves that are returned are those of
+  -- the seats and of the operator after the serving, so none was added behind it; and where it ended well, what each
+  -- drive counted is returned (own).
   pub record ServesShared (bays : List (Option (BayState D))) (labels : List Label) (hosts : List ℕ)
       (left before left' now : Option (List ℕ)) (outcome : Result (Unit {0}) WireFault)
-      (bays' : List (Option (BayState D))) (counts : Result (List (Option ℕ)) FinishError) : Type 0 where
+      (bays' : List (Option (BayState D))) (counts : Result (List (Option ℕ)) FinishError) (answers moves : ℕ) : Type
+      0 where
     pub seats : List SeatState
     pub moved : ℕ
     pub serves :
         ServesOpened (which_are_there bays) labels 0 (map new_seat hosts) left before moved seats left' now outcome
     pub reported : IfOk counts (λ counted. counted ≡ counts_of bays')
     pub sums : sum_of_counts (counts_of bays') ≡ sum_of_seats seats
+    pub used : AddsUp seats moved answers moves

@@ -260,7 +260,7 @@ pub fn serve_library<
     requires host_ledger { IsBlankOf host_ledger H.name H.parts H.all × (H.all ≡ NEXUSES) }
     ensures serves { IfOk result (λ served. ServesShared D.state bays.items labels hosts.now (I.remaining reader.old)
         (W.contents writer.old) (I.remaining reader.new) (W.contents writer.new) served.outcome
-        served.finished.bays.items served.finished.counts) }
+        served.finished.bays.items served.finished.counts served.finished.answered served.finished.moved) }
     ensures ends { IfOk result (λ served. EndsShared D.state bays.items served.finished.bays.items
         served.finished.slots served.finished.counts) }
     ensures back { IfErr result (λ back. (back.bays ≡ bays) × (back.slots ≡ slots)
@@ -278,13 +278,13 @@ pub fn serve_library<
     )?;
     let ServedFor {
         seats,
-        operator: _,
+        operator,
         outcome,
     } = serve_opened(
         rt, alloc, &library, seats, operator, labels, gate, reader, writer,
     );
     Ok(ServedLibrary {
-        finished: library.finish(rt, seats),
+        finished: library.finish(rt, seats, operator),
         outcome,
     })
 }

@@ -9,7 +9,7 @@ use drive_theorems::served_hosts_run;
 use std::alloc::Global;
 use std::io::{Read, Write};
 use std::marker::Model;
-use tape_buffer::Cataloged;
+use tape_buffer::Buffered;
 use tape_disk::Disk;
 use vtl_base::{DriveNo, NoMemory};
 use vtl_wire::{Answer, Request, Server, WireFault, serve_requests};
@@ -94,6 +94,6 @@ pub fn serve_bay<D: Disk + Drop, R: Read, W: Write>(
         (W.contents writer.old) served.new (W.contents writer.new)) }
 {
     // The law of the machine, for the proof alone.
-    served_hosts_run::<Cataloged<D>, AptplStore<D>>();
+    served_hosts_run::<Buffered<D>, AptplStore<D>>();
     serve_requests(alloc, served, reader, writer)
 }

@@ -4,7 +4,7 @@ ghost use Rattle.bay_moves.specs.Journeys.{KeepsWhatIsSafe, StopsKeepWhatIsMoved
 
 use accepted_changes::laws::{a_crash_leaves_what_was_acknowledged, steps_keep_cores};
 use pr_core::Keeper;
-use tape_buffer::Cataloged;
+use tape_buffer::Buffered;
 use tape_disk::Disk;
 
 /// A drive with a cartridge over two honest disks acknowledges a synchronizing command; then any commands and flusher's
@@ -13,8 +13,8 @@ use tape_disk::Disk;
 pub fn a_stop_keeps_acknowledged_changes<D: Disk, K: Keeper>()
     ensures { StopsKeepChanges D.state K.kept K.below }
 {
-    a_crash_leaves_what_was_acknowledged::<Cataloged<D>>();
-    steps_keep_cores::<Cataloged<D>>();
+    a_crash_leaves_what_was_acknowledged::<Buffered<D>>();
+    steps_keep_cores::<Buffered<D>>();
 }
 
 /// The law `a_stop_keeps_acknowledged_changes` for a cartridge that is moved. After an acknowledged synchronizing
@@ -26,6 +26,6 @@ pub fn a_stop_keeps_acknowledged_changes_of_what_is_moved<D: Disk>()
     ensures acknowledged { StopsKeepWhatIsMoved D.state }
     ensures safe { KeepsWhatIsSafe D.state }
 {
-    a_crash_leaves_what_was_acknowledged::<Cataloged<D>>();
-    steps_keep_cores::<Cataloged<D>>();
+    a_crash_leaves_what_was_acknowledged::<Buffered<D>>();
+    steps_keep_cores::<Buffered<D>>();
 }

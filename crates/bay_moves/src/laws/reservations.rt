@@ -1,7 +1,9 @@
 //! What a loss of power leaves of reservations.
+ghost use Rattle.bay_moves.specs.Bays.{HoldersShowOrders};
 ghost use Rattle.bay_moves.specs.Reservations.{HoldingGives, HoldingGoesOn, OrdersStand, ReservationsOutlive, SwitchedOnHolds};
 
 use pr_core::laws::{power_loss_is_once, rules_are_kept, saves_are_due_by_change};
+use tape_buffer::Buffered;
 use tape_disk::Disk;
 use volume_core::Medium;
 
@@ -25,4 +27,12 @@ pub fn reservations_outlive_each_stop<M: Medium, D: Disk>()
     power_loss_is_once();
     rules_are_kept();
     saves_are_due_by_change();
+}
+
+/// A drive whose reservations agree with its store (`IsHolding`), whoever has it: over an honest disk, what a crash may
+/// leave of the store gives what a loss of power leaves of all orders that led to the reservations.
+pub fn stores_show_orders<D: Disk>()
+    ensures { HoldersShowOrders D.state }
+{
+    reservations_outlive_each_stop::<Buffered<D>, D>();
 }

@@ -2,23 +2,21 @@
 ghost use Rattle.std.specs.Prelude.{◌≡◌, ◌≢◌, ◌+◌, None, is_some, true};
 ghost use Rattle.bay_moves.specs.Elements.{BayState};
 ghost use Rattle.drive_commands.specs.Execute.{asked};
-ghost use Rattle.split_bay.specs.Fronts.{end_of};
-ghost use Rattle.split_bay.specs.Halves.{ReportsBoth, is_unreported};
 ghost use Rattle.split_bay.specs.Rings.{AreEnds};
 ghost use Rattle.library.specs.Halves.{HoldsBoth, ReportsHeld};
 ghost use Rattle.library.specs.Served.{ServesAlone, ServesBoth, ServesFront, ServesHalves};
 
 use super::entries::{enter_if_risen, wait_at_limit, wait_if_answered};
-use super::held::{fit, join_held, part_held};
+use super::held::fit;
 use super::seats::Seat;
 use super::{BackPlace, FrontPlace};
 use aptpl_store::AptplStore;
 use drive_theorems::replies_show_changes;
 use ledgers::{Parties, PartyShare, Tally};
 use scsi_sense::Reply;
-use split_bay::{Back, Front, Rings, execute_both, replies_show_changes_alone, report_fault};
+use split_bay::{Back, Front, Rings, execute_both, make_room, tell};
 use std::sync::{Mutex, Wait};
-use tape_buffer::Cataloged;
+use tape_buffer::Buffered;
 use tape_disk::Disk;
 use vtl_base::Bytes;
 
@@ -49,7 +47,7 @@ fn answer_alone<D: Disk, B: Parties + Rings, H: Parties, R: Wait>(
         result half.new sent.new seat.new }
 {
     // The law, and the half's invariant before and after, for the proof alone.
-    replies_show_changes_alone::<D, B>();
+    replies_show_changes::<Buffered<D>, AptplStore<D>>();
     let before = half.accepted();
     half.known();
     let reply = half.execute_lent(seat.nexus(), cdb, sent);
@@ -66,39 +64,27 @@ fn answer_alone<D: Disk, B: Parties + Rings, H: Parties, R: Wait>(
 fn answer_both<D: Disk + Drop, B: Parties + Rings, H: Parties, R: Wait>(
     rt: &R,
     tally: &Mutex<Tally<B, H>>,
-    front: Front<D, B>,
-    back: Back<D, B>,
+    front: &mut Front<D, B>,
+    back: &mut Back<D, B>,
     share: &mut PartyShare<B>,
     seat: &mut Seat<H>,
     cdb: &[u8],
     sent: &mut Bytes,
-) -> (Reply, Front<D, B>, Back<D, B>)
-    requires share { share.old ≡ front.drive.accepted }
-    requires ends { AreEnds (end_of front) back.number back.received }
-    ensures share { share.new ≡ result.1.drive.accepted }
-    ensures serves { ServesHalves D.state front back (asked seat.old.nexus cdb.now sent.old) seat.old
-        result.0 result.1 result.2 sent.new seat.new }
+) -> Reply
+    requires share { share.old ≡ front.old.drive.accepted }
+    requires ends { AreEnds front.old.sending back.old.number back.old.received }
+    ensures share { share.new ≡ front.new.drive.accepted }
+    ensures serves { ServesHalves D.state front.old back.old (asked seat.old.nexus cdb.now sent.old) seat.old
+        result front.new back.new sent.new seat.new }
 {
-    replies_show_changes::<Cataloged<D>, AptplStore<D>>();
+    replies_show_changes::<Buffered<D>, AptplStore<D>>();
     let before = front.accepted();
-    let (reply, front, back) = execute_both(front, back, seat.nexus(), cdb, sent);
+    let reply = execute_both(front, back, seat.nexus(), cdb, sent);
     let after = front.accepted();
     wait_at_limit(rt, before, cdb, &reply);
     seat.count_answer(rt);
     enter_if_risen(rt, tally, share, seat, before, after);
-    (reply, front, back)
-}
-
-// Reports a fault of the disk's half to hosts, if there is one that was not reported. The count of changes stays.
-fn report_to_hosts<D: Disk + Drop, B: Rings>(
-    front: Front<D, B>,
-    back: Back<D, B>,
-) -> (Front<D, B>, Back<D, B>)
-    requires { AreEnds (end_of front) back.number back.received }
-    ensures reports { ReportsBoth D.state (is_unreported D.state front back) front back result.0 result.1 }
-    ensures count { result.0.drive.accepted ≡ front.drive.accepted }
-{
-    report_fault(front, back)
+    reply
 }
 
 impl<D: Disk + Drop, B: Parties + Rings> FrontPlace<D, B> {
@@ -140,18 +126,14 @@ impl<D: Disk + Drop, B: Parties + Rings> FrontPlace<D, B> {
         ensures { ServesBoth D.state self.old back.old (asked seat.old.nexus cdb.now sent.old) seat.old
             result self.new back.new sent.new seat.new }
     {
-        let Some(hosts) = self.half.take() else {
+        let Some(hosts) = &mut self.half else {
             unreachable!()
         };
-        let Some(disks) = back.half.take() else {
+        let Some(disks) = &mut back.half else {
             unreachable!()
         };
-        fit(rt, &hosts, &disks);
-        let share = &mut self.share;
-        let (reply, hosts, disks) = answer_both(rt, tally, hosts, disks, share, seat, cdb, sent);
-        self.half.insert(hosts);
-        back.half.insert(disks);
-        reply
+        fit(rt, hosts, disks);
+        answer_both(rt, tally, hosts, disks, &mut self.share, seat, cdb, sent)
     }
 
     /// Reports a fault of the disk's half to the hosts, if there is one that was not reported yet. `back` has to be the
@@ -159,16 +141,14 @@ impl<D: Disk + Drop, B: Parties + Rings> FrontPlace<D, B> {
     pub fn report_fault<R: Wait>(&mut self, back: &mut BackPlace<D, B>, rt: &R)
         ensures { ReportsHeld D.state self.old back.old self.new back.new }
     {
-        let Some(hosts) = self.half.take() else {
+        let Some(hosts) = &mut self.half else {
             unreachable!()
         };
-        let Some(disks) = back.half.take() else {
+        let Some(disks) = &mut back.half else {
             unreachable!()
         };
-        fit(rt, &hosts, &disks);
-        let (hosts, disks) = report_to_hosts(hosts, disks);
-        self.half.insert(hosts);
-        back.half.insert(disks);
+        fit(rt, hosts, disks);
+        tell(hosts, disks);
     }
 
     /// Joins the halves and splits them again. After that the hosts' half may again send as many changes as may be
@@ -177,7 +157,13 @@ impl<D: Disk + Drop, B: Parties + Rings> FrontPlace<D, B> {
     pub fn renew<R: Wait>(&mut self, back: &mut BackPlace<D, B>, rt: &R)
         ensures { (bay : BayState D) × HoldsBoth D.state self.old back.old bay bay self.new back.new }
     {
-        let (bay, ends) = join_held(rt, &mut self.half, &mut back.half);
-        part_held(bay, ends, &mut self.half, &mut back.half);
+        let Some(hosts) = &mut self.half else {
+            unreachable!()
+        };
+        let Some(disks) = &mut back.half else {
+            unreachable!()
+        };
+        fit(rt, hosts, disks);
+        make_room(hosts, disks);
     }
 }

@@ -1,6 +1,5 @@
 //! Both halves of a drive, while their locks are held.
 ghost use Rattle.std.specs.Prelude.{◌≡◌, None, is_some, true};
-ghost use Rattle.split_bay.specs.Fronts.{end_of};
 ghost use Rattle.split_bay.specs.Rings.{AreEnds};
 ghost use Rattle.library.specs.Halves.{JoinsHeld, PartsHeld};
 ghost use Rattle.library.specs.Keeps.{KeepsDrive};
@@ -20,7 +19,7 @@ pub(super) fn known_drive<D: Disk>(bay: &Bay<D>)
 // Checks that these are the two halves of one drive. A library keeps the halves of a drive together; if they were not
 // those of one drive, the call would wait forever.
 pub(super) fn fit<D: Disk, B: Rings, R: Wait>(rt: &R, front: &Front<D, B>, back: &Back<D, B>)
-    ensures { AreEnds (end_of front.now) back.now.number back.now.received }
+    ensures { AreEnds front.now.sending back.now.number back.now.received }
 {
     if !front.fits(back) {
         for _ in rt.forever() {}

@@ -3,6 +3,7 @@ use Rattle.std.specs.Prelude.{◌≡◌, List, Result, Ok, Err}
 use Rattle.volume_core.specs.declared.media.MediumError.{MediumError}
 use Rattle.volume_core.specs.declared.changes.Change.{Change}
 use Rattle.volume_core.specs.Medium.{MediumState, Settles, Works, volume_of}
+use Rattle.volume_core.specs.Volume.{Part, changed}
 use Rattle.tape_buffer.specs.Frames.{MakesWay}
 
 -- a medium works on, with the same volume; or it was to store what is pending, and did not (own)
@@ -15,3 +16,8 @@ abbrev pub IsWay :
     Change → Result Unit MediumError → List (List Change) → List Change → List (List Change) → List Change → Type 0
 IsWay change (Ok done) frames pending new left = MakesWay frames pending change new left
 IsWay change (Err error) frames pending new left = new ≡ frames
+
+-- a volume once a change was added, or as it was where the change is returned (own)
+abbrev pub with_added : Result Unit Change → Change → List Part → List Part
+with_added (Ok done) change volume = changed volume change
+with_added (Err back) change volume = volume

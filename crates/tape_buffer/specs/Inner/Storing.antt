@@ -22,6 +22,6 @@ pub record IsRoomyFor {D : Type 0} (cartridge : OpenCartridge D) (pending : List
   pub fits : sum_by frame_size pending + left.room ≤ cartridge.room
   pub frames : left.records ≤ cartridge.reserved.frames
   pub one_more : 1 ≤ length pending → left.records + 1 ≤ cartridge.reserved.frames
-  pub body : longest_body ≤ cartridge.reserved.body
-  pub entries : (part : ℕ) → part < length (volume_made cartridge.contents)
+  pub body : 1 ≤ left.records → longest_body ≤ cartridge.reserved.body
+  pub entries : 1 ≤ left.records → (part : ℕ) → part < length (volume_made cartridge.contents)
       → length pending + left.records ≤ slice_index_or cartridge.reserved.entries part 0

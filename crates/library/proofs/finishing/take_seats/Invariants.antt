@@ -1,8 +1,8 @@
-use Rattle.std.proofs.Common.{◌≡◌, ◌+◌, vec_len}
-use Rattle.library.specs.Ends.{sum_of_seats}
+use Rattle.std.proofs.Common.{◌≡◌, ◌+◌, ◌%◌, ◌^◌, vec_len}
+use Rattle.library.specs.Ends.{sum_of_answers, sum_of_moves, sum_of_seats}
 use Rattle.library.proofs.finishing.take_seats.Given as goal
 
--- the gathered amounts and those of the seats that are left have together the same sum
+-- what was gathered and added up so far, and what the seats that are left have, are together the same
 abbrev pub invariant-loop-seat : goal.invariant-loop-seat
 invariant-loop-seat g l = record {
   shares :
@@ -10,6 +10,10 @@ invariant-loop-seat g l = record {
   changes :
       l.gathering.hosts.changes + sum_of_seats l.seats.items
       ≡ l.initial.gathering.hosts.changes + sum_of_seats l.initial.seats.items;
+  answers :
+      (l.answered + sum_of_answers l.seats.items) % 2 ^ 64 ≡ sum_of_answers l.initial.seats.items % 2 ^ 64;
+  moves :
+      (l.moved + sum_of_moves l.seats.items) % 2 ^ 64 ≡ (sum_of_moves l.initial.seats.items + l.fn.operator) % 2 ^ 64;
   total : l.gathering.total ≡ l.initial.gathering.total;
   bays : l.gathering.bays ≡ l.initial.gathering.bays;
 }

@@ -56,6 +56,7 @@ returns-clause-runs g c =
             c.run_opened-seats.ensures.places.all,
             c.requires.host_ledger.1,
           ));
+      used = c.finish.ensures.used;
     }
 
 pub returns-clause-ends : goal.returns-clause-ends

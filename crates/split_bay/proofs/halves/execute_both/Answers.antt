@@ -1,21 +1,23 @@
+use Rattle.split_bay.specs.Backs.{disks_half}
+use Rattle.split_bay.specs.Fronts.{hosts_half}
+use Rattle.split_bay.proofs.HalvesLemmas.{holds_both}
 use Rattle.split_bay.proofs.halves.execute_both.Goals as goal
 
 pub returns : goal.returns
 returns g c =
     let back = c.known-2.ensures in
+    let holds = holds_both g.D.Disk.state (hosts_half c.front.inside.drive c.front.inside.sending) c.args.front.now
+    (disks_half c.back.inside.receiving c.back.inside.disks) c.args.back.now c.attach.new.drive
+    c.answer-reply.new.drive
+    c.attach.new.sending (hosts_half c.detach.new.drive c.detach.new.sending)
+    (disks_half c.detach.new.receiving c.detach.new.disks) c.front.view_is c.back.view_is c.known.ensures.keeps
+    (record { cartridge = back.cartridge; follows = back.follows; within = back.within }) c.attach.ensures.joins
+    c.attach.ensures.keeps c.answer-reply.ensures.keeps c.detach.ensures.positioned c.detach.ensures.parts in
     record {
-      joined = c.join-bay.result.0;
-      ends = c.join-bay.result.1;
-      joins = c.join-bay.ensures;
-      front_keeps = c.known.ensures.keeps;
-      back_keeps = record { cartridge = back.cartridge; follows = back.follows; within = back.within };
-      joined_keeps = c.known-3.ensures.keeps;
-      stood = c.known-3.ensures.positioned;
-      answered = c.execute_lent-reply.new.self;
-      answers = c.execute_lent-reply.ensures.moments;
-      settled = c.execute_lent-reply.ensures.settled;
-      safe = c.execute_lent-reply.ensures.safe;
-      keeps = c.known-4.ensures.keeps;
-      positioned = c.known-4.ensures.positioned;
-      parts = c.part-front.ensures;
+      joined = c.attach.new.drive;
+      answered = c.answer-reply.new.drive;
+      holds = holds;
+      answers = c.answer-reply.ensures.moments;
+      settled = c.answer-reply.ensures.settled;
+      safe = c.answer-reply.ensures.safe;
     }

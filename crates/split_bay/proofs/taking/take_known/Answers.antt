@@ -3,12 +3,12 @@ use Rattle.vtl_base.specs.Below.{advances_nowhere}
 use Rattle.volume_core.specs.Volume.{Part, refusal_of}
 use Rattle.tape_buffer.specs.Moves.{buffer_below, medium_moves_nowhere}
 use Rattle.tape_buffer.specs.State.{BufferState, state_of}
-use Rattle.tape_buffer.specs.Taking.{LentState}
+use Rattle.tape_buffer.specs.Taking.{DisksState}
 use Rattle.split_bay.specs.declared.items.Item.TheVariants.{Sent}
 use Rattle.split_bay.specs.Backs.{FollowsSpan}
 use Rattle.split_bay.specs.Spans.{KeepsLimits, Span, span_of}
 use Rattle.split_bay.proofs.SpanLemmas.{span_next}
-use Rattle.split_bay.proofs.TakenLemmas.{applies_next, failed_still, follows_next, keeps_next, takes_more, takes_none}
+use Rattle.split_bay.proofs.TakenLemmas.{applies_next, follows_next, keeps_next, still, takes_more, takes_none}
 use Rattle.split_bay.proofs.taking.take_known.Goals as goal
 
 pub changes-init : goal.changes-init
@@ -51,12 +51,12 @@ changes-preserved g c =
       follows =
           subst (λ (s : Span). FollowsSpan g.D.Disk.state new s) (sym next)
           (follows_next g.D.Disk.state (span_of items) change old new within c.changes.invariant.follows
-          c.take.ensures.taken);
+          c.take.ensures.taken c.take.ensures.state);
       takes =
           takes_more g.D.Disk.state c.args.receiving.now c.changes.receiving c.receive-change.new.self first old new
           change takes told.number told.received told.waiting
-          (ap (λ (l : LentState g.row.D.Denot). l.buffer) c.take.ensures.taken)
+          (ap (λ (l : DisksState g.row.D.Denot). l.buffer) c.take.ensures.taken)
           (ap (λ (b : BufferState g.row.D.Denot). (state_of g.D.Disk.state b).failed) takes.pending
-          ∙ failed_still g.D.Disk.state first.buffer takes.found)
+          ∙ (still g.D.Disk.state first.buffer takes.found).1)
           c.take.ensures.advances;
     }

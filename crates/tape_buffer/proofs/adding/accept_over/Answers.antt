@@ -2,11 +2,12 @@ use Rattle.std.proofs.Common.{◌≡◌, List, None, ap, sym, subst, ◌∙◌}
 use Rattle.volume_core.specs.declared.changes.Change.{Change}
 use Rattle.volume_core.specs.Volume.{Part, refusal_of}
 use Rattle.volume_core.specs.Medium.{volume_of}
+use Rattle.object_index.specs.Shapes.{IsIndexOf}
 use Rattle.cartridge.specs.State.{OpenCartridge}
 use Rattle.tape_buffer.specs.Frames.{MakesWay}
 use Rattle.tape_buffer.specs.State.{open_buffer, open_state}
 use Rattle.tape_buffer.proofs.CoreLemmas.{rests}
-use Rattle.tape_buffer.proofs.AddingLemmas.{accepts_broken, accepts_more, advances_more, fits_more}
+use Rattle.tape_buffer.proofs.AddingLemmas.{accepts_broken, accepts_more, advances_more, fits_more, volume_kept, volume_more, volume_still}
 use Rattle.tape_buffer.proofs.FrameLemmas.{frames_refused}
 use Rattle.tape_buffer.proofs.adding.accept_over.Given.{Over}
 use Rattle.tape_buffer.proofs.adding.accept_over.Goals as goal
@@ -30,7 +31,8 @@ returns-then-not-has_room_over-clause-advances g c =
 unrefused : (g : Over) (c : goal.In-Ok-add_over g)
     → refusal_of (volume_of (open_state c.args.cartridge.now c.args.pending.now)) c.args.change ≡ None
 unrefused g c =
-    sym c.refusal_seen.ensures ∙ c.in-None.is
+    sym (c.refusal_shown.ensures (volume_of (open_state c.args.cartridge.now c.args.pending.now)) c.requires.shows)
+    ∙ c.in-None.is
 
 pub returns-in-Ok-add_over-clause-answer : goal.returns-in-Ok-add_over-clause-answer
 returns-in-Ok-add_over-clause-answer g c =
@@ -69,7 +71,40 @@ returns-in-Err-clause-frames g c =
 pub returns-in-Err-clause-answer : goal.returns-in-Err-clause-answer
 returns-in-Err-clause-answer g c =
     accepts_broken c.args.cartridge.now c.make_way.new.cartridge c.args.pending.now c.make_way.new.pending
-    c.args.change c.in-Err.error (sym c.refusal_seen.ensures ∙ c.in-None.is)
+    c.args.change c.in-Err.error
+    (sym (c.refusal_shown.ensures (volume_of (open_state c.args.cartridge.now c.args.pending.now)) c.requires.shows)
+    ∙ c.in-None.is)
     (sym c.has_failed.ensures ∙ c.if-has_failed.false)
     (fits_more c.args.cartridge.now.room c.frame_size.result c.has_room_over.result c.args.pending.now c.args.change
     c.has_room_over.ensures.0 c.frame_size.ensures c.if-not-has_room_over.false) c.in-Err.ensures.answer
+
+pub returns-in-Err-clause-shows : goal.returns-in-Err-clause-shows
+returns-in-Err-clause-shows g c =
+    subst (IsIndexOf c.args.index.now)
+    (sym (volume_kept (open_state c.args.cartridge.now c.args.pending.now)
+    (open_state c.make_way.new.cartridge c.make_way.new.pending) c.in-Err.error c.in-Err.ensures.answer))
+    c.requires.shows
+
+pub add_over-requires-clause-shows : goal.add_over-requires-clause-shows
+add_over-requires-clause-shows g c =
+    subst (IsIndexOf c.args.index.now) (sym c.in-Ok.ensures.answer.volume_is) c.requires.shows
+
+pub returns-in-Ok-add_over-clause-shows : goal.returns-in-Ok-add_over-clause-shows
+returns-in-Ok-add_over-clause-shows g c =
+    let between = volume_of (open_state c.make_way.new.cartridge c.make_way.new.pending) in
+    subst (IsIndexOf c.add_over.new.index)
+    (sym (volume_more c.args.cartridge.now c.make_way.new.cartridge c.add_over.new.cartridge c.args.pending.now
+    c.make_way.new.pending c.add_over.new.pending c.args.change c.in-Ok.ensures.answer c.in-Ok.ensures.stores
+    c.in-Ok-add_over.ensures.same c.in-Ok-add_over.ensures.ok))
+    (c.in-Ok-add_over.ensures.shows between
+    (subst (IsIndexOf c.args.index.now) (sym c.in-Ok.ensures.answer.volume_is) c.requires.shows))
+
+pub returns-in-Err-add_over-clause-shows : goal.returns-in-Err-add_over-clause-shows
+returns-in-Err-add_over-clause-shows g c =
+    let between = volume_of (open_state c.make_way.new.cartridge c.make_way.new.pending) in
+    subst (IsIndexOf c.add_over.new.index)
+    (sym (volume_still c.args.cartridge.now c.make_way.new.cartridge c.add_over.new.cartridge c.args.pending.now
+    c.make_way.new.pending c.add_over.new.pending c.args.change c.in-Ok.ensures.answer c.in-Ok.ensures.stores
+    c.in-Err-add_over.ensures.same c.in-Err-add_over.ensures.err.1))
+    (c.in-Err-add_over.ensures.shows between
+    (subst (IsIndexOf c.args.index.now) (sym c.in-Ok.ensures.answer.volume_is) c.requires.shows))

@@ -1,9 +1,9 @@
-use Rattle.std.proofs.Common.{ap, arith}
+use Rattle.std.proofs.Common.{arith}
 use Rattle.cartridge.specs.Contents.{volume_made}
-use Rattle.volume_core.specs.Volume.{after, capacity_of, count_of}
-use Rattle.tape_buffer.proofs.AddingLemmas.{apply_more, pending_more}
-use Rattle.waiting_changes.proofs.ChangeLemmas.{inside_of}
-use Rattle.waiting_changes.proofs.VolumeLemmas.{stays_so}
+use Rattle.volume_core.specs.Volume.{after}
+use Rattle.tape_buffer.proofs.AddingLemmas.{pending_more}
+use Rattle.tape_buffer.proofs.ChangeLemmas.{inside_of}
+use Rattle.tape_buffer.proofs.VolumeLemmas.{stays_so}
 use Rattle.tape_buffer.proofs.adding.add_over.Goals as goal
 
 pub reserve_over-requires-clause-part : goal.reserve_over-requires-clause-part
@@ -21,28 +21,23 @@ pub returns-clause-held : goal.returns-clause-held
 returns-clause-held g c =
     pending_more c.args.cartridge.now c.reserve_over.new.cartridge c.args.pending.now c.push.new.self c.args.change
     c.requires.held (c.known.ensures.at_rest c.requires.works) c.reserve_over.ensures.same c.requires.unrefused
-    c.requires.room c.in-Ok.ensures.ok c.in_ok-push.ensures.ok
+    c.requires.room c.in-Ok.ensures.ok c.push.ensures
 
-pub push-requires-clause-applies : goal.push-requires-clause-applies
-push-requires-clause-applies g c =
-    let volume = volume_made c.args.cartridge.now.contents in
-    record {
-      volume = volume;
-      apply = apply_more volume c.args.pending.now c.args.change c.requires.held.apply c.requires.unrefused;
-      part =
-          omega (
-            arith,
-            c.parts.ensures.parts,
-            c.parts.ensures.few,
-            (stays_so volume c.args.pending.now c.requires.held.apply).parts,
-            inside_of (after volume c.args.pending.now) c.args.change c.requires.unrefused,
-          );
-      count = omega (arith, ap (count_of volume) c.part.ensures, c.count.ensures.count, c.count.ensures.bound);
-      capacity =
-          omega (
-            arith,
-            ap (capacity_of volume) c.part-2.ensures,
-            c.capacity.ensures.capacity,
-            c.capacity.ensures.bound,
-          );
-    }
+pub enter_shown-requires : goal.enter_shown-requires
+enter_shown-requires g c =
+    let volume = after (volume_made c.args.cartridge.now.contents) c.args.pending.now in (
+      volume,
+      record {
+        shows = c.reserve_entry.ensures.shows volume c.requires.shows;
+        none = c.requires.unrefused;
+        roomy = c.in-Ok-reserve_entry.ensures.ok;
+      },
+    )
+
+pub reserve_entry-requires : goal.reserve_entry-requires
+reserve_entry-requires g c =
+    (after (volume_made c.args.cartridge.now.contents) c.args.pending.now, c.requires.shows, c.requires.unrefused)
+
+pub returns-clause-shows : goal.returns-clause-shows
+returns-clause-shows g c = λ volume is.
+    c.enter_shown.ensures.shows volume (c.reserve_entry.ensures.shows volume is)

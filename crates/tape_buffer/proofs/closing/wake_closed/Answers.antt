@@ -1,14 +1,16 @@
-use Rattle.std.proofs.Common.{◌≡◌, ◌∙◌, [], Err, Ok, false, refl, subst, sym}
+use Rattle.std.proofs.Common.{◌≡◌, ◌∙◌, List, [], Err, Ok, false, refl, subst, sym}
 use Rattle.std.specs.Prelude.{◌≢◌}
 use Rattle.vtl_base.specs.Below.{Advances}
 use Rattle.volume_core.specs.declared.media.MediumError.{MediumError}
 use Rattle.volume_core.specs.declared.media.MediumError.TheVariants as Media
-use Rattle.volume_core.specs.Medium.{WakesFrom, met_fault}
+use Rattle.volume_core.specs.declared.changes.Change.{Change}
+use Rattle.volume_core.specs.Medium.{WakesFrom, met_fault, volume_of}
+use Rattle.object_index.specs.Shapes.{IsIndexOf}
 use Rattle.tape_disk.specs.TwoDisks.{AreHonest, seen_of_two}
 use Rattle.gate_journal.specs.State.{room_behind}
 use Rattle.cartridge_sides.specs.Pairs.{gate_behind}
 use Rattle.cartridge.specs.declared.error.CartridgeError.TheVariants as Cartridges
-use Rattle.cartridge.specs.Contents.{bodies_of}
+use Rattle.cartridge.specs.Contents.{bodies_of, volume_made}
 use Rattle.cartridge.specs.State.{ClosedCartridge, OpenCartridge}
 use Rattle.tape_buffer.specs.Inner.Waking.{wake_error_of}
 use Rattle.tape_buffer.specs.Moves.{LeavesAlone, LeavesEachAlone, buffer_below}
@@ -18,8 +20,8 @@ use Rattle.tape_buffer.proofs.TwoLemmas.{read_now, stay_honest}
 use Rattle.tape_buffer.proofs.WakingLemmas.{stays_closed}
 use Rattle.tape_buffer.proofs.closing.wake_closed.Goals as goal
 
-pub returns-in-Ok-catalog_for-clause-ok : goal.returns-in-Ok-catalog_for-clause-ok
-returns-in-Ok-catalog_for-clause-ok g c =
+pub returns-in-Ok-memory_for-clause-ok : goal.returns-in-Ok-memory_for-clause-ok
+returns-in-Ok-memory_for-clause-ok g c =
     let disk = g.D.Disk.state in
     let told = c.in-Ok.ensures in
     let one = c.a_pair_gives_one_volume.ensures.contents in
@@ -27,12 +29,13 @@ returns-in-Ok-catalog_for-clause-ok g c =
     let new = c.in-Ok.opening.cartridge in
     let room = subst (λ (k : OpenCartridge _). AreHonest disk k.disks → k.room ≡ room_behind
     (gate_behind k.contents.head (bodies_of k.contents.frames))) c.keep-cartridge.ensures
-    c.known-in-Ok-catalog_for.ensures.room in
-    subst (λ (k : OpenCartridge _). IsPendingOver k []
-    × WakesFrom (AreHonest disk old.disks) false (closed_state disk old) (Ok tt) (open_state k [])
-    × Advances (buffer_below disk) (closed_buffer old) [] false (open_buffer k [])
-    × LeavesAlone disk (closed_buffer old) (open_buffer k [])
-    × LeavesEachAlone disk (closed_buffer old) (open_buffer k [])) (sym c.keep-cartridge.ensures) (
+    c.known-in-Ok-memory_for.ensures.room in
+    subst (λ (p : OpenCartridge _ × List Change). IsPendingOver p.0 p.1
+    × WakesFrom (AreHonest disk old.disks) false (closed_state disk old) (Ok tt) (open_state p.0 p.1)
+    × Advances (buffer_below disk) (closed_buffer old) [] false (open_buffer p.0 p.1)
+    × LeavesAlone disk (closed_buffer old) (open_buffer p.0 p.1)
+    × LeavesEachAlone disk (closed_buffer old) (open_buffer p.0 p.1))
+    (λ i. ((sym c.keep-cartridge.ensures) i, (sym c.in-Ok-memory_for.ensures.1) i)) (
       nothing_over new told.ok.1,
       (
         record { awake = refl; works = told.ok.0; nothing_pending = refl; read = refl },
@@ -47,8 +50,15 @@ returns-in-Ok-catalog_for-clause-ok g c =
       told.each.stays,
     )
 
-pub returns-in-Err-catalog_for-clause-err : goal.returns-in-Err-catalog_for-clause-err
-returns-in-Err-catalog_for-clause-err g c =
+pub returns-in-Ok-memory_for-clause-catalog : goal.returns-in-Ok-memory_for-clause-catalog
+returns-in-Ok-memory_for-clause-catalog g c =
+    subst (λ (p : OpenCartridge _ × List Change). IsIndexOf c.in-Ok-memory_for.index (volume_of (open_state p.0 p.1)))
+    (λ i. ((sym c.keep-cartridge.ensures) i, (sym c.in-Ok-memory_for.ensures.1) i))
+    (subst (λ (k : OpenCartridge _). IsIndexOf c.in-Ok-memory_for.index (volume_made k.contents)) c.cartridge.ensures
+    c.in-Ok-memory_for.ensures.0)
+
+pub returns-in-Err-memory_for-clause-err : goal.returns-in-Err-memory_for-clause-err
+returns-in-Err-memory_for-clause-err g c =
     let disk = g.D.Disk.state in
     let told = c.in-Ok.ensures in
     let laws = c.a_pair_gives_one_volume.ensures in

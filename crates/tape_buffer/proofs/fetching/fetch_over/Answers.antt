@@ -1,47 +1,104 @@
-use Rattle.std.proofs.Common.{◌≡◌, ◌∙◌, ◌<◌, ℕ, Bool, List, [], length, Option, Some, None, ap, arith, subst, sym, vec_capacity}
-use Rattle.std.specs.Prelude.{IfSome, OnOk, slice_index_or}
-use Rattle.std.specs.Option.{option_map}
+use Rattle.std.proofs.Common.{◌≡◌, ◌∙◌, ◌<◌, ◌≤◌, ℕ, Bool, List, [], length, Option, Some, ap, subst, sym, vec_capacity}
+use Rattle.std.specs.Prelude.{IfSome, OnOk, slice_get}
 use Rattle.vtl_base.specs.Below.{Advances}
+use Rattle.vtl_base.specs.declared.limits.TheConstants.{MAX_BLOCK}
 use Rattle.volume_core.specs.declared.changes.Change.{Change}
-use Rattle.volume_core.specs.Volume.{block_at, block_in, kind_in}
-use Rattle.object_index.specs.declared.places.Placed.{Placed}
-use Rattle.object_index.specs.Places.{blank, filled}
+use Rattle.volume_core.specs.declared.objects.Kind.TheVariants as Kinds
+use Rattle.volume_core.specs.Volume.{AllApply, Part, after, block_at, block_in, kind_at, kind_in, objects_of}
 use Rattle.tape_disk.specs.TwoDisks.{failures_of}
 use Rattle.cartridge.specs.Contents.{volume_made}
 use Rattle.tape_buffer.specs.Moves.{buffer_below}
 use Rattle.tape_buffer.specs.State.{open_buffer}
 use Rattle.tape_buffer.proofs.CoreLemmas.{rests}
-use Rattle.tape_buffer.proofs.FetchingLemmas.{block_inside, can_copy, copied_block, copied_lack, copied_short, copied_well, fetched, fetched_lack}
-use Rattle.tape_buffer.proofs.SeenLemmas.{block_behind, kind_front, object_front, waits_there}
+use Rattle.tape_buffer.proofs.FetchingLemmas.{copied_block, copied_memory, copied_short, copied_well, fetched, fetched_lack}
 use Rattle.tape_buffer.proofs.fetching.fetch_over.Goals as goal
 
 pub returns-then-has_failed-clause-advances : goal.returns-then-has_failed-clause-advances
 returns-then-has_failed-clause-advances g c =
     rests g.D.Disk.state g.met.D.Disk.is_disk (open_buffer c.args.cartridge.now c.args.pending.now)
 
+pub waiting_block-requires : goal.waiting_block-requires
+waiting_block-requires g c =
+    subst (λ (l : List Change). (volume : List Part) × AllApply volume l
+    × (kind_at (after volume l) c.args.part c.args.at ≡ Some Kinds.Block)) (sym c.as_slice.ensures)
+    (volume_made c.args.cartridge.now.contents, c.requires.held.apply, c.requires.block)
+
+-- what waits
+waits : {slice : List Change} (volume : List Part) (pending : List Change) (part at : ℕ) (block : List ℕ)
+    → slice ≡ pending → AllApply volume pending → kind_at (after volume pending) part at ≡ Some Kinds.Block
+    → ((volume : List Part) → AllApply volume slice → kind_at (after volume slice) part at ≡ Some Kinds.Block
+    → (block_at (after volume slice) part at ≡ Some block) × (length block ≤ MAX_BLOCK))
+    → (block_at (after volume pending) part at ≡ Some block) × (length block ≤ MAX_BLOCK)
+waits volume pending part at block is all there found =
+    subst (λ (l : List Change). AllApply volume l → kind_at (after volume l) part at ≡ Some Kinds.Block
+    → (block_at (after volume l) part at ≡ Some block) × (length block ≤ MAX_BLOCK)) is (found volume) all there
+
+-- what is stored
+stored : {slice : List Change} (volume : List Part) (pending : List Change) (part at : ℕ) → slice ≡ pending
+    → AllApply volume pending
+    → ((volume : List Part) → AllApply volume slice
+    → slice_get (objects_of (after volume slice) part) at ≡ slice_get (objects_of volume part) at)
+    → slice_get (objects_of (after volume pending) part) at ≡ slice_get (objects_of volume part) at
+stored volume pending part at is all found =
+    subst (λ (l : List Change). AllApply volume l → slice_get (objects_of (after volume l) part) at
+    ≡ slice_get (objects_of volume part) at) is (found volume) all
+
+pub returns-in-Some-clause-bytes : goal.returns-in-Some-clause-bytes
+returns-in-Some-clause-bytes g c = λ honest.
+    let volume = volume_made c.args.cartridge.now.contents in
+    let there = waits volume c.args.pending.now c.args.part c.args.at c.in-Some.block.now c.as_slice.ensures
+    c.requires.held.apply c.requires.block c.in-Some.ensures.waits in
+    copied_block c.in-Some.block.now (vec_capacity c.args.into.now)
+    (block_at (after volume c.args.pending.now) c.args.part c.args.at)
+    there.0 c.copy_block.result c.copy_block.new.into.items c.copy_block.ensures
+
+pub returns-in-Some-clause-bound : goal.returns-in-Some-clause-bound
+returns-in-Some-clause-bound g c =
+    let volume = volume_made c.args.cartridge.now.contents in
+    let there = waits volume c.args.pending.now c.args.part c.args.at c.in-Some.block.now c.as_slice.ensures
+    c.requires.held.apply c.requires.block c.in-Some.ensures.waits in
+    copied_short c.in-Some.block.now (vec_capacity c.args.into.now)
+    (block_at (after volume c.args.pending.now) c.args.part c.args.at)
+    there.0 c.copy_block.result c.copy_block.new.into.items c.copy_block.ensures there.1
+
+pub returns-in-Some-clause-memory : goal.returns-in-Some-clause-memory
+returns-in-Some-clause-memory g c = λ none.
+    let volume = volume_made c.args.cartridge.now.contents in
+    let there = waits volume c.args.pending.now c.args.part c.args.at c.in-Some.block.now c.as_slice.ensures
+    c.requires.held.apply c.requires.block c.in-Some.ensures.waits in
+    copied_memory c.in-Some.block.now (vec_capacity c.args.into.now)
+    (block_at (after volume c.args.pending.now) c.args.part c.args.at)
+    there.0 c.copy_block.result c.copy_block.new.into.items c.copy_block.ensures none
+
+pub returns-in-Some-clause-advances : goal.returns-in-Some-clause-advances
+returns-in-Some-clause-advances g c =
+    subst (λ (fault : Bool). Advances (buffer_below g.D.Disk.state)
+    (open_buffer c.args.cartridge.now c.args.pending.now) [] fault
+    (open_buffer c.args.cartridge.now c.args.pending.now))
+    (sym (copied_well c.in-Some.block.now (vec_capacity c.args.into.now) c.copy_block.result
+    c.copy_block.new.into.items c.copy_block.ensures))
+    (rests g.D.Disk.state g.met.D.Disk.is_disk (open_buffer c.args.cartridge.now c.args.pending.now))
+
 pub fetch_stored-requires-clause-block : goal.fetch_stored-requires-clause-block
 fetch_stored-requires-clause-block g c =
-    kind_front c.args.pending.now c.tail-tail.result.now c.tail-tail.ensures
-    (volume_made c.args.cartridge.now.contents) c.args.part c.requires.held.apply c.front_of-front.ensures.few
-    c.front_of-front.result c.front_of-front.ensures.front c.args.at c.if-at-front.true
-    ∙ c.requires.block
+    let volume = volume_made c.args.cartridge.now.contents in
+    let same = stored volume c.args.pending.now c.args.part c.args.at c.as_slice.ensures c.requires.held.apply
+    c.in-None.ensures.stored in
+    sym (ap kind_in same) ∙ c.requires.block
 
-pub returns-then-at-front-clause-bytes : goal.returns-then-at-front-clause-bytes
-returns-then-at-front-clause-bytes g c = λ honest.
-    let same =
-    object_front c.args.pending.now c.tail-tail.result.now c.tail-tail.ensures
-    (volume_made c.args.cartridge.now.contents) c.args.part c.requires.held.apply c.front_of-front.ensures.few
-    c.front_of-front.result c.front_of-front.ensures.front c.args.at c.if-at-front.true in
+pub returns-in-None-clause-bytes : goal.returns-in-None-clause-bytes
+returns-in-None-clause-bytes g c = λ honest.
+    let volume = volume_made c.args.cartridge.now.contents in
+    let same = stored volume c.args.pending.now c.args.part c.args.at c.as_slice.ensures c.requires.held.apply
+    c.in-None.ensures.stored in
     subst (λ (o : Option (List ℕ)). OnOk c.fetch_stored.result (o ≡ Some c.fetch_stored.new.into.items))
     (sym (ap block_in same)) (c.fetch_stored.ensures.bytes honest)
 
-pub returns-then-at-front-clause-memory : goal.returns-then-at-front-clause-memory
-returns-then-at-front-clause-memory g c = λ none.
+pub returns-in-None-clause-memory : goal.returns-in-None-clause-memory
+returns-in-None-clause-memory g c = λ none.
     let volume = volume_made c.args.cartridge.now.contents in
-    let same =
-    object_front c.args.pending.now c.tail-tail.result.now c.tail-tail.ensures volume c.args.part
-    c.requires.held.apply c.front_of-front.ensures.few c.front_of-front.result c.front_of-front.ensures.front
-    c.args.at c.if-at-front.true in
+    let same = stored volume c.args.pending.now c.args.part c.args.at c.as_slice.ensures c.requires.held.apply
+    c.in-None.ensures.stored in
     subst (λ (o : Option (List ℕ)). IfSome o (λ block. vec_capacity c.args.into.now < length block))
     (sym (ap block_in same))
     (fetched_lack
@@ -50,139 +107,11 @@ returns-then-at-front-clause-memory g c = λ none.
     (failures_of g.D.Disk.state c.fetch_stored.new.cartridge.disks) c.fetch_stored.result
     c.fetch_stored.ensures.answer none)
 
-pub returns-then-at-front-clause-advances : goal.returns-then-at-front-clause-advances
-returns-then-at-front-clause-advances g c =
+pub returns-in-None-clause-advances : goal.returns-in-None-clause-advances
+returns-in-None-clause-advances g c =
     fetched g.D.Disk.state g.met.D.Disk.is_disk c.args.cartridge.now c.fetch_stored.new.cartridge c.args.pending.now
     (sym c.has_failed.ensures ∙ c.if-has_failed.false) c.fetch_stored.ensures.same c.fetch_stored.ensures.disks
     c.fetch_stored.ensures.unwritten
     (IfSome (block_at (volume_made c.args.cartridge.now.contents) c.args.part c.args.at)
     (λ block. vec_capacity c.args.into.now < length block))
     c.fetch_stored.result c.fetch_stored.ensures.answer
-
-pub offset_bounds-changes-place : goal.offset_bounds-changes-place
-offset_bounds-changes-place g c =
-    let volume = volume_made c.args.cartridge.now.contents in
-    let seen =
-    block_behind c.args.pending.now c.tail-tail.result.now c.tail-tail.ensures volume c.args.part
-    c.requires.held.apply c.front_of-front.ensures.few c.front_of-front.result c.front_of-front.ensures.front c.args.at
-    c.in-Some-Block.place _ c.if-at-front.false
-    (sym c.place.ensures ∙ c.in-Some-Block.is ∙ ap Some c.in-Some-Block.field-0-is) in
-    let inside =
-    block_inside volume c.args.pending.now c.args.part c.args.at c.in-Some-Block.place c.requires.held.apply seen in
-    omega (
-      arith,
-      inside,
-      ap (λ (l : List Change). length l) c.as_slice-changes.ensures,
-      c.as_slice-changes.type_inv.0,
-      c.as_slice-changes.type_inv.1,
-    )
-
-pub bounds-changes-place : goal.bounds-changes-place
-bounds-changes-place g c =
-    let volume = volume_made c.args.cartridge.now.contents in
-    let seen =
-    block_behind c.args.pending.now c.tail-tail.result.now c.tail-tail.ensures volume c.args.part
-    c.requires.held.apply c.front_of-front.ensures.few c.front_of-front.result c.front_of-front.ensures.front c.args.at
-    c.in-Some-Block.place _ c.if-at-front.false
-    (sym c.place.ensures ∙ c.in-Some-Block.is ∙ ap Some c.in-Some-Block.field-0-is) in
-    let inside =
-    block_inside volume c.args.pending.now c.args.part c.args.at c.in-Some-Block.place c.requires.held.apply seen in
-    omega (arith, inside, ap (λ (l : List Change). length l) c.as_slice-changes.ensures)
-
-pub copy_block-requires : goal.copy_block-requires
-copy_block-requires g c =
-    let volume = volume_made c.args.cartridge.now.contents in
-    let seen =
-    block_behind c.args.pending.now c.tail-tail.result.now c.tail-tail.ensures volume c.args.part
-    c.requires.held.apply c.front_of-front.ensures.few c.front_of-front.result c.front_of-front.ensures.front c.args.at
-    c.in-Some-Block.place _ c.if-at-front.false
-    (sym c.place.ensures ∙ c.in-Some-Block.is ∙ ap Some c.in-Some-Block.field-0-is) in
-    can_copy volume c.args.pending.now c.args.part c.args.at c.in-Some-Block.place c.requires.held.apply seen
-    c.index-changes-place.result
-    (c.index-changes-place.is
-    ∙ ap (λ (l : List Change). slice_index_or l c.in-Some-Block.place c.index-changes-place.result)
-    c.as_slice-changes.ensures)
-
-pub unreachable-requires : goal.unreachable-requires
-unreachable-requires g c =
-    let there =
-    waits_there c.args.pending.now c.tail-tail.result.now c.tail-tail.ensures
-    (volume_made c.args.cartridge.now.contents) c.args.part c.requires.held.apply c.front_of-front.ensures.few
-    c.front_of-front.result c.front_of-front.ensures.front c.args.at (Some c.in-Some-Mark.field-0)
-    c.if-at-front.false c.requires.block (sym c.in-Some-Mark.is ∙ c.place.ensures) in
-    let e = ap (λ (p : Placed). kind_in (option_map (filled blank) (Some p))) (sym c.in-Some-Mark.field-0-is) ∙ there in
-    cc
-
-pub unreachable-requires-in-None : goal.unreachable-requires-in-None
-unreachable-requires-in-None g c =
-    let e =
-    waits_there c.args.pending.now c.tail-tail.result.now c.tail-tail.ensures
-    (volume_made c.args.cartridge.now.contents) c.args.part c.requires.held.apply c.front_of-front.ensures.few
-    c.front_of-front.result c.front_of-front.ensures.front c.args.at None c.if-at-front.false c.requires.block
-    (sym c.in-None.is ∙ c.place.ensures) in
-    cc
-
-pub returns-clause-bytes : goal.returns-clause-bytes
-returns-clause-bytes g c = λ honest.
-    let volume = volume_made c.args.cartridge.now.contents in
-    let seen =
-    block_behind c.args.pending.now c.tail-tail.result.now c.tail-tail.ensures volume c.args.part
-    c.requires.held.apply c.front_of-front.ensures.few c.front_of-front.result c.front_of-front.ensures.front c.args.at
-    c.in-Some-Block.place _ c.if-at-front.false
-    (sym c.place.ensures ∙ c.in-Some-Block.is ∙ ap Some c.in-Some-Block.field-0-is) in
-    copied_block volume c.args.pending.now c.args.part c.args.at c.in-Some-Block.place c.requires.held.apply seen
-    c.index-changes-place.result
-    (c.index-changes-place.is
-    ∙ ap (λ (l : List Change). slice_index_or l c.in-Some-Block.place c.index-changes-place.result)
-    c.as_slice-changes.ensures)
-    (vec_capacity c.args.into.now) c.copy_block.result c.copy_block.new.into.items c.copy_block.ensures
-
-pub returns-clause-bound : goal.returns-clause-bound
-returns-clause-bound g c =
-    let volume = volume_made c.args.cartridge.now.contents in
-    let seen =
-    block_behind c.args.pending.now c.tail-tail.result.now c.tail-tail.ensures volume c.args.part
-    c.requires.held.apply c.front_of-front.ensures.few c.front_of-front.result c.front_of-front.ensures.front c.args.at
-    c.in-Some-Block.place _ c.if-at-front.false
-    (sym c.place.ensures ∙ c.in-Some-Block.is ∙ ap Some c.in-Some-Block.field-0-is) in
-    copied_short volume c.args.pending.now c.args.part c.args.at c.in-Some-Block.place c.requires.held.apply seen
-    c.index-changes-place.result
-    (c.index-changes-place.is
-    ∙ ap (λ (l : List Change). slice_index_or l c.in-Some-Block.place c.index-changes-place.result)
-    c.as_slice-changes.ensures)
-    (vec_capacity c.args.into.now) c.copy_block.result c.copy_block.new.into.items c.copy_block.ensures
-
-pub returns-clause-memory : goal.returns-clause-memory
-returns-clause-memory g c = λ none.
-    let volume = volume_made c.args.cartridge.now.contents in
-    let seen =
-    block_behind c.args.pending.now c.tail-tail.result.now c.tail-tail.ensures volume c.args.part
-    c.requires.held.apply c.front_of-front.ensures.few c.front_of-front.result c.front_of-front.ensures.front c.args.at
-    c.in-Some-Block.place _ c.if-at-front.false
-    (sym c.place.ensures ∙ c.in-Some-Block.is ∙ ap Some c.in-Some-Block.field-0-is) in
-    copied_lack volume c.args.pending.now c.args.part c.args.at c.in-Some-Block.place c.requires.held.apply seen
-    c.index-changes-place.result
-    (c.index-changes-place.is
-    ∙ ap (λ (l : List Change). slice_index_or l c.in-Some-Block.place c.index-changes-place.result)
-    c.as_slice-changes.ensures)
-    (vec_capacity c.args.into.now) c.copy_block.result c.copy_block.new.into.items c.copy_block.ensures none
-
-pub returns-clause-advances : goal.returns-clause-advances
-returns-clause-advances g c =
-    let volume = volume_made c.args.cartridge.now.contents in
-    let seen =
-    block_behind c.args.pending.now c.tail-tail.result.now c.tail-tail.ensures volume c.args.part
-    c.requires.held.apply c.front_of-front.ensures.few c.front_of-front.result c.front_of-front.ensures.front c.args.at
-    c.in-Some-Block.place _ c.if-at-front.false
-    (sym c.place.ensures ∙ c.in-Some-Block.is ∙ ap Some c.in-Some-Block.field-0-is) in
-    let well =
-    copied_well volume c.args.pending.now c.args.part c.args.at c.in-Some-Block.place c.requires.held.apply seen
-    c.index-changes-place.result
-    (c.index-changes-place.is
-    ∙ ap (λ (l : List Change). slice_index_or l c.in-Some-Block.place c.index-changes-place.result)
-    c.as_slice-changes.ensures)
-    (vec_capacity c.args.into.now) c.copy_block.result c.copy_block.new.into.items c.copy_block.ensures in
-    subst (λ (fault : Bool). Advances (buffer_below g.D.Disk.state)
-    (open_buffer c.args.cartridge.now c.args.pending.now) [] fault
-    (open_buffer c.args.cartridge.now c.args.pending.now)) (sym well)
-    (rests g.D.Disk.state g.met.D.Disk.is_disk (open_buffer c.args.cartridge.now c.args.pending.now))

@@ -3,9 +3,9 @@ use Rattle.volume_core.specs.Medium.{block_bytes, frame_size}
 use Rattle.tape_buffer.proofs.LentLemmas.{advances_taken, fits_taken, pending_taken, stores_taken}
 use Rattle.tape_buffer.proofs.lending.take_over.Goals as goal
 
-pub take-requires : goal.take-requires
-take-requires g c =
-    fits_taken c.args.cartridge.now c.args.loose.now c.args.left c.args.change c.requires.held c.requires.roomy
+pub push-requires : goal.push-requires
+push-requires g c =
+    fits_taken c.args.cartridge.now c.args.pending.now c.args.left c.args.change c.requires.held c.requires.roomy
     c.requires.within
 
 pub returns-clause-left : goal.returns-clause-left
@@ -18,14 +18,14 @@ returns-clause-left g c =
 
 pub returns-clause-held : goal.returns-clause-held
 returns-clause-held g c =
-    pending_taken c.args.cartridge.now c.args.loose.now c.args.left c.args.change c.requires.held c.requires.roomy
-    c.requires.within c.requires.applies c.take.new.self c.take.ensures
+    pending_taken c.args.cartridge.now c.args.pending.now c.args.left c.args.change c.requires.held c.requires.roomy
+    c.requires.within c.requires.applies c.push.new.self c.push.ensures
 
 pub returns-clause-stores : goal.returns-clause-stores
 returns-clause-stores g c =
-    stores_taken c.args.cartridge.now c.args.loose.now c.take.new.self c.args.change c.take.ensures
+    stores_taken c.args.cartridge.now c.args.pending.now c.push.new.self c.args.change c.push.ensures
 
 pub returns-clause-advances : goal.returns-clause-advances
 returns-clause-advances g c =
-    advances_taken c.args.cartridge.now c.args.loose.now c.args.left c.args.change c.requires.held c.requires.roomy
-    c.requires.within c.requires.applies g.D.Disk.state g.met.D.Disk.is_disk c.take.new.self c.take.ensures
+    advances_taken c.args.cartridge.now c.args.pending.now c.args.left c.args.change c.requires.held c.requires.roomy
+    c.requires.within c.requires.applies g.D.Disk.state g.met.D.Disk.is_disk c.push.new.self c.push.ensures

@@ -8,6 +8,6 @@ use Rattle.vtl_files.proofs.config_checks.check_stores.Given as goal
 abbrev pub invariant-loop-entry : goal.invariant-loop-entry
 invariant-loop-entry g l =
     (l.yielded ++ into_iter_items l.entry-iterator ≡ into_iter_items l.initial.entry-iterator)
-    × ChecksAll g.D.Disk.state g.F.ReadFiles.opens_to_read g.F.ReadFiles.closes
+    × ChecksAll g.D.Disk.state g.D.Disk.effect g.F.ReadFiles.opens_to_read g.F.ReadFiles.closes
     (map StoreFile l.yielded) (g.W.Write.contents l.fn.writer) (g.W.Write.contents l.writer) (Ok l.first)
     × (into_iter_len l.entry-iterator ≡ length (into_iter_items l.entry-iterator))

@@ -19,8 +19,8 @@ returns-in-Ok-ran g c =
     c.in-Ok-ran.field-0.finished.bays.items c.in-Ok-ran.field-0.finished.slots c.every_host.result
     (g.I.Read.remaining c.args.reader.now) (g.I.Read.remaining c.run_library-ran.new.reader)
     (g.W.Write.contents c.args.writer.now) (g.W.Write.contents c.run_library-ran.new.writer)
-    c.in-Ok-ran.field-0.outcome c.in-Ok-ran.field-0.finished.counts
-    c.outcome_of.result c.into_parts-bays.ensures.bays c.every_host.ensures
+    c.in-Ok-ran.field-0.outcome c.in-Ok-ran.field-0.finished.counts c.in-Ok-ran.field-0.finished.answered
+    c.in-Ok-ran.field-0.finished.moved c.outcome_of.result c.into_parts-bays.ensures.bays c.every_host.ensures
     (ap (λ (held : HeldState g.row.D.Denot). held.bays) c.from_parts.ensures)
     (ap (λ (held : HeldState g.row.D.Denot). held.slots) c.from_parts.ensures) c.in-Ok-ran.ensures.runs
     c.in-Ok-ran.ensures.past c.in-Ok-ran.ensures.ends c.outcome_of.ensures)

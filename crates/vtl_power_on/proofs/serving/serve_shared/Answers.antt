@@ -21,8 +21,8 @@ returns-in-Ok-served g c =
     c.in-Ok-served.field-0.finished.bays.items c.in-Ok-served.field-0.finished.slots c.every_host.result
     (g.I.Read.remaining c.args.reader.now) (g.I.Read.remaining c.serve_library-served.new.reader)
     (g.W.Write.contents c.args.writer.now) (g.W.Write.contents c.serve_library-served.new.writer)
-    c.in-Ok-served.field-0.outcome c.in-Ok-served.field-0.finished.counts
-    c.served_outcome.result c.into_parts-bays.ensures.bays c.every_host.ensures
+    c.in-Ok-served.field-0.outcome c.in-Ok-served.field-0.finished.counts c.in-Ok-served.field-0.finished.answered
+    c.in-Ok-served.field-0.finished.moved c.served_outcome.result c.into_parts-bays.ensures.bays c.every_host.ensures
     (ap (λ (held : HeldState g.row.D.Denot). held.bays) c.from_parts.ensures)
     (ap (λ (held : HeldState g.row.D.Denot). held.slots) c.from_parts.ensures) c.in-Ok-served.ensures.serves
     c.in-Ok-served.ensures.ends c.served_outcome.ensures)

@@ -46,6 +46,7 @@ returns-clause-serves g c =
             c.serve_opened-seats.ensures.all,
             c.requires.host_ledger.1,
           ));
+      used = c.finish.ensures.used;
     }
 
 pub returns-clause-ends : goal.returns-clause-ends

@@ -1,9 +1,35 @@
 use Rattle.std.proofs.Common.{◌≡◌, ◌∙◌, ap, Option, Some, sym, subst}
 use Rattle.tape_buffer.specs.State.{BufferState}
 use Rattle.bay_moves.specs.Bays.{EveryMomentOff, EveryMomentOn}
+use Rattle.drive_commands.specs.State.{medium_in}
+use Rattle.bay_moves.proofs.HandLemmas.{HereIn, keeps_here, kept_here, off_here, on_here, some_here}
 use Rattle.bay_moves.proofs.MomentLemmas.{off_moments, on_moments}
 use Rattle.bay_moves.proofs.bays.Bay.power_on.Goals.{in-Some, in-None}
 use Rattle.bay_moves.proofs.bays.Bay.power_on.Goals as goal
+
+pub power_on-requires-clause-hand : goal.power_on-requires-clause-hand
+power_on-requires-clause-hand g c = some_here g.D.Disk.state c.medium_of.result c.medium_of.ensures.keeps
+
+pub invariant_of-result : goal.invariant_of-result
+invariant_of-result g c =
+    let state = g.D.Disk.state in
+    let on = c.in-Ok.ensures.switched in record {
+      cartridge =
+          keeps_here state (medium_in c.in-Ok.drive.bay)
+          (on_here state c.medium_of.result c.args.reservations c.args.store c.in-Ok.drive
+          (kept_here state c.medium_of.result c.medium_of.ensures.keeps) on) c.known-in-Ok.ensures;
+      reservations =
+          c.reservations_outlive_each_stop.ensures.begins c.medium_of.result c.args.store c.args.reservations
+          c.in-Ok.drive c.requires c.state.ensures.sound c.known.ensures.at_rest c.known.ensures.shows on;
+    }
+
+pub of_medium-requires-clause-hand : goal.of_medium-requires-clause-hand
+of_medium-requires-clause-hand g c =
+    let state = g.D.Disk.state in
+    subst (λ (m : Option (BufferState g.row.D.Denot)). HereIn m) c.in-Some.is
+    (off_here state c.medium_of.result c.args.reservations c.args.store
+    (c.in-Err.medium, c.in-Err.store, c.in-Err.field-0-2)
+    (kept_here state c.medium_of.result c.medium_of.ensures.keeps) c.in-Err.ensures.switched)
 
 pub returns-in-Ok-clause-moments : goal.returns-in-Ok-clause-moments
 returns-in-Ok-clause-moments g c =

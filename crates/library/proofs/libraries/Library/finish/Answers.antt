@@ -1,13 +1,13 @@
 use Rattle.std.proofs.Common.{◌≡◌, ◌∙◌, ℕ, List, Option, ap, sym, subst, arith, vec_len}
-use Rattle.std.specs.Prelude.{IfErr, IfOk}
+use Rattle.std.specs.Prelude.{IfOk}
 use Rattle.ledgers.specs.Ledgers.{Gathered, GatheringState}
 use Rattle.bay_moves.specs.Elements.{BayState, bay_at}
 use Rattle.bay_moves.specs.Finish.{HasFailedAt, IsWrittenAt}
 use Rattle.library.specs.Counts.{which_are_there}
-use Rattle.library.specs.Ends.{Balances, IsShort, counts_of, sum_of_counts, sum_of_seats}
+use Rattle.library.specs.Ends.{Balances, counts_of, sum_of_counts, sum_of_seats}
 use Rattle.library.specs.Keeps.{AreLeft, IsLeftAt}
 use Rattle.library.proofs.EndLemmas.{by_number, one_failed}
-use Rattle.library.proofs.OutcomeLemmas.{balances, reports_counts, reports_missing, reports_unwritten, reports_written}
+use Rattle.library.proofs.OutcomeLemmas.{balances, reports_counts, reports_unwritten, reports_written}
 use Rattle.library.proofs.libraries.Library.finish.Goals as goal
 
 pub returns-clause-drives : goal.returns-clause-drives
@@ -19,21 +19,21 @@ pub returns-clause-counts : goal.returns-clause-counts
 returns-clause-counts g c =
     let ended = c.end_drives-written.ensures.ended in
     let row = c.end_drives-written.new.row in
-    let bays = c.take_seats.ensures.bays.1 in
-    let all : sum_of_counts (counts_of row) ≡ c.take_seats.new.gathering.total =
+    let bays = c.take_seats-answered.ensures.bays.1 in
+    let all : sum_of_counts (counts_of row) ≡ c.take_seats-answered.new.gathering.total =
     sym ended.changes ∙ ap (λ (x : Gathered). x.changes) (sym bays)
     ∙ c.compare.ensures.bays (ap (λ (x : Gathered). x.shares) bays ∙ ended.shares ∙ c.self.invariant.1) in
     let none : c.end_drives-written.new.gathering.hosts.changes ≡ 0 =
     ap (λ (x : Gathered). x.changes) c.end_drives-written.ensures.hosts.1
     ∙ ap (λ (x : GatheringState). x.hosts.changes) c.gather-gathering.ensures in
-    let summed : c.take_seats.new.gathering.hosts.changes ≡ sum_of_seats c.args.seats.items =
-    omega (arith, c.take_seats.ensures.changes, none) in
+    let summed : c.take_seats-answered.new.gathering.hosts.changes ≡ sum_of_seats c.args.seats.items =
+    omega (arith, c.take_seats-answered.ensures.changes, none) in
     subst (λ (s : ℕ). IfOk c.outcome-counts.result (λ counts. (counts ≡ counts_of c.into_places.result.items)
     × (sum_of_counts counts ≡ s))) summed
     (subst (λ (l : List (Option (BayState g.row.D.Denot))). IfOk c.outcome-counts.result (λ counts.
-    (counts ≡ counts_of l) × (sum_of_counts counts ≡ c.take_seats.new.gathering.hosts.changes)))
+    (counts ≡ counts_of l) × (sum_of_counts counts ≡ c.take_seats-answered.new.gathering.hosts.changes)))
     (sym c.into_places.ensures.row)
-    (reports_counts row c.take_seats.new.gathering.total c.take_seats.new.gathering.hosts.changes all
+    (reports_counts row c.take_seats-answered.new.gathering.total c.take_seats-answered.new.gathering.hosts.changes all
     c.end_drives-written.result c.counts_in.result c.compare.result c.outcome-counts.result c.outcome-counts.ensures
     c.counts_in.ensures c.compare.ensures.ok))
 
@@ -57,34 +57,12 @@ returns-clause-written g c = λ differs number.
     (reports_written _ c.end_drives-written.result c.counts_in.result c.compare.result c.outcome-counts.result
     c.outcome-counts.ensures ended.ok differs) number)
 
-pub returns-clause-missing : goal.returns-clause-missing
-returns-clause-missing g c =
-    let ended = c.end_drives-written.ensures.ended in
-    let row = c.end_drives-written.new.row in
-    let bays = c.take_seats.ensures.bays.1 in
-    let all : sum_of_counts (counts_of row) ≡ c.take_seats.new.gathering.total =
-    sym ended.changes ∙ ap (λ (x : Gathered). x.changes) (sym bays)
-    ∙ c.compare.ensures.bays (ap (λ (x : Gathered). x.shares) bays ∙ ended.shares ∙ c.self.invariant.1) in
-    let none : c.end_drives-written.new.gathering.hosts.changes ≡ 0 =
-    ap (λ (x : Gathered). x.changes) c.end_drives-written.ensures.hosts.1
-    ∙ ap (λ (x : GatheringState). x.hosts.changes) c.gather-gathering.ensures in
-    let summed : c.take_seats.new.gathering.hosts.changes ≡ sum_of_seats c.args.seats.items =
-    omega (arith, c.take_seats.ensures.changes, none) in
-    subst (λ (s : ℕ). IfErr c.outcome-counts.result (λ e.
-    IsShort e (sum_of_counts (counts_of c.into_places.result.items)) s)) summed
-    (subst (λ (l : List (Option (BayState g.row.D.Denot))). IfErr c.outcome-counts.result (λ e.
-    IsShort e (sum_of_counts (counts_of l)) c.take_seats.new.gathering.hosts.changes))
-    (sym c.into_places.ensures.row)
-    (reports_missing row c.take_seats.new.gathering.total c.take_seats.new.gathering.hosts.changes all
-    c.end_drives-written.result c.counts_in.result c.compare.result c.outcome-counts.result c.outcome-counts.ensures
-    c.compare.ensures.missing))
-
 pub returns-clause-sums : goal.returns-clause-sums
 returns-clause-sums g c =
     let ended = c.end_drives-written.ensures.ended in
     let row = c.end_drives-written.new.row in
-    let bays = c.take_seats.ensures.bays.1 in
-    let counted : sum_of_counts (counts_of row) ≡ c.take_seats.new.gathering.total =
+    let bays = c.take_seats-answered.ensures.bays.1 in
+    let counted : sum_of_counts (counts_of row) ≡ c.take_seats-answered.new.gathering.total =
     sym ended.changes ∙ ap (λ (x : Gathered). x.changes) (sym bays)
     ∙ c.compare.ensures.bays (ap (λ (x : Gathered). x.shares) bays ∙ ended.shares ∙ c.self.invariant.1) in
     let none : c.end_drives-written.new.gathering.hosts.changes ≡ 0 =
@@ -93,17 +71,21 @@ returns-clause-sums g c =
     let nobody : c.end_drives-written.new.gathering.hosts.shares ≡ 0 =
     ap (λ (x : Gathered). x.shares) c.end_drives-written.ensures.hosts.1
     ∙ ap (λ (x : GatheringState). x.hosts.shares) c.gather-gathering.ensures in
-    let summed : c.take_seats.new.gathering.hosts.changes ≡ sum_of_seats c.args.seats.items =
-    omega (arith, c.take_seats.ensures.changes, none) in
-    let shared : c.take_seats.new.gathering.hosts.shares ≡ vec_len c.args.seats =
-    omega (arith, c.take_seats.ensures.shares, nobody) in
+    let summed : c.take_seats-answered.new.gathering.hosts.changes ≡ sum_of_seats c.args.seats.items =
+    omega (arith, c.take_seats-answered.ensures.changes, none) in
+    let shared : c.take_seats-answered.new.gathering.hosts.shares ≡ vec_len c.args.seats =
+    omega (arith, c.take_seats-answered.ensures.shares, nobody) in
     subst (λ (l : List (Option (BayState g.row.D.Denot))).
     Balances (vec_len c.args.seats) g.H.Parties.all (sum_of_counts (counts_of l)) (sum_of_seats c.args.seats.items)
     c.outcome-counts.result) (sym c.into_places.ensures.row)
     (balances (vec_len c.args.seats) g.H.Parties.all (sum_of_counts (counts_of row)) (sum_of_seats c.args.seats.items)
-    c.take_seats.new.gathering.total c.take_seats.new.gathering.hosts.changes c.end_drives-written.result
+    c.take_seats-answered.new.gathering.total c.take_seats-answered.new.gathering.hosts.changes
+    c.end_drives-written.result
     c.counts_in.result c.compare.result c.outcome-counts.result c.outcome-counts.ensures counted summed
     c.compare.ensures.within.1 (λ every. c.compare.ensures.hosts (shared ∙ every)) c.compare.ensures.missing)
+
+pub returns-clause-used : goal.returns-clause-used
+returns-clause-used g c = c.take_seats-answered.ensures.used
 
 pub returns-clause-left : goal.returns-clause-left
 returns-clause-left g c =

@@ -9,7 +9,7 @@ returns-clause-share g c =
     front_share g.D.Disk.state c.args.half.now c.execute_lent-reply.new.self
     (asked c.nexus.result c.args.cdb.now c.args.sent.now) c.execute_lent-reply.result c.execute_lent-reply.new.sent
     c.accepted-before.result c.accepted-after.result c.args.share.now c.enter_if_risen.new.share
-    c.execute_lent-reply.ensures.step (λ reply step. c.replies_show_changes_alone.ensures _ _ _ _ step)
+    c.execute_lent-reply.ensures.step (λ reply answered step. c.replies_show_changes.ensures _ _ _ _ step)
     c.accepted-before.ensures c.accepted-after.ensures c.wait_if_answered.ensures
     c.requires (λ same. (c.enter_if_risen.ensures.same same).0) (λ risen. (c.enter_if_risen.ensures.risen risen).0)
 
@@ -22,9 +22,9 @@ returns-clause-serves g c =
     (asked c.nexus.result c.args.cdb.now c.args.sent.now) c.args.seat.now c.count_if_answered.new.seat
     c.enter_if_risen.new.seat c.execute_lent-reply.result c.execute_lent-reply.new.sent
     c.accepted-before.result c.accepted-after.result
-    c.execute_lent-reply.ensures.step c.execute_lent-reply.ensures.end c.execute_lent-reply.ensures.waits
+    c.execute_lent-reply.ensures.step c.execute_lent-reply.ensures.waits
     c.execute_lent-reply.ensures.moments c.known.ensures.keeps c.known-2.ensures.keeps c.nexus.ensures
-    (λ reply step. c.replies_show_changes_alone.ensures _ _ _ _ step) c.accepted-before.ensures
+    (λ reply answered step. c.replies_show_changes.ensures _ _ _ _ step) c.accepted-before.ensures
     c.accepted-after.ensures c.wait_if_answered.ensures c.count_if_answered.ensures.none
     c.count_if_answered.ensures.some (λ same. (c.enter_if_risen.ensures.same same).1)
     (λ risen. (c.enter_if_risen.ensures.risen risen).1))

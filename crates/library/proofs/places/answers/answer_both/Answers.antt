@@ -6,8 +6,9 @@ use Rattle.library.proofs.places.answers.answer_both.Goals as goal
 
 pub returns-clause-share : goal.returns-clause-share
 returns-clause-share g c =
-    halves_share g.D.Disk.state c.args.front c.execute_both-reply.result.1 c.args.back c.execute_both-reply.result.2
-    (asked c.nexus.result c.args.cdb.now c.args.sent.now) c.execute_both-reply.result.0 c.execute_both-reply.new.sent
+    halves_share g.D.Disk.state c.args.front.now c.execute_both-reply.new.front c.args.back.now
+    c.execute_both-reply.new.back
+    (asked c.nexus.result c.args.cdb.now c.args.sent.now) c.execute_both-reply.result c.execute_both-reply.new.sent
     c.accepted-before.result c.accepted-after.result c.args.share.now c.enter_if_risen.new.share
     c.execute_both-reply.ensures (λ old new step. c.replies_show_changes.ensures _ _ _ _ step)
     c.accepted-before.ensures c.accepted-after.ensures c.wait_at_limit.ensures
@@ -16,12 +17,14 @@ returns-clause-share g c =
 
 pub returns-clause-serves : goal.returns-clause-serves
 returns-clause-serves g c =
-    subst (λ (n : ℕ). ServesHalves g.D.Disk.state c.args.front c.args.back (asked n c.args.cdb.now c.args.sent.now)
-    c.args.seat.now c.execute_both-reply.result.0 c.execute_both-reply.result.1 c.execute_both-reply.result.2
+    subst (λ (n : ℕ). ServesHalves g.D.Disk.state c.args.front.now c.args.back.now
+    (asked n c.args.cdb.now c.args.sent.now)
+    c.args.seat.now c.execute_both-reply.result c.execute_both-reply.new.front c.execute_both-reply.new.back
     c.execute_both-reply.new.sent c.enter_if_risen.new.seat) c.nexus.ensures
-    (halves_serve g.D.Disk.state c.args.front c.execute_both-reply.result.1 c.args.back c.execute_both-reply.result.2
+    (halves_serve g.D.Disk.state c.args.front.now c.execute_both-reply.new.front c.args.back.now
+    c.execute_both-reply.new.back
     (asked c.nexus.result c.args.cdb.now c.args.sent.now) c.args.seat.now c.count_answer.new.self
-    c.enter_if_risen.new.seat c.execute_both-reply.result.0 c.execute_both-reply.new.sent
+    c.enter_if_risen.new.seat c.execute_both-reply.result c.execute_both-reply.new.sent
     c.accepted-before.result c.accepted-after.result c.execute_both-reply.ensures c.nexus.ensures
     (λ old new step. c.replies_show_changes.ensures _ _ _ _ step) c.accepted-before.ensures
     c.accepted-after.ensures c.wait_at_limit.ensures c.count_answer.ensures

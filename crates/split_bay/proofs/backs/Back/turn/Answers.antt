@@ -1,14 +1,15 @@
-use Rattle.std.proofs.Common.{◌≡◌, Bool, true, Some, ap, subst, sym, ◌∙◌}
+use Rattle.std.proofs.Common.{Bool, Option, true, Some, ap, subst, sym, ◌∙◌}
 use Rattle.tape_buffer.specs.State.{BufferState, state_of}
-use Rattle.split_bay.specs.Backs.{BackState, TurnsBack, works_in}
+use Rattle.tape_buffer.specs.Taking.{DisksState}
+use Rattle.split_bay.specs.Backs.{BackState, TurnsBack, disks_half, works_in}
 use Rattle.split_bay.specs.Spans.{span_of}
 use Rattle.split_bay.proofs.LookLemmas.{works_parts}
-use Rattle.split_bay.proofs.TakenLemmas.{awake_still, follows_turn, turns_back}
+use Rattle.split_bay.proofs.TakenLemmas.{follows_turn, still, turns_back}
 use Rattle.split_bay.proofs.backs.Back.turn.Goals as goal
 
 pub invariant_of-self : goal.invariant_of-self
 invariant_of-self g c =
-    let medium = c.in-Some.medium in
+    let medium = c.in-Some.disks in
     let taken = c.take_known.new.medium in
     let some = c.take_known.ensures.takes.takes in
     let works = ap (works_in g.D.Disk.state) (sym c.in-Some.is)
@@ -18,28 +19,16 @@ invariant_of-self g c =
     follows_turn g.D.Disk.state (span_of c.take_known.new.receiving.received) taken c.flush_turn.new.self
     c.flush_turn.result c.take_known.ensures.follows
     (ap (λ (b : BufferState g.row.D.Denot). (state_of g.D.Disk.state b).awake) some.pending
-    ∙ awake_still g.D.Disk.state medium.buffer some.found ∙ parts.0)
+    ∙ (still g.D.Disk.state medium.buffer some.found).0 ∙ parts.0)
     c.flush_turn.ensures.answer c.flush_turn.ensures.stores c.flush_turn.ensures.left
 
 pub returns : goal.returns
 returns g c =
     let i = c.self.inside in
-    let medium = c.in-Some.medium in
+    let medium = c.in-Some.disks in
     let new = c.take_known.new.receiving in
-    let done : BackState g.row.D.Denot = record {
-      number = new.number;
-      received = new.received;
-      waiting = new.waiting;
-      medium = Some c.flush_turn.new.self;
-    } in
-    let before : BackState g.row.D.Denot = record {
-      number = i.receiving.number;
-      received = i.receiving.received;
-      waiting = i.receiving.waiting;
-      medium = i.medium;
-    } in
-    let there : BackState g.row.D.Denot = record before { medium = Some medium } in
-    let same : there ≡ before = λ j. record before { medium = sym c.in-Some.is j } in
+    let done = disks_half new (Some c.flush_turn.new.self) in
+    let same = ap (λ (o : Option (DisksState g.row.D.Denot)). disks_half i.receiving o) (sym c.in-Some.is) in
     let works = ap (works_in g.D.Disk.state) (sym c.in-Some.is)
     ∙ ap (λ (b : BackState g.row.D.Denot). works_in g.D.Disk.state b.medium) c.self.view_is
     ∙ sym c.works.ensures ∙ c.if-not-works.false in

@@ -1,61 +1,70 @@
-use Rattle.std.proofs.Common.{false, subst}
-use Rattle.std.specs.Prelude.{IfSome}
-use Rattle.aptpl_store.specs.Kept.{store_below, store_kept}
-use Rattle.drive_commands.specs.Alone.{AnswersAlone}
-use Rattle.drive_commands.specs.Execute.{asked}
-use Rattle.drive_commands.specs.State.{Machine, machine_of}
+use Rattle.std.proofs.Common.{None, Some, refl, subst}
+use Rattle.aptpl_store.specs.Kept.{store_kept}
+use Rattle.drive_commands.specs.Execute.{asked, is_device_fault}
+use Rattle.drive_commands.specs.State.{machine_of}
 use Rattle.drive_commands.specs.Synchronize.{Acknowledges, IsSynchronizing}
-use Rattle.tape_buffer.specs.Moves.{buffer_below}
 use Rattle.tape_buffer.specs.State.{state_of}
-use Rattle.split_bay.specs.Fronts.{FrontState, LeavesOrders}
-use Rattle.split_bay.specs.Hosts.{drive_near}
-use Rattle.split_bay.specs.Nears.{alone_near, near_below, state_near}
-use Rattle.split_bay.proofs.FrontLemmas.{front_answers, front_keeps, front_moments}
-use Rattle.split_bay.proofs.HostsLemmas.{machine_near}
+use Rattle.split_bay.specs.Fronts.{AnswersHalf, AnswersOrWaits, FrontState, LeavesOrders, hosts_half}
+use Rattle.split_bay.specs.Spans.{span_of}
+use Rattle.split_bay.proofs.FrontLemmas.{moments_passed, orders_passed, owes_after}
 use Rattle.split_bay.proofs.fronts.Front.execute_lent.Goals as goal
 
+pub pass_on-requires : goal.pass_on-requires
+pass_on-requires g c =
+    let step = c.in-Some.ensures.step.1.step in
+    (owes_after g.D.Disk.state c.self.inside.drive.bay c.execute_alone.new.self.bay step.taken.made.changes
+    (is_device_fault step.answer) (span_of c.self.inside.sending.sent) c.self.invariant.0 step.taken.advances).0
+
 pub invariant_of-self : goal.invariant_of-self
-invariant_of-self g c =
-    let state = g.D.Disk.state in
-    front_keeps (state_of state) (buffer_below state) (λ medium bytes. false) state
-    c.reservations_outlive_each_stop.ensures.goes_on c.self.inside.drive c.execute_alone.new.self c.self.inside.end
-    (asked c.args.nexus c.args.cdb.now c.args.sent.now) c.execute_alone.new.sent c.execute_alone.result
-    c.self.invariant c.execute_alone.ensures.step
+invariant_of-self g c = (
+  c.pass_on.ensures.stands,
+  orders_passed g.D.Disk.state c.reservations_outlive_each_stop.ensures.goes_on c.self.inside.drive
+      c.execute_alone.new.self c.pass_on.new.drive (asked c.args.nexus c.args.cdb.now c.args.sent.now)
+      c.in-Some.reply c.execute_alone.new.sent c.self.invariant.1 c.in-Some.ensures.step c.pass_on.ensures.drive,
+)
 
-pub returns-clause-step : goal.returns-clause-step
-returns-clause-step g c =
+pub returns-in-None-clause-step : goal.returns-in-None-clause-step
+returns-in-None-clause-step g c =
+    let i = c.self.inside in
+    let step = c.in-None.ensures.step in
+    let request = asked c.args.nexus c.args.cdb.now c.args.sent.now in
+    subst (λ (f : FrontState g.row.D.Denot). AnswersOrWaits g.D.Disk.state f request None
+    (hosts_half c.execute_alone.new.self i.sending) c.execute_alone.new.sent) c.self.view_is
+    ((step.0, refl, step.2), (λ j. hosts_half (step.1 j) i.sending))
+
+pub returns-in-Some-clause-step : goal.returns-in-Some-clause-step
+returns-in-Some-clause-step g c =
+    let state = g.D.Disk.state in
+    let answered = c.execute_alone.new.self in
+    let request = asked c.args.nexus c.args.cdb.now c.args.sent.now in
+    let inside = c.self.inside in
+    let step = c.in-Some.ensures.step in
+    let taken = step.1.step.taken in
+    let owes = owes_after state inside.drive.bay answered.bay taken.made.changes (is_device_fault step.1.step.answer)
+    (span_of inside.sending.sent) c.self.invariant.0 taken.advances in
+    subst (λ (f : FrontState g.row.D.Denot). AnswersHalf state f request c.in-Some.reply
+    (record { drive = c.pass_on.new.drive; sending = c.pass_on.new.sending }) c.execute_alone.new.sent)
+    c.self.view_is
+    (record {
+      answered = answered;
+      step = step;
+      made = owes.1;
+      drive = c.pass_on.ensures.drive;
+      sending = c.pass_on.ensures.sending;
+    })
+
+pub returns-in-Some-clause-waits : goal.returns-in-Some-clause-waits
+returns-in-Some-clause-waits g c =
+    subst (λ (f : FrontState g.row.D.Denot).
+    IsSynchronizing (machine_of (state_of g.D.Disk.state) store_kept f.drive) c.args.cdb.now
+    → Acknowledges c.in-Some.reply → ⊥) c.self.view_is c.in-Some.ensures.waits
+
+pub returns-in-Some-clause-moments : goal.returns-in-Some-clause-moments
+returns-in-Some-clause-moments g c =
     let state = g.D.Disk.state in
     let request = asked c.args.nexus c.args.cdb.now c.args.sent.now in
-    subst
-    (λ (f : FrontState g.row.D.Denot).
-    AnswersAlone state_near store_kept alone_near near_below (store_below state) f.drive request
-    c.execute_alone.result (drive_near c.execute_alone.new.self) c.execute_alone.new.sent)
-    c.self.view_is
-    (front_answers (state_of state) (buffer_below state) (λ medium bytes. false) state
-    c.reservations_outlive_each_stop.ensures.goes_on c.self.inside.drive c.execute_alone.new.self c.self.inside.end
-    request c.execute_alone.new.sent c.execute_alone.result c.self.invariant c.execute_alone.ensures.step)
-
-pub returns-clause-waits : goal.returns-clause-waits
-returns-clause-waits g c =
-    let state = g.D.Disk.state in
-    subst
-    (λ (f : FrontState g.row.D.Denot).
-    IsSynchronizing (machine_of state_near store_kept f.drive) c.args.cdb.now
-    → IfSome c.execute_alone.result (λ reply. Acknowledges reply → ⊥))
-    c.self.view_is
-    (subst
-    (λ (m : Machine). IsSynchronizing m c.args.cdb.now
-    → IfSome c.execute_alone.result (λ reply. Acknowledges reply → ⊥))
-    (machine_near (state_of state) store_kept c.self.inside.drive c.self.invariant.0) c.execute_alone.ensures.waits)
-
-pub returns-clause-moments : goal.returns-clause-moments
-returns-clause-moments g c =
-    let state = g.D.Disk.state in
-    let request = asked c.args.nexus c.args.cdb.now c.args.sent.now in
-    subst
-    (λ (f : FrontState g.row.D.Denot).
-    LeavesOrders state f.drive request c.execute_alone.result (drive_near c.execute_alone.new.self))
-    c.self.view_is
-    (front_moments (state_of state) (buffer_below state) (λ medium bytes. false) state
-    c.reservations_outlive_each_stop.ensures.goes_on c.self.inside.drive c.execute_alone.new.self c.self.inside.end
-    request c.execute_alone.new.sent c.execute_alone.result c.self.invariant c.execute_alone.ensures.step)
+    subst (λ (f : FrontState g.row.D.Denot).
+    LeavesOrders state f.drive request (Some c.in-Some.reply) c.pass_on.new.drive) c.self.view_is
+    (moments_passed state c.reservations_outlive_each_stop.ensures.goes_on c.self.inside.drive
+    c.execute_alone.new.self c.pass_on.new.drive request c.in-Some.reply c.execute_alone.new.sent
+    c.self.invariant.1 c.in-Some.ensures.step c.pass_on.ensures.drive)
