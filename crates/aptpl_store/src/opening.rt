@@ -2,7 +2,7 @@
 ghost use Rattle.std.specs.Prelude.{◌≡◌, ◌≤◌, None, IfOk, IfErr, false};
 ghost use Rattle.tape_disk.specs.Disk.{Keeps, Only};
 ghost use Rattle.tape_disk.specs.Moments.{LeavesOnly};
-ghost use Rattle.gate_journal.specs.Reads.{OnlyOpenings};
+ghost use Rattle.gate_journal.specs.Reads.{SyncsFirst};
 ghost use Rattle.gate_journal.specs.Answers.{NoneFailed};
 ghost use Rattle.pr_core.specs.States.{power_loss};
 ghost use Rattle.aptpl_store.specs.Answers.{IsStoreNotOpened, Recovers, disk_of_opened};
@@ -38,7 +38,7 @@ impl<D: Disk> AptplStore<D> {
             IsStoreNotOpened refused.error (D.state disk) (D.state refused.disk)) }
         ensures any_moment { (D.state disk).honest →
             LeavesOnly (D.state disk) (D.state (disk_of_opened result)) (D.state disk).may_leave }
-        ensures reads { OnlyOpenings D.effect disk (disk_of_opened result) }
+        ensures begins { SyncsFirst D.effect disk (disk_of_opened result) }
     {
         match Journal::open_decoded::<Recovered>(alloc, disk, RESERVED_SAVES) {
             Ok((journal, recovered)) => {

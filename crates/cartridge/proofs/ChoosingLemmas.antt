@@ -1,6 +1,6 @@
 -- The side that counts was found, and then it was opened.
 use Rattle.std.proofs.Common.{◌≡◌, inl, inr, ℕ, List, sym, ◌∙◌, subst, arith}
-use Rattle.std.specs.Prelude.{Option, None, Some, Result, Ok}
+use Rattle.std.specs.Prelude.{Option, None, Some, Result, Ok, Err}
 use Rattle.vtl_base.specs.declared.faults.DevFault.{DevFault}
 use Rattle.tape_disk.specs.Disk.{DiskCall, DiskState, IsDisk, Keeps}
 use Rattle.tape_disk.specs.Moments.{LeavesOnly, weakened}
@@ -9,13 +9,13 @@ use Rattle.tape_disk.specs.TwoDisks.{AreHonest, Images, KeepsDisks, MayLeave, Tw
 use Rattle.tape_disk.specs.TwoDisks as Two
 use Rattle.gate_journal.specs.Reads.{opens_then}
 use Rattle.cartridge_sides.specs.declared.choosing.Counted.{Counted}
-use Rattle.cartridge_sides.specs.Choosing.{FindsCounted}
+use Rattle.cartridge_sides.specs.Choosing.{FindsCounted, SyncedBefore, SyncsBoth}
 use Rattle.cartridge_sides.specs.Pairs.{SideCounts}
 use Rattle.cartridge.specs.declared.error.CartridgeError.{CartridgeError}
 use Rattle.cartridge.specs.declared.error.CartridgeError.TheVariants.{NotOurs, Damaged, BadRecord, SideFull, Device, Failed, NoMemory}
 use Rattle.cartridge.specs.Answers.{IsNotOpened, ReadsSure}
 use Rattle.cartridge.specs.Contents.{Contents, GivesContents, IsBadFrameAt, IsDamagedPairAt, IsNoCartridge}
-use Rattle.cartridge.specs.Disks.{EachStays, IsFaultOfTwo, NoneOfTwo, OnlyOfTwo, OpensEach}
+use Rattle.cartridge.specs.Disks.{EachStays, IsFaultOfTwo, NoneOfTwo, OnlyOfTwo, OpensEach, SyncsEach}
 use Rattle.cartridge.specs.Inner.Opening.{HasSide}
 
 module _ {D : Type 0} (state : D → DiskState) where
@@ -193,3 +193,19 @@ opens_on effect old mid new one two = record {
   first = opens_then effect old.first mid.first new.first one.first two.first;
   second = opens_then effect old.second mid.second new.second one.second two.second;
 }
+
+-- two disks that were synced first, and then were only opened
+pub begun_on : {D : Type 0} (effect : DiskCall → Result Unit DevFault → D → D → Type 0) (old mid new : TwoDisks D)
+    → SyncedBefore effect old.first mid.first × SyncedBefore effect old.second mid.second
+    → OpensEach effect mid new → SyncsEach effect old new
+begun_on effect old mid new (first, second) more = inl (
+  (first.0, first.1, opens_then effect first.0 mid.first new.first first.2 more.first),
+  (second.0, second.1, opens_then effect second.0 mid.second new.second second.2 more.second),
+)
+
+-- the disks of a choice that failed
+pub begun_failed : {D : Type 0} (effect : DiskCall → Result Unit DevFault → D → D → Type 0) (fault : DevFault)
+    (old new : TwoDisks D) → SyncsBoth effect (Err fault) old.first new.first old.second new.second
+    → SyncsEach effect old new
+begun_failed effect fault old new (inl failed) = inr (fault, failed)
+begun_failed effect fault old new (inr both) = inl both

@@ -1,5 +1,5 @@
 -- What calls do to the two disks of a cartridge.
-use Rattle.std.specs.Prelude.{◌≡◌, ℕ, List, Result}
+use Rattle.std.specs.Prelude.{◌≡◌, ◌⊎◌, ℕ, List, Result}
 use Rattle.vtl_base.specs.declared.faults.DevFault.{DevFault}
 use Rattle.tape_disk.specs.Disk.{DiskCall, DiskState}
 use Rattle.tape_disk.specs.Moments.{LeavesOnly}
@@ -8,7 +8,7 @@ use Rattle.gate_journal.specs.Answers.{NoneFailed}
 use Rattle.gate_journal.specs.Reads.{OnlyOpenings, ReadsOnce}
 use Rattle.cartridge_sides.specs.declared.which.Which.{Which}
 use Rattle.cartridge_sides.specs.declared.which.Which.TheVariants.{First, Second}
-use Rattle.cartridge_sides.specs.Choosing.{IsFaultOfOne}
+use Rattle.cartridge_sides.specs.Choosing.{IsFaultOfOne, SyncFailed, SyncedBefore}
 use Rattle.cartridge_sides.specs.Passes.{first_image, other, second_image}
 
 -- the disk on which that side lies (own)
@@ -66,12 +66,20 @@ pub record OpensEach {D : Type 0} (effect : DiskCall → Result Unit DevFault �
   pub first : OnlyOpenings effect old.first new.first
   pub second : OnlyOpenings effect old.second new.second
 
--- The two disks of an opening: of each only syncs and such reads were called, and each that is honest is left as it was
--- (own).
+-- Both disks were synced before one was read, each by its first call; or a sync failed, the last call of both (own).
+abbrev pub SyncsEach : {D : Type 0} → (DiskCall → Result Unit DevFault → D → D → Type 0) → TwoDisks D → TwoDisks D
+    → Type 0
+SyncsEach effect old new =
+    (SyncedBefore effect old.first new.first × SyncedBefore effect old.second new.second)
+    ⊎ ((fault : DevFault) × SyncFailed effect fault old.first new.first old.second new.second)
+
+-- The two disks of an opening: both are synced before one is read, of each only syncs and such reads were called, and
+-- each that is honest is left as it was (own).
 pub record EachOpened {D : Type 0} (state : D → DiskState) (effect : DiskCall → Result Unit DevFault → D → D → Type 0)
     (old new : TwoDisks D) : Type 0 where
   pub stays : EachStays state old new
   pub reads : OpensEach effect old new
+  pub begins : SyncsEach effect old new
 
 module _ {D : Type 0} (effect : DiskCall → Result Unit DevFault → D → D → Type 0) where
   -- the disk of that side was read once, of so many bytes (own)

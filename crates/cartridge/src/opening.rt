@@ -28,11 +28,11 @@ struct Unopened<D> {
 
 impl<D: Disk> Cartridge<D> {
     /// Opens a closed cartridge, from the side that counts. The call begins with a sync of both disks, and writes
-    /// nothing: it makes no call but syncs, and reads of at most 65,536 bytes. At every moment of the call, and after
-    /// every error, a crash leaves only what it might have left before; this holds for an honest disk (one that keeps
-    /// the promises of a disk) beside a dishonest one too. Where both are honest, a crash after any result but `Device`
-    /// leaves just what a read would have returned before the call. With an error the cartridge is returned closed, as
-    /// it was.
+    /// nothing: it makes no call but syncs, and reads of at most 65,536 bytes, and none behind one of these two syncs
+    /// that failed. At every moment of the call, and after every error, a crash leaves only what it might have left
+    /// before; this holds for an honest disk (one that keeps the promises of a disk) beside a dishonest one too. Where
+    /// both are honest, a crash after any result but `Device` leaves just what a read would have returned before the
+    /// call. With an error the cartridge is returned closed, as it was.
     pub fn open(alloc: Global, shelved: Shelved<D>) -> Result<Cartridge<D>, NotOpened<D>>
         ensures disks { KeepsDisks D.state shelved.disks (disks_opened result) }
         ensures ok { IfOk result (λ cartridge. (cartridge.failed ≡ false) × (cartridge.torn ≡ [])
@@ -124,8 +124,7 @@ fn open_disks<D: Disk>(alloc: Global, first: D, second: D) -> Result<Cartridge<D
     ensures any_moment { AreHonest D.state (record { first = first; second = second }) →
         TwoLeave D.state (record { first = first; second = second }) (disks_found result)
         (MayLeave D.state (record { first = first; second = second })) }
-    ensures each { EachStays D.state (record { first = first; second = second }) (disks_found result) }
-    ensures reads { OpensEach D.effect (record { first = first; second = second }) (disks_found result) }
+    ensures each { EachOpened D.state D.effect (record { first = first; second = second }) (disks_found result) }
 {
     let mut first = first;
     let mut second = second;

@@ -2,7 +2,7 @@
 use Rattle.std.proofs.Common.{◌≡◌, inl, inr, ℕ, List, ◌∙◌, subst, arith}
 use Rattle.std.specs.Prelude.{Option, Result, Ok, Err}
 use Rattle.vtl_base.specs.declared.faults.DevFault.{DevFault}
-use Rattle.tape_disk.specs.Disk.{DiskState, Each, IsDisk, Only, Passes}
+use Rattle.tape_disk.specs.Disk.{DiskCall, DiskState, Each, IsDisk, Only, Passes}
 use Rattle.tape_disk.specs.Moments.{LeavesOnly, holds_now, in_sequence, no_call, weakened}
 use Rattle.gate_journal.specs.Answers.{NoneFailed}
 use Rattle.gate_journal.specs.Crash.{Unwritten}
@@ -10,7 +10,7 @@ use Rattle.gate_journal.specs.Heads.{Head}
 use Rattle.gate_journal.specs.Side.{CLOSED}
 use Rattle.cartridge_sides.specs.declared.choosing.Counted.{Counted}
 use Rattle.cartridge_sides.specs.declared.which.Which.{Which}
-use Rattle.cartridge_sides.specs.Choosing.{Chooses, FaultsOfOne, FindsCounted, IsFaultOfOne}
+use Rattle.cartridge_sides.specs.Choosing.{Chooses, FaultsOfOne, FindsCounted, IsFaultOfOne, SyncedBefore, SyncsBoth}
 use Rattle.cartridge_sides.specs.Inner.{FindsRead}
 use Rattle.cartridge_sides.specs.Pairs.{PairStandsFor, begun}
 use Rattle.cartridge_sides.specs.Passes.{IsPreparedBeside, IsShutPair}
@@ -54,6 +54,13 @@ module _ (f0 f1 f2 s0 s1 s2 : DiskState) (first : NoneFailed f0 f1) (second : No
         subst (λ (l : List ℕ × List ℕ). Chooses l.0 l.1 found) (λ i. (e i, f i)) (chooses (first_on h) (second_on k))),
   )
   counted_since (Err fault) is = fault_since fault f0 f1 f2 s0 s1 s2 first second is
+
+-- where both disks were synced first, they were whatever the result is
+pub both_synced : {D : Type 0} (effect : DiskCall → Result Unit DevFault → D → D → Type 0)
+    (result : Result (Option Counted) DevFault) (f0 f1 s0 s1 : D)
+    → SyncedBefore effect f0 f1 → SyncedBefore effect s0 s1 → SyncsBoth effect result f0 f1 s0 s1
+both_synced effect (Ok found) f0 f1 s0 s1 first second = (first, second)
+both_synced effect (Err fault) f0 f1 s0 s1 first second = inr (first, second)
 
 -- a pair is prepared where its gate is closed
 module _ (first : List ℕ) (s0 s1 : DiskState) (disk : IsDisk s0) (shut : IsShutPair first) where

@@ -1,11 +1,11 @@
 //! Finding which of a cartridge's two sides counts.
 ghost use Rattle.std.specs.Prelude.{◌≡◌, ◌≢◌, ◌↔◌, ◌≤◌, ℕ, IsTrue, List, length, take, slice_index, OnOk};
-ghost use Rattle.tape_disk.specs.Disk.{Keeps, Only, Passes};
+ghost use Rattle.tape_disk.specs.Disk.{Keeps, Only, Passes, SyncAll};
 ghost use Rattle.tape_disk.specs.Moments.{LeavesOnly};
 ghost use Rattle.gate_journal.specs.Side.{OPEN};
 ghost use Rattle.gate_journal.specs.Crash.{Unwritten};
 ghost use Rattle.gate_journal.specs.Reads.{OnlyOpenings, OnlyReads};
-ghost use Rattle.cartridge_sides.specs.Choosing.{Chooses, FindsCounted};
+ghost use Rattle.cartridge_sides.specs.Choosing.{Chooses, FindsCounted, SyncsBoth};
 ghost use Rattle.cartridge_sides.specs.Passes.{HasStart};
 ghost use Rattle.cartridge_sides.specs.Inner.{FindsRead, HasOpenPair, IsGreater, OpensImage};
 
@@ -43,7 +43,7 @@ enum Begins {
 }
 
 /// Returns the side that counts, or None if neither does. Both disks are synced first, and then read, at most 65,536
-/// bytes at a time; no other call is made.
+/// bytes at a time; no other call is made. A sync that fails is the last call of both.
 pub fn choose<D: Disk>(first: &mut D, second: &mut D) -> Result<Option<Counted>, DevFault>
     ensures disks { Keeps (D.state first.old) (D.state first.new)
         × Keeps (D.state second.old) (D.state second.new) }
@@ -54,6 +54,7 @@ pub fn choose<D: Disk>(first: &mut D, second: &mut D) -> Result<Option<Counted>,
     ensures second { (D.state second.old).honest →
         LeavesOnly (D.state second.old) (D.state second.new) (D.state second.old).may_leave }
     ensures reads { OnlyOpenings D.effect first.old first.new × OnlyOpenings D.effect second.old second.new }
+    ensures begins { SyncsBoth D.effect result first.old first.new second.old second.new }
 {
     make_sure(first)?;
     make_sure(second)?;
@@ -68,7 +69,7 @@ fn make_sure<D: Disk>(disk: &mut D) -> Result<(), DevFault>
     ensures sure { (D.state disk.old).honest → OnOk result
         (((D.state disk.new).seen ≡ (D.state disk.old).seen)
         × Only (D.state disk.old).seen (D.state disk.new).may_leave) }
-    ensures reads { OnlyOpenings D.effect disk.old disk.new }
+    ensures synced { D.effect SyncAll result disk.old disk.new }
 {
     disk.sync()
 }

@@ -74,3 +74,21 @@ module _ {D : Type 0} (effect : DiskCall → Result Unit DevFault → D → D �
       by (suc calls) last more =
           let so_far = by calls more.0 more.1 in
           record { calls = suc so_far.calls; opens = (more.0, so_far.opens, more.2) }
+
+  -- The first call of the disk was a sync, and after it came only syncs, and reads of at most 65,536 bytes (own).
+  pub record SyncsFirst (old new : D) : Type 0 where
+    pub synced : D
+    pub sync : SyncsOnce old synced
+    pub rest : OnlyOpenings synced new
+
+  -- such calls after a beginning with a sync
+  pub begins_then : (old mid new : D) → SyncsFirst old mid → OnlyOpenings mid new → SyncsFirst old new
+  begins_then old mid new first more = record {
+    synced = first.synced;
+    sync = first.sync;
+    rest = opens_then first.synced mid new first.rest more;
+  }
+
+  -- with the sync, only syncs were called, and such reads
+  pub opens_begun : (old new : D) → SyncsFirst old new → OnlyOpenings old new
+  opens_begun old new did = opens_then old did.synced new (opens_sync old did.synced did.sync) did.rest

@@ -6,7 +6,7 @@ ghost use Rattle.gate_journal.specs.Answers.{NoneFailed};
 ghost use Rattle.gate_journal.specs.Crash.{Unwritten};
 ghost use Rattle.gate_journal.specs.Decoding.{HasDecoded, IsNotDecoded, disk_decoded};
 ghost use Rattle.gate_journal.specs.Inner.Decoding.{NotFinished, opening_cause};
-ghost use Rattle.gate_journal.specs.Reads.{OnlyOpenings, OnlyReads};
+ghost use Rattle.gate_journal.specs.Reads.{OnlyReads, SyncsFirst};
 ghost use Rattle.gate_journal.specs.Side.{StandsFor};
 ghost use Rattle.gate_journal.specs.declared.pieces.TheConstants.{PIECE_BYTES};
 
@@ -41,7 +41,7 @@ impl<D: Disk> Journal<D> {
             refused.error (D.state disk) (D.state refused.disk)) }
         ensures any_moment { (D.state disk).honest →
             LeavesOnly (D.state disk) (D.state (disk_decoded result)) (D.state disk).may_leave }
-        ensures reads { OnlyOpenings D.effect disk (disk_decoded result) }
+        ensures begins { SyncsFirst D.effect disk (disk_decoded result) }
     {
         match Self::open_as(alloc, disk, T::KIND) {
             Ok(journal) => {

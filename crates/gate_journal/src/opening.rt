@@ -4,7 +4,7 @@ ghost use Rattle.tape_disk.specs.Disk.{Keeps, Only};
 ghost use Rattle.tape_disk.specs.Moments.{LeavesOnly};
 ghost use Rattle.gate_journal.specs.Side.{StandsFor};
 ghost use Rattle.gate_journal.specs.Answers.{NoneFailed, NotOpened, NotOpenedAs, disk_after};
-ghost use Rattle.gate_journal.specs.Reads.{OnlyOpenings};
+ghost use Rattle.gate_journal.specs.Reads.{OnlyOpenings, SyncsFirst};
 ghost use Rattle.gate_journal.specs.Inner.Asked.{IsAsked, NotOpenedAsked};
 
 use crate::frame::Frame;
@@ -28,6 +28,7 @@ impl<D: Disk> Journal<D> {
         ensures any_moment { (D.state disk).honest →
             LeavesOnly (D.state disk) (D.state (disk_after result)) (D.state disk).may_leave }
         ensures reads { OnlyOpenings D.effect disk (disk_after result) }
+        ensures begins { SyncsFirst D.effect disk (disk_after result) }
     {
         Self::open_asked(alloc, disk, None)
     }
@@ -45,6 +46,7 @@ impl<D: Disk> Journal<D> {
         ensures any_moment { (D.state disk).honest →
             LeavesOnly (D.state disk) (D.state (disk_after result)) (D.state disk).may_leave }
         ensures reads { OnlyOpenings D.effect disk (disk_after result) }
+        ensures begins { SyncsFirst D.effect disk (disk_after result) }
     {
         Self::open_asked(alloc, disk, Some(kind))
     }
@@ -61,6 +63,7 @@ impl<D: Disk> Journal<D> {
         ensures any_moment { (D.state disk).honest →
             LeavesOnly (D.state disk) (D.state (disk_after result)) (D.state disk).may_leave }
         ensures reads { OnlyOpenings D.effect disk (disk_after result) }
+        ensures begins { SyncsFirst D.effect disk (disk_after result) }
     {
         let mut disk = disk;
         match read_side(alloc, &mut disk, asked) {

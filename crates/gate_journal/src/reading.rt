@@ -5,7 +5,7 @@ ghost use Rattle.gate_journal.specs.Side.{OPEN, heading_of};
 ghost use Rattle.gate_journal.specs.Inner.Reading.{copied_size, heading_parsed, numbers_of, size_behind};
 ghost use Rattle.std.specs.Int.{to_be_bytes, w32};
 ghost use Rattle.gate_journal.specs.Crash.{Unwritten};
-ghost use Rattle.gate_journal.specs.Reads.{OnlyOpenings, OnlyReads};
+ghost use Rattle.gate_journal.specs.Reads.{OnlyOpenings, OnlyReads, SyncsFirst};
 ghost use Rattle.gate_journal.specs.Inner.Found.{FindsBytes, FindsParsed, FindsStart, FindsKind, FindsAsked, FindsMark, FindsFrames, FindsSide};
 ghost use Rattle.tape_disk.specs.Moments.{LeavesOnly};
 
@@ -54,6 +54,7 @@ pub(crate) fn read_side<D: Disk>(
     ensures any_moment { (D.state disk.old).honest →
         LeavesOnly (D.state disk.old) (D.state disk.new) (D.state disk.old).may_leave }
     ensures reads { OnlyOpenings D.effect disk.old disk.new }
+    ensures begins { SyncsFirst D.effect disk.old disk.new }
     ensures answer { FindsSide asked result (D.state disk.old) (D.state disk.new) }
 {
     make_sure(disk)?;
@@ -69,6 +70,7 @@ fn make_sure<D: Disk>(disk: &mut D) -> Result<(), DevFault>
     ensures time { (D.state disk.old).honest → Elapses (D.state disk.old) (D.state disk.new) }
     ensures syncs { (D.state disk.old).honest → Syncs result (D.state disk.old) (D.state disk.new) }
     ensures reads { OnlyOpenings D.effect disk.old disk.new }
+    ensures begins { SyncsFirst D.effect disk.old disk.new }
 {
     disk.sync()
 }

@@ -1,5 +1,5 @@
 //! The command line of the program, with its help.
-ghost use Rattle.std.specs.Prelude.{◌≡◌, IfOk, false, codes};
+ghost use Rattle.std.specs.Prelude.{◌≡◌, IfOk, MatchResult, false, codes};
 ghost use Rattle.clap.specs.Simple.{app_of, new_app, on_top, with_rule, with_subcommand};
 ghost use Rattle.clap.specs.Walk.{rule_of};
 ghost use Rattle.clap.specs.declared.builder.command.Command.TheViews.{out-Command};
@@ -172,13 +172,18 @@ fn with<'a>(command: Command<'a>, arg: Arg<'a>) -> Result<Command<'a>, AllocErro
     Ok(added)
 }
 
-// Adds the subcommand `word` to a command.
-fn with_word<'a>(command: Command<'a>, word: Command<'a>) -> Result<Command<'a>, AllocError>
+// Adds the subcommand `word` to a command. Where memory ran out for the word, nothing is added.
+fn with_word<'a>(
+    command: Command<'a>,
+    word: Result<Command<'a>, AllocError>,
+) -> Result<Command<'a>, AllocError>
     requires command { (out-Command command).has_globals ≡ false }
-    requires word { (out-Command word).has_globals ≡ false }
-    ensures app { IfOk result (λ r. app_of r ≡ with_subcommand (app_of command.entry) (app_of word.entry).top) }
+    requires word { IfOk word (λ w. (out-Command w).has_globals ≡ false) }
+    ensures app { IfOk result (λ r. MatchResult word.entry
+        (λ w. app_of r ≡ with_subcommand (app_of command.entry) (app_of w).top) (λ _. ⊥)) }
     ensures local { IfOk result (λ r. (out-Command r).has_globals ≡ false) }
 {
+    let word = word?;
     let added = command.subcommand(word)?;
     Ok(added)
 }
@@ -261,15 +266,15 @@ fn program<'a>(alloc: Global) -> Command<'a>
 pub(crate) fn vtl_command<'a>(alloc: Global) -> Result<Command<'a>, AllocError>
     ensures { IfOk result (λ r. app_of r ≡ line.vtl_command) }
 {
-    let run = run_command(alloc)?;
-    let serve = serve_command(alloc)?;
-    let create = create_command(alloc)?;
-    let check = check_command(alloc)?;
-    let reclaim = reclaim_command(alloc)?;
+    let run = run_command(alloc);
     let one = with_word(program(alloc), run)?;
+    let serve = serve_command(alloc);
     let two = with_word(one, serve)?;
+    let create = create_command(alloc);
     let three = with_word(two, create)?;
+    let check = check_command(alloc);
     let four = with_word(three, check)?;
+    let reclaim = reclaim_command(alloc);
     let five = with_word(four, reclaim)?;
     Ok(five)
 }

@@ -1,7 +1,8 @@
 use Rattle.std.specs.Prelude.{Some}
+use Rattle.std.proofs.Common.{inl}
 use Rattle.std.proofs.lemmas.Result.{IfErr-weaker, IfOk-weaker}
 use Rattle.tape_disk.specs.TwoDisks.{TwoDisks}
-use Rattle.cartridge.proofs.ChoosingLemmas.{gives_then, honest_on, looked, looked_then, none_failed, opens_on, refused_then, seen_found, stays_then}
+use Rattle.cartridge.proofs.ChoosingLemmas.{begun_failed, begun_on, gives_then, honest_on, looked, looked_then, none_failed, opens_on, refused_then, seen_found, stays_then}
 use Rattle.cartridge.proofs.opening.open_disks.Goals as goal
 
 pub returns-in-Ok-Some-clause-gives : goal.returns-in-Ok-Some-clause-gives
@@ -57,13 +58,30 @@ returns-in-Err-clause-any_moment g c =
 pub returns-in-Ok-Some-clause-each : goal.returns-in-Ok-Some-clause-each
 returns-in-Ok-Some-clause-each g c =
     let state = g.D.Disk.state in
+    let effect = g.D.Disk.effect in
     let old : TwoDisks g.row.D.Denot = record { first = c.args.first; second = c.args.second } in
     let mid : TwoDisks g.row.D.Denot = record { first = c.choose.new.first; second = c.choose.new.second } in
-    stays_then state g.met.D.Disk.is_disk old mid _ c.choose.ensures.disks
-    (record { first = c.choose.ensures.first; second = c.choose.ensures.second }) c.open_side.ensures.each
+    record {
+      stays = stays_then state g.met.D.Disk.is_disk old mid _ c.choose.ensures.disks
+          (record { first = c.choose.ensures.first; second = c.choose.ensures.second }) c.open_side.ensures.each;
+      reads = opens_on effect old mid _
+          (record { first = c.choose.ensures.reads.0; second = c.choose.ensures.reads.1 }) c.open_side.ensures.reads;
+      begins = begun_on effect old mid _ c.in-Ok-Some.ensures.begins c.open_side.ensures.reads;
+    }
 
-pub returns-in-Ok-Some-clause-reads : goal.returns-in-Ok-Some-clause-reads
-returns-in-Ok-Some-clause-reads g c =
-    opens_on g.D.Disk.effect (record { first = c.args.first; second = c.args.second })
-    (record { first = c.choose.new.first; second = c.choose.new.second }) _
-    (record { first = c.choose.ensures.reads.0; second = c.choose.ensures.reads.1 }) c.open_side.ensures.reads
+pub returns-in-Ok-None-clause-each : goal.returns-in-Ok-None-clause-each
+returns-in-Ok-None-clause-each g c = record {
+  stays = record { first = c.choose.ensures.first; second = c.choose.ensures.second };
+  reads = record { first = c.choose.ensures.reads.0; second = c.choose.ensures.reads.1 };
+  begins = inl c.in-Ok-None.ensures.begins;
+}
+
+pub returns-in-Err-clause-each : goal.returns-in-Err-clause-each
+returns-in-Err-clause-each g c =
+    let old : TwoDisks g.row.D.Denot = record { first = c.args.first; second = c.args.second } in
+    let new : TwoDisks g.row.D.Denot = record { first = c.choose.new.first; second = c.choose.new.second } in
+    record {
+      stays = record { first = c.choose.ensures.first; second = c.choose.ensures.second };
+      reads = record { first = c.choose.ensures.reads.0; second = c.choose.ensures.reads.1 };
+      begins = begun_failed g.D.Disk.effect _ old new c.in-Err.ensures.begins;
+    }

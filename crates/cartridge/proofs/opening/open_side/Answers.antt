@@ -1,5 +1,6 @@
 use Rattle.std.proofs.Common.{sym, subst}
 use Rattle.tape_disk.specs.TwoDisks.{AreHonest, MayLeave, TwoDisks, TwoLeave, seen_of_two}
+use Rattle.gate_journal.specs.Reads.{opens_begun}
 use Rattle.cartridge.specs.Answers.{IsNotOpened}
 use Rattle.cartridge.specs.Contents.{GivesContents}
 use Rattle.cartridge.specs.Disks.{EachStays, OnlyOfTwo, OpensEach, disks_by}
@@ -119,7 +120,8 @@ returns-in-Ok-clause-reads g c =
     let journal = c.in-Ok.journal in
     subst (λ (d : TwoDisks g.row.D.Denot). OpensEach effect d (disks_by which journal.disk c.apart-counts.result.1))
     c.apart-counts.ensures
-    (opens_by effect which c.apart-counts.result.0 c.apart-counts.result.1 journal.disk c.in-Ok.ensures.reads)
+    (opens_by effect which c.apart-counts.result.0 c.apart-counts.result.1 journal.disk
+    (opens_begun effect _ _ c.in-Ok.ensures.begins))
 
 pub returns-in-Err-clause-reads : goal.returns-in-Err-clause-reads
 returns-in-Err-clause-reads g c =
@@ -127,4 +129,4 @@ returns-in-Err-clause-reads g c =
     subst (λ (x : TwoDisks g.row.D.Denot × TwoDisks g.row.D.Denot). OpensEach effect x.0 x.1)
     (λ i. (c.apart-counts.ensures i, sym c.in_order-first.ensures i))
     (opens_by effect c.args.which c.apart-counts.result.0 c.apart-counts.result.1 c.in-Err.refused.disk
-    c.in-Err.ensures.reads)
+    (opens_begun effect _ _ c.in-Err.ensures.begins))

@@ -1,4 +1,3 @@
-use Rattle.gate_journal.specs.Reads.{opens_sync}
 use Rattle.tape_disk.specs.Moments.{no_call, one_more_call}
 use Rattle.cartridge_sides.proofs.choosing.make_sure.Goals as goal
 
@@ -8,6 +7,3 @@ returns-clause-any_moment g c = λ h.
     one_more_call old old (g.D.Disk.state c.sync.new.self) old.may_leave
     (no_call old old.may_leave (g.met.D.Disk.is_disk c.args.disk.now h) (λ image left. left)) (c.sync.ensures.time h)
     (c.sync.ensures.syncs h).crash
-
-pub returns-clause-reads : goal.returns-clause-reads
-returns-clause-reads g c = opens_sync g.D.Disk.effect _ _ (_, c.sync.ensures.effect)

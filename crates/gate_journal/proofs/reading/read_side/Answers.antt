@@ -5,7 +5,7 @@ use Rattle.gate_journal.specs.Side.{base_of, spell_front, StandsFor}
 use Rattle.gate_journal.specs.State.{bodies_at}
 use Rattle.gate_journal.specs.Inner.Asked.{BeginsAsked, IsNotAsked, IsDamagedAsked}
 use Rattle.gate_journal.specs.Inner.Found.{front_read}
-use Rattle.gate_journal.specs.Reads.{opens_reads, opens_then, reads_then}
+use Rattle.gate_journal.specs.Reads.{begins_then, opens_reads, opens_then, reads_then}
 use Rattle.gate_journal.proofs.AskedLemmas.{begins_asked_by, damaged_asked}
 use Rattle.gate_journal.proofs.Walks.{as_many, not_opened_since, damaged_there, stands_for, on_disk, seen_2, only_3}
 use Rattle.gate_journal.proofs.reading.read_side.Goals as goal
@@ -121,5 +121,22 @@ returns-in_err-frames-clause-reads g c =
 pub returns-clause-reads : goal.returns-clause-reads
 returns-clause-reads g c =
     opens_then g.D.Disk.effect _ _ _ c.make_sure.ensures.reads
+    (opens_reads g.D.Disk.effect _ _
+    (reads_then g.D.Disk.effect _ _ _ c.read_asked.ensures.reads c.read_frames.ensures.reads))
+
+pub returns-in_err-front-clause-begins : goal.returns-in_err-front-clause-begins
+returns-in_err-front-clause-begins g c =
+    begins_then g.D.Disk.effect _ _ _ c.make_sure.ensures.begins
+    (opens_reads g.D.Disk.effect _ _ c.read_asked.ensures.reads)
+
+pub returns-in_err-frames-clause-begins : goal.returns-in_err-frames-clause-begins
+returns-in_err-frames-clause-begins g c =
+    begins_then g.D.Disk.effect _ _ _ c.make_sure.ensures.begins
+    (opens_reads g.D.Disk.effect _ _
+    (reads_then g.D.Disk.effect _ _ _ c.read_asked.ensures.reads c.read_frames.ensures.reads))
+
+pub returns-clause-begins : goal.returns-clause-begins
+returns-clause-begins g c =
+    begins_then g.D.Disk.effect _ _ _ c.make_sure.ensures.begins
     (opens_reads g.D.Disk.effect _ _
     (reads_then g.D.Disk.effect _ _ _ c.read_asked.ensures.reads c.read_frames.ensures.reads))

@@ -1,20 +1,17 @@
-use Rattle.std.proofs.Common.{ap, ap₂, ◌∙◌}
-use Rattle.clap.specs.Simple.{App, with_subcommand}
+use Rattle.vtl_words.proofs.WordLemmas.{word_added}
 use Rattle.vtl_words.proofs.commands.vtl_command.Goals as goal
 
 pub returns : goal.returns
 returns c =
+    let one =
+    word_added c.run_command-run.result _ _ _ _ c.program.ensures.app c.run_command-run.ensures.app
+    c.in_ok-one.ensures.app in
+    let two =
+    word_added c.serve_command-serve.result _ _ _ _ one c.serve_command-serve.ensures.app c.in_ok-two.ensures.app in
+    let three =
+    word_added c.create_command-create.result _ _ _ _ two c.create_command-create.ensures.app
+    c.in_ok-three.ensures.app in
+    let four =
+    word_added c.check_command-check.result _ _ _ _ three c.check_command-check.ensures.app c.in_ok-four.ensures.app in
+    word_added c.reclaim_command-reclaim.result _ _ _ _ four c.reclaim_command-reclaim.ensures.app
     c.in_ok-five.ensures.app
-    ∙ ap₂ with_subcommand
-    (c.in_ok-four.ensures.app
-    ∙ ap₂ with_subcommand
-    (c.in_ok-three.ensures.app
-    ∙ ap₂ with_subcommand
-    (c.in_ok-two.ensures.app
-    ∙ ap₂ with_subcommand
-    (c.in_ok-one.ensures.app
-    ∙ ap₂ with_subcommand c.program.ensures.app (ap (λ (a : App). a.top) c.in_ok-run.ensures.app))
-    (ap (λ (a : App). a.top) c.in_ok-serve.ensures.app))
-    (ap (λ (a : App). a.top) c.in_ok-create.ensures.app))
-    (ap (λ (a : App). a.top) c.in_ok-check.ensures.app))
-    (ap (λ (a : App). a.top) c.in_ok-reclaim.ensures.app)

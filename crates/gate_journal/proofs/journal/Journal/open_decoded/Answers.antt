@@ -1,19 +1,19 @@
 use Rattle.std.proofs.Common.{subst, sym, ◌∙◌}
 use Rattle.gate_journal.specs.declared.header.SideKind.{SideKind}
 use Rattle.gate_journal.specs.Decoding.{IsNotDecoded}
-use Rattle.gate_journal.specs.Reads.{OnlyOpenings, opens_reads, opens_then}
+use Rattle.gate_journal.specs.Reads.{SyncsFirst, begins_then, opens_reads}
 use Rattle.gate_journal.proofs.DecodingLemmas.{unfinished, unopened}
 use Rattle.gate_journal.proofs.journal.Journal.open_decoded.Goals as goal
 
-pub returns-in-Ok-decode_frames-clause-reads : goal.returns-in-Ok-decode_frames-clause-reads
-returns-in-Ok-decode_frames-clause-reads g c =
-    opens_then g.D.Disk.effect _ _ _ c.in-Ok.ensures.reads
+pub returns-in-Ok-decode_frames-clause-begins : goal.returns-in-Ok-decode_frames-clause-begins
+returns-in-Ok-decode_frames-clause-begins g c =
+    begins_then g.D.Disk.effect _ _ _ c.in-Ok.ensures.begins
     (opens_reads g.D.Disk.effect _ _ c.decode_frames.ensures.reads)
 
-pub returns-in-Err-decode_frames-clause-reads : goal.returns-in-Err-decode_frames-clause-reads
-returns-in-Err-decode_frames-clause-reads g c =
-    subst (λ (d : g.row.D.Denot). OnlyOpenings g.D.Disk.effect c.args.disk d) (sym c.close-disk.ensures)
-    (opens_then g.D.Disk.effect _ _ _ c.in-Ok.ensures.reads
+pub returns-in-Err-decode_frames-clause-begins : goal.returns-in-Err-decode_frames-clause-begins
+returns-in-Err-decode_frames-clause-begins g c =
+    subst (λ (d : g.row.D.Denot). SyncsFirst g.D.Disk.effect c.args.disk d) (sym c.close-disk.ensures)
+    (begins_then g.D.Disk.effect _ _ _ c.in-Ok.ensures.begins
     (opens_reads g.D.Disk.effect _ _ c.decode_frames.ensures.reads))
 
 pub returns-in-Err-decode_frames-clause-refused : goal.returns-in-Err-decode_frames-clause-refused
