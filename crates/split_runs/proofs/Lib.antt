@@ -1,0 +1,13 @@
+mod AcceptLemmas
+mod AloneLemmas
+mod BegunLemmas
+mod BothReplyLemmas
+mod CoreLemmas
+mod FaultLemmas
+mod MoveLemmas
+mod PartLemmas
+mod PlaceLemmas
+mod ReplyLemmas
+mod RunLemmas
+mod StepLemmas
+mod StopLemmas

@@ -1,0 +1,7 @@
+use Rattle.split_runs.proofs.StepLemmas.{alone_step}
+use Rattle.split_runs.proofs.calls.ask_alone.Goals as goal
+
+pub returns : goal.returns
+returns g c =
+    alone_step g.D.Disk.state c.args.front.now c.execute_lent-answer.new.self _ c.execute_lent-answer.result
+    c.execute_lent-answer.new.sent c.execute_lent-answer.ensures.step c.known.ensures.keeps

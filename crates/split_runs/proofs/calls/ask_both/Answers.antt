@@ -1,0 +1,18 @@
+use Rattle.std.proofs.Common.{refl}
+use Rattle.split_runs.proofs.StepLemmas.{parts_again}
+use Rattle.split_runs.proofs.calls.ask_both.Goals as goal
+
+pub returns : goal.returns
+returns g c =
+    let done = c.execute_both-reply in
+    let back = c.known-2.ensures in
+    λ waiting. (
+      done.ensures.answers.step.step.taken.made.changes,
+      record {
+        executes = done.ensures;
+        made_is = refl;
+        parts =
+            parts_again g.D.Disk.state done.new.front done.new.back c.known.ensures.keeps
+            (record { cartridge = back.cartridge; follows = back.follows; within = back.within });
+      },
+    )
