@@ -118,13 +118,14 @@ def selftests():
 
 
 def table(names, spent, whole):
-    minutes = lambda seconds: f"{seconds / 60:.1f}"
+    """A row for each crate; a cell is empty where there is nothing, or less than three seconds."""
+    minutes = lambda seconds: f"{seconds / 60:.1f}" if seconds >= 3 else ""
     rows = ["| Crate | Proofs | Tests | Edits | Tried | All |", "|---|---|---|---|---|---|"]
     for name in names:
         row = [spent.get((name, kind), 0) for kind in KINDS]
         folder = os.path.join(TOP, "crates", name, "must-fail")
         count = len([it for it in os.listdir(folder) if it.endswith(".edit")]) if os.path.isdir(folder) else 0
-        rows.append(f"| `{name}` | {' | '.join(map(minutes, row))} | {count} | {minutes(sum(row))} |")
+        rows.append(f"| `{name}` | {' | '.join(map(minutes, row))} | {count or ''} | {minutes(sum(row))} |")
     rows.append(f"| the rest | | | | | {minutes(whole - sum(spent.values()))} |")
     sums = [sum(seconds for (_, it), seconds in spent.items() if it == kind) for kind in KINDS]
     return "\n".join([*rows, f"| all | {' | '.join(map(minutes, sums))} | | {minutes(whole)} |"])

@@ -5,8 +5,9 @@ words.py               prints the words of each group, and names what is over a 
 words.py --selftest    gives it texts, each of which it has to count as it should
 
 A word is what stands between blanks and has a letter or a digit. All words of a file count, those of tables and of code
-too. A sentence ends at a full stop, a question mark or an exclamation mark, at the end of its paragraph, or of its item
-of a list; tables, headings and blocks of code have none.
+too. What a script writes into a page does not: the table of bench/gate.py in docs/GATE.md, the figures between the
+marks `measured` and `end`. A sentence ends at a full stop, a question mark or an exclamation mark, at the end of its
+paragraph, of its item of a list, or of its cell of a table; headings and blocks of code have none.
 """
 import glob
 import os
@@ -22,8 +23,15 @@ MOST_IN_A_PAGE = 500
 MADE = {"docs/DEFINITIONS.md", "docs/EDITS.md", "docs/HEADLINE.md", "crates/README.md"}
 GROUPS = {"README.md": ["README.md"], "docs": ["docs/*.md"], "crates": ["crates/*/README.md"],
           "front end, examples": ["frontends/iscsi/*.md", "examples/*.md"]}
+# written into docs/GATE.md by bench/gate.py, and into pages with figures by the script that measures them
+MADE_PARTS = re.compile(r"(?m)^\| Crate \| Proofs \|.*\n(\|.*\n)*|^<!-- measured: (.*\n)*?<!-- end -->$")
 # by hand too, and not within the limit: a record of changes, and what those read who change the repository
 BESIDE = ["CHANGELOG.md", "CONTRIBUTING.md", "rows/*.md"]
+
+
+def by_hand(text):
+    """The text with blank lines in the place of what a script writes into it."""
+    return MADE_PARTS.sub(lambda part: "\n" * part.group().count("\n"), text)
 
 
 def words_in(text):
@@ -31,12 +39,14 @@ def words_in(text):
 
 
 def paragraphs(text):
-    """The paragraphs and the items of lists, each with the number of its first line."""
+    """The paragraphs, the items of lists and the cells of tables, each with the number of its first line."""
     found, is_code = [(0, [])], False
     for number, line in enumerate(text.splitlines(), 1):
         fence = line.lstrip().startswith("```")
         is_code ^= fence
         if fence or is_code or not line.strip() or re.match(r"\s*[|#]", line):
+            is_row = not is_code and re.match(r"\s*\|", line)
+            found += [(number, [cell]) for cell in re.split(r"(?<!\\)\|", line)] if is_row else []
             found.append((0, []))
             continue
         item = re.match(r"\s*(?:[-*]|\d+\.) ", line)
@@ -80,12 +90,15 @@ LONG = " ".join(["word"] * 41)
 CASES = [("One two, three - 4.", 4, []), ("# A head\n\n| a | b |\n|---|---|\n| `c d` | |\n", 6, []),
          (f"{LONG}.", 41, [41]), (f"{LONG}. And {LONG}: {LONG}.", 124, [41, 83]),
          (f"- {LONG}\n- {LONG}\n", 82, [41, 41]),
-         (f"```\n{LONG}\n```\n", 41, []), (f"`{LONG}` [stands](at/a/place.md) here.", 43, []), (f"| {LONG} |", 41, [])]
+         (f"```\n{LONG}\n```\n", 41, []), (f"`{LONG}` [stands](at/a/place.md) here.", 43, []),
+         (f"| a | {LONG} |\n", 42, [41]), (f"```\n| {LONG} |\n```\n", 41, []),
+         ("One.\n\n| Crate | Proofs | All |\n|---|---|---|\n| `a` | 1 | 2 |\n\nTwo.\n", 2, []),
+         ("One.\n<!-- measured: speed -->\n| a | 2 |\n\n- b: 3\n<!-- end -->\nTwo.\n", 2, [])]
 
 
 def selftest():
     missed = [text for text, count, long in CASES
-              if len(words_in(text)) != count or [it[1] for it in long_sentences(text)] != long]
+              if len(words_in(by_hand(text))) != count or [it[1] for it in long_sentences(text)] != long]
     print("".join(f"not counted as it should be: {text!r}\n" for text in missed), end="")
     print(f"words --selftest: {len(CASES)} texts, {len(missed)} not counted as they should be")
     return 1 if missed else 0
@@ -96,7 +109,8 @@ def main(given):
         return selftest()
     if given:
         sys.exit(__doc__)
-    texts = {group: {os.path.relpath(path, TOP): read(path) for path in files_of(it)} for group, it in GROUPS.items()}
+    texts = {group: {os.path.relpath(path, TOP): by_hand(read(path)) for path in files_of(it)}
+             for group, it in GROUPS.items()}
     counts = {group: {file: len(words_in(text)) for file, text in files.items()} for group, files in texts.items()}
     said = [f"{file}:{number}: a sentence of {count} words: {begins} .." for files in texts.values()
             for file, text in files.items() for number, count, begins in long_sentences(text)]
