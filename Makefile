@@ -87,6 +87,7 @@ hostile: $(if $(PROGRAM),,vtl)
 	python3 checks/hostile.py $(if $(PROGRAM),--program $(PROGRAM)) $(if $(COUNT),--count $(COUNT)) $(if $(SEED),--seed $(SEED))
 
 memory: vtl
+	python3 checks/memory.py --selftest
 	python3 checks/memory.py
 
 endings: vtl

@@ -199,13 +199,13 @@ class Bench:
 
         return timed(work)
 
-    def reads(self):
-        """The blocks of a group and its filemark, over and over, so that they are cached."""
-        peer, _ = self.writes()
+    def reads(self, blocks=BLOCKS):
+        """How long READs of so many blocks take that were just written, so that they are cached."""
+        peer, _ = self.writes(1, blocks)
         peer.exchange(REWIND)
 
         def work():
-            for number in range(BLOCKS):
+            for number in range(blocks):
                 status, data = peer.exchange(READ)
                 if status == 0x02:
                     status, data = peer.exchange(READ)

@@ -6,8 +6,9 @@
 // between that read of standard input and the next one; 0 is the start. "unlocked": no file has locks (EOPNOTSUPP).
 // The file that FAULTS_TOLD names gets how many calls of the kind there were, the name of the one, and how many threads
 // were started. The file that FAULTS_ASKED names gets a line for each call of malloc and realloc: how many bytes were
-// asked for. To the file that FAULTS_NOTES names each call is added that did something to a file or to standard output,
-// and each sync that failed: a letter, the last part of the file's name, a place, how many bytes; then the bytes.
+// asked for. Each read of a file at a place also takes FAULTS_TAKES bytes of memory, and frees them. To the file that
+// FAULTS_NOTES names each call is added that did something to a file or to standard output, and each sync that failed:
+// a letter, the last part of the file's name, a place, how many bytes; then the bytes.
 #define _GNU_SOURCE
 #include <dlfcn.h>
 #include <errno.h>
@@ -29,6 +30,7 @@ static int onwards;
 static long at, seen, behind = -1, reads, threads;
 static const char *name = "none";
 static int notes = -1, asked = -1, noting;
+static size_t takes;
 
 // The file that a variable names, for writing behind its end, or -1.
 static int to_write(const char *variable) {
@@ -38,7 +40,9 @@ static int to_write(const char *variable) {
 
 __attribute__((constructor)) static void begin(void) {
     const char *said = getenv("FAULTS"), *number = getenv("FAULTS_AT"), *from = getenv("FAULTS_BEHIND");
+    const char *more = getenv("FAULTS_TAKES");
     at = number ? atol(number) : 0;
+    takes = more ? (size_t)atol(more) : 0;
     behind = from ? atol(from) : -1;
     kind = said ? said[0] : 0;
     onwards = said && !strcmp(said, "threads");
@@ -166,6 +170,8 @@ ssize_t write(int file, const void *from, size_t count) {
     return noted(CALL(write, file, from, moved("write", count)), 'A', file, from, 0);
 }
 ssize_t pread(int file, void *to, size_t count, off_t place) {
+    void *volatile taken = takes ? malloc(takes) : NULL;
+    free(taken);
     return CALL(pread64, file, to, moved("pread", count), place);
 }
 ssize_t pwrite(int file, const void *from, size_t count, off_t place) {

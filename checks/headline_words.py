@@ -132,8 +132,9 @@ TRUSTED = """## What is trusted
   after a stop reads one of the images that the stop might have left.
 - **What has to be read**, since no clause says it ([PREMISES](PREMISES.md#not-proved)): that a half of a drive is
   reached through its lock alone, and asked by `FrontPlace::execute_alone` and `execute_both` alone: `command` says that
-  some half in some state answers. Two more calls take both halves and call no disk: `FrontPlace::report_fault` and
-  `renew`. That the program calls a drive's disks through the calls above alone.
+  some half in some state answers. Two more calls take both halves: `FrontPlace::report_fault`, which calls no disk,
+  and `renew`, which stores what waits where memory runs out. That the program calls a drive's disks through the calls
+  above alone.
 - **The script** that made this page. It follows the words of each text, and says so where one that is a definition is
   not here.
 

@@ -160,7 +160,7 @@ EDITS = [
      ("    pub(crate) fn ask_quietly(&mut self, alloc: std::alloc::Global) {\n"
       "        let mut none = vtl_base::Bytes::new(alloc);\n"
       "        if let (Some(half), Some(nexus)) = (&mut self.half, vtl_base::Nexus::new(1)) {\n"
-      "            let _ = half.execute_lent(nexus, &[0, 0, 0, 0, 0, 0], &mut none);\n        }\n    }\n\n"
+      "            let _ = half.execute(nexus, &[0, 0, 0, 0, 0, 0], &mut none);\n        }\n    }\n\n"
       "    /// What an inventory shows of the drive: `Full`",
       "            Some(bay) => {\n                bay.front.lock(rt).ask_quietly(self.alloc);\n"
       "                bay.serve(rt, &self.tally, seat, cdb, sent)\n            }\n"),
@@ -215,6 +215,15 @@ EDITS = [
      "        let bay = share_one(row.take(other), number, rings.take(at), tally);\n"
      "        if both {\n            let first = row.take(0);\n            row.put(1, first);\n        }\n",
      ["a_turn_in_which_the_device_fails"]),
+    ("the disks' halves of the first two drives are exchanged", "library", "src/opening.rt",
+     "        shared.push(bay).unwrap();\n    }\n    shared\n",
+     "        shared.push(bay).unwrap();\n    }\n"
+     "    if shared[0].is_some() && shared[1].is_some() {\n"
+     "        let (first, second) = (shared[0].take().unwrap(), shared[1].take().unwrap());\n"
+     "        let ((front, back), (other_front, other_back)) = (first.into_places(), second.into_places());\n"
+     "        shared[0] = Some(SharedBay::new(front, other_back));\n"
+     "        shared[1] = Some(SharedBay::new(other_front, back));\n    }\n    shared\n",
+     ["a_cartridge_goes_round_both_drives"]),
     ("two drives have changed places at the end", "library", "src/finishing.rt",
      "        row.put(bays.len(), bay);\n        written = worse(written, one);\n    }\n",
      "        row.put(bays.len(), bay);\n        written = worse(written, one);\n    }\n"

@@ -1,6 +1,7 @@
 """examples/tape.py, run behind the files of 01-backup and 02-append, as README has it: two folders are saved, a third
 save is killed with its program, both are restored and compared, and a folder that does not fit leaves them as they
-are. One has a link to an absolute path, and a name that is no UTF-8."""
+are. One has a link to an absolute path, and a name that is no UTF-8. A cartridge that was in a slot is saved to, and
+erased; a save that is not the folder any more, and one with a changed byte, are found."""
 import filecmp
 import os
 import shutil
@@ -88,6 +89,13 @@ class Tape:
         found = (done.returncode, done.stdout, done.stderr)
         self.check(" ".join(words), found == wanted, f"{found} in the place of {wanted}")
 
+    def is_refused(self, *words):
+        """The words are refused before the program is started."""
+        done = subprocess.run([sys.executable, TAPE, *words], cwd=self.room, env={**self.environment, "VTL": "missing"},
+                              stdin=subprocess.DEVNULL, stdout=subprocess.PIPE, stderr=subprocess.PIPE, text=True)
+        self.check(" ".join(words), (done.returncode, done.stdout) == (2, "") and ": error: " in done.stderr,
+                   done.stderr)
+
     def killed(self, folder):
         """A save whose program is killed on its way, once it was given some of the blocks."""
         path = os.path.join(self.room, "killed.py")
@@ -104,11 +112,31 @@ class Tape:
         shutil.rmtree(back, ignore_errors=True)
 
 
+def other(tape):
+    """A cartridge that is in a slot at each start, by drive 2: saved to, damaged, erased."""
+    words = ("--drive", "2", "--barcode", "DAILY2L6")
+    names = "save 1\n  .\n  ./a\n  ./deep\n  ./deep/b\n  ./empty\n  ./link\n  ./\udcff\n"
+    tape.ends((0, "", ""), *words, "save", "letters")
+    tape.ends((0, names, ""), *words, "list")
+    tape.ends((0, "", ""), *words, "verify", "1", "letters")
+    path = os.path.join(tape.room, "daily2.tape")
+    with open(path, "rb") as file:
+        content = file.read()
+    with open(path, "wb") as file:
+        file.write(content.replace(b"alpha\n", b"alphb\n"))
+    tape.ends((0, names + "save 1 is not what was saved\n", ""), *words, "list")
+    tape.ends((1, "differs: letters/a\n", "tape: the folder is not what was saved\n"), *words, "verify", "1", "letters")
+    tape.ends((1, "", "tape: save 1 is not what was saved\n"), *words, "restore", "1", "spoilt")
+    tape.ends((0, "", ""), *words, "erase")
+    tape.ends((0, "", ""), *words, "list")
+
+
 def folders(program, room):
     """All of it in a folder with a library's configuration and files: comparisons, and how many were wrong."""
     lay_out(room)
     tape = Tape(program, room)
-    tape.ends((1, "", "tape: an order is save FOLDER, list or restore NUMBER FOLDER\n"), "save")
+    tape.is_refused("save")
+    tape.is_refused("erase")
     tape.ends((1, "", "tape: [Errno 2] No such file or directory: 'missing'\n"), "list", VTL="missing")
     tape.ends((1, "", "tape: [Errno 2] No such file or directory: 'missing'\n"), "save", "missing")
     tape.ends((0, "", ""), "save", "letters")
@@ -123,4 +151,12 @@ def folders(program, room):
     for number in ("0", "7", "16777217", "x"):
         tape.ends((1, "", f"tape: there is no save {number}\n"), "restore", number, "nothing")
     tape.restored(6, "blocks")
+    tape.ends((0, "", ""), "verify", "6", "blocks")
+    with open(os.path.join(room, "blocks", "more"), "ab") as file:
+        file.write(b"!")
+    open(os.path.join(room, "blocks", "new"), "w").close()
+    changed = "differs: blocks/more\ndiffers: blocks/new\n"
+    tape.ends((1, changed, "tape: the folder is not what was saved\n"), "verify", "6", "blocks")
+    tape.ends((1, "", "tape: there is no cartridge DAILY9L6\n"), "--barcode", "DAILY9L6", "list")
+    other(tape)
     return tape.compared, tape.wrong

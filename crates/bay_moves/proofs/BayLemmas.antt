@@ -1,5 +1,5 @@
 -- The drives of a library, as a list.
-use Rattle.std.proofs.Common.{◌≡◌, ◌≢◌, ◌⊎◌, ◌&&◌, inl, inr, ℕ, ◌-◌, ◌≤◌, ◌<◌, nat_le, Bool, true, false, Result, Ok, Err, List, length, set, get_or, Option, None, Some, is_some, is_ok, is_err, [], ◌∷◌, ◌++◌, OnOk, IfErr, replicate, nat_lt, refl, sym, ap, ◌∙◌, arith, cond, subst}
+use Rattle.std.proofs.Common.{◌≡◌, ◌≢◌, ◌⊎◌, ◌&&◌, inl, inr, ℕ, ◌-◌, ◌≤◌, ◌<◌, nat_le, Bool, true, false, Result, Ok, Err, List, length, set, get_or, Option, None, Some, is_some, OnOk, IfErr, replicate, nat_lt, refl, sym, ap, ◌∙◌, arith, cond, subst}
 use Rattle.std.proofs.lemmas.Bool.Decides.{nat_tests}
 use Rattle.std.proofs.lemmas.List.{get_or-replicate, get_or_default, get_or-set_same, get_or-set_other, length-replicate}
 use Rattle.std.proofs.Math.ListN.{get_or-eq_default}
@@ -125,9 +125,3 @@ no_bay_in {D = D} count number = by (nat_le 1 number) (none_in count (number - 1
     by : (b : Bool) {found : Option (BayState D)} → found ≡ None → cond b found None ≡ None
     by true none = none
     by false none = refl
-
--- a push that did not fail
-pub pushed : {T E X : Type 0} (result : Result T E) (items longer : List X) (item : X) → false ≡ is_err result
-    → longer ≡ cond (is_ok result) (items ++ item ∷ []) items → longer ≡ items ++ item ∷ []
-pushed (Ok done) items longer item fine is = is
-pushed (Err error) items longer item fine is = absurd (cc)

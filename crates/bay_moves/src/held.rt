@@ -56,12 +56,9 @@ impl<D: Disk + Drop> Held<D> {
         ensures bays { IfOk result (λ held. (number : ℕ) → bay_at held.bays number ≡ None) }
     {
         let slots = Slots::new(alloc)?;
-        let mut bays = Vec::new(alloc);
-        bays.reserve_exact(DRIVES as usize)?;
+        let mut bays = Vec::with_capacity(alloc, DRIVES as usize)?;
         for _ in 0..DRIVES {
-            if bays.push(None).is_err() {
-                return Err(NoMemory);
-            }
+            bays.push_reserved(None);
         }
         Ok(Held { alloc, slots, bays })
     }
@@ -105,7 +102,7 @@ impl<D: Disk + Drop> Held<D> {
         if self.configured(number) {
             return Err(bay);
         }
-        self.bays[number.place()] = Some(bay);
+        self.bays[number.place()].insert(bay);
         Ok(())
     }
 

@@ -81,8 +81,11 @@ impl<D: Disk + Drop> Held<D> {
         requires { IsDriveAddress address }
         ensures { self.new ≡ with_bay address bay self.old }
     {
-        if let Some(drive) = drive_of(address) {
-            self.bays[drive.place()].insert(bay);
+        match drive_of(address) {
+            Some(drive) => {
+                self.bays[drive.place()].insert(bay);
+            }
+            None => drop(bay),
         }
     }
 

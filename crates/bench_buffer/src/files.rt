@@ -3,7 +3,7 @@ use crate::work::{TEST_UNIT_READY, Timed, writes};
 use cartridge::Cartridge;
 use file_disk::{FileDisk, create, open};
 use std::time::Instant;
-use test_tapes::drives::{Tape, switched_on};
+use test_tapes::drives::{Tape, switch_off, switched_on};
 use vtl_base::limits::MAX_CAPACITY;
 use vtl_base::{Barcode, Nexus};
 
@@ -58,5 +58,7 @@ fn timed(rt: &HostRuntime, drive: &mut Tape<FileDisk>, count: u32) -> Option<Tim
 /// added to the name.
 pub fn appended(rt: &HostRuntime, path: &str, count: u32) -> Option<Timed> {
     let mut drive = new_drive(rt, path)?;
-    timed(rt, &mut drive, count)
+    let timed = timed(rt, &mut drive, count);
+    switch_off(drive);
+    timed
 }

@@ -3,7 +3,7 @@ use scsi_sense::{Reply, Sense, Status};
 use std::alloc::Global;
 use std::time::Instant;
 use tape_disk::{Disk, MemDisk};
-use test_tapes::drives::{Tape, switched_on};
+use test_tapes::drives::{Tape, switch_off, switched_on};
 use vtl_base::Nexus;
 
 const BLOCK: usize = 65_536;
@@ -28,9 +28,9 @@ pub type Timed = (u128, u64);
 
 // A drive with an empty cartridge in memory, and a host to which its power on was reported.
 fn new_drive(alloc: Global) -> Option<(Tape<MemDisk>, Nexus)> {
+    let host = Nexus::new(1)?;
     let disk = MemDisk::from_bytes(alloc, &SIDE).ok()?;
     let mut drive = switched_on(alloc, disk, MemDisk::new(alloc))?;
-    let host = Nexus::new(1)?;
     let _ = drive.execute(host, &TEST_UNIT_READY, &[]);
     Some((drive, host))
 }
@@ -76,7 +76,9 @@ pub(crate) fn writes<D: Disk + Drop>(
 // The same on a new drive: the time, and how many syncs they took.
 fn written(rt: &HostRuntime, count: u32, cdb: &[u8], block: &[u8], group: u32) -> Option<Timed> {
     let (mut drive, host) = new_drive(rt.alloc())?;
-    timed_writes(rt, &mut drive, host, count, cdb, block, group)
+    let timed = timed_writes(rt, &mut drive, host, count, cdb, block, group);
+    switch_off(drive);
+    timed
 }
 
 fn timed_writes(

@@ -1,9 +1,10 @@
 -- What the halves of a drive answer, and the share of the drive then.
-use Rattle.std.proofs.Common.{◌≡◌, ◌≢◌, ◌+◌, ◌∙◌, ℕ, List, Option, None, Some, is_some, true, refl, sym, ap, subst}
+use Rattle.std.proofs.Common.{◌≡◌, ◌≢◌, ◌+◌, ◌∙◌, ℕ, List, Option, None, Some, Result, Ok, Err, is_some, true, refl, sym, ap, subst}
 use Rattle.std.specs.Prelude.{IfSome}
 use Rattle.tape_disk.specs.Disk.{DiskState}
 use Rattle.library.specs.Seats.{SeatState}
 use Rattle.scsi_sense.specs.declared.replies.Reply.{Reply}
+use Rattle.volume_core.specs.declared.media.MediumError.{MediumError}
 use Rattle.tape_buffer.specs.Moves.{buffer_below}
 use Rattle.tape_buffer.specs.State.{state_of}
 use Rattle.aptpl_store.specs.Kept.{store_below, store_kept}
@@ -18,9 +19,9 @@ use Rattle.drive_commands.specs.ShownChanges.{ShowsChanges}
 use Rattle.drive_commands.specs.Work.{Request}
 use Rattle.split_bay.specs.Backs.{BackState}
 use Rattle.split_bay.specs.Fronts.{AnswersOrWaits, FrontState, KeepsHostsHalf, LeavesOrders}
-use Rattle.split_bay.specs.Halves.{ExecutesBoth, Joins, Parts}
+use Rattle.split_bay.specs.Halves.{ExecutesBoth, HoldsHalves, Joins, MakesRoom, Parts}
 use Rattle.split_bay.specs.Rings.{SendingState}
-use Rattle.library.specs.Halves.{EndsHeld, HasShare, HoldsBoth, JoinsHeld, PartsHeld}
+use Rattle.library.specs.Halves.{EndsHeld, HasShare, HoldsBoth, JoinsHeld, PartsHeld, RenewsHeld}
 use Rattle.library.specs.Inner.Entering.{CanEnter}
 use Rattle.library.specs.Keeps.{IsLeftBy}
 use Rattle.library.specs.Served.{ServesFront, ServesHalves}
@@ -37,7 +38,26 @@ parts_accepted : {D : Type 0} (state : D → DiskState) (bay : BayState D) (ends
     (back : BackState D) → Parts state bay ends front back → front.drive.accepted ≡ bay.accepted
 parts_accepted state bay ends front back parts = ap (λ (b : BayState _). b.accepted) parts.same
 
+held_accepted : {D : Type 0} (state : D → DiskState) (front : FrontState D) (back : BackState D)
+    (joined left : BayState D) (front' : FrontState D) (back' : BackState D)
+    → HoldsHalves state front back joined left front' back' → left.accepted ≡ joined.accepted
+    → front'.drive.accepted ≡ front.drive.accepted
+held_accepted state front back joined left front' back' holds same =
+    parts_accepted state left front.sending front' back' holds.parts ∙ same
+    ∙ joins_accepted state front back joined front.sending holds.joins
+
 module _ {D : Type 0} (state : D → DiskState) where
+  -- what a drive accepted is the same once room was made
+  pub room_accepted : (front : FrontState D) (back : BackState D) (result : Result Unit MediumError)
+      (front' : FrontState D) (back' : BackState D) → MakesRoom state front back result front' back'
+      → front'.drive.accepted ≡ front.drive.accepted
+  room_accepted front back (Ok done) front' back' made =
+      held_accepted state front back made.0 made.0 front' back' made.1 refl
+  room_accepted front back (Err error) front' back' lacks =
+      held_accepted state lacks.between lacks.between' lacks.settles.joined lacks.settles.settled front' back'
+      lacks.settles.holds lacks.settles.turned.accepted
+      ∙ held_accepted state front back lacks.joined lacks.joined lacks.between lacks.between' lacks.holds refl
+
   -- The hosts' half has answered, and the seat counted that, or it has not. The change that it accepted was entered for
   -- the seat.
   pub front_serves : (old new : FrontState D) (request : Request) (before counted after : SeatState)
@@ -190,6 +210,15 @@ module _ {D : Type 0} (state : D → DiskState) where
         (subst (λ (b : Option (BackState D)). JoinsHeld state front b bay ends) alike joins);
     parts = parts;
   }
+
+  -- both halves were held for more to be sent, by what their places are seen as
+  pub renews : (front seen : Option (FrontState D)) (back other : Option (BackState D))
+      (result : Result Unit MediumError) (front' : Option (FrontState D)) (back' : Option (BackState D))
+      → front ≡ seen → back ≡ other
+      → RenewsHeld state front back result front' back' → RenewsHeld state seen other result front' back'
+  renews front seen back other result front' back' same alike holds =
+      subst (λ (f : Option (FrontState D)). RenewsHeld state f other result front' back') same
+      (subst (λ (b : Option (BackState D)). RenewsHeld state front b result front' back') alike holds)
 
   -- the share of a drive that was put together at the end
   pub end_share : (front : Option (FrontState D)) (back : Option (BackState D)) (bay bay' : BayState D)

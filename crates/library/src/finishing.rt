@@ -14,9 +14,9 @@ use crate::inventories::known_slots;
 use crate::libraries::Library;
 use crate::places::{EndedPlace, Operator, Seat};
 use crate::rows::Row;
+use crate::sealed::Sealed;
 use crate::shared::SharedBay;
-use bay_moves::{Bay, Parked, Unwritten};
-use element_slots::Slots;
+use bay_moves::{Bay, Unwritten};
 use ledgers::{Gathering, Parties, SeatsMissing};
 use split_bay::Rings;
 use std::fmt::Debug;
@@ -41,10 +41,8 @@ pub enum FinishError {
 /// The parts of a library that has ended, with or without an error.
 #[derive(Drop)]
 pub struct Finished<D: Disk> {
-    /// The slots.
-    pub slots: Slots<Parked<D>>,
-    /// The drives, from number 1 on, or None where there is no drive.
-    pub bays: Vec<Option<Bay<D>>>,
+    /// The slots and the drives, with which nothing can be done any more.
+    pub left: Sealed<D>,
     /// At Ok: for each drive number, from 1 on, how many changes the drive accepted, or None where there is no drive.
     /// These counts add up to the number of changes that were entered for the seats. Otherwise: why the library did not
     /// end well.
@@ -58,25 +56,25 @@ pub struct Finished<D: Disk> {
 impl<D: Disk + Drop, B: Parties + Rings, H: Parties> Library<D, B, H> {
     /// Ends the library, which nothing else shares any more. Each drive takes a turn, which writes its buffer out. Then
     /// the number of changes that the drives accepted is compared with the number entered for `seats`. Drives and slots
-    /// are returned even after an error. A failed medium, or a deferred error that stands, is reported before missing
-    /// seats. The answers of the seats are added up, and so are their moves and those of `operator`. The call allocates
-    /// no memory.
+    /// are returned even after an error, sealed. A failed medium, or a deferred error that stands, is reported before
+    /// missing seats. The answers of the seats are added up, and so are their moves and those of `operator`. The call
+    /// allocates no memory.
     pub fn finish<R: Wait>(self, rt: &R, seats: Vec<Seat<H>>, operator: Operator<H>) -> Finished<D>
-        ensures drives { which_are_there result.bays.items ≡ self }
-        ensures counts { IfOk result.counts (λ counts. (counts ≡ counts_of result.bays.items)
+        ensures drives { which_are_there result.left.bays ≡ self }
+        ensures counts { IfOk result.counts (λ counts. (counts ≡ counts_of result.left.bays)
             × (sum_of_counts counts ≡ sum_of_seats seats.items)) }
 
         // An error has its cause: a drive has failed, or else the seats have fewer changes than the drives.
         ensures unwritten { result.counts ≡ Err FinishError.Unwritten
-            → (number : ℕ) × HasFailedAt D.state (bay_at result.bays.items number) }
+            → (number : ℕ) × HasFailedAt D.state (bay_at result.left.bays number) }
         ensures written { result.counts ≢ Err FinishError.Unwritten
-            → (number : ℕ) → IsWrittenAt D.state (bay_at result.bays.items number) }
+            → (number : ℕ) → IsWrittenAt D.state (bay_at result.left.bays number) }
 
         // The sums, whatever the result is: of the changes, and of answers and moves.
-        ensures sums { Balances (vec_len seats) H.all (sum_of_counts (counts_of result.bays.items))
+        ensures sums { Balances (vec_len seats) H.all (sum_of_counts (counts_of result.left.bays))
             (sum_of_seats seats.items) result.counts }
         ensures used { AddsUp seats.items operator result.answered result.moved }
-        ensures left { AreLeft D.state result.slots result.bays.items }
+        ensures left { AreLeft D.state result.left.slots result.left.bays }
     {
         let Library {
             alloc: _,
@@ -94,8 +92,7 @@ impl<D: Disk + Drop, B: Parties + Rings, H: Parties> Library<D, B, H> {
         let slots = slots.into_inner().into_slots();
         known_slots(&slots);
         Finished {
-            slots,
-            bays: row.into_places(),
+            left: Sealed::from_parts(row.into_places(), slots),
             counts,
             answered,
             moved,

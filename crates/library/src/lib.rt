@@ -12,6 +12,7 @@ pub mod opening;
 pub mod places;
 pub mod ring_rows;
 mod rows;
+pub mod sealed;
 mod sessions;
 mod shared;
 
@@ -22,8 +23,8 @@ pub use flushers::Gate;
 pub use inventories::{Element, Inventory};
 pub use ledgers::Parties;
 pub use libraries::Library;
-pub use opening::NotOpened;
 pub use places::{BackPlace, FrontPlace, Mover, Operator, Seat};
 pub use ring_rows::RingRow;
+pub use sealed::Sealed;
 pub use split_bay::Rings;
 pub use vtl_script::Line;

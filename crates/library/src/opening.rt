@@ -10,6 +10,7 @@ use crate::libraries::Library;
 use crate::places::{BackPlace, FrontPlace, Operator, Seat, SlotsPlace};
 use crate::ring_rows::RingRow;
 use crate::rows::Row;
+use crate::sealed::Sealed;
 use crate::shared::SharedBay;
 use bay_moves::{Bay, Parked};
 use element_slots::Slots;
@@ -23,25 +24,12 @@ use tape_disk::Disk;
 use vtl_base::limits::DRIVES;
 use vtl_base::{DriveNo, Nexus};
 
-/// The parts of a library that was not opened because memory ran out: all but the rings.
-#[derive(Drop)]
-pub struct NotOpened<D: Disk> {
-    /// The drives, from number 1 on, or None where there is no drive.
-    pub bays: Vec<Option<Bay<D>>>,
-    /// The slots.
-    pub slots: Slots<Parked<D>>,
-    /// The ledger of the drives.
-    pub bay_ledger: Blank,
-    /// The ledger of the hosts.
-    pub host_ledger: Blank,
-}
-
 impl<D: Disk + Drop, B: Parties + Rings, H: Parties> Library<D, B, H> {
     /// Opens a library, and returns it with a seat for each host, in the order of `hosts`, and with the operator's
     /// token. `bays` has a place for each drive number, from 1 to 16, with the drive if there is one; `rings` has a
     /// ring for each drive. No drive has accepted a change yet, and no host occurs twice. The library may have no
     /// drives, and no hosts. Both ledgers are blank: `bay_ledger` has a party for each drive, and `host_ledger` one for
-    /// each host. If memory runs out, all parts but the rings are returned.
+    /// each host. If memory runs out, slots and drives are returned, sealed.
     pub fn new(
         alloc: Global,
         bays: Vec<Option<Bay<D>>>,
@@ -50,7 +38,7 @@ impl<D: Disk + Drop, B: Parties + Rings, H: Parties> Library<D, B, H> {
         hosts: &[Nexus],
         bay_ledger: Blank,
         host_ledger: Blank,
-    ) -> Result<(Library<D, B, H>, Vec<Seat<H>>, Operator<H>), NotOpened<D>>
+    ) -> Result<(Library<D, B, H>, Vec<Seat<H>>, Operator<H>), Sealed<D>>
         requires places { length bays.items ≡ DRIVES }
         requires fresh { All (λ bay. AcceptedNone bay) bays.items }
         requires rings { (which_are_there rings ≡ which_are_there bays.items) × AreRings B.ring rings }
@@ -60,24 +48,13 @@ impl<D: Disk + Drop, B: Parties + Rings, H: Parties> Library<D, B, H> {
         ensures drives { IfOk result (λ opened. opened.0 ≡ which_are_there bays.items) }
         ensures seats { IfOk result (λ opened. opened.1.items ≡ map new_seat hosts.now) }
         ensures operator { IfOk result (λ opened. opened.2 ≡ 0) }
-        ensures back { IfErr result (λ back. (back.bays ≡ bays) × (back.slots ≡ slots)
-            × (back.bay_ledger ≡ bay_ledger) × (back.host_ledger ≡ host_ledger)) }
+        ensures back { IfErr result (λ back. back ≡ record { slots = slots; bays = bays.items }) }
     {
         let Ok(shared) = Vec::with_capacity(alloc, DRIVES as usize) else {
-            return Err(NotOpened {
-                bays,
-                slots,
-                bay_ledger,
-                host_ledger,
-            });
+            return Err(Sealed::from_parts(bays, slots));
         };
         let Ok(seats) = Vec::with_capacity(alloc, hosts.len()) else {
-            return Err(NotOpened {
-                bays,
-                slots,
-                bay_ledger,
-                host_ledger,
-            });
+            return Err(Sealed::from_parts(bays, slots));
         };
         let (mut tally, book, moves) = Tally::open(bay_ledger, host_ledger);
         let mut row = Row::of(bays);

@@ -119,7 +119,13 @@ impl<D: Disk, B: Rings> BackPlace<D, B> {
         ensures { TurnsHeld D.state self.old result self.new }
     {
         match &mut self.half {
-            Some(half) => half.turn(),
+            Some(half) => {
+                // What the half's type keeps, before and after, for the proof alone.
+                half.known();
+                let turn = half.turn();
+                half.known();
+                turn
+            }
             None => unreachable!(),
         }
     }

@@ -161,11 +161,12 @@ impl<D: Disk + Drop, B: Parties + Rings> SharedBay<D, B> {
     }
 
     // Lets hosts send as many changes again as the buffer takes, under both locks. No turn runs meanwhile. So a host
-    // that sends less than that during a turn never waits for the turn.
+    // that sends less than that during a turn never waits for the turn. Where memory for that runs out, all is stored;
+    // if the device fails then, the drive reports it to hosts.
     fn renew<R: Wait>(&self, rt: &R) {
         let mut front = self.front.lock(rt);
         let mut back = self.back.lock(rt);
-        front.renew(&mut back, rt);
+        let _ = front.renew(&mut back, rt);
     }
 
     // Reports a fault of the disk's half to hosts, under both locks.

@@ -20,9 +20,7 @@ use crate::stages::Stage;
 use bay_moves::{Bay, Parked};
 use element_slots::Slots;
 use ledgers::Parties;
-use library::{
-    Finished, Gate, Library, NotOpened, Operator, RingRow, Rings, Seat, beside_flushers,
-};
+use library::{Finished, Gate, Library, Operator, RingRow, Rings, Sealed, Seat, beside_flushers};
 use std::alloc::Global;
 use std::io::{Read, Write};
 use std::marker::{Send, Sync};
@@ -193,8 +191,8 @@ fn run_opened<
 /// drive has a flusher in a thread of its own, which asks `gate` before each turn.
 ///
 /// At the end all threads are joined, and each drive takes a turn, which writes its buffer out unless its medium has
-/// failed. `Ran::finished` says whether a medium has. If memory runs out before the script begins, all parts but the
-/// rings are returned, and nothing is read or written.
+/// failed. `Ran::finished` says whether a medium has. If memory runs out before the script begins, slots and drives are
+/// returned, sealed, and nothing is read or written.
 pub fn run_library<
     D: Disk + Drop + Send,
     B: Parties + Rings + Send + Sync,
@@ -215,7 +213,7 @@ pub fn run_library<
     gate: &G,
     reader: &mut I,
     writer: &mut O,
-) -> Result<Ran<D>, NotOpened<D>>
+) -> Result<Ran<D>, Sealed<D>>
     requires places { length bays.items ≡ DRIVES }
     requires fresh { All (λ bay. AcceptedNone bay) bays.items }
     requires rings { (which_are_there rings ≡ which_are_there bays.items) × AreRings B.ring rings }
@@ -223,23 +221,17 @@ pub fn run_library<
     requires bay_ledger { IsBlankOf bay_ledger B.name B.parts B.all × (B.all ≡ places_filled bays.items) }
     requires host_ledger { IsBlankOf host_ledger H.name H.parts H.all × (H.all ≡ NEXUSES) }
     ensures runs { IfOk result (λ ran. RunsShared D.state bays.items hosts.now (I.remaining reader.old)
-        (O.contents writer.old) (O.contents writer.new) ran.outcome ran.finished.bays.items ran.finished.counts
+        (O.contents writer.old) (O.contents writer.new) ran.outcome ran.finished.left.bays ran.finished.counts
         ran.finished.answered ran.finished.moved) }
     ensures past { IfOk result (λ ran. ran.outcome ≢ Err ScriptFault.ReadFault →
         TakesWithin (I.remaining reader.old) 0 (I.remaining reader.new)) }
-    ensures ends { IfOk result (λ ran. EndsShared D.state bays.items ran.finished.bays.items ran.finished.slots
+    ensures ends { IfOk result (λ ran. EndsShared D.state bays.items ran.finished.left.bays ran.finished.left.slots
         ran.finished.counts) }
-    ensures back { IfErr result (λ back. (back.bays ≡ bays) × (back.slots ≡ slots)
-        × (back.bay_ledger ≡ bay_ledger) × (back.host_ledger ≡ host_ledger)
+    ensures back { IfErr result (λ back. (back ≡ record { slots = slots; bays = bays.items })
         × (reader.new ≡ reader.old) × (writer.new ≡ writer.old)) }
 {
     let Ok(rooms) = make_rooms(alloc) else {
-        return Err(NotOpened {
-            bays,
-            slots,
-            bay_ledger,
-            host_ledger,
-        });
+        return Err(Sealed::from_parts(bays, slots));
     };
     let (library, seats, operator) = Library::<D, B, H>::new(
         alloc,

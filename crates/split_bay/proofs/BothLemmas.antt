@@ -1,22 +1,20 @@
 -- The disks of a medium come back, and go away again.
-use Rattle.std.proofs.Common.{◌≡◌, ◌≤◌, ◌+◌, ◌++◌, List, [], length, map, true, false, not, Bool, Option, None, Some, refl, sym, ◌∙◌, ap, subst, arith, inl, inr, ◌⊎◌, ⊎_elim}
+use Rattle.std.proofs.Common.{◌≡◌, ◌++◌, List, [], map, true, false, not, Bool, None, Some, refl, sym, ◌∙◌, ap, subst, arith}
 use Rattle.std.specs.Prelude.{◌&&◌}
 use Rattle.std.proofs.lemmas.List.{append-nil}
-use Rattle.tape_disk.specs.Disk.{DiskState, IsDisk}
+use Rattle.tape_disk.specs.Disk.{DiskState}
 use Rattle.volume_core.specs.Medium.{MediumState, volume_of}
 use Rattle.volume_core.specs.declared.changes.Change.{Change}
 use Rattle.volume_core.specs.Volume.{AllApply}
 use Rattle.vtl_base.specs.Below.{Advances}
-use Rattle.cartridge.specs.State.{ClosedCartridge, OpenCartridge}
 use Rattle.tape_buffer.specs.declared.aways.Away.{Away}
 use Rattle.tape_buffer.specs.declared.budgets.Budget.{Budget}
-use Rattle.tape_buffer.specs.declared.holding.Holding.{Holding}
 use Rattle.tape_buffer.specs.declared.holding.Holding.TheVariants as Holdings
-use Rattle.accepted_changes.specs.Core.{IsCore}
 use Rattle.tape_buffer.specs.Aways.{IsCut, IsFoundAs, loose_in, seen_as}
-use Rattle.tape_buffer.specs.Moves.{IsHere, MovesUnreported, buffer_below, medium_core, with_changes}
-use Rattle.tape_buffer.specs.State.{BufferState, awake_is_read, state_held, state_of}
-use Rattle.tape_buffer.specs.Taking.{DisksState, LendsFrom, LendsHeld}
+use Rattle.tape_buffer.specs.Moves.{IsHere, MovesUnreported, buffer_below, with_changes}
+use Rattle.tape_buffer.specs.State.{BufferState, awake_is_read, state_of}
+use Rattle.tape_buffer.proofs.DetachingLemmas.{LendFacts, cut_less}
+use Rattle.tape_buffer.specs.Taking.{DisksState}
 use Rattle.split_bay.specs.declared.items.Item.{Item}
 use Rattle.split_bay.specs.declared.items.Item.TheVariants.{Sent}
 use Rattle.split_bay.specs.Backs.{FollowsSpan}
@@ -25,12 +23,10 @@ use Rattle.split_bay.specs.Both.{Attaches}
 use Rattle.split_bay.specs.Fronts.{LeftIn, OwesAway, span_since}
 use Rattle.split_bay.specs.Looks.{Looked}
 use Rattle.split_bay.specs.Rings.{ReceivingState, SendingState}
-use Rattle.split_bay.specs.Spans.{KeepsLimits, Span, medium_begun, medium_seen, new_span, span_of, spans_in, volume_seen}
+use Rattle.split_bay.specs.Spans.{Span, medium_begun, medium_seen, new_span, span_of, spans_in, volume_seen}
 use Rattle.split_bay.specs.Taken.{TakesKnown}
 use Rattle.split_bay.proofs.JoinedLemmas.{nothing_waits, spans_behind}
 use Rattle.split_bay.proofs.LookLemmas.{looked_same}
-use Rattle.split_bay.proofs.SpanLemmas.{span_more}
-use Rattle.split_bay.proofs.UnreportedLemmas.{accepts_waiting}
 
 module _ {D : Type 0} (state : D → DiskState) where
   module _ (near : SendingState) (old looked new : ReceivingState) (disks disks' : DisksState D)
@@ -57,13 +53,10 @@ module _ {D : Type 0} (state : D → DiskState) where
         sym fifo ∙ ap (λ (l : List Item). looked.received ++ l) all_waits
         ∙ ap (λ (l : List Item). l ++ map Sent takes.takes.found) same
 
-    pub attaches : ((disk : D) → (state disk).honest → IsDisk (state disk)) → (medium medium' : BufferState D)
-        → state_of state medium ≡ medium_seen (span_of near.sent) → medium' ≡ disks'.buffer
-        → FollowsSpan state disks (span_of old.received) → KeepsLimits (span_of near.sent)
-        → IsCore (medium_core state disks.buffer) → IsHere disks.buffer.held
-        → FollowsSpan state disks' (span_of new.received)
+    pub attaches : (medium medium' : BufferState D) → state_of state medium ≡ medium_seen (span_of near.sent)
+        → medium' ≡ disks'.buffer → IsHere disks.buffer.held → FollowsSpan state disks' (span_of new.received)
         → Attaches state near.sent old.received disks medium medium'
-    attaches is_disk medium medium' seen is before within core here follows =
+    attaches medium medium' seen is here follows =
         let at : medium' ≡ with_changes disks.buffer takes.takes.found = is ∙ takes.takes.pending in
         record {
           waiting = takes.takes.found;
@@ -78,10 +71,8 @@ module _ {D : Type 0} (state : D → DiskState) where
               subst (λ (b : BufferState D). (state_of state disks.buffer).failed ≡ false
               → Advances (buffer_below state) disks.buffer takes.takes.found false b) (sym is) takes.takes.advances;
           accepts =
-              subst (λ (b : BufferState D). MovesUnreported state disks.buffer takes.takes.found b) (sym at)
-              (accepts_waiting state is_disk (span_of old.received) disks.buffer takes.takes.found
-              before.looked.volume before.looked.awake before.rests
-              (subst KeepsLimits (ap span_of sent_so ∙ span_more old.received takes.takes.found) within) core here);
+              subst (λ (b : BufferState D). MovesUnreported state disks.buffer takes.takes.found b) (sym is)
+              takes.takes.accepts;
           hand = subst (λ (b : BufferState D). IsHere b.held) (sym at) here;
         }
 
@@ -95,36 +86,6 @@ module _ {D : Type 0} (state : D → DiskState) where
           volume = looked.volume ∙ sym (ap volume_of same);
           awake = looked.awake ∙ sym (ap (λ (m : MediumState). m.awake) same);
         }
-
-  -- what is known of disks that go away
-  pub record LendFacts (old : MediumState) (left : Budget) : Type 0 where
-    pub rests : old.awake ≡ false → left.records ≡ 0
-    pub quiet : old.awake ≡ false → old.pending ≡ []
-
-  pub lend_facts : (old : BufferState D) (new : DisksState D) → LendsFrom old new
-      → LendFacts (state_of state old) new.left
-  lend_facts old new lends = by old.held new.buffer.held lends.held
-    where
-      by : (held held' : Holding (OpenCartridge D) (ClosedCartridge D)) → LendsHeld held old.pending held' new.left
-          → LendFacts (state_held state held old.pending) new.left
-      by (Holdings.Open c) held' lent = record { rests = λ asleep. absurd (cc); quiet = λ asleep. absurd (cc) }
-      by (Holdings.Closed c) (Holdings.Closed c') lent = record { rests = λ asleep. lent.1; quiet = λ asleep. refl }
-      by (Holdings.Closed c) (Holdings.Open c') lent = absurd lent
-      by (Holdings.Closed c) (Holdings.Away a) lent = absurd lent
-      by (Holdings.Away a) held' lent = absurd lent
-
-pub cut_less : (left cut : Budget) → IsCut left cut
-    → (cut.records ≤ left.records) × (cut.bytes ≡ left.bytes) × (cut.room ≡ left.room)
-cut_less left cut (inl same) = (
-  omega (arith, ap (λ (b : Budget). b.records) same),
-  ap (λ (b : Budget). b.bytes) same,
-  ap (λ (b : Budget). b.room) same,
-)
-cut_less left cut (inr none) = (
-  omega (arith, ap (λ (b : Budget). b.records) none),
-  ap (λ (b : Budget). b.bytes) none,
-  ap (λ (b : Budget). b.room) none,
-)
 
 module _ {D : Type 0} (state : D → DiskState) where
   -- what a span begins with, over disks that went away
@@ -153,7 +114,7 @@ module _ {D : Type 0} (state : D → DiskState) where
       (λ i. record (seen_as medium) { pending = append-nil medium.pending i }) ∙ read_so lent.buffer
 
   module _ (old : BufferState D) (lent : DisksState D) (cut : Budget)
-      (facts : LendFacts state (state_of state old) lent.left)
+      (facts : LendFacts (state_of state old) lent.left)
       (same : state_of state lent.buffer ≡ state_of state old) (is : IsCut lent.left cut) where
     abbrev span : Span
     span = new_span (lent_begins lent cut)

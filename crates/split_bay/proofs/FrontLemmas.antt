@@ -1,5 +1,5 @@
 -- A drive whose disks are away, and the end of its ring.
-use Rattle.std.proofs.Common.{◌≡◌, ◌+◌, ◌++◌, ℕ, List, [], ◌∷◌, length, sum_by, Bool, true, false, Option, None, Some, refl, sym, ◌∙◌, ap, subst, arith, append_assoc, length-append}
+use Rattle.std.proofs.Common.{◌≡◌, ◌+◌, ◌++◌, ℕ, List, [], length, Bool, true, false, Some, refl, sym, ◌∙◌, ap, subst, arith, append_assoc, length-append}
 use Rattle.std.specs.Prelude.{not, ◌&&◌, is_some}
 use Rattle.std.proofs.lemmas.List.{append-nil}
 use Rattle.std.proofs.lemmas.List.Sums.{sum_by-append}
@@ -7,18 +7,17 @@ use Rattle.vtl_base.specs.Below.{Advances}
 use Rattle.tape_disk.specs.Disk.{DiskState}
 use Rattle.volume_core.specs.declared.changes.Change.{Change}
 use Rattle.volume_core.specs.Medium.{MediumState, block_bytes, frame_size, volume_of}
-use Rattle.volume_core.specs.Volume.{AllApply, refusal_of}
+use Rattle.volume_core.specs.Volume.{AllApply}
 use Rattle.cartridge.specs.State.{ClosedCartridge, OpenCartridge}
 use Rattle.drive_commands.specs.declared.bays.Bay.{Bay}
 use Rattle.drive_commands.specs.declared.bays.Bay.TheVariants.{Empty, Unloaded, Loaded}
 use Rattle.drive_commands.specs.Alone.{AnswersAlone}
 use Rattle.drive_commands.specs.Events.{Execute}
 use Rattle.drive_commands.specs.Execute.{AdvancesIn}
-use Rattle.drive_commands.specs.State.{IsBayPositioned, IsPositioned, bay_of, medium_in}
+use Rattle.drive_commands.specs.State.{bay_of, medium_in}
 use Rattle.drive_commands.specs.Work.{Request}
 use Rattle.scsi_sense.specs.declared.replies.Reply.{Reply}
 use Rattle.aptpl_store.specs.Kept.{store_below, store_kept}
-use Rattle.positioning.specs.declared.positions.Pos.{Pos}
 use Rattle.tape_buffer.specs.declared.aways.Away.{Away}
 use Rattle.tape_buffer.specs.declared.budgets.Budget.{Budget}
 use Rattle.tape_buffer.specs.declared.holding.Holding.{Holding}
@@ -30,9 +29,8 @@ use Rattle.tape_buffer.specs.Moves.{IsAway, MovesIn, away_in, buffer_below, take
 use Rattle.tape_buffer.specs.State.{BufferState, state_held, state_of}
 use Rattle.bay_moves.specs.Elements.{BayState}
 use Rattle.bay_moves.specs.Reservations.{HoldingGoesOn}
-use Rattle.split_bay.specs.Fronts.{AreAway, IsFrontOf, KeepsOrders, LeavesOrders, LeftIn, OwesAway, OwesHeld, OwesIn, loose_in_bay, passed_on, pending_of, span_since}
-use Rattle.split_bay.specs.Spans.{Span, TakesMore, medium_begun, medium_seen, volume_seen}
-use Rattle.split_bay.proofs.SpanLemmas.{frame_of}
+use Rattle.split_bay.specs.Fronts.{IsFrontOf, KeepsOrders, LeavesOrders, LeftIn, OwesAway, OwesHeld, OwesIn, loose_in_bay, passed_on, pending_of, span_since}
+use Rattle.split_bay.specs.Spans.{Span, medium_begun, medium_seen, volume_seen}
 
 -- what is seen with these changes more
 seen_since : (span : Span) (changes : List Change)
@@ -116,22 +114,6 @@ module _ {D : Type 0} (state : D → DiskState) where
   owes_after (Loaded old) (Loaded new) made fault span is advances =
       owes_medium old new made fault span is.0 is.1 advances
 
-  -- what is passed on changes no state
-  passed_state : (held : Holding (OpenCartridge D) (ClosedCartridge D)) (pending : List Change)
-      → state_held state (passed_held held) pending ≡ state_held state held pending
-  passed_state (Holdings.Open c) pending = refl
-  passed_state (Holdings.Closed c) pending = refl
-  passed_state (Holdings.Away a) pending = refl
-
-  pub positioned_passed : (bay : Bay (BufferState D)) (position : Pos) → IsBayPositioned (state_of state) bay position
-      → IsBayPositioned (state_of state) (bay_of passed bay) position
-  positioned_passed Empty position on = on
-  positioned_passed (Unloaded medium) position on =
-      ap (λ (m : MediumState). m.awake) (passed_state medium.held medium.pending) ∙ on
-  positioned_passed (Loaded medium) position on =
-      subst (λ (m : MediumState). IsPositioned m position)
-      (sym (passed_state medium.held medium.pending)) on
-
 module _ {D : Type 0} (state : D → DiskState)
     (goes_on : HoldingGoesOn (state_of state) (buffer_below state) state) (old answered new : BayState D)
     (request : Request) (reply : Reply) (left : List ℕ) (holds : KeepsOrders state old)
@@ -165,11 +147,6 @@ there_held (Holdings.Away a) span owes = owes.there
 there_held (Holdings.Open c) span owes = absurd owes
 there_held (Holdings.Closed c) span owes = absurd owes
 
-pub away_bay : {D : Type 0} (bay : Bay (BufferState D)) (span : Span) → OwesIn bay span → AreAway bay
-away_bay Empty span owes = tt
-away_bay (Unloaded medium) span owes = away_held medium.held span owes
-away_bay (Loaded medium) span owes = away_held medium.held span owes
-
 owes_passed : {C S : Type 0} (held : Holding C S) (span : Span) → OwesHeld held span
     → OwesHeld (passed_held held) (span_since span (loose_held held)) × (loose_held (passed_held held) ≡ [])
 owes_passed (Holdings.Away a) span owes =
@@ -197,29 +174,6 @@ stands_passed (Unloaded medium) span next owes is =
 stands_passed (Loaded medium) span next owes is =
     let left = owes_passed medium.held span owes in
     (subst (λ (s : Span). OwesHeld (passed_held medium.held) s) (sym is) left.0, left.1)
-
-one : {C S : Type 0} (held : Holding C S) (span : Span) (change : Change) → OwesHeld held span
-    → loose_held held ≡ change ∷ []
-    → (refusal_of (volume_seen span) change ≡ None) × TakesMore span (block_bytes change)
-one (Holdings.Open c) span change owes is = absurd owes
-one (Holdings.Closed c) span change owes is = absurd owes
-one (Holdings.Away a) span change owes is =
-    let left = subst (λ (l : List Change). LeftIn a.left (span_since span l)) is owes.left in (
-      (subst (λ (l : List Change). AllApply (volume_seen span) l) is owes.apply).0,
-      record {
-        few = omega (arith, left.records, length-append span.since (change ∷ []));
-        short = omega (arith, left.bytes, sum_by-append block_bytes span.since (change ∷ []));
-        fits = omega (arith, left.room, frame_of change, sum_by-append frame_size span.since (change ∷ []));
-      },
-    )
-
--- what a medium owes may be sent
-pub may_send : {D : Type 0} (bay : Bay (BufferState D)) (span : Span) (change : Change) → OwesIn bay span
-    → loose_in_bay bay ≡ change ∷ []
-    → (refusal_of (volume_seen span) change ≡ None) × TakesMore span (block_bytes change)
-may_send Empty span change owes is = absurd (cc)
-may_send (Unloaded medium) span change owes is = one medium.held span change owes is
-may_send (Loaded medium) span change owes is = one medium.held span change owes is
 
 -- hosts see just what was sent, where nothing is owed
 pub seen_sent : {D : Type 0} (state : D → DiskState) (medium : BufferState D) (span : Span)

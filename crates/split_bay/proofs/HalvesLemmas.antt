@@ -1,12 +1,15 @@
 -- Both halves of a drive: its disks go away, once they came back.
-use Rattle.std.proofs.Common.{◌≡◌, true, false, not, Bool, Option, None, Some, refl, sym, ◌∙◌, ap, subst}
+use Rattle.std.proofs.Common.{◌≡◌, true, false, not, Bool, Option, None, Some, refl, sym, ◌∙◌, ap, subst, inl, inr}
 use Rattle.std.specs.Prelude.{◌&&◌}
 use Rattle.tape_disk.specs.Disk.{DiskState}
 use Rattle.positioning.specs.declared.positions.Pos.{Pos}
-use Rattle.volume_core.specs.Medium.{MediumState}
+use Rattle.volume_core.specs.declared.media.Turn.{Turn}
+use Rattle.volume_core.specs.declared.media.Turn.TheVariants.{Device, Idle, Stored}
+use Rattle.volume_core.specs.Medium.{MediumState, Turns}
 use Rattle.drive_commands.specs.declared.bays.Bay.{Bay}
 use Rattle.drive_commands.specs.declared.bays.Bay.TheVariants.{Empty, Unloaded, Loaded}
-use Rattle.drive_commands.specs.State.{IsBayPositioned, IsPositioned, bay_of, has_failed_in, machine_of}
+use Rattle.drive_commands.specs.State.{IsBayPositioned, IsPositioned, Machine, bay_of, has_failed_in, machine_of}
+use Rattle.drive_commands.specs.Turn.{TurnsIn, after_turn}
 use Rattle.aptpl_store.specs.Kept.{store_kept}
 use Rattle.tape_buffer.specs.Aways.{seen_as}
 use Rattle.tape_buffer.specs.State.{BufferState, state_of}
@@ -16,12 +19,25 @@ use Rattle.bay_moves.specs.Elements.{BayState}
 use Rattle.split_bay.specs.Backs.{BackState, FollowsIn, KeepsDiskHalf, is_stuck_in}
 use Rattle.split_bay.specs.Both.{BeginsNext, DetachesIn, DetachesTo}
 use Rattle.split_bay.specs.Fronts.{FrontState, IsFrontOf, KeepsHostsHalf, KeepsOrders, hosts_half}
-use Rattle.split_bay.specs.Halves.{HoldsHalves, Joins, Parts, ReportsBoth, ReportsFault, is_unreported}
+use Rattle.split_bay.specs.Halves.{HoldsHalves, IsStoredIn, Joins, Parts, ReportsBoth, ReportsFault, SettlesBoth, is_unreported}
 use Rattle.split_bay.specs.Looks.{deferred_after}
 use Rattle.split_bay.specs.Rings.{SendingState}
 use Rattle.split_bay.specs.Spans.{span_of}
 use Rattle.split_bay.proofs.BothLemmas.{read_so}
 use Rattle.split_bay.proofs.JoiningLemmas.{joined_found, orders_still}
+
+-- a turn leaves nothing pending of what is loaded, or it has failed
+stored_so : (bay : Bay MediumState) (old new : Machine) (turn : Turn) → old.bay ≡ bay → TurnsIn bay old turn new
+    → IsStoredIn new.bay
+stored_so Empty old new turn is turns = subst IsStoredIn (sym (ap (λ (m : Machine). m.bay) turns.1 ∙ is)) tt
+stored_so (Unloaded m) old new turn is turns = subst IsStoredIn (sym (ap (λ (m : Machine). m.bay) turns.1 ∙ is)) tt
+stored_so (Loaded m) old new turn is turns = by turn turns.1 turns.2 (ap (λ (m : Machine). m.bay) turns.3)
+  where
+    by : (turn : Turn) (left : MediumState) → Turns m turn left → new.bay ≡ (after_turn turn left old).bay
+        → IsStoredIn new.bay
+    by Idle left told now = subst IsStoredIn (sym (now ∙ ap Loaded told.1)) told.0
+    by (Stored n) left told now = subst IsStoredIn (sym now) (inl told.3)
+    by Device left told now = subst IsStoredIn (sym now) (inr told.2.broken)
 
 module _ {D : Type 0} (state : D → DiskState) where
   -- What is in a drive whose disks went away is to hosts what it was. The position is on it still.
@@ -119,6 +135,14 @@ module _ {D : Type 0} (state : D → DiskState) where
         parts = subst (λ (s : SendingState). Parts state left s front' back') same parts;
       }
 
+  pub stored_both : (front : FrontState D) (back : BackState D) (turn : Turn) (front' : FrontState D)
+      (back' : BackState D) → SettlesBoth state front back turn front' back'
+      → IsStoredIn (bay_of (state_of state) front'.drive.bay)
+  stored_both front back turn front' back' settles =
+      subst IsStoredIn (ap (λ (m : Machine). m.bay) (sym settles.holds.parts.machine))
+      (stored_so (bay_of (state_of state) settles.joined.bay) (machine_of (state_of state) store_kept settles.joined)
+      (machine_of (state_of state) store_kept settles.settled) turn refl settles.turned.turns)
+
   -- a fault that was not told is told
   reports_fault : (front front' : FrontState D) (back back' : BackState D) (joined : BayState D)
       → HoldsHalves state front back joined joined front' back' → is_stuck_in state back.medium ≡ true
@@ -135,12 +159,6 @@ module _ {D : Type 0} (state : D → DiskState) where
             ∙ ap (λ (b : Bool). deferred_after b front.drive.deferred) told.0;
         failed = (gone_in joined.bay back'.medium front'.drive.bay holds.parts.detaches).failed ∙ told.1;
       }
-
-  -- where there is nothing to tell, nothing has changed
-  pub reports_nothing : (front : FrontState D) (back : BackState D) → is_unreported state front back ≡ false
-      → ReportsBoth state (is_unreported state front back) front back front back
-  reports_nothing front back none =
-      subst (λ (b : Bool). ReportsBoth state b front back front back) (sym none) (refl, refl)
 
   -- else it is told
   pub reports_both : (front front' : FrontState D) (back back' : BackState D) (joined : BayState D)

@@ -1,5 +1,5 @@
 -- The disks of what is in a drive come back.
-use Rattle.std.proofs.Common.{◌≡◌, List, true, false, not, Bool, Option, None, Some, refl, sym, ◌∙◌, ap, subst}
+use Rattle.std.proofs.Common.{◌≡◌, List, true, false, not, Bool, Option, None, Some, sym, ◌∙◌, ap, subst}
 use Rattle.std.specs.Prelude.{◌&&◌}
 use Rattle.tape_disk.specs.Disk.{DiskState}
 use Rattle.positioning.specs.declared.positions.Pos.{Pos}

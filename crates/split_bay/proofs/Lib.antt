@@ -1,13 +1,10 @@
 mod BothLemmas
 mod EmptyLemmas
-mod FoundLemmas
 mod FrontLemmas
 mod HalvesLemmas
 mod JoinedLemmas
 mod JoiningLemmas
 mod LookLemmas
 mod RingLemmas
-mod SpanLemmas
+pub mod SpanLemmas
 mod TakenLemmas
-mod TurnedLemmas
-mod UnreportedLemmas

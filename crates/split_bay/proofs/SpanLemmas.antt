@@ -1,12 +1,12 @@
 -- Spans, and what is sent in them.
-use Rattle.std.proofs.Common.{◌≡◌, ◌≤◌, ◌+◌, ◌++◌, ◌-◌, ◌%◌, ◌^◌, ℕ, List, [], ◌∷◌, length, map, sum_by, None, refl, sym, ◌∙◌, ap, subst, arith, append_assoc, length-append}
+use Rattle.std.proofs.Common.{◌≡◌, ◌++◌, ◌-◌, ◌%◌, ◌^◌, ℕ, List, [], ◌∷◌, length, map, sum_by, None, refl, sym, ◌∙◌, ap, subst, arith, append_assoc, length-append}
 use Rattle.std.proofs.lemmas.List.{append-nil}
 use Rattle.std.proofs.lemmas.List.Sums.{sum_by-append}
 use Rattle.volume_core.specs.declared.changes.Change.{Change}
-use Rattle.volume_core.specs.declared.changes.Change.TheVariants.{Put, Marks, Erase}
 use Rattle.volume_core.specs.Medium.{block_bytes, frame_size, volume_of, volume_or_empty}
 use Rattle.volume_core.specs.Stores.{after_append}
 use Rattle.volume_core.specs.Volume.{AllApply, Part, after, changed, refusal_of}
+use Rattle.tape_buffer.proofs.PendingLemmas.{frame_of}
 use Rattle.split_bay.specs.declared.items.Item.{Item}
 use Rattle.split_bay.specs.declared.items.Item.TheVariants.{Sent}
 use Rattle.split_bay.specs.Rings.{IsCounted}
@@ -45,12 +45,6 @@ pub apply_more : (volume : List Part) (xs : List Change) (change : Change) → A
     → refusal_of (after volume xs) change ≡ None → AllApply volume (xs ++ change ∷ [])
 apply_more volume [] change all none = (none, tt)
 apply_more volume (x ∷ xs) change all none = (all.0, apply_more (changed volume x) xs change all.1 none)
-
--- a frame has 15 bytes and its block's
-pub frame_of : (change : Change) → frame_size change ≡ 15 + block_bytes change
-frame_of (Put part at block) = refl
-frame_of (Marks part at count) = refl
-frame_of (Erase part at) = refl
 
 -- a span with one change more keeps its limits
 pub within_more : (span : Span) (change : Change) → KeepsLimits span → refusal_of (volume_seen span) change ≡ None

@@ -1,5 +1,5 @@
 -- A change that waits is taken.
-use Rattle.std.proofs.Common.{◌≡◌, ◌++◌, List, [], ◌∷◌, map, Bool, true, false, None, Some, refl, sym, ◌∙◌, ap, subst, arith, length-append, append_assoc}
+use Rattle.std.proofs.Common.{◌≡◌, ◌++◌, List, [], ◌∷◌, map, true, false, None, Some, refl, sym, ◌∙◌, ap, subst, arith, length-append, append_assoc}
 use Rattle.std.proofs.lemmas.List.{append-nil, map-append}
 use Rattle.std.proofs.lemmas.List.Sums.{sum_by-append}
 use Rattle.vtl_base.specs.Below.{Advances, advances_on}
@@ -15,7 +15,7 @@ use Rattle.cartridge.specs.State.{ClosedCartridge, OpenCartridge}
 use Rattle.tape_buffer.specs.declared.budgets.Budget.{Budget}
 use Rattle.tape_buffer.specs.declared.holding.Holding.{Holding}
 use Rattle.tape_buffer.specs.declared.holding.Holding.TheVariants.{Open, Closed, Away}
-use Rattle.tape_buffer.specs.Moves.{StoresBehind, buffer_below, medium_moves_on, with_changes}
+use Rattle.tape_buffer.specs.Moves.{MovesUnreported, StoresBehind, buffer_below, medium_moves_on, unreported_moves_on, with_changes}
 use Rattle.tape_buffer.specs.State.{BufferState, awake_is_read, state_held, state_of}
 use Rattle.tape_buffer.specs.Budgets.{KeepsBudget, budget_after}
 use Rattle.tape_buffer.specs.Taking.{DisksState}
@@ -76,8 +76,8 @@ module _ {D : Type 0} (state : D → DiskState) where
   -- nothing is taken yet
   pub takes_none : (receiving : ReceivingState) (medium : DisksState D)
       → Advances (buffer_below state) medium.buffer [] false medium.buffer
-      → TakesWaiting state receiving medium receiving medium
-  takes_none receiving medium nowhere =
+      → MovesUnreported state medium.buffer [] medium.buffer → TakesWaiting state receiving medium receiving medium
+  takes_none receiving medium nowhere quiet =
       record {
         found = [];
         number = refl;
@@ -85,6 +85,7 @@ module _ {D : Type 0} (state : D → DiskState) where
         waiting = refl;
         pending = λ i. record medium.buffer { pending = sym (append-nil medium.buffer.pending) i };
         advances = λ works. nowhere;
+        accepts = quiet;
       }
 
   -- one more is taken
@@ -95,8 +96,8 @@ module _ {D : Type 0} (state : D → DiskState) where
       → (state_of state medium'.buffer).failed ≡ (state_of state medium.buffer).failed
       → ((state_of state medium'.buffer).failed ≡ false
       → Advances (buffer_below state) medium'.buffer (change ∷ []) false medium''.buffer)
-      → TakesWaiting state old medium new medium''
-  takes_more old mid new medium medium' medium'' change takes number received waiting is failed advances =
+      → MovesUnreported state medium'.buffer (change ∷ []) medium''.buffer → TakesWaiting state old medium new medium''
+  takes_more old mid new medium medium' medium'' change takes number received waiting is failed advances accepts =
       record {
         found = takes.found ++ change ∷ [];
         number = number ∙ takes.number;
@@ -116,6 +117,9 @@ module _ {D : Type 0} (state : D → DiskState) where
         advances =
             λ works. advances_on (buffer_below state) (medium_moves_on state) medium.buffer medium'.buffer
             medium''.buffer takes.found (change ∷ []) false (takes.advances works) (advances (failed ∙ works));
+        accepts =
+            unreported_moves_on state medium.buffer medium'.buffer medium''.buffer takes.found (change ∷ [])
+            takes.accepts accepts;
       }
 
   -- what is pending does not say whether it is awake, nor whether the device has failed

@@ -24,7 +24,7 @@ pub record BeginsNext (old new : SendingState) : Type 0 where
 module _ {D : Type 0} (state : D → DiskState) where
   -- The disks of a medium are back, at hand. What was received is a first part of what was sent, and the rest is
   -- pending now. As far as it is stored, hosts see the medium as it is. A medium that works, and one whose fault was
-  -- not told, accepts exactly these changes (own).
+  -- not reported, accepts exactly these changes (own).
   pub record Attaches (sent received : List Item) (disks : DisksState D) (old new : BufferState D) : Type 0 where
     pub waiting : List Change
     pub prefix : sent ≡ received ++ map Sent waiting

@@ -1,5 +1,5 @@
 -- What contracts see of the hosts' half of a bay: a drive whose disks are away, and the end of the ring.
-use Rattle.std.specs.Prelude.{◌≡◌, ◌+◌, ◌++◌, ℕ, List, [], length, map, sum_by, true, false, Option, None, Some, is_some}
+use Rattle.std.specs.Prelude.{◌≡◌, ◌+◌, ◌++◌, ℕ, List, [], length, map, sum_by, Bool, true, false, Option, None, Some, is_some}
 use Rattle.tape_disk.specs.Disk.{DiskState, Each}
 use Rattle.tape_disk.specs.Moments.{LeavesOnly}
 use Rattle.scsi_sense.specs.declared.replies.Reply.{Reply}
@@ -18,7 +18,7 @@ use Rattle.tape_buffer.specs.declared.aways.Away.{Away}
 use Rattle.tape_buffer.specs.declared.holding.Holding.{Holding}
 use Rattle.tape_buffer.specs.declared.holding.Holding.TheVariants as Holdings
 use Rattle.tape_buffer.specs.Aways.{loose_in, seen_as}
-use Rattle.tape_buffer.specs.Detaching.{loose_of, passed}
+use Rattle.tape_buffer.specs.Detaching.{lacks_room_held, loose_of, passed}
 use Rattle.tape_buffer.specs.Moves.{IsAway, takes_alone_in, buffer_below}
 use Rattle.tape_buffer.specs.State.{BufferState, state_of}
 use Rattle.bay_moves.specs.Elements.{BayState}
@@ -87,6 +87,11 @@ module _ {D : Type 0} where
   -- what is in a drive stands for the span: hosts see just what was sent (own)
   abbrev pub IsFrontOf : Bay (BufferState D) → Span → Type 0
   IsFrontOf bay span = OwesIn bay span × (loose_in_bay bay ≡ [])
+
+  -- what is in a drive works, and yet accepts no change until its disks are back (own)
+  abbrev pub lacks_room_in : Option (BufferState D) → Bool
+  lacks_room_in None = false
+  lacks_room_in (Some medium) = lacks_room_held medium.held
 
   -- a drive whose medium has passed on what it accepted (own)
   abbrev pub passed_on : BayState D → BayState D

@@ -1,8 +1,14 @@
 -- What calls do with both halves of a bay.
-use Rattle.std.specs.Prelude.{◌≡◌, ◌&&◌, ℕ, List, Bool, true, false, not}
+use Rattle.std.specs.Prelude.{◌≡◌, ◌⊎◌, ◌&&◌, ℕ, List, [], Bool, true, false, not, Result, Ok, Err}
 use Rattle.tape_disk.specs.Disk.{DiskState}
 use Rattle.scsi_sense.specs.declared.replies.Reply.{Reply}
+use Rattle.volume_core.specs.declared.media.MediumError.{MediumError}
+use Rattle.volume_core.specs.declared.media.MediumError.TheVariants as Errors
 use Rattle.volume_core.specs.declared.media.Turn.{Turn}
+use Rattle.volume_core.specs.declared.media.Turn.TheVariants.{Device}
+use Rattle.volume_core.specs.Medium.{MediumState}
+use Rattle.drive_commands.specs.declared.bays.Bay.{Bay}
+use Rattle.drive_commands.specs.declared.bays.Bay.TheVariants.{Loaded}
 use Rattle.drive_commands.specs.Events.{FlushTurn}
 use Rattle.drive_commands.specs.Execute.{HonestIn}
 use Rattle.drive_commands.specs.Media.{TakesTurn}
@@ -17,14 +23,24 @@ use Rattle.bay_moves.specs.Bays.{AnswersLentInEvent, EveryMoment, IsSafeIn, Keep
 use Rattle.bay_moves.specs.Elements.{BayState}
 use Rattle.split_bay.specs.Backs.{BackState, FollowsIn, KeepsDiskHalf, is_stuck_in}
 use Rattle.split_bay.specs.Both.{AttachesIn, BeginsNext, DetachesIn}
-use Rattle.split_bay.specs.Fronts.{FrontState, IsFrontOf, KeepsHostsHalf}
+use Rattle.split_bay.specs.Fronts.{FrontState, IsFrontOf, KeepsHostsHalf, lacks_room_in}
 use Rattle.split_bay.specs.Looks.{Looks, deferred_after, fails_anew}
 use Rattle.split_bay.specs.Rings.{SendingState}
 use Rattle.split_bay.specs.Spans.{span_of}
 
+-- what is loaded has stored all that it accepted, or has failed (own)
+abbrev pub IsStoredIn : Bay MediumState → Type 0
+IsStoredIn (Loaded medium) = (medium.pending ≡ []) ⊎ (medium.failed ≡ true)
+IsStoredIn _ = Unit {0}
+
+-- why there is no room, where all was to be stored in this turn: the device failed, or memory ran out (own)
+abbrev pub no_room_of : Turn → MediumError
+no_room_of Device = Errors.Device
+no_room_of _ = Errors.NoMemory
+
 module _ {D : Type 0} (state : D → DiskState) where
-  -- The disks are brought back to the drive, which is found as it then is: a fault that was not told establishes a
-  -- deferred error (own).
+  -- The disks are brought back to the drive, which is found as it then is: a fault that was not reported
+  -- establishes a deferred error (own).
   pub record Joins (front : FrontState D) (back : BackState D) (bay : BayState D) (ends : SendingState) : Type 0 where
     pub ends_are : ends ≡ front.sending
     pub attaches : AttachesIn state front.sending.sent back.received back.medium front.drive.bay bay.bay
@@ -93,12 +109,35 @@ module _ {D : Type 0} (state : D → DiskState) where
     pub moments :
         EveryMoment state joined FlushTurn made_nothing (medium_in joined.bay) (medium_in settled.bay) settled
 
-  -- a fault of the disk's half that was not told: what is loaded has failed, and hosts do not see that yet (own)
+  -- The disks were brought back, and went away again, and yet no change may be sent to a medium that works. So all that
+  -- was accepted is stored, by a turn of the whole drive; or the device failed (own).
+  pub record LeavesNoRoom
+      (front : FrontState D) (back : BackState D) (error : MediumError) (front' : FrontState D) (back' : BackState D)
+      : Type 0 where
+    pub joined : BayState D
+    pub between : FrontState D
+    pub between' : BackState D
+    pub holds : HoldsHalves front back joined joined between between'
+    pub lacks : lacks_room_in (medium_in between.drive.bay) ≡ true
+    pub turn : Turn
+    pub settles : SettlesBoth between between' turn front' back'
+    pub error_is : error ≡ no_room_of turn
+    pub stored : IsStoredIn (bay_of (state_of state) front'.drive.bay)
+
+  -- The disks are brought back, and go away again, so that changes may be sent again; or it lacks room for that (own).
+  abbrev pub MakesRoom :
+      FrontState D → BackState D → Result Unit MediumError → FrontState D → BackState D → Type 0
+  MakesRoom front back (Ok done) front' back' =
+      (joined : BayState D) × HoldsHalves front back joined joined front' back'
+      × (lacks_room_in (medium_in front'.drive.bay) ≡ false)
+  MakesRoom front back (Err error) front' back' = LeavesNoRoom front back error front' back'
+
+  -- a fault of the disk's half that was not reported: what is loaded has failed, and hosts do not see that yet (own)
   abbrev pub is_unreported : FrontState D → BackState D → Bool
   is_unreported front back = is_stuck_in state back.medium && not (has_failed_in (state_of state) front.drive.bay)
 
-  -- A fault of the disk's half is told: the disks are brought back, looked at, and go away again. A deferred error is
-  -- established, and hosts see that what is loaded has failed (own).
+  -- A fault of the disk's half is reported: the disks are brought back, looked at, and go away again. A deferred error
+  -- is established, and hosts see that what is loaded has failed (own).
   pub record ReportsFault (front : FrontState D) (back : BackState D) (front' : FrontState D) (back' : BackState D)
       : Type 0 where
     pub joined : BayState D

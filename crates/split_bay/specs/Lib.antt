@@ -1,7 +1,6 @@
 pub mod Backs
 pub mod Beginnings
 pub mod Both
-pub mod Found
 pub mod Fronts
 pub mod Halves
 pub mod Looks

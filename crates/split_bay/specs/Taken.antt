@@ -3,7 +3,7 @@ use Rattle.std.specs.Prelude.{◌≡◌, ◌++◌, List, map, false}
 use Rattle.vtl_base.specs.Below.{Advances}
 use Rattle.tape_disk.specs.Disk.{DiskState}
 use Rattle.volume_core.specs.declared.changes.Change.{Change}
-use Rattle.tape_buffer.specs.Moves.{buffer_below, with_changes}
+use Rattle.tape_buffer.specs.Moves.{MovesUnreported, buffer_below, with_changes}
 use Rattle.tape_buffer.specs.State.{state_of}
 use Rattle.tape_buffer.specs.Taking.{DisksState}
 use Rattle.split_bay.specs.declared.items.Item.TheVariants.{Sent}
@@ -22,6 +22,7 @@ module _ {D : Type 0} (state : D → DiskState) where
     pub advances :
         (state_of state medium.buffer).failed ≡ false
         → Advances (buffer_below state) medium.buffer found false medium'.buffer
+    pub accepts : MovesUnreported state medium.buffer found medium'.buffer
 
   -- all that were known to wait, up to where the next span begins (own)
   pub record TakesKnown (old : ReceivingState) (medium : DisksState D) (new : ReceivingState) (medium' : DisksState D)

@@ -40,12 +40,11 @@ pub(crate) fn attach_to<D: Disk, R: Rings>(
     ensures fails { result
         ≡ (is_broken (state_of D.state medium.new) && not (state_of D.state medium.old).failed) }
 {
-    // Asked for the proof's sake: what was sent keeps its limits, and the disks what they accepted.
-    sending.known();
     look_both(sending, receiving);
     let Some(mut disks) = disks else {
         unreachable!()
     };
+    // Asked for the proof's sake: the disks are those of a medium that has them at hand.
     disks.known();
     take_known(receiving, &mut disks);
     let fails = disks.is_awake() && disks.has_failed() && !medium.has_failed();

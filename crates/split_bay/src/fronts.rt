@@ -9,7 +9,7 @@ ghost use Rattle.tape_buffer.specs.Aways.{loose_in};
 ghost use Rattle.tape_buffer.specs.Detaching.{passed};
 ghost use Rattle.tape_buffer.specs.State.{state_of};
 ghost use Rattle.bay_moves.specs.Bays.{ShowsOrders};
-ghost use Rattle.split_bay.specs.Fronts.{AnswersOrWaits, AreAway, GivesOrders, IsFrontOf, KeepsHostsHalf, LeavesOrders, OwesIn, loose_in_bay, passed_on, pending_of, sending_with};
+ghost use Rattle.split_bay.specs.Fronts.{AnswersOrWaits, AreAway, GivesOrders, IsFrontOf, KeepsHostsHalf, LeavesOrders, OwesIn, lacks_room_in, loose_in_bay, passed_on, pending_of, sending_with};
 ghost use Rattle.split_bay.specs.Rings.{AreEnds};
 ghost use Rattle.split_bay.specs.Spans.{span_of};
 
@@ -49,7 +49,7 @@ impl<D: Disk, R: Rings> Front<D, R> {
     /// Answers a command of the host `nexus`, if the command needs no disk, and sends the change that it made, if it
     /// made one. `cdb` is the command block, and `sent` holds the data that are lent with it. Where both halves are
     /// needed, the result is None and nothing has changed: the data are still in `sent`.
-    pub fn execute_lent(&mut self, nexus: Nexus, cdb: &[u8], sent: &mut Bytes) -> Option<Reply>
+    pub fn execute(&mut self, nexus: Nexus, cdb: &[u8], sent: &mut Bytes) -> Option<Reply>
         ensures step { AnswersOrWaits D.state self.old (asked nexus cdb.now sent.old) result self.new sent.new }
 
         // A synchronizing command is never acknowledged by this half alone.
@@ -119,6 +119,16 @@ impl<D: Disk, R: Rings> Front<D, R> {
                 }
             }
             None => 0,
+        }
+    }
+
+    // Whether what is in the drive works, and yet accepts no change until its disks are back.
+    pub(crate) fn lacks_room(&self) -> bool
+        ensures { result ≡ lacks_room_in (medium_in self.now.drive.bay) }
+    {
+        match self.drive.medium() {
+            Some(medium) => medium.lacks_room(),
+            None => false,
         }
     }
 

@@ -7,7 +7,7 @@ ghost use Rattle.bay_moves.specs.Bays.{KeepsBoth};
 ghost use Rattle.bay_moves.specs.Elements.{BayState};
 ghost use Rattle.split_bay.specs.Backs.{FollowsIn, disks_half};
 ghost use Rattle.split_bay.specs.Fronts.{IsFrontOf, KeepsOrders, hosts_half};
-ghost use Rattle.split_bay.specs.Halves.{ExecutesBoth, HoldsHalves, Joins, Parts, ReportsBoth, SettlesBoth, is_unreported};
+ghost use Rattle.split_bay.specs.Halves.{ExecutesBoth, HoldsHalves, Joins, MakesRoom, Parts, ReportsBoth, SettlesBoth, is_unreported, no_room_of};
 ghost use Rattle.split_bay.specs.Looks.{deferred_after};
 ghost use Rattle.split_bay.specs.Rings.{AreEnds};
 ghost use Rattle.split_bay.specs.Spans.{span_of};
@@ -24,7 +24,7 @@ use scsi_sense::Reply;
 use std::mem;
 use tape_buffer::{Buffered, Disks};
 use tape_disk::Disk;
-use volume_core::Turn;
+use volume_core::{MediumError, Turn};
 use vtl_base::{Bytes, Nexus};
 
 /// Answers a command of the host `nexus` with both halves, which must fit (`Front::fits`). The disks are brought back
@@ -84,8 +84,37 @@ pub fn settle_both<D: Disk, R: Rings>(front: &mut Front<D, R>, back: &mut Back<D
 }
 
 /// Makes room: the disks are brought back, and go away again. After that the hosts' half may again send as many changes
-/// as may be pending; if memory runs out, it may send none. The halves must fit (`Front::fits`).
-pub fn make_room<D: Disk, R: Rings>(front: &mut Front<D, R>, back: &mut Back<D, R>)
+/// as may be pending. If memory runs out, it may send none, and all that it sent is stored, in a flusher's turn of the
+/// whole drive: the result is then `NoMemory`, or `Device` where the device failed in that turn. The halves must fit
+/// (`Front::fits`).
+pub fn make_room<D: Disk, R: Rings>(
+    front: &mut Front<D, R>,
+    back: &mut Back<D, R>,
+) -> Result<(), MediumError>
+    requires { AreEnds front.old.sending back.old.number back.old.received }
+    ensures { MakesRoom D.state front.old back.old result front.new back.new }
+{
+    renew(front, back);
+    if !front.lacks_room() {
+        return Ok(());
+    }
+    let turn = settle_both(front, back);
+    let error = no_room(turn);
+    Err(error)
+}
+
+// Why there is no room, where all that was pending was to be stored in this turn.
+fn no_room(turn: Turn) -> MediumError
+    ensures { result ≡ no_room_of turn }
+{
+    match turn {
+        Turn::Device => MediumError::Device,
+        Turn::Idle | Turn::Stored(_) => MediumError::NoMemory,
+    }
+}
+
+// Brings the disks back, and sends them away again.
+fn renew<D: Disk, R: Rings>(front: &mut Front<D, R>, back: &mut Back<D, R>)
     requires { AreEnds front.old.sending back.old.number back.old.received }
     ensures { (joined : BayState D) × HoldsHalves D.state front.old back.old joined joined front.new back.new }
 {
@@ -105,9 +134,9 @@ pub fn make_room<D: Disk, R: Rings>(front: &mut Front<D, R>, back: &mut Back<D, 
     );
 }
 
-/// Tells hosts of a fault of the disk's half `back`: a deferred error is established, and hosts see that the loaded
-/// medium has failed, so it accepts no more changes. Where there is no fault, or it was told already, nothing changes.
-/// The halves must fit (`Front::fits`).
+/// Reports a fault of the disk's half `back` to hosts: a deferred error is established, and hosts see that the loaded
+/// medium has failed, so it accepts no more changes. Where there is no fault, or it was reported already, nothing
+/// changes. The halves must fit (`Front::fits`).
 pub fn tell<D: Disk, R: Rings>(front: &mut Front<D, R>, back: &mut Back<D, R>)
     requires { AreEnds front.old.sending back.old.number back.old.received }
     ensures { ReportsBoth D.state (is_unreported D.state front.old back.old) front.old back.old front.new back.new }
@@ -115,10 +144,10 @@ pub fn tell<D: Disk, R: Rings>(front: &mut Front<D, R>, back: &mut Back<D, R>)
     if !back.is_stuck() || front.has_failed() {
         return;
     }
-    make_room(front, back);
+    renew(front, back);
 }
 
-// Brings the disks of what is in a drive back. A fault that was not told establishes a deferred error. The call
+// Brings the disks of what is in a drive back. A fault that was not reported establishes a deferred error. The call
 // allocates no memory, and calls no device.
 pub(crate) fn attach<D: Disk, R: Rings>(
     drive: &mut Drive<Buffered<D>, AptplStore<D>>,
@@ -145,7 +174,7 @@ pub(crate) fn attach<D: Disk, R: Rings>(
     known(drive);
 }
 
-// Establishes a deferred error, where there is a fault to tell.
+// Establishes a deferred error, where there is a fault to report.
 fn defer_where<D: Disk>(drive: &mut Drive<Buffered<D>, AptplStore<D>>, fails: bool)
     ensures { drive.new ≡ record drive.old { deferred = deferred_after fails drive.old.deferred } }
 {

@@ -8,7 +8,6 @@ pub mod fronts;
 pub mod halves;
 pub mod items;
 mod joined;
-pub mod laws;
 pub mod new_rings;
 pub mod noted;
 pub mod protocol;

@@ -1,30 +1,30 @@
 -- Changes that hosts accept behind those that wait in the ring, before a fault was told.
 use Rattle.std.proofs.Common.{◌≡◌, ◌≤◌, ◌++◌, List, [], ◌∷◌, length, map, false, Option, None, Some, refl, sym, ◌∙◌, ap, subst, arith, length-append, append_assoc}
-use Rattle.std.specs.Prelude.{IsTrue, is_some, option_map}
+use Rattle.std.specs.Prelude.{is_some, option_map}
 use Rattle.std.proofs.lemmas.List.{append-nil, append_cancel_left, map-append}
 use Rattle.tape_disk.specs.Disk.{DiskState, IsDisk}
 use Rattle.volume_core.specs.declared.changes.Change.{Change}
 use Rattle.volume_core.specs.Medium.{volume_of, volume_or_empty}
 use Rattle.volume_core.specs.Stores.{after_append}
-use Rattle.volume_core.specs.Volume.{AllApply, Part, after, changed, refusal_of}
-use Rattle.cartridge.specs.Contents.{Start, changes_since, start_of, volume_made}
-use Rattle.cartridge.specs.Extending.{volume_since}
+use Rattle.volume_core.specs.Volume.{AllApply, Part, after}
+use Rattle.cartridge.specs.Contents.{changes_since, volume_made}
 use Rattle.cartridge.specs.State.{ClosedCartridge, OpenCartridge}
-use Rattle.accepted_changes.specs.Core.{Core, IsCore, with_item}
+use Rattle.accepted_changes.specs.Core.{IsCore}
 use Rattle.accepted_changes.specs.Device.{two_disks, two_is_device}
 use Rattle.accepted_changes.specs.Events.{CoreMoves, core_moves_nowhere, core_moves_on}
-use Rattle.accepted_changes.specs.Kinds.{moves_accepting}
 use Rattle.tape_buffer.specs.declared.holding.Holding.{Holding}
 use Rattle.tape_buffer.specs.declared.holding.Holding.TheVariants.{Open, Closed, Away}
 use Rattle.tape_buffer.specs.Moves.{IsHere, MovesOn, as_told, medium_core, with_changes}
-use Rattle.tape_buffer.specs.Rules.{applies_behind, is_unrefused, medium_rules}
+use Rattle.tape_buffer.specs.Rules.{medium_rules}
 use Rattle.tape_buffer.specs.State.{BufferState, core_held, disks_in, found_core, found_in, open_core, state_held, torn_in}
 use Rattle.tape_buffer.specs.Taking.{DisksState}
 use Rattle.bay_moves.specs.Bays.{KeepsCartridgeIn}
 use Rattle.split_bay.specs.declared.items.Item.{Item}
 use Rattle.split_bay.specs.declared.items.Item.TheVariants.{Begins, Sent}
 use Rattle.split_bay.specs.Backs.{FollowsIn}
-use Rattle.split_bay.specs.Spans.{KeepsLimits, Span, medium_begun, medium_seen, no_span, span_after, span_of, span_with}
+use Rattle.split_bay.specs.Spans.{KeepsLimits, Span, medium_begun, medium_seen, span_of}
+use Rattle.tape_buffer.proofs.CoreLemmas.{accepts_one}
+use Rattle.split_bay.proofs.SpanLemmas.{apply_rest, span_more}
 use Rattle.split_runs.specs.Cores.{CoreMovesIn}
 
 -- the changes among some items
@@ -52,36 +52,10 @@ sent_behind received waiting made =
     append_assoc received (map Sent waiting) (map Sent made)
     ∙ ap (λ (l : List Item). received ++ l) (sym (map-append Sent waiting made))
 
-span_append : (span : Span) (xs ys : List Item) → span_after span (xs ++ ys) ≡ span_after (span_after span xs) ys
-span_append span [] ys = refl
-span_append span (x ∷ xs) ys = span_append (span_with span x) xs ys
-
--- one item more
-pub span_next : (items : List Item) (item : Item) → span_of (items ++ item ∷ []) ≡ span_with (span_of items) item
-span_next items item = span_append no_span items (item ∷ [])
-
-span_changes : (span : Span) (changes : List Change)
-    → span_after span (map Sent changes) ≡ record { begin = span.begin; since = span.since ++ changes }
-span_changes span [] = λ i. record { begin = span.begin; since = sym (append-nil span.since) i }
-span_changes span (c ∷ cs) =
-    span_changes (span_with span (Sent c)) cs
-    ∙ (λ i. record { begin = span.begin; since = append_assoc span.since (c ∷ []) cs i })
-
--- some changes more
-pub span_more : (items : List Item) (changes : List Change)
-    → span_of (items ++ map Sent changes)
-    ≡ record { begin = (span_of items).begin; since = (span_of items).since ++ changes }
-span_more items changes = span_append no_span items (map Sent changes) ∙ span_changes (span_of items) changes
-
 -- a span begins as it did, whatever was sent since
 pub begins_same : (sent : List Item) (changes : List Change)
     → (span_of (sent ++ map Sent changes)).begin ≡ (span_of sent).begin
 begins_same sent changes = ap (λ (s : Span). s.begin) (span_more sent changes)
-
--- of changes that all apply the last ones apply to what the first ones make
-apply_rest : (volume : List Part) (xs ys : List Change) → AllApply volume (xs ++ ys) → AllApply (after volume xs) ys
-apply_rest volume [] ys all = all
-apply_rest volume (x ∷ xs) ys all = apply_rest (changed volume x) xs ys all.1
 
 -- where nothing more is sent than nothing, nothing is
 pub none_of : (l : List Change) → length l ≤ 0 → l ≡ []
@@ -89,43 +63,7 @@ none_of [] few = refl
 none_of (x ∷ xs) few = absurd (omega (arith, few))
 
 module _ {D : Type 0} (state : D → DiskState) (is_disk : (disk : D) → (state disk).honest → IsDisk (state disk)) where
-  -- one change is accepted over an open cartridge
-  taken_one : (c : OpenCartridge D) (pending : List Change) (change : Change)
-      → refusal_of (after (volume_made c.contents) pending) change ≡ None → IsCore (open_core c pending)
-      → CoreMoves medium_rules (two_disks state) c.disks c.disks (as_told false (open_core c pending))
-      (as_told false (open_core c (pending ++ change ∷ []))) (change ∷ [])
-  taken_one c pending change none core =
-      subst
-      (λ (new : Core Start Change).
-      CoreMoves medium_rules (two_disks state) c.disks c.disks (as_told false (open_core c pending)) new
-      (change ∷ []))
-      (sym with_change)
-      (moves_accepting medium_rules (two_disks state) (two_is_device state) c.disks
-      (as_told false (open_core c pending)) change
-      (λ honest. (is_disk c.disks.first honest.0, is_disk c.disks.second honest.1))
-      (record { safe = core.safe; stored = core.stored }) refl refl applies)
-    where
-      with_change : as_told false (open_core c (pending ++ change ∷ [])) ≡ with_item change
-          (as_told false (open_core c pending))
-      with_change =
-          λ i. record {
-            base = start_of c.contents;
-            accepted = sym (append_assoc (changes_since c.contents) pending (change ∷ [])) i;
-            stored = (open_core c pending).stored;
-            safe = (open_core c pending).safe;
-            fault = false;
-            stuck = c.failed;
-            recovering = false;
-          }
-
-      applies : IsTrue (applies_behind (start_of c.contents) (changes_since c.contents ++ pending) change)
-      applies =
-          ap is_unrefused
-          (ap (λ (v : List Part). refusal_of v change)
-          (after_append (start_of c.contents).volume (changes_since c.contents) pending
-          ∙ ap (λ (v : List Part). after v pending) (sym (volume_since c.contents))) ∙ none)
-
-  -- and so are more
+  -- changes are accepted over an open cartridge, one after another
   taken_open : (c : OpenCartridge D) (pending changes : List Change)
       → AllApply (after (volume_made c.contents) pending) changes → IsCore (open_core c pending)
       → CoreMoves medium_rules (two_disks state) c.disks c.disks (as_told false (open_core c pending))
@@ -149,7 +87,7 @@ module _ {D : Type 0} (state : D → DiskState) (is_disk : (disk : D) → (state
       (core_moves_on medium_rules (two_disks state) (two_is_device state) c.disks c.disks c.disks
       (as_told false (open_core c pending)) (as_told false (open_core c next))
       (as_told false (open_core c (next ++ changes)))
-      (change ∷ []) changes (taken_one c pending change apply.0 core)
+      (change ∷ []) changes (accepts_one c pending state is_disk false c.failed change refl core apply.0)
       (taken_open c next changes
       (subst (λ (v : List Part). AllApply v changes)
       (sym (after_append (volume_made c.contents) pending (change ∷ []))) apply.1)

@@ -21,7 +21,8 @@ use Rattle.split_bay.specs.Fronts.{FrontState, OwesHeld, OwesIn}
 use Rattle.split_bay.specs.Spans.{KeepsLimits, Span, medium_begun, span_of}
 use Rattle.split_runs.specs.Calls.{AcceptsAlone, HalvesState, KeepsHalves, StepsAlone, is_told, whole_medium}
 use Rattle.split_runs.specs.Cores.{CoreMovesIn, HalvesMove}
-use Rattle.split_runs.proofs.AcceptLemmas.{accepts_behind, begins_same, none_of, sent_behind, span_more}
+use Rattle.split_bay.proofs.SpanLemmas.{span_more}
+use Rattle.split_runs.proofs.AcceptLemmas.{accepts_behind, begins_same, none_of, sent_behind}
 use Rattle.split_runs.proofs.CoreLemmas.{moves_still}
 use Rattle.split_runs.proofs.PartLemmas.{both_ways}
 

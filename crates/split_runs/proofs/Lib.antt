@@ -4,6 +4,7 @@ mod BegunLemmas
 mod BothReplyLemmas
 mod CoreLemmas
 mod FaultLemmas
+mod FoundLemmas
 mod MoveLemmas
 mod PartLemmas
 mod PlaceLemmas
@@ -11,3 +12,4 @@ mod ReplyLemmas
 mod RunLemmas
 mod StepLemmas
 mod StopLemmas
+mod TurnedLemmas

@@ -58,11 +58,15 @@ module _ {D : Type 0} (state : D → DiskState) where
       (front' : FrontState D) (back' : BackState D) (joins : Joins state front back joined ends)
       (parts : Parts state left ends front' back') (keeps : KeepsHostsHalf state front')
       (keeps' : KeepsDiskHalf state back') where
-    into : PartsInto state left (halves_of front' back' [])
-    into = record { ends = ends; parts = parts; again = parts_again state front' back' keeps keeps' }
+    into : PartsInto state left ends (halves_of front' back' [])
+    into = record { parts = parts; again = parts_again state front' back' keeps keeps' }
 
-    joins_so : Joins state front back joined front.sending
-    joins_so = subst (λ (s : SendingState). Joins state front back joined s) joins.ends_are joins
+    joins_so :
+        Joins state front back joined front.sending × PartsInto state left front.sending (halves_of front' back' [])
+    joins_so =
+        subst
+        (λ (s : SendingState). Joins state front back joined s × PartsInto state left s (halves_of front' back' []))
+        joins.ends_are (joins, into)
 
     pub out_step : (result : Result (BufferState D) Reply)
         → GoesOut (state_of state) (buffer_below state) joined result left
@@ -71,25 +75,28 @@ module _ {D : Type 0} (state : D → DiskState) where
         λ waiting. (record { joined = joined; ends = ends; joins = joins; left = left; goes = goes }, into)
     out_step (Err reply) goes =
         let on = stays_in joined.bay joined left reply refl goes in
-        λ waiting. record {
-          joined = joined;
-          ends = ends;
-          joins = joins;
-          used = left;
-          fault = on.0;
-          advances = on.1;
-          parted = into;
-        }
+        λ waiting. (
+          record {
+            joined = joined;
+            ends = ends;
+            joins = joins;
+            used = left;
+            fault = on.0;
+            advances = on.1;
+            parted = into;
+          },
+          goes,
+        )
 
     pub in_step : (given : BufferState D) (result : Result Unit (BufferState D × Reply))
         → TakesIn (state_of state) (buffer_below state) joined given result left
         → IsInStep state front back given result front' back'
     in_step given (Ok done) takes =
-        (record { empty = joined; bay = left; takes = takes; parted = into }, joins_so)
+        (record { empty = joined; bay = left; ends = ends; takes = takes; parted = into }, joins)
     in_step given (Err refused) takes =
-        (record { empty = joined; reply = refused.1; bay = left; takes = takes }, refl, joins_so, into)
+        (record { empty = joined; reply = refused.1; bay = left; takes = takes }, refl, joins_so.0, joins_so.1)
 
     pub put_step : (given : BufferState D) → left ≡ record joined { bay = Unloaded given }
         → IsPutStep state front back given front' back'
     put_step given inserted =
-        (record { empty = joined; bay = left; inserted = inserted; parted = into }, joins_so)
+        (record { empty = joined; bay = left; ends = ends; inserted = inserted; parted = into }, joins)

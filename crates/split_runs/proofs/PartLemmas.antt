@@ -1,5 +1,5 @@
 -- The core of a cartridge whose disks come back to a drive, and go away again.
-use Rattle.std.proofs.Common.{◌≡◌, ◌≤◌, ◌++◌, List, [], length, map, Bool, true, false, Option, None, Some, ⊎_elim, refl, sym, ◌∙◌, ap, subst, arith}
+use Rattle.std.proofs.Common.{◌≡◌, ◌++◌, List, [], length, map, Bool, true, false, Option, None, Some, refl, sym, ◌∙◌, ap, subst, arith}
 use Rattle.std.specs.Prelude.{option_map}
 use Rattle.std.proofs.lemmas.List.{append-nil}
 use Rattle.vtl_base.specs.Below.{Advances}
@@ -15,9 +15,9 @@ use Rattle.drive_commands.specs.State.{medium_in}
 use Rattle.tape_buffer.specs.declared.budgets.Budget.{Budget}
 use Rattle.tape_buffer.specs.declared.holding.Holding.{Holding}
 use Rattle.tape_buffer.specs.declared.holding.Holding.TheVariants.{Open, Closed, Away}
-use Rattle.tape_buffer.specs.Aways.{IsCut, loose_in}
+use Rattle.tape_buffer.specs.Aways.{loose_in}
 use Rattle.tape_buffer.specs.Moves.{IsHere, MovesOn, as_told, buffer_below, medium_core, moves_here, with_changes}
-use Rattle.tape_buffer.specs.State.{BufferState, disks_in, state_held, state_of}
+use Rattle.tape_buffer.specs.State.{BufferState, disks_in, state_of}
 use Rattle.tape_buffer.specs.Taking.{DisksState, LendsFrom, LendsHeld}
 use Rattle.bay_moves.specs.Elements.{BayState}
 use Rattle.split_bay.specs.declared.items.Item.{Item}
@@ -30,7 +30,9 @@ use Rattle.split_bay.specs.Rings.{SendingState}
 use Rattle.split_bay.specs.Spans.{Span, medium_begun, span_of}
 use Rattle.split_runs.specs.Calls.{HalvesState, KeepsHalves, is_told, whole_medium}
 use Rattle.split_runs.specs.Cores.{CoreMovesIn}
-use Rattle.split_runs.proofs.AcceptLemmas.{sent_cancel, span_next}
+use Rattle.split_bay.proofs.SpanLemmas.{span_next}
+use Rattle.tape_buffer.proofs.DetachingLemmas.{cut_less, lend_facts}
+use Rattle.split_runs.proofs.AcceptLemmas.{sent_cancel}
 use Rattle.split_runs.proofs.CoreLemmas.{IsHereIn, seen_core, tells}
 
 -- a medium that failed is none that did not
@@ -117,23 +119,6 @@ module _ {D : Type 0} (state : D → DiskState) where
   lends_here (Closed a) (Away b) pending left held = absurd held
   lends_here (Away a) h' pending left held = absurd held
 
-  -- a medium that failed takes no change
-  lends_spent : (h h' : Holding (OpenCartridge D) (ClosedCartridge D)) (pending : List Change) (left : Budget)
-      → LendsHeld h pending h' left → (state_held state h pending).failed ≡ true → left.records ≡ 0
-  lends_spent (Open a) (Open b) pending left held failed =
-      ⊎_elim (λ works. both_ways a.failed failed works.0) (λ none. none) held.records
-  lends_spent (Closed a) (Closed b) pending left held failed = held.1
-  lends_spent (Open a) (Closed b) pending left held failed = absurd held
-  lends_spent (Open a) (Away b) pending left held failed = absurd held
-  lends_spent (Closed a) (Open b) pending left held failed = absurd held
-  lends_spent (Closed a) (Away b) pending left held failed = absurd held
-  lends_spent (Away a) h' pending left held failed = absurd held
-
-  cut_less : (left cut : Budget) → IsCut left cut → cut.records ≤ left.records
-  cut_less left cut is =
-      ⊎_elim (λ same. let r = ap (λ (b : Budget). b.records) same in omega (arith, r))
-      (λ none. let r = ap (λ (b : Budget). b.records) none in omega (arith, r)) is
-
   -- whether hosts see a medium, if there is one, as it is
   abbrev pub ToldAs : Bool → Option (BufferState D) → Type 0
   ToldAs t None = Unit {0}
@@ -161,8 +146,8 @@ module _ {D : Type 0} (state : D → DiskState) where
               arith,
               is.left.records,
               sent,
-              cut_less lent.left went.away.left went.away_is.cut,
-              lends_spent old.held lent.buffer.held old.pending lent.left went.lends.held (sym told ∙ failed),
+              (cut_less lent.left went.away.left went.away_is.cut).0,
+              (lend_facts state old lent went.lends).failed (sym told ∙ failed),
             );
       }
 

@@ -13,6 +13,7 @@ use Rattle.tape_buffer.specs.Moves.{IsHere, buffer_below, moves_here}
 use Rattle.tape_buffer.specs.Rules.{medium_rules}
 use Rattle.tape_buffer.specs.State.{BufferState, state_of}
 use Rattle.bay_moves.specs.Elements.{BayState}
+use Rattle.split_bay.specs.Rings.{SendingState}
 use Rattle.split_runs.specs.Calls.{HalvesState, KeepsHalves, is_told, whole_medium}
 use Rattle.split_runs.specs.Cores.{CoreMovesIn, HalvesMove}
 use Rattle.split_runs.specs.Places.{Called, FollowedMoves, FollowedStopsKeep, InHalves, KeepsPlace, Outside, PartsInto, Place, PlaceCall, PlaceStep, PutIn, StepsIn, StepsOut, StepsPut, StepsWorked, TakenIn, TakenOut, Worked, medium_at, told_at}
@@ -23,13 +24,14 @@ use Rattle.split_runs.proofs.StopLemmas.{ShownAs, shown_whole, stop_keeps_from}
 
 module _ {D : Type 0} (state : D → DiskState) (is_disk : (disk : D) → (state disk).honest → IsDisk (state disk)) where
   -- a drive parts
-  into_moves : (bay : BayState D) (halves : HalvesState D) → PartsInto state bay halves
+  into_moves : (bay : BayState D) (ends : SendingState) (halves : HalvesState D) → PartsInto state bay ends halves
       → CoreMovesIn state (medium_in bay.bay) true [] (whole_medium halves) (is_told halves)
-  into_moves bay halves parts = parted_moves state is_disk bay parts.ends halves parts.parts parts.again.waiting
+  into_moves bay ends halves parts = parted_moves state is_disk bay ends halves parts.parts parts.again.waiting
 
-  into_keeps : (bay : BayState D) (halves : HalvesState D) → PartsInto state bay halves → KeepsHalves state halves
-  into_keeps bay halves parts =
-      parted_keeps state is_disk bay parts.ends halves parts.parts parts.again.waiting parts.again.front
+  into_keeps : (bay : BayState D) (ends : SendingState) (halves : HalvesState D) → PartsInto state bay ends halves
+      → KeepsHalves state halves
+  into_keeps bay ends halves parts =
+      parted_keeps state is_disk bay ends halves parts.parts parts.again.waiting parts.again.front
       parts.again.back
 
   -- what is in a drive goes out
@@ -55,7 +57,7 @@ module _ {D : Type 0} (state : D → DiskState) (is_disk : (disk : D) → (state
       (joined_moves state is_disk old step.joined step.ends keeps step.joins)
       (advanced_moves state is_disk (medium_in step.joined.bay) (medium_in step.used.bay) made step.fault
       (hand_joined state is_disk old step.joined step.ends step.joins) step.advances))
-      (into_moves step.used new step.parted))
+      (into_moves step.used step.ends new step.parted))
 
   goes_moves : (old : HalvesState D) (out : BufferState D) → KeepsHalves state old → StepsOut state old out
       → CoreMovesIn state (whole_medium old) (is_told old) [] (Some out) true × IsHere out.held
@@ -74,7 +76,7 @@ module _ {D : Type 0} (state : D → DiskState) (is_disk : (disk : D) → (state
       moves_then state is_disk (Some given) (medium_in step.bay.bay) (whole_medium new) true true (is_told new) [] []
       (subst (λ (b : BayState D). CoreMovesIn state (Some given) true [] (medium_in b.bay) true) (sym step.takes.2)
       (moves_here state given step.takes.0 [] here step.takes.1.advances.moved).0)
-      (into_moves step.bay new step.parted)
+      (into_moves step.bay step.ends new step.parted)
 
   put_moves : (given : BufferState D) (new : HalvesState D) → StepsPut state given new
       → CoreMovesIn state (Some given) true [] (whole_medium new) (is_told new)
@@ -82,7 +84,7 @@ module _ {D : Type 0} (state : D → DiskState) (is_disk : (disk : D) → (state
       moves_then state is_disk (Some given) (medium_in step.bay.bay) (whole_medium new) true true (is_told new) [] []
       (subst (λ (b : BayState D). CoreMovesIn state (Some given) true [] (medium_in b.bay) true) (sym step.inserted)
       (moves_still state is_disk (Some given) true))
-      (into_moves step.bay new step.parted)
+      (into_moves step.bay step.ends new step.parted)
 
   -- with nothing made
   abbrev MovesTo : Place D → List Change → Place D → Type 0
@@ -97,18 +99,18 @@ module _ {D : Type 0} (state : D → DiskState) (is_disk : (disk : D) → (state
   place_moves (InHalves old) (InHalves new) (Called call) made keeps step =
       step_moves state is_disk old new call made keeps step
   place_moves (InHalves old) (InHalves new) Worked made keeps step =
-      (worked_moves old new made keeps step, into_keeps step.used new step.parted)
+      (worked_moves old new made keeps step, into_keeps step.used step.ends new step.parted)
   place_moves (InHalves old) (Outside new) TakenOut made keeps step =
       none_made (InHalves old) (Outside new) made step.1 (goes_moves old new keeps step.0)
   place_moves (Outside old) (InHalves new) TakenIn made keeps step =
       none_made (Outside old) (InHalves new) made step.1
-      (in_moves old new keeps step.0, into_keeps step.0.bay new step.0.parted)
+      (in_moves old new keeps step.0, into_keeps step.0.bay step.0.ends new step.0.parted)
   place_moves (Outside old) (Outside new) TakenIn made keeps step =
       none_made (Outside old) (Outside new) made step.1
       (moves_here state old new [] keeps step.0.takes.1.advances.moved)
   place_moves (Outside old) (InHalves new) PutIn made keeps step =
       none_made (Outside old) (InHalves new) made step.1
-      (put_moves old new step.0, into_keeps step.0.bay new step.0.parted)
+      (put_moves old new step.0, into_keeps step.0.bay step.0.ends new step.0.parted)
   place_moves (InHalves old) (InHalves new) TakenOut made keeps step = absurd step
   place_moves (InHalves old) (InHalves new) TakenIn made keeps step = absurd step
   place_moves (InHalves old) (InHalves new) PutIn made keeps step = absurd step

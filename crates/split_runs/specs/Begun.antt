@@ -16,7 +16,7 @@ module _ {D : Type 0} (state : D → DiskState) where
       (bay : BayState D) (ends : SendingState) (halves : HalvesState D)
       → Parts state bay ends halves.front halves.back → PartsAgain state halves → KeepsHalves state halves
 
-  -- that hosts were told of a fault is that they see the medium in the drive as one that has failed (own)
+  -- that a fault was reported to hosts is that they see the medium in the drive as one that has failed (own)
   abbrev pub ToldIsSeen : Type 0
   ToldIsSeen =
       (halves : HalvesState D) (medium : BufferState D) → KeepsHostsHalf state halves.front

@@ -34,7 +34,7 @@ pub data HalfCall : Type 0 where
   Settled : (turn : Turn) → HalfCall
   -- both halves make room for more changes
   Roomed : HalfCall
-  -- a fault of the disk's half is told, if there is one that was not
+  -- a fault of the disk's half is reported, if there is one that was not
   Told : HalfCall
 
 module _ {D : Type 0} where
@@ -59,7 +59,7 @@ module _ {D : Type 0} (state : D → DiskState) where
         (medium_begun (span_of halves.front.sending.sent)).failed ≡ true
         → (span_of halves.front.sending.sent).begin.left ≡ 0
 
-  -- the clause of `Front::execute_lent`, and the changes that it says were accepted (own)
+  -- the clause of `Front::execute`, and the changes that it says were accepted (own)
   abbrev pub AcceptsAlone :
       FrontState D → Request → Option Reply → List Change → FrontState D → List ℕ → Type 0
   AcceptsAlone old request None made new left = AnswersOrWaits state old request None new left × (made ≡ [])
@@ -113,12 +113,13 @@ module _ {D : Type 0} (state : D → DiskState) where
     pub made_is : made ≡ []
     pub parts : PartsAgain new
 
-  -- what waits once a fault was told: nothing where there was one, since both halves were held; else what waited (own)
+  -- what waits once a fault was reported: nothing where there was one, since both halves were held; else what waited
+  -- (own)
   abbrev pub left_told : Bool → List Change → List Change
   left_told true waiting = []
   left_told false waiting = waiting
 
-  -- A fault of the disk's half is told, where there is one that was not (own).
+  -- A fault of the disk's half is reported, where there is one that was not (own).
   pub record StepsTold (old : HalvesState D) (made : List Change) (new : HalvesState D) : Type 0 where
     pub reports : ReportsBoth state (is_unreported state old.front old.back) old.front old.back new.front new.back
     pub made_is : made ≡ []

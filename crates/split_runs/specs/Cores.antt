@@ -20,8 +20,8 @@ use Rattle.bay_moves.specs.Cartridges.{IsKnown}
 use Rattle.split_runs.specs.Calls.{AllHalfSteps, HalfCall, HalvesState, KeepsHalves, StepsBoth, is_told, whole_medium}
 
 module _ {D : Type 0} (state : D → DiskState) where
-  -- From one medium, of whose fault hosts were told or not, to another exactly these changes were accepted, by the
-  -- steps of one event, with every moment of it; without a medium none (own).
+  -- From one medium, whose fault was reported or not, to another exactly these changes were accepted, by the steps of
+  -- one event, with every moment of it; without a medium none (own).
   abbrev pub CoreMovesIn :
       Option (BufferState D) → Bool → List Change → Option (BufferState D) → Bool → Type 0
   CoreMovesIn (Some old) told made (Some new) told' =
@@ -58,7 +58,7 @@ module _ {D : Type 0} (state : D → DiskState) where
   LeavesAcknowledged (Some disks) old made (Some disks') new = AcknowledgedLeft disks old made disks' new
   LeavesAcknowledged _ old made _ new = ⊥
 
-  -- the same from one medium, of whose fault hosts were told or not, to another (own)
+  -- the same from one medium, whose fault was reported or not, to another (own)
   abbrev pub AcknowledgedStays :
       Option (BufferState D) → Bool → List Change → Option (BufferState D) → Bool → Type 0
   AcknowledgedStays (Some old) told made (Some new) told' =

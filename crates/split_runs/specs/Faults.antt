@@ -29,7 +29,7 @@ module _ {D : Type 0} (state : D → DiskState) where
       (old new : HalvesState D) (request : Request) (result : Option Reply) (left : List ℕ) (made : List Change)
       → KeepsHalves state old → is_told old ≡ true → StepsAlone state old request result left made new → made ≡ []
 
-  -- to tell a fault a second time changes nothing (own)
+  -- to report a fault a second time changes nothing (own)
   abbrev pub ToldOnceByHalves : Type 0
   ToldOnceByHalves =
       (old mid new : HalvesState D) (made made' : List Change) → StepsTold state old made mid

@@ -2,6 +2,7 @@ pub mod Begun
 pub mod Calls
 pub mod Cores
 pub mod Faults
+pub mod Found
 pub mod Moves
 pub mod Places
 pub mod Replies

@@ -43,15 +43,15 @@ module _ {D : Type 0} where
   medium_at (InHalves halves) = whole_medium halves
   medium_at (Outside medium) = Some medium
 
-  -- whether hosts see that it has failed; outside of a drive its fault, if it has one, was told (own)
+  -- whether hosts see that it has failed; outside of a drive its fault, if it has one, was reported (own)
   abbrev pub told_at : Place D → Bool
   told_at (InHalves halves) = is_told halves
   told_at (Outside medium) = true
 
 module _ {D : Type 0} (state : D → DiskState) where
-  -- a drive parts into these halves, which keep what their types keep; nothing waits (own)
-  pub record PartsInto (bay : BayState D) (halves : HalvesState D) : Type 0 where
-    pub ends : SendingState
+  -- a drive, whose hosts' half had this end of the ring, parts into these halves, which keep what their types keep;
+  -- nothing waits (own)
+  pub record PartsInto (bay : BayState D) (ends : SendingState) (halves : HalvesState D) : Type 0 where
     pub parts : Parts state bay ends halves.front halves.back
     pub again : PartsAgain state halves
 
@@ -63,7 +63,7 @@ module _ {D : Type 0} (state : D → DiskState) where
     pub used : BayState D
     pub fault : Bool
     pub advances : AdvancesIn (buffer_below state) (medium_in joined.bay) made fault (medium_in used.bay)
-    pub parted : PartsInto used new
+    pub parted : PartsInto used ends new
 
   -- a drive is made of its halves, and its cartridge is taken out, as `Bay::unload` does (own)
   pub record StepsOut (old : HalvesState D) (out : BufferState D) : Type 0 where
@@ -77,8 +77,9 @@ module _ {D : Type 0} (state : D → DiskState) where
   pub record StepsIn (given : BufferState D) (new : HalvesState D) : Type 0 where
     pub empty : BayState D
     pub bay : BayState D
+    pub ends : SendingState
     pub takes : TakesIn (state_of state) (buffer_below state) empty given (Ok tt) bay
-    pub parted : PartsInto bay new
+    pub parted : PartsInto bay ends new
 
   -- a loading is refused, and the cartridge comes back (own)
   pub record StepsBack (given : BufferState D) (new : BufferState D) : Type 0 where
@@ -91,8 +92,9 @@ module _ {D : Type 0} (state : D → DiskState) where
   pub record StepsPut (given : BufferState D) (new : HalvesState D) : Type 0 where
     pub empty : BayState D
     pub bay : BayState D
+    pub ends : SendingState
     pub inserted : bay ≡ record empty { bay = Unloaded given }
-    pub parted : PartsInto bay new
+    pub parted : PartsInto bay ends new
 
   -- what is done leads from the old place to the new one, and exactly these changes are accepted (own)
   abbrev pub PlaceStep : Place D → PlaceCall → List Change → Place D → Type 0

@@ -31,7 +31,7 @@ RepliesBy old request reply made new =
     × Step (Unit {0}) old (Execute request) (Answered answer) all new
 
 -- the drive as its halves show it: the machine that hosts see, and whether the disk's half is stuck, since its device
--- has failed, which hosts may not have been told (own)
+-- has failed, which may not have been reported to hosts (own)
 pub record SeenDrive : Type 0 where
   pub machine : Machine
   pub stuck : Bool
@@ -47,12 +47,12 @@ is_broken_in Empty = false
 is_broken_in (Unloaded medium) = is_broken medium
 is_broken_in (Loaded medium) = is_broken medium
 
--- hosts see whether the disk's half is stuck: no fault is left to tell (own)
+-- hosts see whether the disk's half is stuck: no fault is left to report (own)
 abbrev pub IsSeenWhole : SeenDrive → Type 0
 IsSeenWhole drive = drive.stuck ≡ is_broken_in drive.machine.bay
 
--- A fault is told where the disk's half is stuck and hosts do not see that it has failed: what is loaded is seen to
--- have failed, and an error is deferred. Else nothing changes (own).
+-- A fault is reported where the disk's half is stuck and hosts do not see that it has failed: what is loaded is seen
+-- to have failed, and an error is deferred. Else nothing changes (own).
 abbrev pub Tells : Bool → SeenDrive → SeenDrive → Type 0
 Tells false old new = new ≡ old
 Tells true old new =

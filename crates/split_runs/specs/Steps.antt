@@ -1,5 +1,5 @@
 -- That each call of the halves of a drive is a step of a list of calls, whatever waits in the ring.
-use Rattle.std.specs.Prelude.{◌≡◌, ◌++◌, ℕ, List, [], map, Option}
+use Rattle.std.specs.Prelude.{◌≡◌, ◌⊎◌, ◌++◌, ℕ, List, [], ◌∷◌, map, Option}
 use Rattle.tape_disk.specs.Disk.{DiskState}
 use Rattle.scsi_sense.specs.declared.replies.Reply.{Reply}
 use Rattle.volume_core.specs.declared.changes.Change.{Change}
@@ -9,11 +9,15 @@ use Rattle.split_bay.specs.declared.items.Item.TheVariants.{Sent}
 use Rattle.split_bay.specs.Backs.{BackState}
 use Rattle.split_bay.specs.Fronts.{FrontState}
 use Rattle.split_bay.specs.Halves.{is_unreported}
-use Rattle.split_runs.specs.Calls.{HalvesState, StepsAlone, StepsBoth, StepsRoomed, StepsSettled, StepsTold, StepsTurned, left_told}
+use Rattle.split_runs.specs.Calls.{AllHalfSteps, HalfCall, HalvesState, Roomed, Settled, StepsAlone, StepsBoth, StepsSettled, StepsTold, StepsTurned, left_told}
 
 -- two halves, with these changes in the ring between them (own)
 abbrev pub halves_of : {D : Type 0} → FrontState D → BackState D → List Change → HalvesState D
 halves_of front back waiting = record { front = front; back = back; waiting = waiting }
+
+-- the calls of halves that make room: they take a turn too, where they lack it (own)
+abbrev pub AreRoomed : List HalfCall → Type 0
+AreRoomed calls = (calls ≡ Roomed ∷ []) ⊎ ((turn : Turn) × (calls ≡ Roomed ∷ Settled turn ∷ []))
 
 module _ {D : Type 0} (state : D → DiskState) where
   -- whatever the disk's half is, and whatever waits: the hosts' half was asked alone (own)
@@ -44,12 +48,14 @@ module _ {D : Type 0} (state : D → DiskState) where
   IsSettledStep front back turn front' back' =
       (waiting : List Change) → StepsSettled state (halves_of front back waiting) turn [] (halves_of front' back' [])
 
-  -- whatever waits: both halves made room (own)
+  -- whatever waits: both halves made room, and took a turn where they lack it (own)
   abbrev pub IsRoomStep : FrontState D → BackState D → FrontState D → BackState D → Type 0
   IsRoomStep front back front' back' =
-      (waiting : List Change) → StepsRoomed state (halves_of front back waiting) [] (halves_of front' back' [])
+      (waiting : List Change)
+      → (calls : List HalfCall) × AreRoomed calls
+      × AllHalfSteps state (halves_of front back waiting) calls [] (halves_of front' back' [])
 
-  -- whatever waits: a fault was told, if there was one (own)
+  -- whatever waits: a fault was reported, if there was one (own)
   abbrev pub IsToldStep : FrontState D → BackState D → FrontState D → BackState D → Type 0
   IsToldStep front back front' back' =
       (waiting : List Change)

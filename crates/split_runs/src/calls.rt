@@ -1,6 +1,7 @@
 //! The calls of the two halves of a drive. Each is a step of a list of calls, of which the laws speak.
 ghost use Rattle.std.specs.Prelude.{[]};
 ghost use Rattle.drive_commands.specs.Execute.{asked};
+ghost use Rattle.split_bay.specs.Halves.{Parts};
 ghost use Rattle.split_bay.specs.Rings.{AreEnds};
 ghost use Rattle.split_runs.specs.Calls.{KeepsHalves};
 ghost use Rattle.split_runs.specs.Steps.{IsAloneStep, IsBothStep, IsRoomStep, IsSettledStep, IsToldStep, IsTurnStep, halves_of};
@@ -9,12 +10,13 @@ use bay_moves::Bay;
 use scsi_sense::Reply;
 use split_bay::{Back, Ends, Front, Rings, execute_both, make_room, part, settle_both, tell};
 use tape_disk::Disk;
-use volume_core::Turn;
+use volume_core::{MediumError, Turn};
 use vtl_base::{Bytes, Nexus};
 
 /// Parts a drive into the halves with which a list of calls begins (`part`).
 pub fn begin_halves<D: Disk, R: Rings>(bay: Bay<D>, ends: Ends<R>) -> (Front<D, R>, Back<D, R>)
-    ensures { KeepsHalves D.state (halves_of result.0 result.1 []) }
+    ensures parts { Parts D.state bay ends result.0 result.1 }
+    ensures keeps { KeepsHalves D.state (halves_of result.0 result.1 []) }
 {
     let (hosts, disks) = part(bay, ends);
     // What the types keep, for the proof alone; so in each call below.
@@ -23,7 +25,7 @@ pub fn begin_halves<D: Disk, R: Rings>(bay: Bay<D>, ends: Ends<R>) -> (Front<D, 
     (hosts, disks)
 }
 
-/// Asks the hosts' half alone (`Front::execute_lent`).
+/// Asks the hosts' half alone (`Front::execute`).
 pub fn ask_alone<D: Disk, R: Rings>(
     front: &mut Front<D, R>,
     nexus: Nexus,
@@ -32,7 +34,7 @@ pub fn ask_alone<D: Disk, R: Rings>(
 ) -> Option<Reply>
     ensures { IsAloneStep D.state front.old (asked nexus cdb.now sent.old) result sent.new front.new }
 {
-    let answer = front.execute_lent(nexus, cdb, sent);
+    let answer = front.execute(nexus, cdb, sent);
     front.known();
     answer
 }
@@ -74,17 +76,22 @@ pub fn turn_both<D: Disk, R: Rings>(front: &mut Front<D, R>, back: &mut Back<D, 
     turn
 }
 
-/// Has both halves, which must fit, make room (`make_room`).
-pub fn make_more_room<D: Disk, R: Rings>(front: &mut Front<D, R>, back: &mut Back<D, R>)
+/// Has both halves, which must fit, make room (`make_room`). Where they lack it, they take a turn too, which is a step
+/// of its own.
+pub fn make_more_room<D: Disk, R: Rings>(
+    front: &mut Front<D, R>,
+    back: &mut Back<D, R>,
+) -> Result<(), MediumError>
     requires { AreEnds front.old.sending back.old.number back.old.received }
     ensures { IsRoomStep D.state front.old back.old front.new back.new }
 {
-    make_room(front, back);
+    let made = make_room(front, back);
     front.known();
     back.known();
+    made
 }
 
-/// Tells a fault of the disk's half, if there is one that was not told (`tell`). The halves must fit.
+/// Reports a fault of the disk's half, if there is one that was not reported (`tell`). The halves must fit.
 pub fn tell_fault<D: Disk, R: Rings>(front: &mut Front<D, R>, back: &mut Back<D, R>)
     requires { AreEnds front.old.sending back.old.number back.old.received }
     ensures { IsToldStep D.state front.old back.old front.new back.new }

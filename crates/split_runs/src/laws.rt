@@ -3,6 +3,7 @@
 ghost use Rattle.split_runs.specs.Begun.{PartedHalvesKeep, ToldIsSeen};
 ghost use Rattle.split_runs.specs.Cores.{RunsOfHalvesMove, StopsOfHalvesKeep};
 ghost use Rattle.split_runs.specs.Faults.{StuckHalvesRest, ToldHostsAcceptNothing, ToldOnceByHalves};
+ghost use Rattle.split_runs.specs.Found.{FoundAsItWas, FoundIsTurned};
 ghost use Rattle.split_runs.specs.Places.{FollowedMoves, FollowedStopsKeep};
 ghost use Rattle.split_runs.specs.Replies.{RepliesOfHalves};
 
@@ -11,8 +12,8 @@ use drive_theorems::honest_steps;
 use tape_buffer::Buffered;
 use tape_disk::Disk;
 
-/// The halves into which any drive parts keep what the laws ask of halves. That hosts were told of a fault is that they
-/// see the medium in the drive as one that has failed.
+/// The halves into which any drive parts keep what the laws ask of halves. That a fault was reported to hosts is that
+/// they see the medium in the drive as one that has failed.
 pub fn parted_halves_keep<D: Disk>()
     ensures keep { PartedHalvesKeep D.state }
     ensures told { ToldIsSeen D.state }
@@ -46,9 +47,17 @@ pub fn a_followed_cartridge_keeps_what_was_acknowledged<D: Disk>()
     events_keep_their_base::<Buffered<D>>();
 }
 
+/// Once both halves are held, a drive with a loaded and awake medium is found as if it had taken one flusher's turn, as
+/// a whole drive, before its last changes were accepted. A drive that is empty, or that has an unloaded medium which is
+/// not awake, is found as it was.
+pub fn what_is_found_is_turned()
+    ensures loaded { FoundIsTurned }
+    ensures other { FoundAsItWas }
+{}
+
 /// The replies of any list of calls of the two halves, over honest disks, are those of a run of the drive machine that
-/// is looked at between steps: where both halves are held, and where a fault is told. What is found so is what a
-/// flusher's turn left (`split_bay::laws::what_is_found_is_turned`).
+/// is looked at between steps: where both halves are held, and where a fault is reported. What is found so is what a
+/// flusher's turn left (`what_is_found_is_turned`).
 pub fn halves_answer_as_the_machine<D: Disk>()
     ensures { RepliesOfHalves D.state }
 {
@@ -56,8 +65,8 @@ pub fn halves_answer_as_the_machine<D: Disk>()
 }
 
 /// After a fault of the disk's half that half stores and receives nothing, whatever hosts are answered meanwhile, until
-/// both halves are held. Once hosts see the fault, their half accepts nothing alone. To tell a fault a second time
-/// changes nothing.
+/// both halves are held. Once hosts see the fault, their half accepts nothing alone. To report a fault a second
+/// time changes nothing.
 pub fn faults_stop_halves<D: Disk>()
     ensures rest { StuckHalvesRest D.state }
     ensures told { ToldHostsAcceptNothing D.state }

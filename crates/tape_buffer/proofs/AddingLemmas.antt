@@ -1,35 +1,24 @@
 -- A change more is pending.
 use Rattle.std.specs.Prelude.{◌≡◌, ◌+◌, ◌++◌, ◌≤◌, ℕ, List, [], ◌∷◌, Bool, true, false, None, Ok, Err, IsTrue, length, sum_by, refl}
-use Rattle.std.proofs.Common.{inl, sym, ◌∙◌, ap, subst, arith, append_assoc}
-use Rattle.std.proofs.lemmas.Bool.{and_parts, leb-true}
-use Rattle.std.proofs.lemmas.List.{append-nil}
-use Rattle.std.proofs.lemmas.List.Sums.{sum_by-append, sum_by-take-le}
+use Rattle.std.proofs.Common.{inl, sym, ◌∙◌, ap, subst, arith}
+use Rattle.std.proofs.lemmas.List.Sums.{sum_by-append}
 use Rattle.vtl_base.specs.Below.{Advances, advances_on}
 use Rattle.tape_disk.specs.Disk.{DiskState, IsDisk}
 use Rattle.volume_core.specs.declared.changes.Change.{Change}
-use Rattle.volume_core.specs.declared.changes.Change.TheVariants.{Put, Marks, Erase}
 use Rattle.volume_core.specs.declared.media.MediumError.{MediumError}
 use Rattle.volume_core.specs.declared.media.MediumError.TheVariants.{Refused, NoMemory, SideFull, Device, Failed, Unreadable}
-use Rattle.volume_core.specs.Volume.{AllApply, Part, after, changed, is_well_formed, refusal_of}
-use Rattle.volume_core.specs.Medium.{Accepts, MediumState, Settles, Works, block_bytes, frame_size, volume_of}
-use Rattle.volume_core.specs.Stores.{Stores, after_append, stores_on}
+use Rattle.volume_core.specs.Volume.{AllApply, Part, after, changed, refusal_of}
+use Rattle.volume_core.specs.Medium.{Accepts, MediumState, Settles, Works, frame_size, volume_of}
+use Rattle.volume_core.specs.Stores.{after_append}
 use Rattle.volume_core.specs.Plain.{moves_on_by_changes}
 use Rattle.change_records.specs.Records.{spell_all}
-use Rattle.cartridge.specs.Contents.{Start, changes_of, changes_since, start_of, volume_made}
-use Rattle.cartridge.specs.Extending.{volume_since}
+use Rattle.cartridge.specs.Contents.{volume_made}
 use Rattle.cartridge.specs.State.{OpenCartridge}
-use Rattle.accepted_changes.specs.Core.{Core, with_item}
-use Rattle.accepted_changes.specs.Device.{two_disks, two_is_device}
-use Rattle.accepted_changes.specs.Events.{CoreMoves}
-use Rattle.accepted_changes.specs.Kinds.{moves_accepting}
 use Rattle.tape_buffer.specs.Limits.{FitsBuffer}
 use Rattle.tape_buffer.specs.Moves.{buffer_below, medium_moves_on}
-use Rattle.tape_buffer.specs.Rules.{applies_behind, is_unrefused, medium_rules}
-use Rattle.tape_buffer.specs.State.{IsPendingOver, IsReservedFor, open_buffer, open_core, open_state}
-use Rattle.tape_buffer.proofs.CoreLemmas.{open_is_core}
-use Rattle.tape_buffer.proofs.ChangeLemmas.{well_formed}
+use Rattle.tape_buffer.specs.State.{IsPendingOver, IsReservedFor, open_buffer, open_state}
+use Rattle.tape_buffer.proofs.CoreLemmas.{accepts_one, open_is_core}
 use Rattle.tape_buffer.proofs.PendingLemmas.{records_of}
-use Rattle.tape_buffer.proofs.TwoLemmas.{are_disks}
 
 -- what may be pending is short
 pub spelled_short : (changes : List Change) → FitsBuffer changes → length (spell_all changes) ≤ 4196864
@@ -69,11 +58,6 @@ pending_still c c' pending pending' over same reserved is =
     subst (λ (p : OpenCartridge _ × List Change). IsPendingOver p.0 p.1) (λ i. ((sym same) i, (sym is) i))
     (record { apply = over.apply; torn = over.torn; fits = over.fits; reserved = reserved })
 
--- nothing is done, and a medium goes on
-pub ready_as_it_is : {D : Type 0} (c : OpenCartridge D) (pending : List Change) → c.failed ≡ false
-    → Works (volume_of (open_state c pending)) (open_state c pending)
-ready_as_it_is c pending works = record { volume_is = refl; works = works; awake = refl }
-
 -- way was to be made for a change, and the device failed
 pub accepts_broken : {D : Type 0} (c m : OpenCartridge D) (pending between : List Change) (change : Change)
     (error : MediumError) → refusal_of (volume_of (open_state c pending)) change ≡ None → c.failed ≡ false
@@ -98,24 +82,6 @@ volume_kept old new NoMemory settled = absurd settled
 volume_kept old new SideFull settled = absurd settled
 volume_kept old new Unreadable settled = absurd settled
 
--- once all is stored there is way
-pub way_after : {D : Type 0} (c c' : OpenCartridge D) (pending pending' : List Change) (change : Change)
-    → FitsBuffer (change ∷ []) → sum_by frame_size (pending ++ change ∷ []) ≤ c.room
-    → Stores (open_state c pending) [] (open_state c' pending') → pending' ≡ []
-    → FitsBuffer (pending' ++ change ∷ []) × (sum_by frame_size (pending' ++ change ∷ []) ≤ c'.room)
-way_after c c' pending pending' change alone room stores empty = (
-  subst (λ (l : List Change). FitsBuffer (l ++ change ∷ [])) (sym empty) alone,
-  omega (
-    arith,
-    ap (λ (l : List Change). sum_by frame_size (l ++ change ∷ [])) empty,
-    room,
-    sum_by-append frame_size pending (change ∷ []),
-    stores.room,
-    sum_by-take-le frame_size (pending ++ []) stores.count,
-    ap (λ (l : List Change). sum_by frame_size l) (append-nil pending),
-  ),
-)
-
 -- a frame more that has room fits beside what is pending
 pub fits_more : (room size : ℕ) (has : Bool) (pending : List Change) (change : Change)
     → (IsTrue has → sum_by frame_size pending + size ≤ room) → size ≡ frame_size change → has ≡ true
@@ -124,18 +90,7 @@ fits_more room size true pending change told is none =
     omega (arith, told refl, is, sum_by-append frame_size pending (change ∷ []))
 fits_more room size false pending change told is none = absurd (cc)
 
--- a change that is not refused may be pending alone
-pub alone_fits : (volume : List Part) (change : Change) → refusal_of volume change ≡ None → FitsBuffer (change ∷ [])
-alone_fits volume change none = record { few = omega arith; short = short change (well_formed volume change none) }
-  where
-    short : (change : Change) → is_well_formed change ≡ true → sum_by block_bytes (change ∷ []) ≤ 4194304
-    short (Put part at block) well = omega (arith, leb-true (length block) 1048576 (and_parts _ _ well).1)
-    short (Marks part at count) well = omega arith
-    short (Erase part at) well = omega arith
-
 module _ {D : Type 0} (c m c' : OpenCartridge D) (pending between pending' : List Change) (change : Change)
-    (ready : Works (volume_of (open_state c pending)) (open_state m between))
-    (stores : Stores (open_state c pending) [] (open_state m between))
     (same : c' ≡ record m { reserved = c'.reserved }) where
   -- the same medium, to a drive
   same_state : open_state c' between ≡ open_state m between
@@ -144,12 +99,6 @@ module _ {D : Type 0} (c m c' : OpenCartridge D) (pending between pending' : Lis
   pub volume_still : pending' ≡ between → volume_of (open_state c' pending') ≡ volume_of (open_state m between)
   volume_still is = ap volume_of (ap (λ (l : List Change). open_state c' l) is ∙ same_state)
 
-  pub stores_nothing_more : pending' ≡ between
-      → Stores (open_state c pending) [] (open_state c' pending')
-  stores_nothing_more is =
-      subst (λ (s : MediumState). Stores (open_state c pending) [] s)
-      (sym (ap (λ (l : List Change). open_state c' l) is ∙ same_state)) stores
-
   module _ (is : pending' ≡ between ++ change ∷ []) where
     new_state : open_state c' pending' ≡ open_state m (between ++ change ∷ [])
     new_state = λ i. open_state (same i) (is i)
@@ -157,10 +106,11 @@ module _ {D : Type 0} (c m c' : OpenCartridge D) (pending between pending' : Lis
     pub volume_more : volume_of (open_state c' pending') ≡ changed (volume_of (open_state m between)) change
     volume_more = ap volume_of new_state ∙ after_append (volume_made m.contents) between (change ∷ [])
 
-    pub accepts_more : refusal_of (volume_of (open_state c pending)) change ≡ None → c.failed ≡ false
+    pub accepts_more : Works (volume_of (open_state c pending)) (open_state m between)
+        → refusal_of (volume_of (open_state c pending)) change ≡ None → c.failed ≡ false
         → sum_by frame_size (pending ++ change ∷ []) ≤ c.room
         → Accepts (open_state c pending) change (Ok tt) (open_state c' pending')
-    accepts_more none works room = (
+    accepts_more ready none works room = (
       none,
       works,
       subst (λ (s : MediumState). Works (changed (volume_of (open_state c pending)) change) s) (sym new_state)
@@ -174,29 +124,8 @@ module _ {D : Type 0} (c m c' : OpenCartridge D) (pending between pending' : Lis
       room,
     )
 
-    pub stores_more : Stores (open_state c pending) (change ∷ []) (open_state c' pending')
-    stores_more =
-        subst (λ (s : MediumState). Stores (open_state c pending) (change ∷ []) s) (sym new_state)
-        (stores_on (open_state c pending) (open_state m between) (open_state m (between ++ change ∷ [])) []
-        (change ∷ [])
-        stores
-        (record { count = 0; fits = omega arith; stored = refl; pending = refl; room = omega arith }))
-
   module _ (state : D → DiskState) (is_disk : (disk : D) → (state disk).honest → IsDisk (state disk))
       (advances : Advances (buffer_below state) (open_buffer c pending) [] false (open_buffer m between)) where
-    pub advances_nothing_more : pending' ≡ between
-        → Advances (buffer_below state) (open_buffer c pending) [] false (open_buffer c' pending')
-    advances_nothing_more is =
-        subst (λ (p : OpenCartridge D × List Change).
-        Advances (buffer_below state) (open_buffer c pending) [] false (open_buffer p.0 p.1))
-        (λ i. ((sym same) i, (sym is) i))
-        (record {
-          moved = advances.moved;
-          counted = advances.counted;
-          honesty = advances.honesty;
-          hand = advances.hand;
-        })
-
     pub advances_more : IsPendingOver m between → refusal_of (volume_of (open_state m between)) change ≡ None
         → m.failed ≡ false → pending' ≡ between ++ change ∷ []
         → Advances (buffer_below state) (open_buffer c pending) (change ∷ []) false (open_buffer c' pending')
@@ -209,32 +138,8 @@ module _ {D : Type 0} (c m c' : OpenCartridge D) (pending between pending' : Lis
         (change ∷ []) false advances
         (record {
           moved =
-              subst (λ (new : Core Start Change).
-              CoreMoves medium_rules (two_disks state) m.disks m.disks (open_core m between) new (change ∷ []))
-              (sym with_change)
-              (moves_accepting medium_rules (two_disks state) (two_is_device state) m.disks (open_core m between)
-              change (are_disks state is_disk m.disks) (open_is_core m between over.torn) works refl (applies none));
+              accepts_one m between state is_disk m.failed false change works (open_is_core m between over.torn) none;
           counted = refl;
           honesty = (λ h. h, λ h. h);
           hand = (λ h. h, λ h. h);
         }))
-      where
-        with_change : open_core m (between ++ change ∷ []) ≡ with_item change (open_core m between)
-        with_change =
-            λ i. record {
-              base = start_of m.contents;
-              accepted = (sym (append_assoc (changes_since m.contents) between (change ∷ []))) i;
-              stored = length (changes_since m.contents) + length (changes_of m.torn);
-              safe = length (changes_since m.contents);
-              fault = m.failed;
-              stuck = false;
-              recovering = false;
-            }
-
-        applies : refusal_of (volume_of (open_state m between)) change ≡ None
-            → IsTrue (applies_behind (start_of m.contents) (changes_since m.contents ++ between) change)
-        applies none =
-            ap is_unrefused
-            (ap (λ (v : List Part). refusal_of v change)
-            (after_append (start_of m.contents).volume (changes_since m.contents) between
-            ∙ ap (λ (v : List Part). after v between) (sym (volume_since m.contents))) ∙ none)

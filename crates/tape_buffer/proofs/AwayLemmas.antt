@@ -1,9 +1,8 @@
 -- What a medium accepts while its disks are away.
-use Rattle.std.proofs.Common.{◌≡◌, ◌≤◌, ◌<◌, ◌+◌, ◌++◌, ◌-◌, ℕ, List, [], ◌∷◌, length, sum_by, true, false, Bool, Option, None, Some, Ok, refl, arith, length-append}
+use Rattle.std.proofs.Common.{◌≡◌, ◌≤◌, ◌<◌, ◌+◌, ◌++◌, ℕ, List, [], ◌∷◌, length, true, false, Bool, Option, None, Some, Ok, refl, arith, length-append}
 use Rattle.std.proofs.lemmas.Bool.{and_parts, leb-true, ltb-true}
 use Rattle.std.proofs.lemmas.List.Sums.{sum_by-append}
 use Rattle.volume_core.specs.declared.changes.Change.{Change}
-use Rattle.volume_core.specs.declared.changes.Change.TheVariants.{Put, Marks, Erase}
 use Rattle.volume_core.specs.Medium.{Accepts, Fits, LeavesRoom, MediumState, block_bytes, frame_size, volume_of, volume_or_empty}
 use Rattle.volume_core.specs.Stores.{Stores, after_append, stored_after}
 use Rattle.volume_core.specs.Volume.{Part, changed, part_of, refusal_of}
@@ -13,11 +12,12 @@ use Rattle.cartridge.specs.Shown.{MayEnter}
 use Rattle.tape_buffer.specs.declared.aways.Away.{Away}
 use Rattle.tape_buffer.specs.declared.budgets.Budget.{Budget}
 use Rattle.tape_buffer.specs.Aways.{IsRoomFor, KnowsAway, loose_in, seen_as, seen_with, takes_loose, takes_one}
-use Rattle.tape_buffer.specs.Budgets.{KeepsBudget, budget_after}
+use Rattle.tape_buffer.specs.Budgets.{KeepsBudget}
 use Rattle.tape_buffer.specs.Frames.{AcceptsInFrames}
 use Rattle.tape_buffer.specs.Limits.{FitsBuffer}
-use Rattle.tape_buffer.proofs.ChangeLemmas.{inside_of}
+use Rattle.tape_buffer.proofs.VolumeLemmas.{inside_of}
 use Rattle.tape_buffer.proofs.IndexLemmas.{as_many_parts}
+use Rattle.tape_buffer.proofs.PendingLemmas.{frame_of}
 
 -- what it means that one change more is taken
 pub record Takes (left : Budget) (bytes : ℕ) : Type 0 where
@@ -45,11 +45,6 @@ takes_none left (Some change) bytes is = absurd (cc)
 pub took : (left : Budget) (loose : Option Change) (bytes : ℕ) → takes_loose left (loose_in loose) bytes ≡ true
     → Takes left bytes
 took left loose bytes is = takes left bytes (takes_none left loose bytes is).1
-
-frame_of : (change : Change) → frame_size change ≡ 15 + block_bytes change
-frame_of (Put part at block) = refl
-frame_of (Marks part at count) = refl
-frame_of (Erase part at) = refl
 
 -- one change is within the budget
 pub keeps_one : (left : Budget) (change : Change) → Takes left (block_bytes change) → KeepsBudget left (change ∷ [])
@@ -98,12 +93,6 @@ fits_seen None room pending change is fits = absurd is
 fits_seen (Some seen) room pending change is fits =
     omega (arith, is, fits, sum_by-append frame_size pending (change ∷ []))
 
-room_more : (seen : Option ℕ) (room : ℕ) (pending : List Change) (change : Change) → IsRoomFor seen room pending
-    → frame_size change ≤ room → IsRoomFor seen (room - sum_by frame_size (change ∷ [])) (pending ++ change ∷ [])
-room_more None room pending change is fits = absurd is
-room_more (Some seen) room pending change is fits =
-    omega (arith, is, fits, sum_by-append frame_size pending (change ∷ []))
-
 module _ (parts : List PlacedPart) (away : Away) (change : Change)
     (knows : KnowsAway (Some parts) away) (awake : away.noted.awake ≡ true)
     (takes : Takes away.left (block_bytes change)) where
@@ -132,41 +121,6 @@ module _ (parts : List PlacedPart) (away : Away) (change : Change)
               takes.short,
               sum_by-append block_bytes away.noted.pending (change ∷ []),
             );
-      }
-
-  -- and what is known then
-  pub knows_more : (parts' : List PlacedPart) → length parts' ≡ length parts
-      → ((part : ℕ) → reserved_of parts part ≤ reserved_of parts' part + 1)
-      → KnowsAway (Some parts') (record {
-        noted = seen_with away.noted (change ∷ []);
-        failed = away.failed;
-        waiting = away.waiting + 1;
-        left = budget_after away.left (change ∷ []);
-        loose = Some change;
-      })
-  knows_more parts' same reserved =
-      record {
-        roomy = λ part inside.
-            omega (
-              arith,
-              knows.roomy part (omega (arith, inside, same)),
-              reserved part,
-              takes.few,
-            );
-        failed_is = knows.failed_is;
-        none = λ failed. omega (arith, knows.none failed);
-        waiting_is = omega (arith, knows.waiting_is, length-append away.noted.pending (change ∷ []));
-        few = omega (arith, knows.few, takes.few, length-append away.noted.pending (change ∷ []));
-        short = λ more.
-            omega (
-              arith,
-              knows.short takes.few,
-              takes.short,
-              sum_by-append block_bytes away.noted.pending (change ∷ []),
-            );
-        room =
-            λ awake. room_more away.noted.room away.left.room away.noted.pending change (knows.room awake)
-            (omega (arith, takes.fits, frame_of change));
       }
 
 -- a side that stores nothing gives what it gave, and has the room that it had

@@ -1,31 +1,32 @@
 -- What was accepted, stored and safe, before and after each call over an open cartridge.
-use Rattle.std.specs.Prelude.{◌≡◌, ◌+◌, ◌++◌, ◌≤◌, ◌<◌, ℕ, List, [], ◌∷◌, true, false, length, take, refl}
+use Rattle.std.specs.Prelude.{◌≡◌, ◌+◌, ◌++◌, ◌≤◌, ◌<◌, ℕ, List, [], ◌∷◌, Bool, true, false, None, IsTrue, length, take, refl}
 use Rattle.std.proofs.Common.{inl, inr, sym, ◌∙◌, ap, subst, arith, ⊎_elim, append_assoc, length-append}
-use Rattle.std.proofs.lemmas.List.{append-nil, take-append-le, take_at, take_all}
+use Rattle.std.proofs.lemmas.List.{append-nil, take_at}
 use Rattle.vtl_base.specs.Below.{Advances, advances_nowhere}
 use Rattle.vtl_base.specs.declared.faults.DevFault.{DevFault}
 use Rattle.tape_disk.specs.Disk.{DiskState, IsDisk}
 use Rattle.tape_disk.specs.TwoDisks.{AreHonest, EachOfTwo, Images, KeepsDisks, TwoLeave, failures_of, two_weakened}
 use Rattle.volume_core.specs.declared.changes.Change.{Change}
+use Rattle.volume_core.specs.Stores.{after_append}
+use Rattle.volume_core.specs.Volume.{Part, after, refusal_of}
 use Rattle.gate_journal.specs.Heads.{base_of}
 use Rattle.cartridge.specs.Answers.{HasBroken, HasStored}
-use Rattle.cartridge.specs.Contents.{Contents, GivesContents, IsContents, ShowsContents, Start, changes_of, changes_since, start_of, with_frames}
+use Rattle.cartridge.specs.Contents.{Contents, GivesContents, IsContents, ShowsContents, Start, changes_of, changes_since, start_of, volume_made, with_frames}
 use Rattle.cartridge.specs.Disks.{IsFaultOfTwo, NoneOfTwo}
-use Rattle.cartridge.specs.Extending.{since_with, start_with}
+use Rattle.cartridge.specs.Extending.{since_with, start_with, volume_since}
 use Rattle.cartridge.specs.State.{OpenCartridge}
-use Rattle.accepted_changes.specs.Core.{Core, IsCore, broken_in, settled, stuck_in}
+use Rattle.accepted_changes.specs.Core.{Core, IsCore, IsWorking, settled, with_item}
 use Rattle.accepted_changes.specs.Device.{two_disks, two_is_device, two_keep}
 use Rattle.accepted_changes.specs.Events.{CoreMoves, ShowsCore}
-use Rattle.accepted_changes.specs.Kinds.{GivesSoMany, moves_failing, moves_sticking, moves_storing}
-use Rattle.tape_buffer.specs.Rules.{GivesChanges, medium_rules}
-use Rattle.tape_buffer.specs.Moves.{as_told, buffer_below, medium_moves_nowhere}
+use Rattle.accepted_changes.specs.Kinds.{GivesSoMany, moves_accepting, moves_failing, moves_sticking, moves_storing}
+use Rattle.tape_buffer.specs.Rules.{GivesChanges, applies_behind, is_unrefused, medium_rules}
+use Rattle.tape_buffer.specs.Moves.{StoresBehind, buffer_below, medium_moves_nowhere}
 use Rattle.tape_buffer.specs.State.{BufferState, IsTornFrom, open_buffer, open_core}
 use Rattle.tape_buffer.proofs.TwoLemmas.{are_disks, none_failed, one_failed, stay_honest, were_honest}
 
 -- the frame of all that is pending is a first part of it
-pub torn_all : (torn : List (List Change)) (changes pending : List Change) → torn ≡ changes ∷ [] → changes ≡ pending
-    → IsTornFrom torn pending
-torn_all torn changes pending is same = inr (changes, is, ([], sym same ∙ sym (append-nil changes)))
+pub torn_all : (torn : List (List Change)) (pending : List Change) → torn ≡ pending ∷ [] → IsTornFrom torn pending
+torn_all torn pending is = inr (pending, is, ([], sym (append-nil pending)))
 
 -- the changes of one frame
 one_frame : (changes : List Change) → changes_of (changes ∷ []) ≡ changes
@@ -54,17 +55,16 @@ gives_as : (start : Start) (xs ys : List Change) (images : Images) → xs ≡ ys
     → GivesChanges start xs images → GivesChanges start ys images
 gives_as start xs ys images same gives = subst (λ (l : List Change). GivesChanges start l images) same gives
 
+-- what was accepted over an open cartridge, with these marks of a fault of its device: reported, or not reported yet
+abbrev pub marked : {D : Type 0} → Bool → Bool → OpenCartridge D → List Change → Core Start Change
+marked fault stuck c pending = record (open_core c pending) { fault = fault; stuck = stuck }
+
 module _ {D : Type 0} (c : OpenCartridge D) (pending : List Change) where
   abbrev stored_changes : List Change
   stored_changes = changes_since c.contents
 
   front : take (length stored_changes) (stored_changes ++ pending) ≡ stored_changes
   front = take_at stored_changes pending (length stored_changes) refl
-
-  whole : take (length stored_changes + length pending) (stored_changes ++ pending) ≡ stored_changes ++ pending
-  whole =
-      take_all (length stored_changes + length pending) (stored_changes ++ pending)
-      (omega (arith, length-append stored_changes pending))
 
   torn_is : (frame : List Change) → c.torn ≡ frame ∷ [] → changes_of c.torn ≡ frame
   torn_is frame all = ap changes_of all ∙ one_frame frame
@@ -116,61 +116,96 @@ module _ {D : Type 0} (c : OpenCartridge D) (pending : List Change) where
       (take (length stored_changes + length (changes_of c.torn)) (stored_changes ++ pending)) image
       (sym (stored_front torn)) (gives_more c.contents c.torn image copied g)))
 
+  -- one change more is accepted, where no fault was reported
+  pub accepts_one : (state : D → DiskState) → ((disk : D) → (state disk).honest → IsDisk (state disk))
+      → (fault stuck : Bool) (change : Change) → fault ≡ false → IsCore (open_core c pending)
+      → refusal_of (after (volume_made c.contents) pending) change ≡ None
+      → CoreMoves medium_rules (two_disks state) c.disks c.disks (marked fault stuck c pending)
+      (marked fault stuck c (pending ++ change ∷ [])) (change ∷ [])
+  accepts_one state is_disk fault stuck change works core none =
+      subst
+      (λ (new : Core Start Change).
+      CoreMoves medium_rules (two_disks state) c.disks c.disks (marked fault stuck c pending) new (change ∷ []))
+      (sym with_change)
+      (moves_accepting medium_rules (two_disks state) (two_is_device state) c.disks (marked fault stuck c pending)
+      change (are_disks state is_disk c.disks) (record { safe = core.safe; stored = core.stored }) works refl applies)
+    where
+      with_change : marked fault stuck c (pending ++ change ∷ []) ≡ with_item change (marked fault stuck c pending)
+      with_change =
+          λ i. record (marked fault stuck c pending) {
+            accepted = sym (append_assoc stored_changes pending (change ∷ [])) i;
+          }
+
+      applies : IsTrue (applies_behind (start_of c.contents) (stored_changes ++ pending) change)
+      applies =
+          ap is_unrefused
+          (ap (λ (v : List Part). refusal_of v change)
+          (after_append (start_of c.contents).volume stored_changes pending
+          ∙ ap (λ (v : List Part). after v pending) (sym (volume_since c.contents))) ∙ none)
+
+-- All that is pending is stored, or was in flight when the disk failed: with these marks of a fault, whatever more was
+-- accepted behind it.
+module _ {D : Type 0} (c : OpenCartridge D) (pending more : List Change) (fault stuck : Bool) where
+  abbrev since : List Change
+  since = changes_since c.contents
+
+  abbrev old_core : Core Start Change
+  old_core = marked fault stuck c (pending ++ more)
+
+  abbrev count : ℕ
+  count = length since + length (changes_of c.torn) + length pending
+
   -- where it works nothing is in flight
   at_rest : c.torn ≡ [] → length (changes_of c.torn) ≡ 0
   at_rest none = ap (λ (t : List (List Change)). length (changes_of t)) none
 
+  all_first : c.torn ≡ [] → take count (since ++ (pending ++ more)) ≡ since ++ pending
+  all_first none =
+      ap (λ (l : List Change). take count l) (sym (append_assoc since pending more))
+      ∙ take_at (since ++ pending) more count (omega (arith, at_rest none, length-append since pending))
+
   -- the images of a storing, with or without what is pending
   so_many : c.torn ≡ [] → base_of c.contents.head ≤ length c.contents.frames → (image : Images)
-      → ShowsContents c.contents (pending ∷ []) image
-      → GivesSoMany medium_rules (open_core c pending) (length pending) image
+      → ShowsContents c.contents (pending ∷ []) image → GivesSoMany medium_rules old_core (length pending) image
   so_many none copied image =
       ⊎_elim
-      (λ g. inl (gives_as (start_of c.contents) stored_changes
-      (take (length stored_changes + length (changes_of c.torn)) (stored_changes ++ pending)) image
-      (sym (stored_front (inl none) ∙ ap (λ (t : List (List Change)). stored_changes ++ changes_of t) none
-      ∙ append-nil stored_changes)) (gives_changes c.contents image g)))
-      (λ g. inr (gives_as (start_of c.contents) (stored_changes ++ changes_of (pending ∷ []))
-      (take (length stored_changes + length (changes_of c.torn) + length pending) (stored_changes ++ pending)) image
-      (ap (λ (l : List Change). stored_changes ++ l) (one_frame pending) ∙ sym whole
-      ∙ ap (λ (n : ℕ). take n (stored_changes ++ pending)) (omega (arith, at_rest none)))
+      (λ g. inl (gives_as (start_of c.contents) since (take old_core.stored (since ++ (pending ++ more))) image
+      (sym (take_at since (pending ++ more) old_core.stored (omega (arith, at_rest none))))
+      (gives_changes c.contents image g)))
+      (λ g. inr (gives_as (start_of c.contents) (since ++ changes_of (pending ∷ []))
+      (take count (since ++ (pending ++ more))) image
+      (ap (λ (l : List Change). since ++ l) (one_frame pending) ∙ sym (all_first none))
       (gives_more c.contents (pending ∷ []) image copied g)))
 
-  module _ (c' : OpenCartridge D) where
+  module _ (c' : OpenCartridge D) (fault' stuck' : Bool) where
     -- all that was pending is stored and safe
-    stored_core : c.torn ≡ [] → base_of c.contents.head ≤ length c.contents.frames → HasStored c pending c'
-        → open_core c' [] ≡ settled (length pending) (open_core c pending)
-    stored_core none copied stored =
-        let more : changes_since c'.contents ≡ stored_changes ++ pending =
+    stored_core : fault' ≡ fault → stuck' ≡ stuck → c.torn ≡ [] → base_of c.contents.head ≤ length c.contents.frames
+        → HasStored c pending c' → marked fault' stuck' c' more ≡ settled (length pending) old_core
+    stored_core same_fault same_stuck none copied stored =
+        let now : changes_since c'.contents ≡ since ++ pending =
         ap changes_since stored.contents ∙ since_more c.contents pending copied in
-        let accepted : changes_since c'.contents ++ [] ≡ stored_changes ++ pending =
-        append-nil (changes_since c'.contents) ∙ more in
-        let long : length (changes_since c'.contents) ≡ length stored_changes + length pending =
-        ap length more ∙ length-append stored_changes pending in
+        let long : length (changes_since c'.contents) ≡ length since + length pending =
+        ap length now ∙ length-append since pending in
         let rest : length (changes_of c'.torn) ≡ 0 =
         ap (λ (t : List (List Change)). length (changes_of t)) (stored.torn ∙ none) in
-        let all : length (changes_since c'.contents) + length (changes_of c'.torn)
-        ≡ length stored_changes + length (changes_of c.torn) + length pending =
+        let all : length (changes_since c'.contents) + length (changes_of c'.torn) ≡ count =
         omega (arith, long, rest, at_rest none) in
-        let sure : length (changes_since c'.contents)
-        ≡ length stored_changes + length (changes_of c.torn) + length pending = omega (arith, long, at_rest none) in
-        let fault : c'.failed ≡ c.failed = stored.is_fine ∙ sym stored.was_fine in
+        let sure : length (changes_since c'.contents) ≡ count = omega (arith, long, at_rest none) in
         λ i. record {
           base = (ap start_of stored.contents ∙ start_with c.contents (pending ∷ []) copied) i;
-          accepted = accepted i;
+          accepted = (ap (λ (l : List Change). l ++ more) now ∙ append_assoc since pending more) i;
           stored = all i;
           safe = sure i;
-          fault = fault i;
-          stuck = false;
+          fault = same_fault i;
+          stuck = same_stuck i;
           recovering = false;
         }
 
     -- the disk failed, and all that is pending was in flight
-    broken_core : c.torn ≡ [] → HasBroken c pending c'
-        → open_core c' pending ≡ broken_in (length pending) (open_core c pending)
-    broken_core none broken =
-        let all : length (changes_since c'.contents) + length (changes_of c'.torn)
-        ≡ length stored_changes + length (changes_of c.torn) + length pending =
+    broken_core : (f s : Bool) → fault' ≡ f → stuck' ≡ s → c.torn ≡ [] → HasBroken c pending c'
+        → marked fault' stuck' c' (pending ++ more) ≡ record old_core { stored = count; fault = f; stuck = s }
+    broken_core f s is_fault is_stuck none broken =
+        let all : length (changes_since c'.contents) + length (changes_of c'.torn) ≡ count =
         omega (
           arith,
           ap (λ (k : Contents). length (changes_since k)) broken.contents,
@@ -180,22 +215,19 @@ module _ {D : Type 0} (c : OpenCartridge D) (pending : List Change) where
         ) in
         λ i. record {
           base = (ap start_of broken.contents) i;
-          accepted = (ap (λ (k : Contents). changes_since k ++ pending) broken.contents) i;
+          accepted = (ap (λ (k : Contents). changes_since k ++ (pending ++ more)) broken.contents) i;
           stored = all i;
           safe = (ap (λ (k : Contents). length (changes_since k)) broken.contents) i;
-          fault = broken.failed i;
-          stuck = false;
+          fault = is_fault i;
+          stuck = is_stuck i;
           recovering = false;
         }
 
   module _ (state : D → DiskState) (is_disk : (disk : D) → (state disk).honest → IsDisk (state disk))
-      (c' : OpenCartridge D) (none : c.torn ≡ []) (works : c.failed ≡ false) (is : IsContents c.contents)
+      (c' : OpenCartridge D) (none : c.torn ≡ []) (works : IsWorking old_core) (is : IsContents c.contents)
       (keeps : KeepsDisks state c.disks c'.disks)
       (moments : AreHonest state c.disks →
       TwoLeave state c.disks c'.disks (ShowsContents c.contents (pending ∷ []))) where
-    abbrev old_core : Core Start Change
-    old_core = open_core c pending
-
     leaves : AreHonest state c.disks →
         TwoLeave state c.disks c'.disks (GivesSoMany medium_rules old_core (length pending))
     leaves honest =
@@ -206,194 +238,101 @@ module _ {D : Type 0} (c : OpenCartridge D) (pending : List Change) where
     same = omega (arith, at_rest none)
 
     fits : old_core.stored + length pending ≤ length old_core.accepted
-    fits = omega (arith, at_rest none, length-append stored_changes pending)
+    fits = omega (arith, at_rest none, length-append since (pending ++ more), length-append pending more)
 
-    pub moves_stored : HasStored c pending c'
+    pub moves_stored : (fault' stuck' : Bool) → fault' ≡ fault → stuck' ≡ stuck → HasStored c pending c'
         → (AreHonest state c.disks → EachOfTwo state c'.disks (GivesContents c'.contents))
-        → CoreMoves medium_rules (two_disks state) c.disks c'.disks old_core (open_core c' []) []
-    moves_stored stored sure =
+        → CoreMoves medium_rules (two_disks state) c.disks c'.disks old_core (marked fault' stuck' c' more) []
+    moves_stored fault' stuck' same_fault same_stuck stored sure =
         subst (λ (new : Core Start Change).
         CoreMoves medium_rules (two_disks state) c.disks c'.disks old_core new [])
-        (sym (stored_core c' none is.copied stored))
+        (sym (stored_core c' fault' stuck' same_fault same_stuck none is.copied stored))
         (moves_storing medium_rules (two_disks state) (two_is_device state) c.disks c'.disks old_core
-        (length pending) (two_keep state c.disks c'.disks keeps) (works, refl) same fits leaves
+        (length pending) (two_keep state c.disks c'.disks keeps) works same fits leaves
         (λ honest images left.
-        subst (λ (start : Start). GivesChanges start
-        (take (length stored_changes + length (changes_of c.torn) + length pending) (stored_changes ++ pending)) images)
+        subst (λ (start : Start). GivesChanges start (take count (since ++ (pending ++ more))) images)
         (ap start_of stored.contents ∙ start_with c.contents (pending ∷ []) is.copied)
-        (gives_as (start_of c'.contents) (changes_since c'.contents)
-        (take (length stored_changes + length (changes_of c.torn) + length pending) (stored_changes ++ pending)) images
-        (ap changes_since stored.contents ∙ since_more c.contents pending is.copied ∙ sym whole
-        ∙ ap (λ (n : ℕ). take n (stored_changes ++ pending)) (omega (arith, at_rest none)))
+        (gives_as (start_of c'.contents) (changes_since c'.contents) (take count (since ++ (pending ++ more))) images
+        (ap changes_since stored.contents ∙ since_more c.contents pending is.copied ∙ sym (all_first none))
         (gives_changes c'.contents images (sure honest images left)))))
 
-    pub moves_broken : HasBroken c pending c' → failures_of state c.disks < failures_of state c'.disks
-        → CoreMoves medium_rules (two_disks state) c.disks c'.disks old_core (open_core c' pending) []
-    moves_broken broken rose =
+    pub moves_broken : (fault' : Bool) → fault' ≡ true → HasBroken c pending c'
+        → failures_of state c.disks < failures_of state c'.disks
+        → CoreMoves medium_rules (two_disks state) c.disks c'.disks old_core (marked fault' stuck c' (pending ++ more))
+        []
+    moves_broken fault' failed broken rose =
         subst (λ (new : Core Start Change).
         CoreMoves medium_rules (two_disks state) c.disks c'.disks old_core new [])
-        (sym (broken_core c' none broken))
+        (sym (broken_core c' fault' stuck true stuck failed refl none broken))
         (moves_failing medium_rules (two_disks state) (two_is_device state) c.disks c'.disks old_core
-        (length pending) (are_disks state is_disk c'.disks) (two_keep state c.disks c'.disks keeps) rose (works, refl)
-        same fits leaves)
+        (length pending) (are_disks state is_disk c'.disks) (two_keep state c.disks c'.disks keeps) rose works same
+        fits leaves)
 
-    pub advances_stored : (changes pending' : List Change) → changes ≡ pending → pending' ≡ []
-        → HasStored c changes c' × NoneOfTwo state c.disks c'.disks
-        → (AreHonest state c.disks → EachOfTwo state c'.disks (GivesContents c'.contents))
-        → Advances (buffer_below state) (open_buffer c pending) [] false (open_buffer c' pending')
-    advances_stored changes pending' same_changes empty done sure =
-        subst (λ (l : List Change). Advances (buffer_below state) (open_buffer c pending) [] false (open_buffer c' l))
-        (sym empty)
-        (record {
-          moved = moves_stored (subst (λ (l : List Change). HasStored c l c') same_changes done.0) sure;
-          counted = none_failed state c.disks c'.disks done.1;
-          honesty = (stay_honest state c.disks c'.disks keeps, were_honest state c.disks c'.disks keeps);
-          hand = (λ h. h, λ h. h);
-        })
-
-    pub advances_broken : (changes : List Change) → changes ≡ pending → HasBroken c changes c'
-        → (fault : DevFault) → IsFaultOfTwo state fault c.disks c'.disks
-        → Advances (buffer_below state) (open_buffer c pending) [] true (open_buffer c' pending)
-    advances_broken changes same_changes broken fault failed =
-        let rose = one_failed state c.disks c'.disks fault failed in
-        record {
-          moved = moves_broken (subst (λ (l : List Change). HasBroken c l c') same_changes broken) rose;
-          counted = rose;
-          honesty = (stay_honest state c.disks c'.disks keeps, were_honest state c.disks c'.disks keeps);
-          hand = (λ h. h, λ h. h);
-        }
-
--- all that is pending is stored, or was in flight when the disk failed; whatever more was accepted behind it
-module _ {D : Type 0} (c : OpenCartridge D) (pending more : List Change) where
-  abbrev behind_core : Core Start Change
-  behind_core = as_told false (open_core c (pending ++ more))
-
-  stays_behind : (n : ℕ) → n ≤ length (changes_since c.contents ++ pending)
-      → take n (changes_since c.contents ++ (pending ++ more)) ≡ take n (changes_since c.contents ++ pending)
-  stays_behind n le =
-      ap (λ (l : List Change). take n l) (sym (append_assoc (changes_since c.contents) pending more))
-      ∙ take-append-le n (changes_since c.contents ++ pending) more le
-
-  module _ (c' : OpenCartridge D) where
-    stored_behind : c.torn ≡ [] → base_of c.contents.head ≤ length c.contents.frames → HasStored c pending c'
-        → as_told false (open_core c' more) ≡ settled (length pending) behind_core
-    stored_behind none copied stored =
-        let whole = stored_core c pending c' none copied stored in
-        let since : changes_since c'.contents ≡ changes_since c.contents ++ pending =
-        ap changes_since stored.contents ∙ since_more c.contents pending copied in
-        let fault : c'.failed ≡ c.failed = stored.is_fine ∙ sym stored.was_fine in
-        λ i. record {
-          base = (whole i).base;
-          accepted =
-              ((ap (λ (l : List Change). l ++ more) since) ∙ append_assoc (changes_since c.contents) pending more) i;
-          stored = (whole i).stored;
-          safe = (whole i).safe;
-          fault = false;
-          stuck = fault i;
-          recovering = false;
-        }
-
-    broken_behind : c.torn ≡ [] → HasBroken c pending c'
-        → as_told false (open_core c' (pending ++ more)) ≡ stuck_in (length pending) behind_core
-    broken_behind none broken =
-        let whole = broken_core c pending c' none broken in
-        λ i. record {
-          base = (whole i).base;
-          accepted = (ap (λ (k : Contents). changes_since k ++ (pending ++ more)) broken.contents) i;
-          stored = (whole i).stored;
-          safe = (whole i).safe;
-          fault = false;
-          stuck = broken.failed i;
-          recovering = false;
-        }
-
-  module _ (state : D → DiskState) (is_disk : (disk : D) → (state disk).honest → IsDisk (state disk))
-      (c' : OpenCartridge D) (none : c.torn ≡ []) (works : c.failed ≡ false) (is : IsContents c.contents)
-      (keeps : KeepsDisks state c.disks c'.disks)
-      (moments : AreHonest state c.disks →
-      TwoLeave state c.disks c'.disks (ShowsContents c.contents (pending ∷ []))) where
-    abbrev count : ℕ
-    count = length (changes_since c.contents) + length (changes_of c.torn) + length pending
-
-    few : count ≤ length (changes_since c.contents ++ pending)
-    few = omega (arith, at_rest c pending none, length-append (changes_since c.contents) pending)
-
-    many_behind : (image : Images) → GivesSoMany medium_rules (open_core c pending) (length pending) image
-        → GivesSoMany medium_rules behind_core (length pending) image
-    many_behind image gives =
-        ⊎_elim
-        (λ g. inl (gives_as (start_of c.contents)
-        (take behind_core.stored (changes_since c.contents ++ pending))
-        (take behind_core.stored (changes_since c.contents ++ (pending ++ more))) image
-        (sym (stays_behind behind_core.stored (omega (arith, few)))) g))
-        (λ g. inr (gives_as (start_of c.contents) (take count (changes_since c.contents ++ pending))
-        (take count (changes_since c.contents ++ (pending ++ more))) image (sym (stays_behind count few)) g))
-        gives
-
-    leaves_behind : AreHonest state c.disks →
-        TwoLeave state c.disks c'.disks (GivesSoMany medium_rules behind_core (length pending))
-    leaves_behind honest =
-        two_weakened state c.disks c'.disks (ShowsContents c.contents (pending ∷ []))
-        (GivesSoMany medium_rules behind_core (length pending)) (moments honest)
-        (λ image shows. many_behind image (so_many c pending none is.copied image shows))
-
-    same_behind : behind_core.safe ≡ behind_core.stored
-    same_behind = omega (arith, at_rest c pending none)
-
-    fits_behind : behind_core.stored + length pending ≤ length behind_core.accepted
-    fits_behind =
-        omega (
-          arith,
-          at_rest c pending none,
-          length-append (changes_since c.contents) (pending ++ more),
-          length-append pending more,
-        )
-
-    moves_stored_behind : HasStored c pending c'
-        → (AreHonest state c.disks → EachOfTwo state c'.disks (GivesContents c'.contents))
-        → CoreMoves medium_rules (two_disks state) c.disks c'.disks behind_core (as_told false (open_core c' more)) []
-    moves_stored_behind stored sure =
+    pub moves_stuck : (stuck' : Bool) → stuck' ≡ true → HasBroken c pending c'
+        → failures_of state c.disks < failures_of state c'.disks
+        → CoreMoves medium_rules (two_disks state) c.disks c'.disks old_core (marked fault stuck' c' (pending ++ more))
+        []
+    moves_stuck stuck' failed broken rose =
         subst (λ (new : Core Start Change).
-        CoreMoves medium_rules (two_disks state) c.disks c'.disks behind_core new [])
-        (sym (stored_behind c' none is.copied stored))
-        (moves_storing medium_rules (two_disks state) (two_is_device state) c.disks c'.disks behind_core
-        (length pending) (two_keep state c.disks c'.disks keeps) (refl, works) same_behind fits_behind leaves_behind
-        (λ honest images left.
-        subst (λ (start : Start). GivesChanges start
-        (take count (changes_since c.contents ++ (pending ++ more))) images)
-        (ap start_of stored.contents ∙ start_with c.contents (pending ∷ []) is.copied)
-        (gives_as (start_of c'.contents) (changes_since c'.contents)
-        (take count (changes_since c.contents ++ (pending ++ more))) images
-        (ap changes_since stored.contents ∙ since_more c.contents pending is.copied ∙ sym (whole c pending)
-        ∙ ap (λ (n : ℕ). take n (changes_since c.contents ++ pending)) (omega (arith, at_rest c pending none))
-        ∙ sym (stays_behind count few))
-        (gives_changes c'.contents images (sure honest images left)))))
+        CoreMoves medium_rules (two_disks state) c.disks c'.disks old_core new [])
+        (sym (broken_core c' fault stuck' fault true refl failed none broken))
+        (moves_sticking medium_rules (two_disks state) (two_is_device state) c.disks c'.disks old_core
+        (length pending) (are_disks state is_disk c'.disks) (two_keep state c.disks c'.disks keeps) rose works same
+        fits leaves)
 
-    moves_broken_behind : HasBroken c pending c' → failures_of state c.disks < failures_of state c'.disks
-        → CoreMoves medium_rules (two_disks state) c.disks c'.disks behind_core
-        (as_told false (open_core c' (pending ++ more))) []
-    moves_broken_behind broken rose =
-        subst (λ (new : Core Start Change).
-        CoreMoves medium_rules (two_disks state) c.disks c'.disks behind_core new [])
-        (sym (broken_behind c' none broken))
-        (moves_sticking medium_rules (two_disks state) (two_is_device state) c.disks c'.disks behind_core
-        (length pending) (are_disks state is_disk c'.disks) (two_keep state c.disks c'.disks keeps) rose (refl, works)
-        same_behind fits_behind leaves_behind)
+-- the same of the medium, where its fault is reported at once; and where it is not, with all that is accepted behind
+module _ {D : Type 0} (c : OpenCartridge D) (pending : List Change) (state : D → DiskState)
+    (is_disk : (disk : D) → (state disk).honest → IsDisk (state disk)) (c' : OpenCartridge D) (none : c.torn ≡ [])
+    (works : c.failed ≡ false) (is : IsContents c.contents) (keeps : KeepsDisks state c.disks c'.disks)
+    (moments : AreHonest state c.disks →
+    TwoLeave state c.disks c'.disks (ShowsContents c.contents (pending ∷ []))) where
+  nothing_more : pending ++ [] ≡ pending
+  nothing_more = append-nil pending
 
-    pub behind_stored : (changes : List Change) → changes ≡ pending
-        → HasStored c changes c' × NoneOfTwo state c.disks c'.disks
-        → (AreHonest state c.disks → EachOfTwo state c'.disks (GivesContents c'.contents))
-        → CoreMoves medium_rules (two_disks state) c.disks c'.disks behind_core (as_told false (open_core c' more)) []
-    behind_stored changes same_changes done sure =
-        moves_stored_behind (subst (λ (l : List Change). HasStored c l c') same_changes done.0) sure
+  pub advances_stored : HasStored c pending c' × NoneOfTwo state c.disks c'.disks
+      → (AreHonest state c.disks → EachOfTwo state c'.disks (GivesContents c'.contents))
+      → Advances (buffer_below state) (open_buffer c pending) [] false (open_buffer c' [])
+  advances_stored done sure =
+      record {
+        moved =
+            subst (λ (l : List Change).
+            CoreMoves medium_rules (two_disks state) c.disks c'.disks (open_core c l) (open_core c' []) [])
+            nothing_more
+            (moves_stored c pending [] c.failed false state is_disk c' none (works, refl) is keeps moments c'.failed
+            false (done.0.is_fine ∙ sym works) refl done.0 sure);
+        counted = none_failed state c.disks c'.disks done.1;
+        honesty = (stay_honest state c.disks c'.disks keeps, were_honest state c.disks c'.disks keeps);
+        hand = (λ h. h, λ h. h);
+      }
 
-    pub behind_broken : (changes : List Change) → changes ≡ pending → HasBroken c changes c'
-        → (fault : DevFault) → IsFaultOfTwo state fault c.disks c'.disks
-        → CoreMoves medium_rules (two_disks state) c.disks c'.disks behind_core
-        (as_told false (open_core c' (pending ++ more))) []
-    behind_broken changes same_changes broken fault failed =
-        moves_broken_behind (subst (λ (l : List Change). HasBroken c l c') same_changes broken)
-        (one_failed state c.disks c'.disks fault failed)
+  pub advances_broken : HasBroken c pending c' → (fault : DevFault) → IsFaultOfTwo state fault c.disks c'.disks
+      → Advances (buffer_below state) (open_buffer c pending) [] true (open_buffer c' pending)
+  advances_broken broken fault failed =
+      let rose = one_failed state c.disks c'.disks fault failed in
+      record {
+        moved =
+            subst (λ (l : List Change).
+            CoreMoves medium_rules (two_disks state) c.disks c'.disks (open_core c l) (open_core c' l) [])
+            nothing_more
+            (moves_broken c pending [] c.failed false state is_disk c' none (works, refl) is keeps moments c'.failed
+            broken.failed broken rose);
+        counted = rose;
+        honesty = (stay_honest state c.disks c'.disks keeps, were_honest state c.disks c'.disks keeps);
+        hand = (λ h. h, λ h. h);
+      }
+
+  pub behind_stored : HasStored c pending c'
+      → (AreHonest state c.disks → EachOfTwo state c'.disks (GivesContents c'.contents))
+      → StoresBehind state (open_buffer c pending) (open_buffer c' [])
+  behind_stored stored sure more =
+      moves_stored c pending more false c.failed state is_disk c' none (refl, works) is keeps moments false c'.failed
+      refl (stored.is_fine ∙ sym works) stored sure
+
+  pub behind_broken : HasBroken c pending c' → (fault : DevFault) → IsFaultOfTwo state fault c.disks c'.disks
+      → StoresBehind state (open_buffer c pending) (open_buffer c' pending)
+  behind_broken broken fault failed more =
+      moves_stuck c pending more false c.failed state is_disk c' none (refl, works) is keeps moments c'.failed
+      broken.failed broken (one_failed state c.disks c'.disks fault failed)
 
 -- nothing is done
 pub rests : {D : Type 0} (state : D → DiskState) → ((disk : D) → (state disk).honest → IsDisk (state disk))

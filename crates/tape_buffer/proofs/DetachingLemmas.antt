@@ -18,7 +18,7 @@ use Rattle.tape_buffer.specs.Catalogs.{IsCataloged}
 use Rattle.tape_buffer.specs.Detaching.{away_buffer}
 use Rattle.tape_buffer.specs.Limits.{FitsBuffer}
 use Rattle.tape_buffer.specs.State.{BufferState, state_held, state_of}
-use Rattle.tape_buffer.specs.Taking.{LendsFrom, LendsHeld}
+use Rattle.tape_buffer.specs.Taking.{DisksState, LendsFrom, LendsHeld}
 
 grown_outline : (old new : List PlacedPart) → IsGrown old new → outline new ≡ outline old
 grown_outline [] [] grown = refl
@@ -29,6 +29,58 @@ grown_outline (p ∷ ps) (q ∷ qs) grown =
     } ∷ grown_outline ps qs grown.1 i
 grown_outline [] (q ∷ qs) grown = absurd grown
 grown_outline (p ∷ ps) [] grown = absurd grown
+
+-- of what disks take all may be accepted, or no change
+pub cut_less : (left cut : Budget) → IsCut left cut
+    → (cut.records ≤ left.records) × (cut.bytes ≡ left.bytes) × (cut.room ≡ left.room)
+cut_less left cut is = (
+  ⊎_elim (λ same. omega (arith, ap (λ (b : Budget). b.records) same))
+      (λ none. omega (arith, ap (λ (b : Budget). b.records) none)) is,
+  ⊎_elim (λ same. ap (λ (b : Budget). b.bytes) same) (λ none. ap (λ (b : Budget). b.bytes) none) is,
+  ⊎_elim (λ same. ap (λ (b : Budget). b.room) same) (λ none. ap (λ (b : Budget). b.room) none) is,
+)
+
+not_both : {P : Type 0} (b : Bool) → b ≡ false → b ≡ true → P
+not_both b off on = let e : true ≡ false = sym on ∙ off in absurd (cc)
+
+-- what disks take that go away from a medium
+pub record LendFacts (seen : MediumState) (left : Budget) : Type 0 where
+  pub rests : seen.awake ≡ false → left.records ≡ 0
+  pub quiet : seen.awake ≡ false → seen.pending ≡ []
+  pub failed : seen.failed ≡ true → left.records ≡ 0
+  pub exact : (left.records + length seen.pending ≡ BUFFER_RECORDS) ⊎ (left.records ≡ 0)
+  pub bytes : seen.awake ≡ true → left.bytes + sum_by block_bytes seen.pending ≡ BUFFER_BYTES
+  pub room : seen.awake ≡ true → IsRoomFor seen.room left.room seen.pending
+
+pub lend_facts : {D : Type 0} (state : D → DiskState) (old : BufferState D) (new : DisksState D) → LendsFrom old new
+    → LendFacts (state_of state old) new.left
+lend_facts state old new lends = by old.held new.buffer.held lends.held
+  where
+    by : (held held' : Holding (OpenCartridge _) (ClosedCartridge _)) → LendsHeld held old.pending held' new.left
+        → LendFacts (state_held state held old.pending) new.left
+    by (Holdings.Open c) (Holdings.Open c') lent =
+        record {
+          rests = λ asleep. absurd (cc);
+          quiet = λ asleep. absurd (cc);
+          failed = λ failed. ⊎_elim (λ works. not_both c.failed works.0 failed) (λ none. none.0) lent.records;
+          exact = ⊎_elim (λ works. inl works.1) (λ none. inr none.0) lent.records;
+          bytes = λ awake. lent.bytes;
+          room = λ awake. omega (arith, lent.room);
+        }
+    by (Holdings.Closed c) (Holdings.Closed c') lent =
+        record {
+          rests = λ asleep. lent.1;
+          quiet = λ asleep. refl;
+          failed = λ failed. lent.1;
+          exact = inr lent.1;
+          bytes = λ awake. absurd (cc);
+          room = λ awake. absurd (cc);
+        }
+    by (Holdings.Open c) (Holdings.Closed c') lent = absurd lent
+    by (Holdings.Open c) (Holdings.Away a) lent = absurd lent
+    by (Holdings.Closed c) (Holdings.Open c') lent = absurd lent
+    by (Holdings.Closed c) (Holdings.Away a) lent = absurd lent
+    by (Holdings.Away a) held' lent = absurd lent
 
 -- what is known of a medium whose disks go away
 module _ {D : Type 0} (state : D → DiskState) (old new : BufferState D) (left cut : Budget) (away : Away)
@@ -46,57 +98,10 @@ module _ {D : Type 0} (state : D → DiskState) (old new : BufferState D) (left 
   shows_away None (Some parts) shows grown = absurd grown
   shows_away (Some parts) None shows grown = absurd grown
 
-  cut_records : cut.records ≤ left.records
-  cut_records =
-      ⊎_elim (λ same. omega (arith, ap (λ (b : Budget). b.records) same))
-      (λ none. omega (arith, ap (λ (b : Budget). b.records) none)) is_cut
-
-  cut_bytes : cut.bytes ≡ left.bytes
-  cut_bytes = ⊎_elim (λ same. ap (λ (b : Budget). b.bytes) same) (λ none. ap (λ (b : Budget). b.bytes) none) is_cut
-
-  cut_room : cut.room ≡ left.room
-  cut_room = ⊎_elim (λ same. ap (λ (b : Budget). b.room) same) (λ none. ap (λ (b : Budget). b.room) none) is_cut
-
-  -- what the disks take
-  record Facts (seen : MediumState) : Type 0 where
-    pub rests : seen.awake ≡ false → left.records ≡ 0
-    pub failed : seen.failed ≡ true → left.records ≡ 0
-    pub exact : (left.records + length seen.pending ≡ BUFFER_RECORDS) ⊎ (left.records ≡ 0)
-    pub bytes : seen.awake ≡ true → left.bytes + sum_by block_bytes seen.pending ≡ BUFFER_BYTES
-    pub room : seen.awake ≡ true → IsRoomFor seen.room left.room seen.pending
-
-  not_both : {P : Type 0} (b : Bool) → b ≡ false → b ≡ true → P
-  not_both b off on = let e : true ≡ false = sym on ∙ off in absurd (cc)
-
-  facts : Facts (state_of state old)
-  facts = by old.held new.held lends.held
-    where
-      by : (held held' : Holding (OpenCartridge D) (ClosedCartridge D)) → LendsHeld held old.pending held' left
-          → Facts (state_held state held old.pending)
-      by (Holdings.Open c) (Holdings.Open c') lent =
-          record {
-            rests = λ asleep. absurd (cc);
-            failed = λ failed. ⊎_elim (λ works. not_both c.failed works.0 failed) (λ none. none) lent.records;
-            exact = ⊎_elim (λ works. inl works.1) (λ none. inr none) lent.records;
-            bytes = λ awake. lent.bytes;
-            room = λ awake. omega (arith, lent.room);
-          }
-      by (Holdings.Closed c) (Holdings.Closed c') lent =
-          record {
-            rests = λ asleep. lent.1;
-            failed = λ failed. lent.1;
-            exact = inr lent.1;
-            bytes = λ awake. absurd (cc);
-            room = λ awake. absurd (cc);
-          }
-      by (Holdings.Open c) (Holdings.Closed c') lent = absurd lent
-      by (Holdings.Open c) (Holdings.Away a) lent = absurd lent
-      by (Holdings.Closed c) (Holdings.Open c') lent = absurd lent
-      by (Holdings.Closed c) (Holdings.Away a) lent = absurd lent
-      by (Holdings.Away a) held' lent = absurd lent
-
-  of_noted : Facts away.noted
-  of_noted = subst Facts (sym noted) facts
+  of_noted : LendFacts away.noted left
+  of_noted =
+      subst (λ (m : MediumState). LendFacts m left) (sym noted)
+      (lend_facts state old (record { buffer = new; left = left }) lends)
 
   -- where something may be accepted, it is awake
   awake_where : 1 ≤ left.records → away.noted.awake ≡ true
@@ -108,13 +113,13 @@ module _ {D : Type 0} (state : D → DiskState) (old new : BufferState D) (left 
 
   roomy_away : (catalog : Option (List PlacedPart)) → IsCataloged state (away_buffer away) catalog
       → HasEntriesIn catalog cut.records → IsRoomyIn catalog cut.records
-  roomy_away None shows entries = omega (arith, of_noted.rests shows, cut_records)
+  roomy_away None shows entries = omega (arith, of_noted.rests shows, (cut_less left cut is_cut).0)
   roomy_away (Some parts) shows entries = entries
 
   room_away : (seen : Option ℕ) (pending : List Change) → IsRoomFor seen left.room pending
       → IsRoomFor seen cut.room pending
   room_away None pending is = is
-  room_away (Some seen) pending is = omega (arith, is, cut_room)
+  room_away (Some seen) pending is = omega (arith, is, (cut_less left cut is_cut).2)
 
   pub knows_away : (catalog : Option (List PlacedPart)) → IsCataloged state (away_buffer away) catalog
       → HasEntriesIn catalog cut.records → away.failed ≡ (state_of state old).failed
@@ -122,7 +127,7 @@ module _ {D : Type 0} (state : D → DiskState) (old new : BufferState D) (left 
       → KnowsAway catalog away
   knows_away catalog shows entries failed waiting fits =
       let less : away.left.records ≤ left.records =
-      omega (arith, ap (λ (b : Budget). b.records) left_is, cut_records) in
+      omega (arith, ap (λ (b : Budget). b.records) left_is, (cut_less left cut is_cut).0) in
       record {
         roomy = subst (λ (b : Budget). IsRoomyIn catalog b.records) (sym left_is) (roomy_away catalog shows entries);
         failed_is = failed ∙ sym (ap (λ (m : MediumState). m.failed) noted);
@@ -135,7 +140,7 @@ module _ {D : Type 0} (state : D → DiskState) (old new : BufferState D) (left 
               arith,
               of_noted.bytes (awake_where (omega (arith, some, less))),
               ap (λ (b : Budget). b.bytes) left_is,
-              cut_bytes,
+              (cut_less left cut is_cut).1,
             );
         room =
             λ awake. subst (λ (b : Budget). IsRoomFor away.noted.room b.room away.noted.pending) (sym left_is)

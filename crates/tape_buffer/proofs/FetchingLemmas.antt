@@ -22,7 +22,7 @@ use Rattle.tape_buffer.specs.Inner.Fetching.{IsCopyOf, IsFetched}
 use Rattle.tape_buffer.specs.Moves.{buffer_below}
 use Rattle.tape_buffer.specs.Rules.{medium_rules}
 use Rattle.tape_buffer.specs.State.{open_buffer, open_core}
-use Rattle.tape_buffer.proofs.ChangeLemmas.{well_formed}
+use Rattle.tape_buffer.proofs.VolumeLemmas.{well_formed}
 use Rattle.tape_buffer.proofs.TwoLemmas.{are_disks, stay_honest, were_honest}
 
 -- the block of a change that applies is no longer than a block

@@ -9,17 +9,13 @@ use Rattle.volume_core.specs.Volume.{Part}
 use Rattle.gate_journal.specs.Heads.{base_of}
 use Rattle.cartridge.specs.Contents.{Contents, GivesContents, IsContents, ShowsContents, changes_of, changes_since, start_of, volume_made}
 use Rattle.cartridge.specs.ContentsOn.{contents_on, contents_on_gives}
-use Rattle.cartridge.specs.State.{ClosedCartridge}
+use Rattle.cartridge.specs.State.{ClosedCartridge, OpenCartridge}
 use Rattle.accepted_changes.specs.Core.{IsCore}
 use Rattle.accepted_changes.specs.Events.{ShowsCore}
-use Rattle.tape_buffer.specs.declared.holding.Holding.{Holding}
-use Rattle.tape_buffer.specs.declared.holding.Holding.TheVariants.{Open, Closed, Away}
-use Rattle.tape_buffer.specs.declared.holding.Opened.{Opened}
-use Rattle.tape_buffer.specs.Invariants.{IsHeld, buffer_of}
-use Rattle.tape_buffer.specs.Moves.{IsSafeOrPending, ShowsOn, medium_core}
+use Rattle.tape_buffer.specs.Moves.{IsSafeOrPending, ShowsOn}
 use Rattle.tape_buffer.specs.Rules.{GivesChanges, medium_rules}
 use Rattle.tape_buffer.specs.State.{IsPendingOver, IsSettledOn, closed_state, found_core, found_in, open_core, torn_in}
-use Rattle.tape_buffer.proofs.CoreLemmas.{gives_changes, gives_more, open_is_core, open_shows}
+use Rattle.tape_buffer.proofs.CoreLemmas.{gives_changes, gives_more, open_shows}
 
 -- a closed cartridge's core is one
 pub found_is_core : (found : Option Contents) (torn : List Change) → IsCore (found_core found torn)
@@ -90,13 +86,11 @@ module _ {D : Type 0} (state : D → DiskState) (is_disk : (disk : D) → (state
   settled_where c (inr settled) unknown = settled unknown
 
   -- so does a medium by what it holds
-  pub shows_open : (opened : Opened D) → IsPendingOver opened.cartridge opened.pending
-      → IsContents opened.cartridge.contents
-      → (AreHonest state opened.cartridge.disks
-      → EachOfTwo state opened.cartridge.disks (ShowsContents opened.cartridge.contents opened.cartridge.torn))
-      → ShowsOn state (Some opened.cartridge.disks) (open_core opened.cartridge opened.pending)
-  shows_open opened over contents shows honest images left =
-      open_shows opened.cartridge opened.pending over.torn contents.copied images (shows honest images left)
+  pub shows_open : (c : OpenCartridge D) (pending : List Change) → IsPendingOver c pending → IsContents c.contents
+      → (AreHonest state c.disks → EachOfTwo state c.disks (ShowsContents c.contents c.torn))
+      → ShowsOn state (Some c.disks) (open_core c pending)
+  shows_open c pending over contents shows honest images left =
+      open_shows c pending over.torn contents.copied images (shows honest images left)
 
   pub shows_closed : (c : ClosedCartridge D) → (c.known ≡ true → IsContents c.contents)
       → (c.known ≡ true → AreHonest state c.disks → EachOfTwo state c.disks (ShowsContents c.contents c.torn))
@@ -106,21 +100,13 @@ module _ {D : Type 0} (state : D → DiskState) (is_disk : (disk : D) → (state
   shows_closed c contents shows sure volume some =
       closed_shows c (settled_where c sure) contents shows volume some
 
-  pub held_is_core : (held : Holding (Opened D) (ClosedCartridge D)) → IsHeld held
-      → IsCore (medium_core state (buffer_of held))
-  held_is_core (Open opened) over = open_is_core opened.cartridge opened.pending over.torn
-  held_is_core (Closed c) over = found_is_core (found_in state c) (torn_in state c)
-  held_is_core (Away away) over = found_is_core None []
-
 -- what of an open medium that works is stored is safe, and the rest is pending
-pub whole_open : {D : Type 0} (opened : Opened D)
-    → (opened.cartridge.failed ≡ false → opened.cartridge.torn ≡ [])
-    → IsSafeOrPending (open_core opened.cartridge opened.pending) opened.pending
-whole_open opened at_rest works going = (
+pub whole_open : {D : Type 0} (c : OpenCartridge D) (pending : List Change) → (c.failed ≡ false → c.torn ≡ [])
+    → IsSafeOrPending (open_core c pending) pending
+whole_open c pending at_rest works going = (
   omega (arith, ap (λ (t : List (List Change)). length (changes_of t)) (at_rest works)),
-  ap (λ (l : List Change). l ++ opened.pending)
-      (sym (take_at (changes_since opened.cartridge.contents) opened.pending
-      (length (changes_since opened.cartridge.contents)) refl)),
+  ap (λ (l : List Change). l ++ pending)
+      (sym (take_at (changes_since c.contents) pending (length (changes_since c.contents)) refl)),
 )
 
 -- a closed one was stopped

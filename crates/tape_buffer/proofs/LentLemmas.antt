@@ -8,7 +8,7 @@ use Rattle.vtl_base.specs.declared.limits.TheConstants.{BUFFER_BYTES, BUFFER_REC
 use Rattle.tape_disk.specs.Disk.{DiskState, IsDisk}
 use Rattle.volume_core.specs.declared.changes.Change.{Change}
 use Rattle.volume_core.specs.Medium.{block_bytes, frame_size}
-use Rattle.volume_core.specs.Stores.{Stores, stores_nowhere}
+use Rattle.volume_core.specs.Stores.{Stores}
 use Rattle.volume_core.specs.Volume.{AllApply, Part, after, part_of, refusal_of}
 use Rattle.cartridge.specs.Answers.{HasBroken, HasReserved, HasStored, KeepsReserved}
 use Rattle.cartridge.specs.Contents.{Contents, volume_made}
@@ -17,15 +17,14 @@ use Rattle.cartridge.specs.State.{OpenCartridge}
 use Rattle.tape_buffer.specs.declared.budgets.Budget.{Budget}
 use Rattle.tape_buffer.specs.Inner.Storing.{IsRoomyFor}
 use Rattle.tape_buffer.specs.Limits.{FitsBuffer}
-use Rattle.tape_buffer.specs.Moves.{buffer_below}
+use Rattle.tape_buffer.specs.Moves.{MovesUnreported, buffer_below}
 use Rattle.tape_buffer.specs.State.{IsPendingOver, IsReservedFor, IsTornFrom, open_buffer, open_state}
-use Rattle.tape_buffer.specs.Budgets.{KeepsBudget, budget_after}
+use Rattle.tape_buffer.specs.Budgets.{KeepsBudget}
 use Rattle.tape_buffer.specs.Taking.{LendsRecords, longest_body}
-use Rattle.tape_buffer.proofs.AddingLemmas.{advances_more, apply_more, pending_still, ready_as_it_is, spelled_short}
-use Rattle.tape_buffer.proofs.ChangeLemmas.{inside_of}
-use Rattle.tape_buffer.proofs.CoreLemmas.{rests}
+use Rattle.tape_buffer.proofs.AddingLemmas.{advances_more, apply_more, pending_still, spelled_short}
+use Rattle.tape_buffer.proofs.VolumeLemmas.{inside_of, stays_so}
+use Rattle.tape_buffer.proofs.CoreLemmas.{accepts_one, open_is_core, rests}
 use Rattle.tape_buffer.proofs.RoomLemmas.{few_entries, one_frame_fits, reserved_more, reserved_still}
-use Rattle.tape_buffer.proofs.VolumeLemmas.{stays_so}
 
 -- what is pending was stored, or was not
 module _ {D : Type 0} (c c' : OpenCartridge D) (changes : List Change) (left : Budget)
@@ -96,19 +95,6 @@ module _ {D : Type 0} (c : OpenCartridge D) (pending : List Change) (left : Budg
           short = omega (arith, roomy.short, keeps.bytes, sum_by-append block_bytes pending (change ∷ []));
         }
 
-    pub roomy_taken : IsRoomyFor c (pending ++ change ∷ []) (budget_after left (change ∷ []))
-    roomy_taken =
-        record {
-          few = omega (arith, roomy.few, keeps.records, length-append pending (change ∷ []));
-          short = omega (arith, roomy.short, keeps.bytes, sum_by-append block_bytes pending (change ∷ []));
-          fits = omega (arith, roomy.fits, keeps.room, sum_by-append frame_size pending (change ∷ []));
-          frames = omega (arith, roomy.frames);
-          one_more = λ some. omega (arith, roomy.frames, keeps.records);
-          body = λ more. roomy.body takes;
-          entries = λ more part inside.
-              omega (arith, roomy.entries takes part inside, keeps.records, length-append pending (change ∷ []));
-        }
-
     pub room_taken : sum_by frame_size (pending ++ change ∷ []) ≤ c.room
     room_taken = omega (arith, roomy.fits, keeps.room, sum_by-append frame_size pending (change ∷ []))
 
@@ -143,14 +129,16 @@ module _ {D : Type 0} (c : OpenCartridge D) (pending : List Change) (left : Budg
           → (pending' : List Change) → pending' ≡ pending ++ change ∷ [] → c.failed ≡ false
           → Advances (buffer_below state) (open_buffer c pending) (change ∷ []) false (open_buffer c pending')
       advances_taken state is_disk pending' is works =
-          advances_more c c c pending pending pending' change (ready_as_it_is c pending works)
-          (stores_nowhere (open_state c pending)) refl state is_disk (rests state is_disk (open_buffer c pending)) over
-          none works is
+          advances_more c c c pending pending pending' change refl state is_disk
+          (rests state is_disk (open_buffer c pending)) over none works is
 
-    pub roomy_then : (pending' : List Change) (left' : Budget) → pending' ≡ pending ++ change ∷ []
-        → left' ≡ budget_after left (change ∷ []) → IsRoomyFor c pending' left'
-    roomy_then pending' left' is of_left =
-        subst (λ (p : List Change × Budget). IsRoomyFor c p.0 p.1) (λ i. ((sym is) i, (sym of_left) i)) roomy_taken
+      pub unreported_taken : (state : D → DiskState) → ((disk : D) → (state disk).honest → IsDisk (state disk))
+          → (pending' : List Change) → pending' ≡ pending ++ change ∷ []
+          → MovesUnreported state (open_buffer c pending) (change ∷ []) (open_buffer c pending')
+      unreported_taken state is_disk pending' is =
+          subst (λ (l : List Change).
+          MovesUnreported state (open_buffer c pending) (change ∷ []) (open_buffer c l)) (sym is)
+          (accepts_one c pending state is_disk false c.failed change refl (open_is_core c pending over.torn) none)
 
 pub stores_taken : {D : Type 0} (c : OpenCartridge D) (pending pending' : List Change) (change : Change)
     → pending' ≡ pending ++ change ∷ [] → Stores (open_state c pending) (change ∷ []) (open_state c pending')
@@ -188,7 +176,7 @@ module _ {D : Type 0} (c c' : OpenCartridge D) (pending : List Change)
     where
       few : LendsRecords c pending left.records → length pending + left.records ≤ BUFFER_RECORDS
       few (inl all) = omega (arith, all.1)
-      few (inr none) = omega (arith, none, fits.few)
+      few (inr none) = omega (arith, none.0, fits.few)
 
       frames : (0 < left.records) ⊎ (left.records ≤ 0) → left.records ≤ c'.reserved.frames
       frames (inl takes) = omega (arith, few records, (reserved (omega (arith, takes))).frames)
@@ -198,9 +186,6 @@ module _ {D : Type 0} (c c' : OpenCartridge D) (pending : List Change)
           → left.records + 1 ≤ c'.reserved.frames
       one_more some (inl takes) = omega (arith, some, few records, (reserved (omega (arith, takes))).frames)
       one_more some (inr none) = omega (arith, none, over.reserved.frames some)
-
-  pub state_lent : open_state c' pending ≡ open_state c pending
-  state_lent = λ i. open_state (same i) pending
 
   pub advances_lent : (state : D → DiskState) → ((disk : D) → (state disk).honest → IsDisk (state disk))
       → Advances (buffer_below state) (open_buffer c pending) [] false (open_buffer c' pending)

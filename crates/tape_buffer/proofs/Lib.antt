@@ -1,10 +1,9 @@
 mod TwoLemmas
 mod AddingLemmas
 mod AwayLemmas
-mod ChangeLemmas
 mod ClosingLemmas
-mod CoreLemmas
-mod DetachingLemmas
+pub mod CoreLemmas
+pub mod DetachingLemmas
 mod FetchingLemmas
 mod FrameLemmas
 mod HeldLemmas
@@ -12,7 +11,7 @@ mod IndexLemmas
 mod LentLemmas
 mod MediumLemmas
 mod OpeningLemmas
-mod PendingLemmas
+pub mod PendingLemmas
 mod ReclaimingLemmas
 mod RoomLemmas
 mod SeekingLemmas

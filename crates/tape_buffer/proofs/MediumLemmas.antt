@@ -1,6 +1,6 @@
 -- A medium's answers, by what its cartridge answered.
 use Rattle.std.specs.Prelude.{◌≡◌, ◌++◌, ◌≤◌, List, [], ◌∷◌, Some, Ok, length, take, drop, sum_by, refl}
-use Rattle.std.proofs.Common.{sym, ◌∙◌, ap, subst, arith}
+use Rattle.std.proofs.Common.{sym, ◌∙◌, ap, arith}
 use Rattle.std.proofs.lemmas.List.{append-nil, drop_all, take_all}
 use Rattle.volume_core.specs.declared.changes.Change.{Change}
 use Rattle.volume_core.specs.Volume.{after}
@@ -19,11 +19,8 @@ with_some : (frames : List (List Change)) (pending : List Change) → 1 ≤ leng
 with_some frames [] some = absurd (omega (arith, some))
 with_some frames (change ∷ changes) some = refl
 
-module _ {D : Type 0} (c c' : OpenCartridge D) (pending changes pending' : List Change) (some : 1 ≤ length pending)
-    (same : changes ≡ pending) (empty : pending' ≡ []) (of_changes : HasStored c changes c') where
-  stored : HasStored c pending c'
-  stored = subst (λ (l : List Change). HasStored c l c') same of_changes
-
+module _ {D : Type 0} (c c' : OpenCartridge D) (pending : List Change) (some : 1 ≤ length pending)
+    (stored : HasStored c pending c') where
   volume_is : volume_made c'.contents ≡ after (volume_made c.contents) pending
   volume_is = ap volume_made stored.contents ∙ volume_more c.contents pending
 
@@ -31,18 +28,11 @@ module _ {D : Type 0} (c c' : OpenCartridge D) (pending changes pending' : List 
   frames_stored =
       ap (λ (contents : Contents). contents.frames) stored.contents ∙ sym (with_some c.contents.frames pending some)
 
-  pub settles_stored : Settles (open_state c pending) (Ok tt) (open_state c' pending')
-  settles_stored = (
-    stored.was_fine,
-    empty,
-    record {
-      volume_is = ap (after (volume_made c'.contents)) empty ∙ volume_is;
-      works = stored.is_fine;
-      awake = refl;
-    },
-  )
+  pub settles_stored : Settles (open_state c pending) (Ok tt) (open_state c' [])
+  settles_stored =
+      (stored.was_fine, refl, record { volume_is = volume_is; works = stored.is_fine; awake = refl })
 
-  pub stores_stored : Stores (open_state c pending) [] (open_state c' pending')
+  pub stores_stored : Stores (open_state c pending) [] (open_state c' [])
   stores_stored =
       let all : take (length pending) (pending ++ []) ≡ pending =
       ap (take (length pending)) (append-nil pending) ∙ take_all (length pending) pending (omega arith) in
@@ -51,8 +41,7 @@ module _ {D : Type 0} (c c' : OpenCartridge D) (pending changes pending' : List 
         fits = omega (arith, ap length (append-nil pending));
         stored = ap Some (volume_is ∙ ap (after (volume_made c.contents)) (sym all));
         pending =
-            empty
-            ∙ sym (ap (drop (length pending)) (append-nil pending) ∙ drop_all (length pending) pending (omega arith));
+            sym (ap (drop (length pending)) (append-nil pending) ∙ drop_all (length pending) pending (omega arith));
         room =
             omega (
               arith,

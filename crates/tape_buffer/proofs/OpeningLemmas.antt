@@ -35,7 +35,7 @@ use Rattle.tape_buffer.proofs.RoomLemmas.{one_frame_fits}
 use Rattle.tape_buffer.proofs.TwoLemmas.{none_failed, read_now, stay_honest, were_honest}
 
 -- a pair of images gives one cartridge's contents at most
-abbrev GivesOne : Type 0
+abbrev pub GivesOne : Type 0
 GivesOne = (images : Images) (a b : Contents) → GivesContents a images → GivesContents b images → a ≡ b
 
 -- of a closed cartridge that is opened

@@ -9,7 +9,7 @@ use Rattle.volume_core.specs.Medium.{block_bytes, frame_size}
 use Rattle.change_records.specs.Records.{spell_all, spell_change, spell_head}
 
 -- a frame has 15 bytes and its block's
-frame_of : (change : Change) → frame_size change ≡ 15 + block_bytes change
+pub frame_of : (change : Change) → frame_size change ≡ 15 + block_bytes change
 frame_of (Put part at block) = refl
 frame_of (Marks part at count) = refl
 frame_of (Erase part at) = refl

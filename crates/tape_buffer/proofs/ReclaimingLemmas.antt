@@ -27,11 +27,8 @@ use Rattle.tape_buffer.specs.Reclaiming.{FailsToCopy, GiveOnly, IsNotRebased, Re
 use Rattle.tape_buffer.specs.Rules.{GivesChanges, GoesInto, medium_rules}
 use Rattle.tape_buffer.specs.State.{found_core}
 use Rattle.tape_buffer.proofs.HeldLemmas.{found_shows}
+use Rattle.tape_buffer.proofs.OpeningLemmas.{GivesOne}
 use Rattle.tape_buffer.proofs.TwoLemmas.{are_disks, one_failed, read_now, stay_honest}
-
--- a pair of images gives one cartridge's contents at most
-abbrev GivesOne : Type 0
-GivesOne = (images : Images) (a b : Contents) → GivesContents a images → GivesContents b images → a ≡ b
 
 -- the volume is what the changes since make of the one before
 abbrev MadeSince : Type 0

@@ -1,42 +1,22 @@
 -- What changes take of a side, each as a frame of its own, and as one frame.
-use Rattle.std.specs.Prelude.{◌≡◌, ◌⊎◌, ◌+◌, ◌*◌, ◌++◌, ◌≤◌, ◌==◌, ℕ, Bool, true, false, IsTrue, List, [], ◌∷◌, length, sum_by, slice_index_or, if◌then◌else◌, refl}
-use Rattle.std.proofs.Common.{inl, inr, ap, subst, sym, ◌∙◌, arith, length-append}
+use Rattle.std.specs.Prelude.{◌≡◌, ◌⊎◌, ◌+◌, ◌*◌, ◌++◌, ◌≤◌, ◌==◌, ℕ, Bool, true, false, List, [], ◌∷◌, length, sum_by, slice_index_or, if◌then◌else◌, refl}
+use Rattle.std.proofs.Common.{inl, inr, ap, sym, ◌∙◌, arith, length-append}
 use Rattle.std.proofs.lemmas.Bool.{cases_eq, eqb-true, ne_eqb}
 use Rattle.std.proofs.lemmas.List.Sums.{sum_by-append}
 use Rattle.volume_core.specs.declared.changes.Change.{Change}
 use Rattle.volume_core.specs.declared.changes.Change.TheVariants.{Put, Marks, Erase}
-use Rattle.volume_core.specs.Medium.{frame_size}
-use Rattle.change_records.specs.Records.{spell_all, spell_change, spell_head}
+use Rattle.volume_core.specs.Medium.{block_bytes, frame_size}
+use Rattle.change_records.specs.Records.{spell_all}
 use Rattle.volume_core.specs.Volume.{part_of}
 use Rattle.cartridge.specs.Answers.{KeepsReserved, entries_of}
 use Rattle.cartridge.specs.State.{Reserved}
 use Rattle.tape_buffer.specs.State.{IsReservedFor}
-
--- a frame of one change has 5 bytes more than its record
-pub frame_of_one : (change : Change) → frame_size change ≡ length (spell_change change) + 5
-frame_of_one (Put part at block) = omega (arith, length-append (spell_head 1 part at (length block)) block)
-frame_of_one (Marks part at count) = refl
-frame_of_one (Erase part at) = refl
+use Rattle.tape_buffer.proofs.PendingLemmas.{frame_of, frames_of, records_of}
 
 -- frames of their own take 5 bytes each beside the records
 pub frames_of_each : (changes : List Change)
     → sum_by frame_size changes ≡ length (spell_all changes) + 5 * length changes
-frames_of_each [] = refl
-frames_of_each (change ∷ changes) =
-    let next = sum_by-append frame_size (change ∷ []) changes in
-    omega (
-      arith,
-      next,
-      frame_of_one change,
-      frames_of_each changes,
-      length-append (spell_change change) (spell_all changes),
-    )
-
--- what is not empty has one at least
-pub not_empty : {A : Type 0} (xs : List A) (empty : Bool) → (IsTrue empty → xs ≡ []) × (xs ≡ [] → IsTrue empty)
-    → empty ≡ false → 1 ≤ length xs
-not_empty [] empty is none = let never : IsTrue false = subst IsTrue none (is.1 refl) in absurd (cc)
-not_empty (x ∷ xs) empty is none = omega arith
+frames_of_each changes = omega (arith, frames_of changes, records_of changes)
 
 -- what has no length is empty
 pub listed_none : {A : Type 0} (xs : List A) (empty : Bool) → empty ≡ (length xs == 0) → empty ≡ true → xs ≡ []
@@ -57,13 +37,14 @@ one_frame_fits changes some = omega (arith, frames_of_each changes, some)
 -- with one more
 pub spelled_more : (changes : List Change) (change : Change)
     → length (spell_all (changes ++ change ∷ [])) + 5 ≡ length (spell_all changes) + frame_size change
-spelled_more [] change = omega (arith, frame_of_one change, length-append (spell_change change) [])
-spelled_more (first ∷ changes) change =
+spelled_more changes change =
     omega (
       arith,
-      spelled_more changes change,
-      length-append (spell_change first) (spell_all changes),
-      length-append (spell_change first) (spell_all (changes ++ change ∷ [])),
+      records_of changes,
+      records_of (changes ++ change ∷ []),
+      frame_of change,
+      length-append changes (change ∷ []),
+      sum_by-append block_bytes changes (change ∷ []),
     )
 
 -- one or none is one at most

@@ -1,13 +1,13 @@
 -- Which of the changes that wait put an object.
 use Rattle.std.proofs.Common.{◌≡◌, ◌≢◌, ◌≤◌, ◌<◌, ◌-◌, ◌++◌, ℕ, zero, suc, List, [], ◌∷◌, length, take, None, Some, refl, sym, ◌∙◌, ap, subst, arith, ⊎_elim, ◌⊎◌}
-use Rattle.std.specs.Prelude.{replicate, slice_get}
+use Rattle.std.specs.Prelude.{slice_get}
 use Rattle.std.proofs.lemmas.Bool.{cases_eq}
 use Rattle.std.proofs.lemmas.Option.{slice_get_within}
 use Rattle.volume_core.specs.declared.changes.Change.{Change}
-use Rattle.volume_core.specs.declared.changes.Change.TheVariants.{Put, Marks, Erase}
+use Rattle.volume_core.specs.declared.changes.Change.TheVariants.{Put}
 use Rattle.volume_core.specs.declared.objects.Kind.TheVariants as Kinds
 use Rattle.volume_core.specs.declared.objects.Object.{Object}
-use Rattle.volume_core.specs.declared.objects.Object.TheVariants.{Block, Mark}
+use Rattle.volume_core.specs.declared.objects.Object.TheVariants.{Block}
 use Rattle.volume_core.specs.Volume.{AllApply, Part, added_by, after, block_at, block_in, changed, kind_at, kind_in, objects_of, part_of, refusal_of, staying_of}
 use Rattle.tape_buffer.proofs.VolumeLemmas.{IsChanged, changes_so}
 use Rattle.tape_buffer.specs.Inner.Seeking.{IsLastOf, SameAt}
@@ -88,12 +88,6 @@ module _ (volume : List Part) (changes : List Change) (number : ℕ) (change : C
       ⊎_elim (λ here. ⊎_elim (λ apart. stays_at apart same) (λ behind. stays_behind here behind same) not)
       (λ apart. stays_at apart same) (cases_eq part (part_of change))
 
--- what a run of marks has is no block
-no_block : (count n : ℕ) → kind_in (slice_get (replicate count Mark) n) ≡ Some Kinds.Block → ⊥
-no_block zero n is = absurd (cc)
-no_block (suc count) zero is = absurd (cc)
-no_block (suc count) (suc n) is = no_block count n is
-
 -- the block of a change that put one
 one_block : (block : List ℕ) (n : ℕ) → kind_in (slice_get (Block block ∷ []) n) ≡ Some Kinds.Block
     → block_in (slice_get (Block block ∷ []) n) ≡ Some block
@@ -125,14 +119,3 @@ module _ (volume : List Part) (changes : List Change) (part at number : ℕ)
         ap block_in (stands ∙ ap (λ (c : Change). slice_get (added_by c) (at - staying_of c)) put)
         ∙ one_block bytes (at - staying)
         (subst (λ (c : Change). kind_in (slice_get (added_by c) (at - staying_of c)) ≡ Some Kinds.Block) put kind)
-
-    pub puts_no_marks : (of staying count : ℕ) → change ≡ Marks of staying count → ⊥
-    puts_no_marks of staying count marks =
-        no_block count (at - staying)
-        (subst (λ (c : Change). kind_in (slice_get (added_by c) (at - staying_of c)) ≡ Some Kinds.Block) marks kind)
-
-    pub puts_no_erase : (of staying : ℕ) → change ≡ Erase of staying → ⊥
-    puts_no_erase of staying erase =
-        let is : None ≡ Some Kinds.Block =
-        subst (λ (c : Change). kind_in (slice_get (added_by c) (at - staying_of c)) ≡ Some Kinds.Block) erase kind in
-        absurd (cc)

@@ -1,5 +1,5 @@
 -- What changes that apply make of a volume: each changes the objects of its partition, and nothing else.
-use Rattle.std.proofs.Common.{◌≡◌, ◌≢◌, ℕ, zero, suc, ◌≤◌, List, [], ◌∷◌, ◌++◌, length, take, set, Option, None, Some, refl, sym, ◌∙◌, ap, arith, ⊎_elim}
+use Rattle.std.proofs.Common.{◌≡◌, ◌≢◌, ℕ, zero, suc, ◌≤◌, ◌<◌, List, [], ◌∷◌, ◌++◌, length, take, set, Option, None, Some, refl, sym, ◌∙◌, ap, arith, ⊎_elim}
 use Rattle.std.specs.Prelude.{slice_get, slice_set, nat_lt, if◌then◌else◌, not, Bool, true, false}
 use Rattle.std.proofs.lemmas.Bool.{and_parts, cases_eq, leb-true, ltb-false}
 use Rattle.std.proofs.lemmas.List.{get_or-set_same, length-set}
@@ -40,6 +40,7 @@ record IsTaken (part : Part) (change : Change) : Type 0 where
   pub staying : staying_of change ≤ length part.objects
   pub few : length (objects_after part.objects change) ≤ MAX_OBJECTS
   pub fits : used_of (objects_after part.objects change) ≤ part.capacity
+  pub well : is_well_formed change ≡ true
 
 taken : (found : Option Part) (change : Change) → refusal_in found change ≡ None
     → (part : Part) × (found ≡ Some part) × IsTaken part change
@@ -55,8 +56,20 @@ taken (Some part) change none =
         staying = ltb-false (length part.objects) (staying_of change) told.0;
         few = leb-true _ _ room.0;
         fits = leb-true _ _ room.1;
+        well = told.2;
       },
     )
+
+-- a change that is not refused concerns a partition that is there, and is well-formed
+pub inside_of : (volume : List Part) (change : Change) → refusal_of volume change ≡ None
+    → part_of change < length volume
+inside_of volume change none =
+    let found = taken (slice_get volume (part_of change)) change none in
+    slice_get_within volume (part_of change) found.0 found.1
+
+pub well_formed : (volume : List Part) (change : Change) → refusal_of volume change ≡ None
+    → is_well_formed change ≡ true
+well_formed volume change none = (taken (slice_get volume (part_of change)) change none).2.well
 
 -- a volume, and the same after a change that applies to it
 pub record IsChanged (old new : List Part) (change : Change) : Type 0 where
@@ -102,15 +115,6 @@ pub changes_so : (volume : List Part) (change : Change) → refusal_of volume ch
 changes_so volume change none =
     let found = taken (slice_get volume (part_of change)) change none in
     rw found.1 (changed_found volume change found.0 found.1 found.2)
-
--- of changes that apply the first ones apply, and the last one behind them
-pub apply_less : (volume : List Part) (changes : List Change) (change : Change)
-    → AllApply volume (changes ++ change ∷ [])
-    → AllApply volume changes × (refusal_of (after volume changes) change ≡ None)
-apply_less volume [] change all = (tt, all.0)
-apply_less volume (c ∷ cs) change all =
-    let rest = apply_less (changed volume c) cs change all.1 in
-    ((all.0, rest.0), rest.1)
 
 -- the capacity of a partition stays through changes that apply, and its objects fit it still
 pub record IsSameKind (old new : List Part) : Type 0 where

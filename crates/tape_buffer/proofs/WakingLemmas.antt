@@ -13,7 +13,7 @@ use Rattle.cartridge.specs.declared.error.CartridgeError.{CartridgeError}
 use Rattle.cartridge.specs.declared.error.CartridgeError.TheVariants.{NotOurs, Damaged, BadRecord, SideFull, Device, Failed, NoMemory}
 use Rattle.cartridge.specs.Answers.{IsNotOpened}
 use Rattle.cartridge.specs.Contents.{Contents, GivesContents, IsBadFrameAt, IsDamagedPairAt, IsNoCartridge, ShowsContents, Start, changes_of, changes_since, start_of, volume_made, with_frames}
-use Rattle.cartridge.specs.Disks.{OnlyOfTwo}
+use Rattle.cartridge.specs.Disks.{NoneOfTwo, OnlyOfTwo}
 use Rattle.cartridge.specs.ContentsOn.{contents_on, contents_on_is, contents_on_none}
 use Rattle.cartridge.specs.State.{ClosedCartridge}
 use Rattle.accepted_changes.specs.Core.{Core}
@@ -189,54 +189,46 @@ module _ {D : Type 0} (state : D → DiskState) (is_disk : (disk : D) → (state
               (if k then Some old.contents else contents_on (seen_of_two state old.disks)))
               is ∙ ap (option_map volume_made) (contents_on_none (seen_of_two state old.disks) never)
 
+      advances_unopened : NoneOfTwo state old.disks disks
+          → Advances (buffer_below state) (closed_buffer old) [] false (closed_buffer new_closed)
+      advances_unopened none =
+          record {
+            moved = moves_closed;
+            counted = none_failed state old.disks disks none;
+            honesty = (stay_honest state old.disks disks keeps, were_honest state old.disks disks keeps);
+            hand = (λ h. h, λ h. h);
+          }
+
+      -- its side gives no volume
+      unreadable : NoneOfTwo state old.disks disks → (AreHonest state old.disks → OnlyOfTwo state old.disks disks)
+          → (AreHonest state old.disks → (contents : Contents)
+          → GivesContents contents (seen_of_two state old.disks) → ⊥)
+          → (Media.Unreadable ≢ Media.Device → IsSettledOn state new_closed)
+          × WakesFrom (AreHonest state old.disks) false (closed_state state old) (Err Media.Unreadable)
+          (closed_state state new_closed)
+          × Advances (buffer_below state) (closed_buffer old) [] false (closed_buffer new_closed)
+      unreadable none only never = (
+        λ other. settled_now only,
+        (stays_as_found only, λ honest. gives_none honest (never honest)),
+        advances_unopened none,
+      )
+
       pub stays_closed : (error : CartridgeError) → IsNotOpened state error old.disks disks
           → (wake_error_of error ≢ Media.Device → IsSettledOn state new_closed)
           × WakesFrom (AreHonest state old.disks) false (closed_state state old) (Err (wake_error_of error))
           (closed_state state new_closed)
           × Advances (buffer_below state) (closed_buffer old) [] (met_fault (Err (wake_error_of error)))
           (closed_buffer new_closed)
-      stays_closed NotOurs refused = (
-        λ other. settled_now (λ honest. (refused.1 honest).1),
-        (
-          stays_as_found (λ honest. (refused.1 honest).1),
-          λ honest. gives_none honest
-              (λ contents gives. no_cause.ours (seen_of_two state old.disks) contents gives (refused.1 honest).0),
-        ),
-        record {
-          moved = moves_closed;
-          counted = none_failed state old.disks disks refused.0;
-          honesty = (stay_honest state old.disks disks keeps, were_honest state old.disks disks keeps);
-          hand = (λ h. h, λ h. h);
-        },
-      )
-      stays_closed (Damaged at) refused = (
-        λ other. settled_now (λ honest. (refused.1 honest).1),
-        (
-          stays_as_found (λ honest. (refused.1 honest).1),
-          λ honest. gives_none honest
-              (λ contents gives. no_cause.whole (seen_of_two state old.disks) contents at gives (refused.1 honest).0),
-        ),
-        record {
-          moved = moves_closed;
-          counted = none_failed state old.disks disks refused.0;
-          honesty = (stay_honest state old.disks disks keeps, were_honest state old.disks disks keeps);
-          hand = (λ h. h, λ h. h);
-        },
-      )
-      stays_closed (BadRecord at) refused = (
-        λ other. settled_now (λ honest. (refused.1 honest).1),
-        (
-          stays_as_found (λ honest. (refused.1 honest).1),
-          λ honest. gives_none honest
-              (λ contents gives. no_cause.bad (seen_of_two state old.disks) contents at gives (refused.1 honest).0),
-        ),
-        record {
-          moved = moves_closed;
-          counted = none_failed state old.disks disks refused.0;
-          honesty = (stay_honest state old.disks disks keeps, were_honest state old.disks disks keeps);
-          hand = (λ h. h, λ h. h);
-        },
-      )
+      stays_closed NotOurs refused =
+          unreadable refused.0 (λ honest. (refused.1 honest).1)
+          (λ honest contents gives. no_cause.ours (seen_of_two state old.disks) contents gives (refused.1 honest).0)
+      stays_closed (Damaged at) refused =
+          unreadable refused.0 (λ honest. (refused.1 honest).1)
+          (λ honest contents gives.
+          no_cause.whole (seen_of_two state old.disks) contents at gives (refused.1 honest).0)
+      stays_closed (BadRecord at) refused =
+          unreadable refused.0 (λ honest. (refused.1 honest).1)
+          (λ honest contents gives. no_cause.bad (seen_of_two state old.disks) contents at gives (refused.1 honest).0)
       stays_closed (Device fault) refused = (
         λ other. absurd (other refl),
         record { stays = known_stays; torn = λ honest. refl },
@@ -250,12 +242,7 @@ module _ {D : Type 0} (state : D → DiskState) (is_disk : (disk : D) → (state
       stays_closed NoMemory refused = (
         λ other. settled_now (λ honest. (refused.1 honest).1),
         stays_as_found (λ honest. (refused.1 honest).1),
-        record {
-          moved = moves_closed;
-          counted = none_failed state old.disks disks refused.0;
-          honesty = (stay_honest state old.disks disks keeps, were_honest state old.disks disks keeps);
-          hand = (λ h. h, λ h. h);
-        },
+        advances_unopened refused.0,
       )
       stays_closed SideFull refused = absurd refused
       stays_closed Failed refused = absurd refused

@@ -1,5 +1,5 @@
 -- How the disks of a medium go away.
-use Rattle.std.specs.Prelude.{◌≡◌, List, [], false, None}
+use Rattle.std.specs.Prelude.{◌≡◌, ◌==◌, ◌&&◌, List, [], Bool, false, not, None}
 use Rattle.vtl_base.specs.Below.{Advances}
 use Rattle.tape_disk.specs.Disk.{DiskState}
 use Rattle.volume_core.specs.declared.changes.Change.{Change}
@@ -40,6 +40,13 @@ pub record IsAwayAs (seen : MediumState) (left : Budget) (away : Away) : Type 0 
   pub noted : away.noted ≡ seen
   pub loose : away.loose ≡ None
   pub cut : IsCut left away.left
+
+-- a medium works, and yet accepts no change until its disks are back (own)
+abbrev pub lacks_room_held : {C S : Type 0} → Holding C S → Bool
+lacks_room_held (Holdings.Open cartridge) = false
+lacks_room_held (Holdings.Closed cartridge) = false
+lacks_room_held (Holdings.Away away) =
+    away.noted.awake && (not away.noted.failed && away.left.records == 0)
 
 module _ {D : Type 0} where
   -- what a medium accepted without its disks, and did not pass on (own)

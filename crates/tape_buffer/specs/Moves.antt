@@ -181,13 +181,13 @@ module _ {D : Type 0} (state : D → DiskState) where
       by None = on (disks_in buffer.held)
       by (Some away) = away_moves_nowhere away
 
-  -- a run without a call stores nothing, whatever more is accepted
-  pub stores_behind_nowhere : ((disk : D) → (state disk).honest → IsDisk (state disk))
-      → (buffer : BufferState D) → StoresBehind buffer buffer
-  stores_behind_nowhere is_disk buffer more = by (disks_in buffer.held)
+  -- nor does it where a fault was not reported
+  pub unreported_moves_nowhere : ((disk : D) → (state disk).honest → IsDisk (state disk))
+      → (buffer : BufferState D) → MovesUnreported buffer [] buffer
+  unreported_moves_nowhere is_disk buffer = by (disks_in buffer.held)
     where
       core : Core Start Change
-      core = as_told false (medium_core (with_changes buffer more))
+      core = as_told false (medium_core buffer)
 
       by : (disks : Option (TwoDisks D)) → MovesOn disks disks core core []
       by None = refl
@@ -195,25 +195,38 @@ module _ {D : Type 0} (state : D → DiskState) where
           core_moves_nowhere medium_rules (two_disks state) (two_is_device state) disks core
           (λ honest. (is_disk disks.first honest.0, is_disk disks.second honest.1))
 
+  -- a run without a call stores nothing, whatever more is accepted
+  pub stores_behind_nowhere : ((disk : D) → (state disk).honest → IsDisk (state disk))
+      → (buffer : BufferState D) → StoresBehind buffer buffer
+  stores_behind_nowhere is_disk buffer more = unreported_moves_nowhere is_disk (with_changes buffer more)
+
+  -- from one core to the next, one run after the other accepts the changes of both
+  pub cores_move_on : (x y z : Option (TwoDisks D)) (a b c : Core Start Change) (first second : List Change)
+      → MovesOn x y a b first → MovesOn y z b c second → MovesOn x z a c (first ++ second)
+  cores_move_on None None None a b c first second one two = (λ i. one i ++ second) ∙ two
+  cores_move_on None None (Some z) a b c first second one two = absurd two
+  cores_move_on None (Some y) z a b c first second one two = absurd one
+  cores_move_on (Some x) None z a b c first second one two = absurd one
+  cores_move_on (Some x) (Some y) None a b c first second one two = absurd two
+  cores_move_on (Some x) (Some y) (Some z) a b c first second one two =
+      core_moves_on medium_rules (two_disks state) (two_is_device state) x y z a b c first second one two
+
+  -- so do two runs of which a fault was not reported
+  pub unreported_moves_on : (a b c : BufferState D) (first second : List Change)
+      → MovesUnreported a first b → MovesUnreported b second c → MovesUnreported a (first ++ second) c
+  unreported_moves_on a b c first second one two =
+      cores_move_on (disks_in a.held) (disks_in b.held) (disks_in c.held) (as_told false (medium_core a))
+      (as_told false (medium_core b)) (as_told false (medium_core c)) first second one two
+
   -- two runs, one after the other, accept the changes of both
   pub medium_moves_on : (a b c : BufferState D) (first second : List Change)
       → MediumMoves a first b → MediumMoves b second c → MediumMoves a (first ++ second) c
   medium_moves_on a b c first second = by (away_in a.held) (away_in b.held) (away_in c.held)
     where
-      on : (x y z : Option (TwoDisks D)) → MovesOn x y (medium_core a) (medium_core b) first
-          → MovesOn y z (medium_core b) (medium_core c) second
-          → MovesOn x z (medium_core a) (medium_core c) (first ++ second)
-      on None None None one two = (λ i. one i ++ second) ∙ two
-      on None None (Some z) one two = absurd two
-      on None (Some y) z one two = absurd one
-      on (Some x) None z one two = absurd one
-      on (Some x) (Some y) None one two = absurd two
-      on (Some x) (Some y) (Some z) one two =
-          core_moves_on medium_rules (two_disks state) (two_is_device state) x y z (medium_core a)
-          (medium_core b) (medium_core c) first second one two
-
       by : (x y z : Option Away) → MovesIn x y a first b → MovesIn y z b second c → MovesIn x z a (first ++ second) c
-      by None None None one two = on (disks_in a.held) (disks_in b.held) (disks_in c.held) one two
+      by None None None one two =
+          cores_move_on (disks_in a.held) (disks_in b.held) (disks_in c.held) (medium_core a) (medium_core b)
+          (medium_core c) first second one two
       by None None (Some z) one two = absurd two
       by None (Some y) z one two = absurd one
       by (Some x) None z one two = absurd one

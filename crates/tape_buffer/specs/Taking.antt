@@ -1,8 +1,9 @@
 -- How many changes a medium may take without memory and without its device, and what is then pending.
-use Rattle.std.specs.Prelude.{◌≡◌, ◌⊎◌, ◌+◌, ◌*◌, ℕ, List, false, length, sum_by}
+use Rattle.std.specs.Prelude.{◌≡◌, ◌⊎◌, ◌+◌, ◌*◌, ℕ, List, true, false, length, sum_by}
 use Rattle.vtl_base.specs.declared.limits.TheConstants.{BUFFER_BYTES, BUFFER_RECORDS}
 use Rattle.volume_core.specs.declared.changes.Change.{Change}
 use Rattle.volume_core.specs.Medium.{block_bytes, frame_size}
+use Rattle.cartridge.specs.Answers.{LacksStores}
 use Rattle.cartridge.specs.State.{ClosedCartridge, OpenCartridge}
 use Rattle.tape_buffer.specs.declared.budgets.Budget.{Budget}
 use Rattle.tape_buffer.specs.declared.holding.Holding.{Holding}
@@ -19,11 +20,13 @@ abbrev pub longest_body : ℕ
 longest_body = BUFFER_BYTES + 10 * BUFFER_RECORDS
 
 module _ {D : Type 0} where
-  -- How many records a medium may take: as many as its buffer, if it works; or none, since it has failed, since less is
-  -- reserved than all that take, or since memory ran out for the list of them (own).
+  -- How many records a medium may take: as many as its buffer, if it works; or none, since it has failed, or since
+  -- memory ran out, so less is reserved than all that take (own).
   abbrev pub LendsRecords : OpenCartridge D → List Change → ℕ → Type 0
   LendsRecords cartridge pending records =
-      ((cartridge.failed ≡ false) × (records + length pending ≡ BUFFER_RECORDS)) ⊎ (records ≡ 0)
+      ((cartridge.failed ≡ false) × (records + length pending ≡ BUFFER_RECORDS))
+      ⊎ ((records ≡ 0) × ((cartridge.failed ≡ true)
+      ⊎ LacksStores cartridge.reserved BUFFER_RECORDS longest_body BUFFER_RECORDS))
 
   -- an open cartridge is lent, as it was except for what is reserved; `left` is what is left of the bytes of the buffer
   -- and of the room of the side, and how many records may be taken (own)

@@ -13,10 +13,10 @@ ghost use Rattle.tape_buffer.specs.State.{state_of};
 ghost use Rattle.tape_buffer.specs.declared.budgets.Budget.{Budget};
 
 use crate::budgets::Budget;
-use crate::holding::{Holding, Opened, known_in};
-use crate::pending::block_bytes;
-use cartridge::Shelved;
+use crate::holding::{Holding, known_in};
+use crate::pending::{Pending, block_bytes};
 use cartridge::shown::{enter_shown, refusal_shown};
+use cartridge::{Cartridge, Shelved};
 use noted_values::{NotedValue, note};
 use object_index::Index;
 use std::marker::Model;
@@ -148,7 +148,10 @@ pub(crate) fn nothing_away() -> Away {
 }
 
 // What a medium that holds this knows of itself once its disks go away, if so much may be accepted without them.
-pub(crate) fn away_of<D: Disk>(held: &Holding<Opened<D>, Shelved<D>>, left: Budget) -> Away
+pub(crate) fn away_of<D: Disk>(
+    held: &Holding<(Cartridge<D>, Pending), Shelved<D>>,
+    left: Budget,
+) -> Away
     requires held { IsHeld held.now }
     requires hand { IsHere held.now }
     ensures noted { result.noted ≡ state_of D.state (buffer_of held.now) }
@@ -160,7 +163,7 @@ pub(crate) fn away_of<D: Disk>(held: &Holding<Opened<D>, Shelved<D>>, left: Budg
 {
     known_in(held);
     let (failed, waiting) = match held {
-        Holding::Open(opened) => (opened.cartridge.has_failed(), opened.pending.len()),
+        Holding::Open((cartridge, pending)) => (cartridge.has_failed(), pending.len()),
         Holding::Closed(_) | Holding::Away(_) => (false, 0),
     };
     Away {
@@ -173,14 +176,14 @@ pub(crate) fn away_of<D: Disk>(held: &Holding<Opened<D>, Shelved<D>>, left: Budg
 }
 
 // The note of a medium that holds this.
-fn noted_of<D: Disk>(held: &Holding<Opened<D>, Shelved<D>>) -> NotedValue<SeenNote>
+fn noted_of<D: Disk>(held: &Holding<(Cartridge<D>, Pending), Shelved<D>>) -> NotedValue<SeenNote>
     ensures { result ≡ state_of D.state (buffer_of held.now) }
 {
     by_held(held)
 }
 
 // The note that the caller names in its ghost argument. The other argument serves to name it.
-fn by_held<D: Disk>(_held: &Holding<Opened<D>, Shelved<D>>) -> NotedValue<SeenNote>
+fn by_held<D: Disk>(_held: &Holding<(Cartridge<D>, Pending), Shelved<D>>) -> NotedValue<SeenNote>
     ghost seen: { MediumState }
     ensures { result ≡ seen }
 {

@@ -8,9 +8,10 @@ ghost use Rattle.tape_buffer.specs.State.{IsSettledIn, closed_buffer, disk_in, d
 ghost use Rattle.tape_buffer.specs.Moves.{IsAway, IsHere, IsSafeOrPending, ShowsOn, medium_core};
 ghost use Rattle.tape_buffer.specs.declared.holding.Holding.TheVariants as Holdings;
 
-use crate::holding::{Holding, Opened, disk_of, known_in};
+use crate::holding::{Holding, disk_of, known_in};
+use crate::pending::Pending;
 use accepted_changes::Accepting;
-use cartridge::Shelved;
+use cartridge::{Cartridge, Shelved};
 use object_index::Index;
 use std::alloc::Global;
 use std::marker::Model;
@@ -29,7 +30,7 @@ use tape_disk::Disk;
 pub struct Buffered<D: Disk> {
     pub(crate) alloc: Global,
     pub(crate) catalog: Option<Index>,
-    pub(crate) held: Holding<Opened<D>, Shelved<D>>,
+    pub(crate) held: Holding<(Cartridge<D>, Pending), Shelved<D>>,
 }
 
 impl<D: Disk> Model for Buffered<D> {
@@ -78,7 +79,7 @@ impl<D: Disk> Buffered<D> {
         let Buffered { held, .. } = self;
         match held {
             Holding::Closed(shelved) => shelved,
-            Holding::Open(_opened) => unreachable!(),
+            Holding::Open(_open) => unreachable!(),
             Holding::Away(_away) => unreachable!(),
         }
     }

@@ -12,7 +12,6 @@ ghost use Rattle.tape_buffer.specs.Frames.{ParksInFrames};
 ghost use Rattle.tape_buffer.specs.Moves.{LeavesAlone, LeavesEachAlone, buffer_below};
 ghost use Rattle.tape_buffer.specs.Inner.Waking.{wake_error_of};
 
-use crate::holding::Opened;
 use crate::pending::Pending;
 use crate::storing::settle_over;
 use cartridge::laws::a_pair_gives_one_volume;
@@ -23,34 +22,33 @@ use tape_disk::Disk;
 use volume_core::MediumError;
 use vtl_base::NoMemory;
 
-// Closes a cartridge, once what is pending over it is stored. Where the cartridge has failed, what is pending is
+// Closes a cartridge, once what is pending over it is stored. Where the cartridge has failed, what is pending is to be
 // dropped. After a device fault the cartridge is returned open, and has failed.
-pub(crate) fn park_over<D: Disk>(opened: Opened<D>) -> Result<Shelved<D>, Opened<D>>
-    requires { IsPendingOver opened.cartridge opened.pending }
+pub(crate) fn park_over<D: Disk>(
+    cartridge: Cartridge<D>,
+    pending: &mut Pending,
+) -> Result<Shelved<D>, Cartridge<D>>
+    requires { IsPendingOver cartridge pending.old }
     ensures ok { IfOk result (λ shelved. (shelved.known ≡ true)
-        × ParksInFrames opened.cartridge.failed (Ok tt) opened.cartridge.contents.frames opened.pending
-        shelved.contents.frames
-        × Parks (AreHonest D.state opened.cartridge.disks) (open_state opened.cartridge opened.pending) (Ok tt)
+        × ParksInFrames cartridge.failed (Ok tt) cartridge.contents.frames pending.old shelved.contents.frames
+        × Parks (AreHonest D.state cartridge.disks) (open_state cartridge pending.old) (Ok tt)
         (closed_state D.state shelved)
-        × Advances (buffer_below D.state) (open_buffer opened.cartridge opened.pending) [] false
-        (closed_buffer shelved)) }
-    ensures err { IfErr result (λ broken. IsPendingOver broken.cartridge broken.pending
-        × (broken.cartridge.contents.frames ≡ opened.cartridge.contents.frames)
-        × Parks (AreHonest D.state opened.cartridge.disks) (open_state opened.cartridge opened.pending)
-        (Err Errors.Device) (open_state broken.cartridge broken.pending)
-        × Stores (open_state opened.cartridge opened.pending) [] (open_state broken.cartridge broken.pending)
-        × Advances (buffer_below D.state) (open_buffer opened.cartridge opened.pending) [] true
-        (open_buffer broken.cartridge broken.pending)) }
+        × Advances (buffer_below D.state) (open_buffer cartridge pending.old) [] false (closed_buffer shelved)) }
+    ensures err { IfErr result (λ broken. IsPendingOver broken pending.new
+        × (broken.contents.frames ≡ cartridge.contents.frames)
+        × Parks (AreHonest D.state cartridge.disks) (open_state cartridge pending.old) (Err Errors.Device)
+        (open_state broken pending.new)
+        × Stores (open_state cartridge pending.old) [] (open_state broken pending.new)
+        × Advances (buffer_below D.state) (open_buffer cartridge pending.old) [] true
+        (open_buffer broken pending.new)) }
 {
-    let Opened { cartridge, pending } = opened;
     if cartridge.has_failed() {
-        return Ok(shelve_over(cartridge, &pending));
+        return Ok(shelve_over(cartridge, pending));
     }
     let mut cartridge = cartridge;
-    let mut pending = pending;
-    match settle_over(&mut cartridge, &mut pending) {
-        Ok(()) => Ok(shelve_over(cartridge, &pending)),
-        Err(MediumError::Device) => Err(Opened { cartridge, pending }),
+    match settle_over(&mut cartridge, pending) {
+        Ok(()) => Ok(shelve_over(cartridge, pending)),
+        Err(MediumError::Device) => Err(cartridge),
         Err(_) => unreachable!(),
     }
 }
@@ -76,16 +74,13 @@ fn shelve_over<D: Disk>(cartridge: Cartridge<D>, pending: &Pending) -> Shelved<D
 pub(crate) fn wake_closed<D: Disk>(
     alloc: Global,
     shelved: Shelved<D>,
-) -> Result<(Opened<D>, Index), (MediumError, Shelved<D>)>
-    ensures ok { IfOk result (λ woken. IsPendingOver woken.0.cartridge woken.0.pending
-        × Wakes (AreHonest D.state shelved.disks) (closed_state D.state shelved) (Ok tt)
-        (open_state woken.0.cartridge woken.0.pending)
-        × Advances (buffer_below D.state) (closed_buffer shelved) [] false
-        (open_buffer woken.0.cartridge woken.0.pending)
-        × LeavesAlone D.state (closed_buffer shelved) (open_buffer woken.0.cartridge woken.0.pending)
-        × LeavesEachAlone D.state (closed_buffer shelved) (open_buffer woken.0.cartridge woken.0.pending)) }
-    ensures catalog { IfOk result (λ woken.
-        IsIndexOf woken.1 (volume_of (open_state woken.0.cartridge woken.0.pending))) }
+) -> Result<(Cartridge<D>, Pending, Index), (MediumError, Shelved<D>)>
+    ensures ok { IfOk result (λ woken. IsPendingOver woken.0 woken.1
+        × Wakes (AreHonest D.state shelved.disks) (closed_state D.state shelved) (Ok tt) (open_state woken.0 woken.1)
+        × Advances (buffer_below D.state) (closed_buffer shelved) [] false (open_buffer woken.0 woken.1)
+        × LeavesAlone D.state (closed_buffer shelved) (open_buffer woken.0 woken.1)
+        × LeavesEachAlone D.state (closed_buffer shelved) (open_buffer woken.0 woken.1)) }
+    ensures catalog { IfOk result (λ woken. IsIndexOf woken.2 (volume_of (open_state woken.0 woken.1))) }
     ensures err { IfErr result (λ back. (back.0 ≢ Errors.Device → IsSettledOn D.state back.1)
         × Wakes (AreHonest D.state shelved.disks) (closed_state D.state shelved) (Err back.0)
         (closed_state D.state back.1)
@@ -102,7 +97,7 @@ pub(crate) fn wake_closed<D: Disk>(
             Ok((index, pending)) => {
                 let cartridge = opening.keep();
                 cartridge.known();
-                Ok((Opened { cartridge, pending }, index))
+                Ok((cartridge, pending, index))
             }
             Err(_) => {
                 let shelved = opening.into_shelved();

@@ -2,10 +2,10 @@
 ghost use Rattle.std.specs.Prelude.{◌≡◌, ◌≤◌, [], false};
 ghost use Rattle.vtl_base.specs.Below.{Advances};
 ghost use Rattle.vtl_base.specs.declared.limits.TheConstants.{BUFFER_RECORDS};
-ghost use Rattle.cartridge.specs.Shown.{HasEntriesIn, IsGrownIn};
+ghost use Rattle.cartridge.specs.Shown.{HasEntriesIn, IsGrownIn, LacksEntriesIn};
 ghost use Rattle.tape_buffer.specs.Aways.{IsCut, IsFoundAs, KnowsAway, loose_in};
 ghost use Rattle.tape_buffer.specs.Catalogs.{IsCataloged};
-ghost use Rattle.tape_buffer.specs.Detaching.{DetachesFrom, IsAwayAs, away_buffer, left_in, loose_of, passed};
+ghost use Rattle.tape_buffer.specs.Detaching.{DetachesFrom, IsAwayAs, away_buffer, lacks_room_held, left_in, loose_of, passed};
 ghost use Rattle.tape_buffer.specs.Inner.Lending.{MayBeLent};
 ghost use Rattle.tape_buffer.specs.Invariants.{IsHeld, buffer_of};
 ghost use Rattle.tape_buffer.specs.Limits.{FitsBuffer};
@@ -18,10 +18,11 @@ use crate::aways::{Away, away_of};
 use crate::budgets::Budget;
 use crate::buffered::Buffered;
 use crate::disks::Disks;
-use crate::holding::{Holding, Opened, hold};
+use crate::holding::{Holding, hold};
 use crate::lending::allow;
-use cartridge::Shelved;
+use crate::pending::Pending;
 use cartridge::shown::reserve_shown;
+use cartridge::{Cartridge, Shelved};
 use object_index::Index;
 use std::mem;
 use tape_disk::Disk;
@@ -63,6 +64,16 @@ impl<D: Disk> Buffered<D> {
         }
     }
 
+    /// Whether the medium works, and yet accepts no change until its disks are back.
+    pub fn lacks_room(&self) -> bool
+        ensures { result ≡ lacks_room_held self.now.held }
+    {
+        match &self.held {
+            Holding::Away(away) => self.is_awake() && !away.failed && away.left.records == 0,
+            Holding::Open(_) | Holding::Closed(_) => false,
+        }
+    }
+
     /// Passes on the change that was accepted while the disks are away, if there is one.
     pub fn take_loose(&mut self) -> Option<Change>
         requires { IsAway self.old.held }
@@ -79,7 +90,7 @@ impl<D: Disk> Buffered<D> {
 // What a medium knows of itself once its disks go away, and how much the disks take. It reserves memory for that.
 fn away_from<D: Disk>(
     catalog: &mut Option<Index>,
-    held: &mut Holding<Opened<D>, Shelved<D>>,
+    held: &mut Holding<(Cartridge<D>, Pending), Shelved<D>>,
 ) -> (Away, Budget)
     requires held { IsHeld held.old }
     requires hand { IsHere held.old }
@@ -104,6 +115,7 @@ fn cut_to(catalog: &mut Option<Index>, left: Budget) -> Budget
     ensures grown { IsGrownIn catalog.old catalog.new }
     ensures entries { HasEntriesIn catalog.new result.records }
     ensures cut { IsCut left result }
+    ensures cause { (result ≡ left → ⊥) → LacksEntriesIn catalog.old BUFFER_RECORDS }
 {
     match reserve_shown(catalog, BUFFER_RECORDS) {
         Ok(()) => left,

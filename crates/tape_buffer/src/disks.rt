@@ -7,15 +7,16 @@ ghost use Rattle.volume_core.specs.Stores.{Stores};
 ghost use Rattle.accepted_changes.specs.Core.{IsCore};
 ghost use Rattle.tape_buffer.specs.Frames.{IsOneFrameIn, frames_in};
 ghost use Rattle.tape_buffer.specs.Limits.{FitsBuffer};
-ghost use Rattle.tape_buffer.specs.Moves.{IsHere, IsSafeOrPending, ShowsOn, StoresBehind, buffer_below, medium_core};
+ghost use Rattle.tape_buffer.specs.Moves.{IsHere, IsSafeOrPending, MovesUnreported, ShowsOn, StoresBehind, buffer_below, medium_core};
 ghost use Rattle.tape_buffer.specs.State.{IsSettledIn, disk_in, disks_in, state_of};
 ghost use Rattle.tape_buffer.specs.Budgets.{KeepsBudget, budget_after};
 
 use crate::budgets::Budget;
-use crate::holding::{Holding, Opened, disk_of, is_open, known_in};
+use crate::holding::{Holding, disk_of, is_open, known_in};
 use crate::lending::take_over;
+use crate::pending::Pending;
 use crate::storing::turn_over;
-use cartridge::Shelved;
+use cartridge::{Cartridge, Shelved};
 use std::marker::Model;
 use tape_disk::Disk;
 use volume_core::{Change, Turn};
@@ -25,7 +26,7 @@ use volume_core::{Change, Turn};
 /// they are back (`Buffered::attach`), they show nothing of the volume, and no block is read.
 #[derive(Drop)]
 pub struct Disks<D: Disk> {
-    pub(crate) held: Holding<Opened<D>, Shelved<D>>,
+    pub(crate) held: Holding<(Cartridge<D>, Pending), Shelved<D>>,
     pub(crate) left: Budget,
 }
 
@@ -65,11 +66,12 @@ impl<D: Disk> Disks<D> {
             (state_of D.state self.new.buffer) }
         ensures advances { (state_of D.state self.old.buffer).failed ≡ false →
             Advances (buffer_below D.state) self.old.buffer (change ∷ []) false self.new.buffer }
+        ensures moves { MovesUnreported D.state self.old.buffer (change ∷ []) self.new.buffer }
     {
         let left = self.left;
         match &mut self.held {
-            Holding::Open(opened) => {
-                self.left = take_over(&opened.cartridge, &mut opened.pending, left, change);
+            Holding::Open((cartridge, pending)) => {
+                self.left = take_over(cartridge, pending, left, change);
             }
             Holding::Closed(_) | Holding::Away(_) => unreachable!(),
         }
@@ -90,7 +92,7 @@ impl<D: Disk> Disks<D> {
         ensures behind { StoresBehind D.state self.old.buffer self.new.buffer }
     {
         match &mut self.held {
-            Holding::Open(opened) => turn_over(&mut opened.cartridge, &mut opened.pending),
+            Holding::Open((cartridge, pending)) => turn_over(cartridge, pending),
             Holding::Closed(_) | Holding::Away(_) => unreachable!(),
         }
     }
@@ -109,7 +111,7 @@ impl<D: Disk> Disks<D> {
         ensures { result ≡ (state_of D.state self.now.buffer).failed }
     {
         match &self.held {
-            Holding::Open(opened) => opened.cartridge.has_failed(),
+            Holding::Open((cartridge, _)) => cartridge.has_failed(),
             Holding::Closed(_) | Holding::Away(_) => unreachable!(),
         }
     }

@@ -13,19 +13,12 @@ use cartridge::{Cartridge, Shelved};
 use std::mem;
 use tape_disk::Disk;
 
-/// A cartridge, open or closed, while its disks are at hand; else how it is seen.
+/// A cartridge, open (with what is pending over it) or closed, while its disks are at hand; else how it is seen.
 #[derive(Drop)]
 pub enum Holding<C, S> {
     Open(C),
     Closed(S),
     Away(Away),
-}
-
-/// An open cartridge, and what is pending over it.
-#[derive(Drop)]
-pub(crate) struct Opened<D: Disk> {
-    pub(crate) cartridge: Cartridge<D>,
-    pub(crate) pending: Pending,
 }
 
 /// Puts a cartridge, open or closed, into `place`, whose disks must be away.
@@ -41,7 +34,7 @@ pub(crate) fn hold<C, S>(place: &mut Holding<C, S>, held: Holding<C, S>)
 }
 
 /// Does nothing; its contract is that of `Buffered::known`, for what is held.
-pub(crate) fn known_in<D: Disk>(held: &Holding<Opened<D>, Shelved<D>>)
+pub(crate) fn known_in<D: Disk>(held: &Holding<(Cartridge<D>, Pending), Shelved<D>>)
     requires { IsHeld held.now }
     ensures core { IsCore (medium_core D.state (buffer_of held.now)) }
     ensures whole { IsSafeOrPending (medium_core D.state (buffer_of held.now)) (buffer_of held.now).pending }
@@ -52,9 +45,9 @@ pub(crate) fn known_in<D: Disk>(held: &Holding<Opened<D>, Shelved<D>>)
         ShowsOn D.state (disks_in (buffer_of held.now).held) (medium_core D.state (buffer_of held.now)) }
 {
     match held {
-        Holding::Open(opened) => {
-            opened.pending.within();
-            opened.cartridge.known();
+        Holding::Open((cartridge, pending)) => {
+            pending.within();
+            cartridge.known();
         }
         Holding::Closed(shelved) => shelved.known(),
         Holding::Away(_) => {}
@@ -62,7 +55,7 @@ pub(crate) fn known_in<D: Disk>(held: &Holding<Opened<D>, Shelved<D>>)
 }
 
 /// Whether an open cartridge is held, whose disks are at hand.
-pub(crate) fn is_open<D: Disk>(held: &Holding<Opened<D>, Shelved<D>>) -> bool
+pub(crate) fn is_open<D: Disk>(held: &Holding<(Cartridge<D>, Pending), Shelved<D>>) -> bool
     requires { IsHere held.now }
     ensures { result ≡ (state_of D.state (buffer_of held.now)).awake }
 {
@@ -73,12 +66,12 @@ pub(crate) fn is_open<D: Disk>(held: &Holding<Opened<D>, Shelved<D>>) -> bool
 }
 
 /// For reading: the disk of the side that counts, or the first disk of a closed cartridge.
-pub(crate) fn disk_of<D: Disk>(held: &Holding<Opened<D>, Shelved<D>>) -> &D
+pub(crate) fn disk_of<D: Disk>(held: &Holding<(Cartridge<D>, Pending), Shelved<D>>) -> &D
     requires { IsHere held.now }
     ensures { disk_in (buffer_of held.now).held ≡ Some result.now }
 {
     match held {
-        Holding::Open(opened) => opened.cartridge.disk(),
+        Holding::Open((cartridge, _)) => cartridge.disk(),
         Holding::Closed(shelved) => shelved.disk(),
         Holding::Away(_) => unreachable!(),
     }

@@ -11,13 +11,13 @@ ghost use Rattle.tape_buffer.specs.Inner.Lending.{MayBeLent};
 ghost use Rattle.tape_buffer.specs.Inner.Storing.{IsRoomyFor};
 ghost use Rattle.tape_buffer.specs.Invariants.{IsHeld, buffer_of};
 ghost use Rattle.tape_buffer.specs.Limits.{FitsBuffer};
-ghost use Rattle.tape_buffer.specs.Moves.{IsHere, buffer_below};
+ghost use Rattle.tape_buffer.specs.Moves.{IsHere, MovesUnreported, buffer_below};
 ghost use Rattle.tape_buffer.specs.State.{IsPendingOver, open_buffer, open_state, state_of};
 ghost use Rattle.tape_buffer.specs.Budgets.{KeepsBudget, budget_after};
 ghost use Rattle.tape_buffer.specs.Taking.{LendsFrom, LendsOpen, LendsRecords, longest_body};
 
 use crate::budgets::Budget;
-use crate::holding::{Holding, Opened};
+use crate::holding::Holding;
 use crate::pending::{Pending, block_bytes};
 use cartridge::{Cartridge, Shelved};
 use tape_disk::Disk;
@@ -28,7 +28,7 @@ use vtl_base::limits::{BUFFER_BYTES, BUFFER_RECORDS};
 const LONGEST_BODY: usize = BUFFER_BYTES + 10 * BUFFER_RECORDS;
 
 // How much may be accepted over what is held, once memory is reserved for it.
-pub(crate) fn allow<D: Disk>(held: &mut Holding<Opened<D>, Shelved<D>>) -> Budget
+pub(crate) fn allow<D: Disk>(held: &mut Holding<(Cartridge<D>, Pending), Shelved<D>>) -> Budget
     requires held { IsHeld held.old }
     requires hand { IsHere held.old }
     ensures lends { LendsFrom (buffer_of held.old) (record { buffer = buffer_of held.new; left = result }) }
@@ -38,7 +38,7 @@ pub(crate) fn allow<D: Disk>(held: &mut Holding<Opened<D>, Shelved<D>>) -> Budge
     ensures advances { Advances (buffer_below D.state) (buffer_of held.old) [] false (buffer_of held.new) }
 {
     match held {
-        Holding::Open(opened) => allow_over(&mut opened.cartridge, &opened.pending),
+        Holding::Open((cartridge, pending)) => allow_over(cartridge, pending),
         Holding::Closed(_) => Budget {
             records: 0,
             bytes: 0,
@@ -109,6 +109,8 @@ pub(crate) fn take_over<D: Disk>(
         (open_state cartridge.now pending.new) }
     ensures advances { cartridge.now.failed ≡ false → Advances (buffer_below D.state)
         (open_buffer cartridge.now pending.old) (change ∷ []) false (open_buffer cartridge.now pending.new) }
+    ensures moves { MovesUnreported D.state (open_buffer cartridge.now pending.old) (change ∷ [])
+        (open_buffer cartridge.now pending.new) }
 {
     let left = Budget {
         records: left.records - 1,

@@ -52,12 +52,7 @@ impl<D: Disk> Medium for Buffered<D> {
             unreachable!()
         };
         match &mut self.held {
-            Holding::Open(opened) => accept_over(
-                index,
-                &mut opened.cartridge,
-                &mut opened.pending,
-                change,
-            ),
+            Holding::Open((cartridge, pending)) => accept_over(index, cartridge, pending, change),
             Holding::Away(away) => accept_away(index, away, change),
             Holding::Closed(_) => unreachable!(),
         }
@@ -65,13 +60,7 @@ impl<D: Disk> Medium for Buffered<D> {
 
     fn fetch(&mut self, part: PartNo, at: ObjNo, into: &mut Vec<u8>) -> Result<(), MediumError> {
         match &mut self.held {
-            Holding::Open(opened) => fetch_over(
-                &mut opened.cartridge,
-                &opened.pending,
-                part,
-                at,
-                into,
-            ),
+            Holding::Open((cartridge, pending)) => fetch_over(cartridge, pending, part, at, into),
             Holding::Closed(_) | Holding::Away(_) => unreachable!(),
         }
     }
@@ -86,7 +75,7 @@ impl<D: Disk> Medium for Buffered<D> {
         ensures advances { Advances (buffer_below D.state) self.old [] (met_fault result) self.new }
     {
         match &mut self.held {
-            Holding::Open(opened) => settle_over(&mut opened.cartridge, &mut opened.pending),
+            Holding::Open((cartridge, pending)) => settle_over(cartridge, pending),
             Holding::Closed(_) | Holding::Away(_) => unreachable!(),
         }
     }
@@ -102,7 +91,7 @@ impl<D: Disk> Medium for Buffered<D> {
         ensures behind { StoresBehind D.state self.old self.new }
     {
         match &mut self.held {
-            Holding::Open(opened) => turn_over(&mut opened.cartridge, &mut opened.pending),
+            Holding::Open((cartridge, pending)) => turn_over(cartridge, pending),
             Holding::Closed(_) | Holding::Away(_) => unreachable!(),
         }
     }
@@ -120,14 +109,14 @@ impl<D: Disk> Medium for Buffered<D> {
         ensures advances { Advances (buffer_below D.state) self.old [] (met_fault result) self.new }
     {
         match mem::replace(&mut self.held, Holding::Away(nothing_away())) {
-            Holding::Open(opened) => match park_over(opened) {
+            Holding::Open((cartridge, mut pending)) => match park_over(cartridge, &mut pending) {
                 Ok(shelved) => {
                     hold(&mut self.held, Holding::Closed(shelved));
                     self.catalog = None;
                     Ok(())
                 }
                 Err(broken) => {
-                    hold(&mut self.held, Holding::Open(broken));
+                    hold(&mut self.held, Holding::Open((broken, pending)));
                     Err(MediumError::Device)
                 }
             },
@@ -150,16 +139,16 @@ impl<D: Disk> Medium for Buffered<D> {
         ensures each { LeavesEachAlone D.state self.old self.new }
         ensures settled { IfErr result (λ error. error ≢ Errors.Device → IsSettledIn D.state self.new.held) }
     {
-        if let Holding::Open(opened) = &self.held {
-            if opened.cartridge.has_failed() {
+        if let Holding::Open((cartridge, _)) = &self.held {
+            if cartridge.has_failed() {
                 return Err(MediumError::Failed);
             }
             return Ok(());
         }
         match mem::replace(&mut self.held, Holding::Away(nothing_away())) {
             Holding::Closed(shelved) => match wake_closed(self.alloc, shelved) {
-                Ok((opened, index)) => {
-                    hold(&mut self.held, Holding::Open(opened));
+                Ok((cartridge, pending, index)) => {
+                    hold(&mut self.held, Holding::Open((cartridge, pending)));
                     self.catalog = Some(index);
                     Ok(())
                 }
@@ -175,8 +164,8 @@ impl<D: Disk> Medium for Buffered<D> {
 
     fn has_room_for(&self, bytes: u32) -> bool {
         match &self.held {
-            Holding::Open(opened) => {
-                has_room_over(&opened.cartridge, &opened.pending, 15 + bytes as u64)
+            Holding::Open((cartridge, pending)) => {
+                has_room_over(cartridge, pending, 15 + bytes as u64)
             }
             Holding::Away(away) => 15 + bytes as u64 <= away.left.room,
             Holding::Closed(_) => unreachable!(),
@@ -193,7 +182,7 @@ impl<D: Disk> Medium for Buffered<D> {
 
     fn pending(&self) -> usize {
         match &self.held {
-            Holding::Open(opened) => opened.pending.len(),
+            Holding::Open((_, pending)) => pending.len(),
             Holding::Away(away) => away.waiting,
             Holding::Closed(_) => 0,
         }
@@ -201,7 +190,7 @@ impl<D: Disk> Medium for Buffered<D> {
 
     fn has_failed(&self) -> bool {
         match &self.held {
-            Holding::Open(opened) => opened.cartridge.has_failed(),
+            Holding::Open((cartridge, _)) => cartridge.has_failed(),
             Holding::Away(away) => away.failed,
             Holding::Closed(_) => unreachable!(),
         }

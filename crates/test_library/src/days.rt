@@ -185,10 +185,10 @@ fn add_one(counts: &mut [u8; 17], number: usize) {
 // How often there is a cartridge with each number up to 16.
 fn count_numbers(finished: &Finished<TestDisk>) -> [u8; 17] {
     let mut counts = [0u8; 17];
-    for parked in finished.slots.inventory().iter().flatten() {
+    for parked in finished.left.slots().iter().flatten() {
         add_one(&mut counts, number_of(parked.medium()));
     }
-    for bay in finished.bays.iter().flatten() {
+    for bay in finished.left.bays().iter().flatten() {
         if let Some(medium) = bay.drive().medium() {
             add_one(&mut counts, number_of(medium));
         }
@@ -201,17 +201,17 @@ pub fn are_all_there(rt: &impl Abort, finished: &Finished<TestDisk>, most: usize
     for (number, count) in count_numbers(finished).iter().enumerate() {
         assert_equal!(rt; *count == 1, number >= 1 && number <= most; number);
     }
-    assert_equal!(rt; finished.bays.len(), 16);
-    for (place, bay) in finished.bays.iter().enumerate() {
+    assert_equal!(rt; finished.left.bays().len(), 16);
+    for (place, bay) in finished.left.bays().iter().enumerate() {
         assert_equal!(rt; bay.is_some(), place < 2; place);
     }
-    assert_equal!(rt; finished.slots.inventory().len(), 256);
+    assert_equal!(rt; finished.left.slots().len(), 256);
 }
 
 /// Sixteen drives are returned, each with the cartridge of its number.
 pub fn are_in_their_places(rt: &impl Abort, finished: &Finished<TestDisk>) {
     let mut last = 0usize;
-    for bay in finished.bays.iter().flatten() {
+    for bay in finished.left.bays().iter().flatten() {
         last = last.saturating_add(1);
         let number = match bay.drive().medium() {
             Some(medium) => number_of(medium),

@@ -1,4 +1,5 @@
 //! Explains files that `check` or `reclaim` refuses: what stands where one is damaged, and what stands before that.
+use crate::pairs::has_open_pair;
 use cartridge_sides::{Which, choose};
 use check_lines::checking::{Checked, check_side};
 use check_lines::reading::Unreported;
@@ -6,6 +7,7 @@ use explanations::Explanation;
 use file_reasons::{DamageReason, Found, PairFault, PairReason};
 use std::alloc::{AllocError, Global};
 use std::cell::Cell;
+use std::mem::replace;
 use tape_disk::{Disk, MemDisk};
 use vtl_base::limits::MAX_SIDE;
 
@@ -17,6 +19,13 @@ const MOST: u64 = 268_435_456;
 struct Image {
     file: String,
     bytes: Vec<u8>,
+}
+
+impl Image {
+    // The file's name, which is empty from then on.
+    fn take_name(&mut self, alloc: Global) -> String {
+        replace(&mut self.file, String::new(alloc))
+    }
 }
 
 /// The bytes of the two files of a check or a reclaim. A file is left out if memory runs out for it, if it cannot be
@@ -60,7 +69,9 @@ impl Images {
         lines: &mut Explanation,
     ) -> Result<(), AllocError> {
         match (self.first.take(), self.second.take()) {
-            (Some(first), Some(second)) => add_refusal(alloc, is_reclaim, first, second, lines),
+            (Some(mut first), Some(mut second)) => {
+                add_refusal(alloc, is_reclaim, &mut first, &mut second, lines)
+            }
             _ => Ok(()),
         }
     }
@@ -79,15 +90,24 @@ fn image_of<D: Disk>(alloc: Global, file: &str, disk: &mut D) -> Option<Image> {
     }
 }
 
-// The lines of `check` for files of these bytes; None where memory runs out.
-fn lines_over(alloc: Global, first: &[u8], second: &[u8]) -> Option<Vec<u8>> {
+// Two disks with these bytes; None where memory runs out.
+fn disks_of(alloc: Global, first: &[u8], second: &[u8]) -> Option<(MemDisk, MemDisk)> {
     let first = MemDisk::from_bytes(alloc, first).ok()?;
     let second = MemDisk::from_bytes(alloc, second).ok()?;
+    Some((first, second))
+}
+
+// The lines of `check` for files of these bytes; None where memory runs out.
+fn lines_over(alloc: Global, first: &[u8], second: &[u8]) -> Option<Vec<u8>> {
+    let (first, second) = disks_of(alloc, first, second)?;
+    let checked = check_side(alloc, first, second, None::<&Unreported>);
     let Checked {
         lines,
-        first: _first,
-        second: _second,
-    } = check_side(alloc, first, second, None::<&Unreported>);
+        first,
+        second,
+    } = checked;
+    drop(first);
+    drop(second);
     let lines = lines.ok()?;
     Vec::from_slice(alloc, lines.as_slice()).ok()
 }
@@ -143,9 +163,11 @@ fn add_before(alloc: Global, before: &[u8], lines: &mut Explanation) -> Result<(
 // Whether the second file counts. False where neither does, since the first one is then a store; None where memory runs
 // out.
 fn is_second(alloc: Global, first: &[u8], second: &[u8]) -> Option<bool> {
-    let mut first = MemDisk::from_bytes(alloc, first).ok()?;
-    let mut second = MemDisk::from_bytes(alloc, second).ok()?;
-    match choose(&mut first, &mut second).ok()? {
+    let (mut first, mut second) = disks_of(alloc, first, second)?;
+    let chosen = choose(&mut first, &mut second);
+    drop(first);
+    drop(second);
+    match chosen.ok()? {
         Some(counted) => Some(counted.which == Which::Second),
         None => Some(false),
     }
@@ -172,8 +194,8 @@ fn before_of(
 // Adds the lines of a damage at a place of the file that counts.
 fn add_damage(
     alloc: Global,
-    first: Image,
-    second: Image,
+    first: &mut Image,
+    second: &mut Image,
     place: u64,
     lines: &mut Explanation,
 ) -> Result<(), AllocError> {
@@ -183,7 +205,11 @@ fn add_damage(
     };
     let before = before_of(alloc, one, other, is_second, place);
     let found = found_at(if is_second { other } else { one }, place);
-    let file = if is_second { second.file } else { first.file };
+    let file = if is_second {
+        second.take_name(alloc)
+    } else {
+        first.take_name(alloc)
+    };
     DamageReason { file, place, found }.add_to(alloc, lines)?;
     match before {
         Some(before) => add_before(alloc, before.as_slice(), lines),
@@ -226,13 +252,6 @@ fn add_no_copy(alloc: Global, file: &str, lines: &mut Explanation) -> Result<(),
     lines.add(alloc, "to do: copy what it holds to another cartridge")
 }
 
-/// Whether these bytes begin as those of a cartridge's first file whose pair gate is open.
-pub(crate) fn has_open_pair(first: &[u8]) -> bool {
-    first
-        .get(1..10)
-        .is_some_and(|start| start == b"VTLCART1\xa5".as_slice())
-}
-
 // Adds the lines of a second file that has no byte, or is missing, though the pair gate is open. For a reclaim they
 // were written as the file was opened.
 fn add_no_second(
@@ -248,20 +267,15 @@ fn add_no_second(
     PairReason { file, fault }.add_to(alloc, lines)
 }
 
-fn add_refusal(
+// Adds the lines of files of which `check` printed this.
+fn add_printed(
     alloc: Global,
     is_reclaim: bool,
-    first: Image,
-    second: Image,
+    printed: &[u8],
+    first: &mut Image,
+    second: &mut Image,
     lines: &mut Explanation,
 ) -> Result<(), AllocError> {
-    let Some(printed) = lines_over(alloc, first.bytes.as_slice(), second.bytes.as_slice()) else {
-        return Ok(());
-    };
-    let printed = printed.as_slice();
-    if second.bytes.is_empty() && has_open_pair(first.bytes.as_slice()) {
-        return add_no_second(alloc, second.file, is_reclaim, lines);
-    }
     if printed == b"not a side\n".as_slice() || printed.starts_with(b"reservations ") {
         return add_no_side(alloc, first.file.as_str(), is_reclaim, lines);
     }
@@ -273,4 +287,20 @@ fn add_refusal(
         Some(place) => add_damage(alloc, first, second, place, lines),
         None => Ok(()),
     }
+}
+
+fn add_refusal(
+    alloc: Global,
+    is_reclaim: bool,
+    first: &mut Image,
+    second: &mut Image,
+    lines: &mut Explanation,
+) -> Result<(), AllocError> {
+    let Some(printed) = lines_over(alloc, first.bytes.as_slice(), second.bytes.as_slice()) else {
+        return Ok(());
+    };
+    if second.bytes.is_empty() && has_open_pair(first.bytes.as_slice()) {
+        return add_no_second(alloc, second.take_name(alloc), is_reclaim, lines);
+    }
+    add_printed(alloc, is_reclaim, printed.as_slice(), first, second, lines)
 }

@@ -1,5 +1,4 @@
 //! Notes what looks at the names of a cartridge's files found, for an explanation of a refused second file.
-use crate::images::has_open_pair;
 use explanations::Explanation;
 use file_disk::{FileError, FileLook};
 use file_reasons::{PairFault, PairReason};
@@ -102,6 +101,13 @@ impl LostSecond {
             }
         }
     }
+}
+
+/// Whether these bytes begin as those of a cartridge's first file whose pair gate is open.
+pub(crate) fn has_open_pair(first: &[u8]) -> bool {
+    first
+        .get(1..10)
+        .is_some_and(|start| start == b"VTLCART1\xa5".as_slice())
 }
 
 // Whether a disk begins as a cartridge's first file whose pair gate is open.

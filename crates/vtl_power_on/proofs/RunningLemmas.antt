@@ -1,12 +1,12 @@
 -- What a library has just after a script was run over it.
 use Rattle.std.proofs.Common.{◌≡◌, ◌≢◌, ℕ, ◌+◌, ◌<◌, Bool, List, length, get_or, take, sum_by, Option, None, Some, is_some, Result, Err, refl, sym, ap, ◌∙◌, arith, cond, subst}
-use Rattle.std.proofs.lemmas.List.{ext_get_or, get_or_default, length-map}
+use Rattle.std.proofs.lemmas.List.{ext_get_or, get_or_default}
 use Rattle.std.proofs.lemmas.List.FromFn.{get_or-range_with_len, length-range_with_len}
 use Rattle.std.proofs.lemmas.List.Sums.{sum_by_more}
 use Rattle.tape_disk.specs.Disk.{DiskState}
 use Rattle.tape_buffer.specs.State.{BufferState}
 use Rattle.bay_moves.specs.Elements.{BayState, HeldState}
-use Rattle.library.specs.Counts.{one_if_there, which_are_there}
+use Rattle.library.specs.Counts.{one_if_there}
 use Rattle.library.specs.Ends.{EndsShared}
 use Rattle.library_scripts.specs.Ran.{RunsShared}
 use Rattle.library.specs.declared.finishing.FinishError.{FinishError}
@@ -24,12 +24,6 @@ every_one hosts long each =
     (λ i within.
     let below : i < 64 = omega (arith, within, long) in
     each i below ∙ omega arith ∙ sym (get_or-range_with_len 1 64 i 0 below))
-
--- rows with the same places filled have as many
-pub as_many : {X Y : Type 0} (one : List (Option X)) (other : List (Option Y))
-    → which_are_there other ≡ which_are_there one → length other ≡ length one
-as_many one other same =
-    sym (length-map other is_some) ∙ ap (λ (row : List Bool). length row) same ∙ length-map one is_some
 
 -- one more place of a row was looked at
 module _ {X : Type 0} where
@@ -58,17 +52,16 @@ module _ {D : Type 0} where
       ap (λ (s : List (Option (BufferState D))). of s bays) same_slots
       ∙ ap (λ (b : List (Option (BayState D))). of old.slots b) same_bays
 
-  -- a script was run over the drives of a library, and it was put together again
-  pub ran_over : (state : D → DiskState) (old new : HeldState D) (bays after : List (Option (BayState D)))
-      (shelves : List (Option (BufferState D))) (hosts : List ℕ) (left left' before now : Option (List ℕ))
-      (ended : Result (Unit {0}) ScriptFault) (counts : Result (List (Option ℕ)) FinishError)
-      (answers moves : ℕ) (outcome : Result (Unit {0}) VtlFault) → bays ≡ old.bays
-      → hosts ≡ every_nexus → new.bays ≡ after → new.slots ≡ shelves
-      → RunsShared state bays hosts left before now ended after counts answers moves
-      → (ended ≢ Err ReadFault → TakesWithin left 0 left') → EndsShared state bays after shelves counts
+  -- a script was run over the drives of a library, which is left so
+  pub ran_over : (state : D → DiskState) (old new : HeldState D) (bays : List (Option (BayState D))) (hosts : List ℕ)
+      (left left' before now : Option (List ℕ)) (ended : Result (Unit {0}) ScriptFault)
+      (counts : Result (List (Option ℕ)) FinishError) (answers moves : ℕ) (outcome : Result (Unit {0}) VtlFault)
+      → bays ≡ old.bays → hosts ≡ every_nexus
+      → RunsShared state bays hosts left before now ended new.bays counts answers moves
+      → (ended ≢ Err ReadFault → TakesWithin left 0 left') → EndsShared state bays new.bays new.slots counts
       → outcome ≡ outcome_of ended counts → RunsStarted state old left left' before now new outcome
-  ran_over state old new bays after shelves hosts left left' before now ended counts answers moves outcome are all made
-      shelved runs takes ends printed =
+  ran_over state old new bays hosts left left' before now ended counts answers moves outcome are all runs takes ends
+      printed =
       record {
         ended = ended;
         counts = counts;
@@ -78,14 +71,8 @@ module _ {D : Type 0} where
             subst (λ (row : List (Option (BayState D))).
             RunsShared state row every_nexus left before now ended new.bays counts answers moves) are
             (subst (λ (xs : List ℕ). RunsShared state bays xs left before now ended new.bays counts answers moves) all
-            (subst (λ (row : List (Option (BayState D))).
-            RunsShared state bays hosts left before now ended row counts answers moves)
-            (sym made) runs));
+            runs);
         takes = takes;
-        ends =
-            subst (λ (row : List (Option (BayState D))). EndsShared state row new.bays new.slots counts) are
-            (subst (λ (row : List (Option (BayState D))). EndsShared state bays row new.slots counts) (sym made)
-            (subst (λ (row : List (Option (BufferState D))). EndsShared state bays after row counts) (sym shelved)
-            ends));
+        ends = subst (λ (row : List (Option (BayState D))). EndsShared state row new.bays new.slots counts) are ends;
         outcome_is = printed;
       }

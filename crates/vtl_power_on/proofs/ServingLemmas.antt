@@ -4,7 +4,6 @@ use Rattle.std.specs.declared.alloc.Global.{Global}
 use Rattle.std.specs.declared.io.Error.{Error}
 use Rattle.std.specs.Prelude.{Vec, IfOk, IfErr}
 use Rattle.tape_disk.specs.Disk.{DiskState}
-use Rattle.tape_buffer.specs.State.{BufferState}
 use Rattle.bay_moves.specs.Elements.{BayState, HeldState}
 use Rattle.library.specs.Ends.{EndsShared}
 use Rattle.library.specs.declared.finishing.FinishError.{FinishError}
@@ -25,18 +24,16 @@ use Rattle.vtl_power_on.specs.Unfinished.{NotStartedState}
 use Rattle.vtl_power_on.proofs.IdleLemmas.{NoConfig, keeps_same}
 
 module _ {D : Type 0} where
-  -- frames were served over the drives of a library, and it was put together again
+  -- frames were served over the drives of a library, which is left so
   pub served_over : (state : D → DiskState) (old new : HeldState D) (labels : List Label)
-      (bays after : List (Option (BayState D))) (shelves : List (Option (BufferState D))) (hosts : List ℕ)
-      (left left' before now : Option (List ℕ)) (ended : Result (Unit {0}) WireFault)
-      (counts : Result (List (Option ℕ)) FinishError) (answers moves : ℕ) (outcome : Result (Unit {0}) VtlFault)
-      → bays ≡ old.bays
-      → hosts ≡ every_nexus → new.bays ≡ after → new.slots ≡ shelves
-      → ServesShared state bays labels hosts left before left' now ended after counts answers moves
-      → EndsShared state bays after shelves counts
+      (bays : List (Option (BayState D))) (hosts : List ℕ) (left left' before now : Option (List ℕ))
+      (ended : Result (Unit {0}) WireFault) (counts : Result (List (Option ℕ)) FinishError) (answers moves : ℕ)
+      (outcome : Result (Unit {0}) VtlFault) → bays ≡ old.bays → hosts ≡ every_nexus
+      → ServesShared state bays labels hosts left before left' now ended new.bays counts answers moves
+      → EndsShared state bays new.bays new.slots counts
       → outcome ≡ served_outcome ended counts → ServesStarted state old labels left left' before now new outcome
-  served_over state old new labels bays after shelves hosts left left' before now ended counts answers moves outcome are
-      all made shelved serves ends printed =
+  served_over state old new labels bays hosts left left' before now ended counts answers moves outcome are all serves
+      ends printed =
       record {
         ended = ended;
         counts = counts;
@@ -46,15 +43,8 @@ module _ {D : Type 0} where
             subst (λ (row : List (Option (BayState D))).
             ServesShared state row labels every_nexus left before left' now ended new.bays counts answers moves) are
             (subst (λ (xs : List ℕ).
-            ServesShared state bays labels xs left before left' now ended new.bays counts answers moves) all
-            (subst (λ (row : List (Option (BayState D))).
-            ServesShared state bays labels hosts left before left' now ended row counts answers moves)
-            (sym made) serves));
-        ends =
-            subst (λ (row : List (Option (BayState D))). EndsShared state row new.bays new.slots counts) are
-            (subst (λ (row : List (Option (BayState D))). EndsShared state bays row new.slots counts) (sym made)
-            (subst (λ (row : List (Option (BufferState D))). EndsShared state bays after row counts) (sym shelved)
-            ends));
+            ServesShared state bays labels xs left before left' now ended new.bays counts answers moves) all serves);
+        ends = subst (λ (row : List (Option (BayState D))). EndsShared state row new.bays new.slots counts) are ends;
         outcome_is = printed;
       }
 

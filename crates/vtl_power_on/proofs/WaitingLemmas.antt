@@ -1,5 +1,5 @@
 -- What a library holds before its drives are all on: a cartridge is put into its home, and a drive is switched on.
-use Rattle.std.proofs.Common.{◌≡◌, ◌≢◌, ℕ, zero, suc, ◌-◌, ◌≤◌, ◌<◌, nat_le, not, Bool, true, false, List, [], ◌∷◌, ◌++◌, length, set, get_or, replicate, Option, None, Some, is_some, Result, Ok, Err, is_ok, is_err, refl, sym, ap, ◌∙◌, arith, cond, subst}
+use Rattle.std.proofs.Common.{◌≡◌, ◌≢◌, ℕ, zero, suc, ◌-◌, ◌≤◌, ◌<◌, nat_le, not, Bool, true, false, List, length, set, get_or, replicate, Option, None, Some, is_some, Ok, Err, refl, sym, ap, ◌∙◌, arith, cond, subst}
 use Rattle.std.proofs.lemmas.Bool.Decides.{nat_tests}
 use Rattle.std.proofs.lemmas.List.{get_or_default, get_or-set_same, get_or-set_other, length-set}
 use Rattle.vtl_base.specs.declared.faults.NoMemory.{NoMemory}
@@ -40,12 +40,6 @@ full_slot : (slot full : Bool) (error : SlotError)
 full_slot true true error is on = refl
 full_slot true false error is on = absurd (cc)
 full_slot false full error is on = absurd (cc)
-
--- a push that did not fail
-pub pushed : {T E X : Type 0} (result : Result T E) (items longer : List X) (item : X) → false ≡ is_err result
-    → longer ≡ cond (is_ok result) (items ++ item ∷ []) items → longer ≡ items ++ item ∷ []
-pushed (Ok done) items longer item fine is = is
-pushed (Err error) items longer item fine is = absurd (cc)
 
 -- what waits for drives
 module _ {C : Type 0} where

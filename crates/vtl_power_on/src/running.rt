@@ -1,7 +1,6 @@
 //! Runs a script over a library whose drives threads share.
-ghost use Rattle.std.specs.Prelude.{◌≡◌, ℕ, List, Err, IfOk, length, option_map, string_bytes};
+ghost use Rattle.std.specs.Prelude.{◌≡◌, ℕ, List, Err, IfOk, option_map, string_bytes};
 ghost use Rattle.vtl_config.specs.Configs.{Says};
-ghost use Rattle.vtl_base.specs.declared.limits.TheConstants.{DRIVES};
 ghost use Rattle.library.specs.Counts.{places_filled};
 ghost use Rattle.vtl_faults.specs.declared.faults.VtlFault.TheVariants as Faults;
 ghost use Rattle.vtl_power_on.specs.Running.{HaveAcceptedNone, RunsFrom, RunsHeld, every_nexus, outcome_of, RunsConfig, RunsOrder};
@@ -10,9 +9,8 @@ ghost use Rattle.vtl_power_on.specs.Sides.{file_sides};
 use crate::pace::Pace;
 use crate::sides::{FileSides, NewSides, Sides};
 use crate::starting::{NotStarted, Starting, built_in, start};
-use bay_moves::{Bay, Held, Parked};
-use element_slots::Slots;
-use library::{FinishError, Finished, RingRow};
+use bay_moves::{Bay, Held};
+use library::{FinishError, Finished, RingRow, Sealed};
 use library_scripts::{Ran, run_library};
 use std::alloc::Global;
 use std::io::{Read, Write};
@@ -34,7 +32,7 @@ use vtl_script::ScriptFault;
 #[derive(Drop)]
 pub struct Left<D: Disk> {
     /// The library, as it is when the run or the serving has ended.
-    pub held: Held<D>,
+    pub library: Sealed<D>,
     /// How the run or the serving ended.
     pub outcome: Result<(), VtlFault>,
 }
@@ -78,20 +76,13 @@ pub(crate) fn count_drives<D: Disk>(bays: &[Option<Bay<D>>]) -> u64
     count
 }
 
-/// The result where memory runs out before the first line or frame is read: the library of these bays and slots, and
-/// `NoMemory`.
-pub(crate) fn not_begun<D: Disk + Drop>(
-    alloc: Global,
-    bays: Vec<Option<Bay<D>>>,
-    slots: Slots<Parked<D>>,
-) -> Left<D>
-    requires { length bays.items ≡ DRIVES }
-    ensures held { result.held ≡ record { slots = slots; bays = bays.items } }
+/// The result where memory runs out before the first line or frame is read: this library, and `NoMemory`.
+pub(crate) fn not_begun<D: Disk + Drop>(library: Sealed<D>) -> Left<D>
+    ensures library { result.library ≡ library }
     ensures outcome { result.outcome ≡ Err Faults.NoMemory }
 {
-    let held = Held::from_parts(alloc, bays, slots);
     Left {
-        held,
+        library,
         outcome: Err(VtlFault::NoMemory),
     }
 }
@@ -110,11 +101,11 @@ pub fn run_shared<D: Disk + Drop + Send, R: Threads + Wait + Clock + Sync, I: Re
 ) -> Left<D>
     requires { HaveAcceptedNone held }
     ensures { RunsHeld D.state held (I.remaining reader.old) (I.remaining reader.new)
-        (W.contents writer.old) (W.contents writer.new) result.held result.outcome }
+        (W.contents writer.old) (W.contents writer.new) result.library result.outcome }
 {
     let (bays, slots) = held.into_parts();
     let Ok(rings) = RingRow::of_drives(alloc, bays.as_slice()) else {
-        return not_begun(alloc, bays, slots);
+        return not_begun(Sealed::from_parts(bays, slots));
     };
     let drives = Blank::new(count_drives(bays.as_slice()));
     let hosts = Blank::new(NEXUSES as u64);
@@ -134,18 +125,17 @@ pub fn run_shared<D: Disk + Drop + Send, R: Threads + Wait + Clock + Sync, I: Re
     match ran {
         Ok(Ran { finished, outcome }) => {
             let Finished {
-                slots,
-                bays,
+                left,
                 counts,
                 answered: _,
                 moved: _,
             } = finished;
             Left {
-                held: Held::from_parts(alloc, bays, slots),
+                library: left,
                 outcome: outcome_of(outcome, counts),
             }
         }
-        Err(back) => not_begun(alloc, back.bays, back.slots),
+        Err(back) => not_begun(back),
     }
 }
 
@@ -154,7 +144,7 @@ pub fn run_shared<D: Disk + Drop + Send, R: Threads + Wait + Clock + Sync, I: Re
 /// and that error is returned.
 pub fn run_started<
     D: Disk + Drop + Send,
-    S: TakesBack<Held<D>, NotStarted<D>>,
+    S: TakesBack<Sealed<D>, NotStarted<D>>,
     R: Threads + Wait + Clock + Sync,
     I: Read,
     W: Write,
@@ -170,15 +160,15 @@ pub fn run_started<
     ensures { RunsFrom D.state S.closes_all start (I.remaining reader.old) (I.remaining reader.new)
         (W.contents writer.old) (W.contents writer.new) result }
 {
-    let Left { held, outcome } = run_shared(rt, alloc, start?, reader, writer);
-    sides.close_all(held);
+    let Left { library, outcome } = run_shared(rt, alloc, start?, reader, writer);
+    sides.close_all(library);
     outcome
 }
 
 // Switches on the library of a configuration, over these sides, and runs a script over it.
 fn run_config<
     D: Disk + Drop + Send,
-    S: Sides<D> + TakesBack<Held<D>, NotStarted<D>>,
+    S: Sides<D> + TakesBack<Sealed<D>, NotStarted<D>>,
     R: Threads + Wait + Clock + Sync,
     I: Read,
     W: Write,
@@ -208,7 +198,11 @@ fn run_config<
 /// be switched on, the result is the error that says why.
 pub fn run_order<
     D: Disk + Drop + Send,
-    F: TextFiles + LookFiles + ChangeFiles<D> + SecondFiles<D> + TakesBack<Held<D>, NotStarted<D>>,
+    F: TextFiles
+        + LookFiles
+        + ChangeFiles<D>
+        + SecondFiles<D>
+        + TakesBack<Sealed<D>, NotStarted<D>>,
     R: Threads + Wait + Clock + Sync,
     I: Read,
     W: Write,

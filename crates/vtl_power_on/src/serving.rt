@@ -11,7 +11,7 @@ use crate::running::{Left, count_drives, every_host, not_begun};
 use crate::sides::{FileSides, NewSides, Sides};
 use crate::starting::{NotStarted, Starting, built_in, start};
 use bay_moves::Held;
-use library::{FinishError, Finished, RingRow};
+use library::{FinishError, Finished, RingRow, Sealed};
 use std::alloc::Global;
 use std::io::{Read, Write};
 use std::marker::Brand;
@@ -56,11 +56,11 @@ pub fn serve_shared<
 >(rt: &R, alloc: Global, held: Held<D>, labels: Labels, reader: &mut I, writer: &mut W) -> Left<D>
     requires { HaveAcceptedNone held }
     ensures { ServesHeld D.state held labels (I.remaining reader.old) (I.remaining reader.new)
-        (W.contents writer.old) (W.contents writer.new) result.held result.outcome }
+        (W.contents writer.old) (W.contents writer.new) result.library result.outcome }
 {
     let (bays, slots) = held.into_parts();
     let Ok(rings) = RingRow::of_drives(alloc, bays.as_slice()) else {
-        return not_begun(alloc, bays, slots);
+        return not_begun(Sealed::from_parts(bays, slots));
     };
     let drives = Blank::new(count_drives(bays.as_slice()));
     let hosts = Blank::new(NEXUSES as u64);
@@ -81,18 +81,17 @@ pub fn serve_shared<
     match served {
         Ok(ServedLibrary { finished, outcome }) => {
             let Finished {
-                slots,
-                bays,
+                left,
                 counts,
                 answered: _,
                 moved: _,
             } = finished;
             Left {
-                held: Held::from_parts(alloc, bays, slots),
+                library: left,
                 outcome: served_outcome(outcome, counts),
             }
         }
-        Err(back) => not_begun(alloc, back.bays, back.slots),
+        Err(back) => not_begun(back),
     }
 }
 
@@ -101,7 +100,7 @@ pub fn serve_shared<
 /// written, and that error is returned.
 pub fn serve_started<
     D: Disk + Drop + Send,
-    S: TakesBack<Held<D>, NotStarted<D>>,
+    S: TakesBack<Sealed<D>, NotStarted<D>>,
     R: Threads + Wait + Clock + Sync,
     I: Read,
     W: Write + Send,
@@ -118,15 +117,15 @@ pub fn serve_started<
     ensures { ServesFrom D.state S.closes_all labels start (I.remaining reader.old) (I.remaining reader.new)
         (W.contents writer.old) (W.contents writer.new) result }
 {
-    let Left { held, outcome } = serve_shared(rt, alloc, start?, labels, reader, writer);
-    sides.close_all(held);
+    let Left { library, outcome } = serve_shared(rt, alloc, start?, labels, reader, writer);
+    sides.close_all(library);
     outcome
 }
 
 // Switches on the library of a configuration, over these sides, and serves all hosts over it.
 fn serve_config<
     D: Disk + Drop + Send,
-    S: Sides<D> + TakesBack<Held<D>, NotStarted<D>>,
+    S: Sides<D> + TakesBack<Sealed<D>, NotStarted<D>>,
     R: Threads + Wait + Clock + Sync,
     I: Read,
     W: Write + Send,
@@ -157,7 +156,11 @@ fn serve_config<
 /// or the library could not be switched on, the result is the error that says why.
 pub fn serve_order<
     D: Disk + Drop + Send,
-    F: TextFiles + LookFiles + ChangeFiles<D> + SecondFiles<D> + TakesBack<Held<D>, NotStarted<D>>,
+    F: TextFiles
+        + LookFiles
+        + ChangeFiles<D>
+        + SecondFiles<D>
+        + TakesBack<Sealed<D>, NotStarted<D>>,
     R: Threads + Wait + Clock + Sync,
     I: Read,
     W: Write + Send,

@@ -1,17 +1,21 @@
 //! Where the sides of a library, the bytes of its cartridges and stores, come from: from files, or made in memory.
-ghost use Rattle.std.specs.Prelude.{◌≡◌, IfOk, IfErr};
+ghost use Rattle.std.specs.Prelude.{◌≡◌, IfOk, IfErr, IsTrue};
+ghost use Rattle.volume_core.specs.Volume.{are_capacities};
 ghost use Rattle.aptpl_store.specs.Kept.{store_kept};
 ghost use Rattle.drive_commands.specs.State.{left_of};
 ghost use Rattle.vtl_faults.specs.FromBelow.{IsFailure, fault_of_store};
-ghost use Rattle.vtl_power_on.specs.Sides.{IsNoStoreOn, IsStoreOn, SidesGiven};
+ghost use Rattle.vtl_faults.specs.declared.faults.VtlFault.TheVariants as Faults;
+ghost use Rattle.vtl_power_on.specs.Sides.{IsNewCartridge, IsNewStore, IsNoStoreOn, IsStoreOn, SidesGiven};
 
 use crate::starting::NotStarted;
 use aptpl_store::{AptplStore, StoreError, StoreRefused};
-use bay_moves::{Held, Parked};
+use bay_moves::Parked;
 use cartridge::{Cartridge, CartridgeError, NotCreated, Shelved};
+use library::Sealed;
 use pr_core::Reservations;
 use std::alloc::Global;
 use tape_disk::{Disk, MemDisk};
+use vtl_base::{Barcode, DriveNo};
 use vtl_config::{Address, CartridgeEntry, DriveEntry};
 use vtl_faults::faults::VtlFault;
 use vtl_files::config_checks::{CARTRIDGE_WORD, STORE_WORD};
@@ -141,13 +145,13 @@ impl<'a, D: Disk, F: ChangeFiles<D> + LookFiles + SecondFiles<D>> Sides<D> for F
     }
 }
 
-impl<'a, D: Disk, F: TakesBack<Held<D>, NotStarted<D>>> TakesBack<Held<D>, NotStarted<D>>
+impl<'a, D: Disk, F: TakesBack<Sealed<D>, NotStarted<D>>> TakesBack<Sealed<D>, NotStarted<D>>
     for FileSides<'a, F> {
     ghost closes_all = { F.closes_all };
 
     ghost gives_up = { F.gives_up };
 
-    fn close_all(&self, library: Held<D>) {
+    fn close_all(&self, library: Sealed<D>) {
         self.files.close_all(library);
     }
 
@@ -156,45 +160,67 @@ impl<'a, D: Disk, F: TakesBack<Held<D>, NotStarted<D>>> TakesBack<Held<D>, NotSt
     }
 }
 
+// A new cartridge in memory, closed. A call of a disk in memory fails only where memory for its bytes runs out.
+pub(crate) fn new_cartridge(
+    alloc: Global,
+    barcode: &Barcode,
+    capacities: &[u64],
+) -> Result<Parked<MemDisk>, VtlFault>
+    requires { IsTrue (are_capacities capacities.now) }
+    ensures ok { IfOk result (IsNewCartridge barcode.now capacities.now) }
+    ensures err { IfErr result (λ fault. fault ≡ Faults.NoMemory) }
+{
+    let (first, second) = (MemDisk::new(alloc), MemDisk::new(alloc));
+    match Cartridge::create(alloc, first, second, barcode, capacities) {
+        Ok(shelved) => Ok(Parked::of(alloc, shelved)),
+        Err(refused) => {
+            drop(refused);
+            Err(VtlFault::NoMemory)
+        }
+    }
+}
+
+// A new store in memory for the drive with this number.
+pub(crate) fn new_store(alloc: Global, number: DriveNo) -> Result<DriveStore<MemDisk>, VtlFault>
+    ensures ok { IfOk result (λ opened. IsNewStore number opened.store) }
+    ensures left { IfOk result (λ opened.
+        opened.left ≡ left_of (store_kept opened.store).saved) }
+    ensures err { IfErr result (λ fault. fault ≡ Faults.NoMemory) }
+{
+    match AptplStore::create(alloc, MemDisk::new(alloc), number) {
+        Ok(store) => Ok(DriveStore {
+            store,
+            left: Reservations::empty(),
+        }),
+        Err(refused) => {
+            drop(refused);
+            Err(VtlFault::NoMemory)
+        }
+    }
+}
+
 impl Sides<MemDisk> for NewSides {
     ghost use Rattle.vtl_power_on.specs.Sides.{new_sides};
 
     ghost given = { new_sides };
 
-    // A call of a disk in memory fails only where memory for its bytes runs out.
     fn cartridge(&self, alloc: Global, entry: CartridgeEntry) -> Result<Parked<MemDisk>, VtlFault> {
-        let (first, second) = (MemDisk::new(alloc), MemDisk::new(alloc));
-        match Cartridge::create(
-            alloc,
-            first,
-            second,
-            &entry.barcode,
-            slice_of(&entry.capacities),
-        ) {
-            Ok(shelved) => Ok(Parked::of(alloc, shelved)),
-            Err(_) => Err(VtlFault::NoMemory),
-        }
+        new_cartridge(alloc, &entry.barcode, slice_of(&entry.capacities))
     }
 
     fn store(&self, alloc: Global, entry: DriveEntry) -> Result<DriveStore<MemDisk>, VtlFault> {
-        match AptplStore::create(alloc, MemDisk::new(alloc), entry.number) {
-            Ok(store) => Ok(DriveStore {
-                store,
-                left: Reservations::empty(),
-            }),
-            Err(_) => Err(VtlFault::NoMemory),
-        }
+        new_store(alloc, entry.number)
     }
 }
 
-impl TakesBack<Held<MemDisk>, NotStarted<MemDisk>> for NewSides {
+impl TakesBack<Sealed<MemDisk>, NotStarted<MemDisk>> for NewSides {
     ghost use Rattle.vtl_power_on.specs.Sides.{takes_any};
 
     ghost closes_all = { takes_any };
 
     ghost gives_up = { takes_any };
 
-    fn close_all(&self, library: Held<MemDisk>) {
+    fn close_all(&self, library: Sealed<MemDisk>) {
         drop(library);
     }
 

@@ -4,16 +4,15 @@ ghost use Rattle.aptpl_store.specs.Kept.{store_kept};
 ghost use Rattle.drive_commands.specs.State.{left_of};
 ghost use Rattle.vtl_config.specs.Entries.{address_of};
 ghost use Rattle.vtl_power_on.specs.Inner.Waiting.{AreHome, IsNotHome, IsOffAt, PutsHome, SwitchesOnAt};
-ghost use Rattle.vtl_power_on.specs.Sides.{memory_state};
+ghost use Rattle.vtl_power_on.specs.Sides.{IsNewCartridge, memory_state};
 ghost use Rattle.vtl_power_on.specs.Starting.{IsBuiltIn, IsNotStarted, IsStart, IsStarted, built_in_barcode, built_in_capacities};
 ghost use Rattle.vtl_power_on.specs.Unfinished.{IsBare, home_at};
 ghost use Rattle.vtl_faults.specs.declared.faults.VtlFault.TheVariants as Faults;
 
-use crate::sides::{DriveStore, Sides};
+use crate::sides::{DriveStore, Sides, new_cartridge, new_store};
 use aptpl_store::AptplStore;
 use bay_moves::{Bay, Held, NotOn, Parked};
-use cartridge::Cartridge;
-use pr_core::Reservations;
+use library::Sealed;
 use std::alloc::Global;
 use std::marker::Model;
 use std::mem;
@@ -82,13 +81,11 @@ impl<D: Disk + Drop> Starting<D> {
     pub fn new(alloc: Global) -> Result<Starting<D>, NoMemory>
         ensures { IfOk result IsBare }
     {
-        let held = Held::new(alloc)?;
         let mut waiting = Vec::with_capacity(alloc, DRIVES as usize)?;
         for _ in 0..DRIVES {
-            if waiting.push(None).is_err() {
-                return Err(NoMemory);
-            }
+            waiting.push_reserved(None);
         }
+        let held = Held::new(alloc)?;
         Ok(Starting { held, waiting })
     }
 
@@ -113,7 +110,10 @@ impl<D: Disk + Drop> Starting<D> {
     {
         match self.held.place(slot.address() as u32, cartridge) {
             Ok(()) => Ok(()),
-            Err(_) => Err(VtlFault::Config),
+            Err(refused) => {
+                drop(refused);
+                Err(VtlFault::Config)
+            }
         }
     }
 
@@ -127,9 +127,10 @@ impl<D: Disk + Drop> Starting<D> {
         let _ = drive.number();
         let place = &mut self.waiting[drive.place()];
         if place.is_some() {
+            drop(cartridge);
             return Err(VtlFault::Config);
         }
-        *place = Some(cartridge);
+        place.insert(cartridge);
         Ok(())
     }
 
@@ -153,7 +154,8 @@ impl<D: Disk + Drop> Starting<D> {
         let cartridge = mem::replace(&mut self.waiting[place], None);
         match Bay::power_on(alloc, store, left, cartridge) {
             Ok(bay) => {
-                if let Err(_bay) = self.held.install(number, bay) {
+                if let Err(back) = self.held.install(number, bay) {
+                    drop(back);
                     return Err(Off {
                         fault: VtlFault::Config,
                         store: None,
@@ -162,7 +164,7 @@ impl<D: Disk + Drop> Starting<D> {
                 Ok(())
             }
             Err(NotOn { cartridge, store }) => {
-                self.waiting[place] = cartridge;
+                drop(mem::replace(&mut self.waiting[place], cartridge));
                 Err(Off {
                     fault: VtlFault::NoMemory,
                     store: Some(store),
@@ -174,7 +176,7 @@ impl<D: Disk + Drop> Starting<D> {
 
 // Puts each cartridge into its home, in the order of the configuration. Where one is refused, those before it are given
 // up.
-fn place_all<D: Disk + Drop, S: Sides<D> + TakesBack<Held<D>, NotStarted<D>>>(
+fn place_all<D: Disk + Drop, S: Sides<D> + TakesBack<Sealed<D>, NotStarted<D>>>(
     alloc: Global,
     sides: &S,
     starting: Starting<D>,
@@ -215,7 +217,7 @@ fn place_all<D: Disk + Drop, S: Sides<D> + TakesBack<Held<D>, NotStarted<D>>>(
 /// (`TakesBack::give_up`). If memory runs out as a drive is switched on, its cartridge and its store are given up, too.
 /// The error is `Config` only if two cartridges have the same home, or two drives the same number; no configuration has
 /// such entries.
-pub fn start<D: Disk + Drop, S: Sides<D> + TakesBack<Held<D>, NotStarted<D>>>(
+pub fn start<D: Disk + Drop, S: Sides<D> + TakesBack<Sealed<D>, NotStarted<D>>>(
     alloc: Global,
     sides: &S,
     starting: Starting<D>,
@@ -248,33 +250,51 @@ pub fn start<D: Disk + Drop, S: Sides<D> + TakesBack<Held<D>, NotStarted<D>>>(
     Ok(starting.held)
 }
 
+// The cartridge of the built-in configuration.
+fn built_in_cartridge(alloc: Global) -> Result<Parked<MemDisk>, VtlFault>
+    ensures ok { IfOk result (IsNewCartridge built_in_barcode built_in_capacities) }
+    ensures err { IfErr result (λ fault. fault ≡ Faults.NoMemory) }
+{
+    let Ok(barcode) = Barcode::parse(BARCODE) else {
+        return Err(VtlFault::Config);
+    };
+    new_cartridge(alloc, &barcode, &[CAPACITY])
+}
+
+// Switches on the drive of the built-in configuration, with its cartridge, in a library with nothing in it.
+fn switch_on_built_in(alloc: Global, starting: &mut Starting<MemDisk>) -> Result<(), VtlFault>
+    requires { IsBare starting.old }
+    ensures ok { OnOk result
+        (IsBuiltIn memory_state built_in_barcode built_in_capacities starting.new.held) }
+    ensures err { IfErr result (λ fault. fault ≡ Faults.NoMemory) }
+{
+    let Some(number) = DriveNo::new(DRIVE) else {
+        return Err(VtlFault::Config);
+    };
+    let cartridge = built_in_cartridge(alloc)?;
+    starting.put(Address::Drive(number), cartridge)?;
+    let opened = new_store(alloc, number)?;
+    match starting.switch_on(alloc, number, opened) {
+        Ok(()) => Ok(()),
+        Err(Off { fault, store }) => {
+            drop(store);
+            Err(fault)
+        }
+    }
+}
+
 /// Returns the library of the built-in configuration, in memory: it has drive 1 alone, and in that drive the empty
 /// cartridge `T00001L6`, with one partition of 16,777,216 bytes. The only error is `NoMemory`.
 pub fn built_in(alloc: Global) -> Result<Held<MemDisk>, VtlFault>
     ensures { IsStart (IsBuiltIn memory_state built_in_barcode built_in_capacities)
         (λ fault. fault ≡ Faults.NoMemory) result }
 {
-    let (Some(number), Ok(barcode)) = (DriveNo::new(DRIVE), Barcode::parse(BARCODE)) else {
-        return Err(VtlFault::Config);
-    };
-    let (Ok(shelved), Ok(store)) = (
-        Cartridge::create(
-            alloc,
-            MemDisk::new(alloc),
-            MemDisk::new(alloc),
-            &barcode,
-            &[CAPACITY],
-        ),
-        AptplStore::create(alloc, MemDisk::new(alloc), number),
-    ) else {
-        return Err(VtlFault::NoMemory);
-    };
-    let cartridge = Parked::of(alloc, shelved);
     let mut starting = Starting::new(alloc)?;
-    starting.put(Address::Drive(number), cartridge)?;
-    let left = Reservations::empty();
-    match starting.switch_on(alloc, number, DriveStore { store, left }) {
+    match switch_on_built_in(alloc, &mut starting) {
         Ok(()) => Ok(starting.held),
-        Err(off) => Err(off.fault),
+        Err(fault) => {
+            drop(starting);
+            Err(fault)
+        }
     }
 }

@@ -7,10 +7,10 @@ ghost use Rattle.vtl_program.specs.Orders.{given_words};
 
 use crate::nul_names::{add_each_nul, add_nul};
 use crate::orders::run;
-use bay_moves::Held;
 use check_lines::reading::ReportsRead;
 use config_reasons::reason_of;
 use explanations::Explanation;
+use library::Sealed;
 use std::alloc::{AllocError, Global};
 use std::io::{Read, Write};
 use std::sync::Wait;
@@ -296,7 +296,7 @@ pub fn run_explained<
         + ReportsRead
         + ChangeFiles<D>
         + SecondFiles<D>
-        + TakesBack<Held<D>, NotStarted<D>>
+        + TakesBack<Sealed<D>, NotStarted<D>>
         + MakeFiles<D>,
     R: Threads + Wait + Clock + Sync,
     I: Read,

@@ -4,8 +4,8 @@ ghost use Rattle.vtl_files.specs.Creating.{makes_of};
 ghost use Rattle.vtl_program.specs.Files.{answers_of};
 ghost use Rattle.vtl_program.specs.Orders.{AnswersWords, ChecksConfigOrder, CreatesOrder, DoesOrder, Obeys, ReclaimsOrder, RunsProgram, given_words};
 
-use bay_moves::Held;
 use check_lines::reading::ReportsRead;
+use library::Sealed;
 use std::alloc::Global;
 use std::io::{Read, Write};
 use std::sync::Wait;
@@ -87,7 +87,7 @@ fn do_order<
         + ReportsRead
         + ChangeFiles<D>
         + SecondFiles<D>
-        + TakesBack<Held<D>, NotStarted<D>>
+        + TakesBack<Sealed<D>, NotStarted<D>>
         + MakeFiles<D>,
     R: Threads + Wait + Clock + Sync,
     I: Read,
@@ -155,7 +155,7 @@ pub fn obey<
         + ReportsRead
         + ChangeFiles<D>
         + SecondFiles<D>
-        + TakesBack<Held<D>, NotStarted<D>>
+        + TakesBack<Sealed<D>, NotStarted<D>>
         + MakeFiles<D>,
     R: Threads + Wait + Clock + Sync,
     I: Read,
@@ -192,7 +192,7 @@ pub fn run<
         + ReportsRead
         + ChangeFiles<D>
         + SecondFiles<D>
-        + TakesBack<Held<D>, NotStarted<D>>
+        + TakesBack<Sealed<D>, NotStarted<D>>
         + MakeFiles<D>,
     R: Threads + Wait + Clock + Sync,
     I: Read,

@@ -3,10 +3,10 @@ ghost use Rattle.std.specs.Prelude.{◌≡◌};
 
 use crate::at_once::{say_no_second, say_unlocked};
 use crate::looking::report_side;
-use bay_moves::Held;
 use check_lines::reading::ReportsRead;
 use file_disk::{FileDisk, FileError, FileLook};
 use file_reasons::FileCall;
+use library::Sealed;
 use std::{fs, io};
 use tape_disk::Disk;
 use vtl_config::{FileName, UsedName};
@@ -214,12 +214,12 @@ impl<'a> ChangeFiles<SystemDisk<'a>> for SystemFiles<'a> {
     }
 }
 
-impl<'a> TakesBack<Held<SystemDisk<'a>>, NotStarted<SystemDisk<'a>>> for SystemFiles<'a> {
+impl<'a> TakesBack<Sealed<SystemDisk<'a>>, NotStarted<SystemDisk<'a>>> for SystemFiles<'a> {
     ghost closes_all = { λ library. Unit {0} };
 
     ghost gives_up = { λ starting. Unit {0} };
 
-    fn close_all(&self, library: Held<SystemDisk<'a>>) {
+    fn close_all(&self, library: Sealed<SystemDisk<'a>>) {
         drop(library);
     }
 

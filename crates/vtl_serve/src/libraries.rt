@@ -17,9 +17,7 @@ use crate::one_host::OneHost;
 use bay_moves::{Bay, Parked};
 use element_slots::Slots;
 use ledgers::Parties;
-use library::{
-    Finished, Gate, Library, NotOpened, Operator, RingRow, Rings, Seat, beside_flushers,
-};
+use library::{Finished, Gate, Library, Operator, RingRow, Rings, Sealed, Seat, beside_flushers};
 use std::alloc::Global;
 use std::io::{Read, Write};
 use std::marker::{Send, Sync};
@@ -229,7 +227,7 @@ fn serve_opened<
 /// requests of all hosts are read from `reader`, and all answers are written to `writer`. Each host's commands are
 /// carried out in a thread of its own. Beside these threads each drive has a flusher, which asks `gate` before each of
 /// its turns. At the end all threads are joined, and every buffer is written out. If memory runs out before the library
-/// is open, drives, slots and ledgers are returned, and nothing is read or written.
+/// is open, slots and drives are returned, sealed, and nothing is read or written.
 pub fn serve_library<
     D: Disk + Drop + Send,
     B: Parties + Rings + Send + Sync,
@@ -251,7 +249,7 @@ pub fn serve_library<
     gate: &G,
     reader: &mut I,
     writer: &mut W,
-) -> Result<ServedLibrary<D>, NotOpened<D>>
+) -> Result<ServedLibrary<D>, Sealed<D>>
     requires places { length bays.items ≡ DRIVES }
     requires fresh { All (λ bay. AcceptedNone bay) bays.items }
     requires rings { (which_are_there rings ≡ which_are_there bays.items) × AreRings B.ring rings }
@@ -260,11 +258,10 @@ pub fn serve_library<
     requires host_ledger { IsBlankOf host_ledger H.name H.parts H.all × (H.all ≡ NEXUSES) }
     ensures serves { IfOk result (λ served. ServesShared D.state bays.items labels hosts.now (I.remaining reader.old)
         (W.contents writer.old) (I.remaining reader.new) (W.contents writer.new) served.outcome
-        served.finished.bays.items served.finished.counts served.finished.answered served.finished.moved) }
-    ensures ends { IfOk result (λ served. EndsShared D.state bays.items served.finished.bays.items
-        served.finished.slots served.finished.counts) }
-    ensures back { IfErr result (λ back. (back.bays ≡ bays) × (back.slots ≡ slots)
-        × (back.bay_ledger ≡ bay_ledger) × (back.host_ledger ≡ host_ledger)
+        served.finished.left.bays served.finished.counts served.finished.answered served.finished.moved) }
+    ensures ends { IfOk result (λ served. EndsShared D.state bays.items served.finished.left.bays
+        served.finished.left.slots served.finished.counts) }
+    ensures back { IfErr result (λ back. (back ≡ record { slots = slots; bays = bays.items })
         × (reader.new ≡ reader.old) × (writer.new ≡ writer.old)) }
 {
     let (library, seats, operator) = Library::<D, B, H>::new(

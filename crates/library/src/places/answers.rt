@@ -1,9 +1,8 @@
 //! A host's command is answered by the hosts' half of a drive alone, or by both halves.
 ghost use Rattle.std.specs.Prelude.{◌≡◌, ◌≢◌, ◌+◌, None, is_some, true};
-ghost use Rattle.bay_moves.specs.Elements.{BayState};
 ghost use Rattle.drive_commands.specs.Execute.{asked};
 ghost use Rattle.split_bay.specs.Rings.{AreEnds};
-ghost use Rattle.library.specs.Halves.{HoldsBoth, ReportsHeld};
+ghost use Rattle.library.specs.Halves.{KeepsEach, RenewsHeld, ReportsHeld};
 ghost use Rattle.library.specs.Served.{ServesAlone, ServesBoth, ServesFront, ServesHalves};
 
 use super::entries::{enter_if_risen, wait_at_limit, wait_if_answered};
@@ -18,6 +17,7 @@ use split_bay::{Back, Front, Rings, execute_both, make_room, tell};
 use std::sync::{Mutex, Wait};
 use tape_buffer::Buffered;
 use tape_disk::Disk;
+use volume_core::MediumError;
 use vtl_base::Bytes;
 
 // Counts a command for the seat of its host, if it was answered.
@@ -50,7 +50,7 @@ fn answer_alone<D: Disk, B: Parties + Rings, H: Parties, R: Wait>(
     replies_show_changes::<Buffered<D>, AptplStore<D>>();
     let before = half.accepted();
     half.known();
-    let reply = half.execute_lent(seat.nexus(), cdb, sent);
+    let reply = half.execute(seat.nexus(), cdb, sent);
     half.known();
     let after = half.accepted();
     wait_if_answered(rt, before, cdb, &reply);
@@ -85,6 +85,14 @@ fn answer_both<D: Disk + Drop, B: Parties + Rings, H: Parties, R: Wait>(
     seat.count_answer(rt);
     enter_if_risen(rt, tally, share, seat, before, after);
     reply
+}
+
+// Establishes, for proofs, what the types of both halves keep. The call does nothing else.
+fn known_halves<D: Disk, B: Rings>(front: &Front<D, B>, back: &Back<D, B>)
+    ensures { KeepsEach D.state front.now back.now }
+{
+    front.known();
+    back.known();
 }
 
 impl<D: Disk + Drop, B: Parties + Rings> FrontPlace<D, B> {
@@ -148,14 +156,17 @@ impl<D: Disk + Drop, B: Parties + Rings> FrontPlace<D, B> {
             unreachable!()
         };
         fit(rt, hosts, disks);
+        known_halves(hosts, disks);
         tell(hosts, disks);
+        known_halves(hosts, disks);
     }
 
-    /// Joins the halves and splits them again. After that the hosts' half may again send as many changes as may be
-    /// pending; if memory runs out, it may send none until the halves are split again. `back` has to be the disk's half
-    /// of this drive; otherwise the call waits forever.
-    pub fn renew<R: Wait>(&mut self, back: &mut BackPlace<D, B>, rt: &R)
-        ensures { (bay : BayState D) × HoldsBoth D.state self.old back.old bay bay self.new back.new }
+    /// Makes room: after that the hosts' half may again send as many changes as may be pending. If memory runs out, it
+    /// may send none until both halves are held again, and all that it sent is stored. The result is then `NoMemory`,
+    /// or `Device` where the device failed as it was stored. `back` has to be the disk's half of this drive; otherwise
+    /// the call waits forever.
+    pub fn renew<R: Wait>(&mut self, back: &mut BackPlace<D, B>, rt: &R) -> Result<(), MediumError>
+        ensures { RenewsHeld D.state self.old back.old result self.new back.new }
     {
         let Some(hosts) = &mut self.half else {
             unreachable!()
@@ -164,6 +175,8 @@ impl<D: Disk + Drop, B: Parties + Rings> FrontPlace<D, B> {
             unreachable!()
         };
         fit(rt, hosts, disks);
-        make_room(hosts, disks);
+        let made = make_room(hosts, disks);
+        known_halves(hosts, disks);
+        made
     }
 }

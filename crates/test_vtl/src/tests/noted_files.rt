@@ -1,8 +1,8 @@
 //! Files in memory, of a test's own, that note their calls.
 use super::streams::Errors;
-use bay_moves::Held;
 use check_lines::reading::ReportsRead;
 use file_disk::{FailedCall, FileError, FileLook, SystemCall};
+use library::Sealed;
 use std::alloc::{AllocError, Global};
 use std::cell::{Cell, RefCell};
 use std::io::{self, ErrorKind};
@@ -271,12 +271,12 @@ impl ChangeFiles<OnceDisk<MemDisk>> for NotedFiles {
     }
 }
 
-impl TakesBack<Held<OnceDisk<MemDisk>>, NotStarted<OnceDisk<MemDisk>>> for NotedFiles {
+impl TakesBack<Sealed<OnceDisk<MemDisk>>, NotStarted<OnceDisk<MemDisk>>> for NotedFiles {
     ghost closes_all = { λ library. Unit {0} };
 
     ghost gives_up = { λ starting. Unit {0} };
 
-    fn close_all(&self, library: Held<OnceDisk<MemDisk>>) {
+    fn close_all(&self, library: Sealed<OnceDisk<MemDisk>>) {
         let _ = self.noted("close", "all");
         drop(library);
     }

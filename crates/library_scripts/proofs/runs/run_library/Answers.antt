@@ -46,7 +46,7 @@ returns-clause-runs g c =
           (record { drives = library; seats = after; moved = moved }) now outcome)
           c.in_ok-library.ensures.operator c.run_opened-seats.ensures.runs));
       reported =
-          reported_of c.finish.result.counts (counts_of c.finish.result.bays.items) (sum_of_seats after)
+          reported_of c.finish.result.counts (counts_of c.finish.result.left.bays) (sum_of_seats after)
           c.finish.ensures.counts;
       sums =
           c.finish.ensures.sums.same

@@ -6,7 +6,7 @@ use Rattle.split_bay.specs.declared.items.Item.{Item}
 use Rattle.split_bay.specs.Backs.{FollowsIn, FollowsSpan}
 use Rattle.split_bay.specs.Both.{Attaches, AttachesTo}
 use Rattle.split_bay.specs.Rings.{ReceivingState, SendingState}
-use Rattle.split_bay.specs.Spans.{KeepsLimits, medium_seen, span_of}
+use Rattle.split_bay.specs.Spans.{medium_seen, span_of}
 use Rattle.split_bay.proofs.BothLemmas.{all_received, attaches, found_so}
 use Rattle.split_bay.proofs.EmptyLemmas.{there_to_both}
 use Rattle.split_bay.proofs.FrontLemmas.{away_held, seen_sent, there_held}
@@ -83,13 +83,9 @@ returns-clause-attaches g c =
     let new = c.attach.new.self in
     let seen = subst (λ (s : SendingState). state_of state medium ≡ medium_seen (span_of s.sent)) (sym look.sending)
     (seen_sent state medium (span_of c.args.sending.now.sent) c.requires.owes c.requires.passed) in
-    let follows = subst (λ (o : Option (DisksState g.row.D.Denot)). FollowsIn state o (span_of received)) c.in-Some.is
-    c.requires.follows in
     subst (λ (o : Option (DisksState g.row.D.Denot)).
     AttachesTo state c.args.sending.now.sent received o medium new) (sym c.in-Some.is)
     (subst (λ (s : SendingState). Attaches state s.sent received disks medium new) look.sending
     (attaches state c.look_both.new.sending c.args.receiving.now c.look_both.new.receiving c.take_known.new.receiving
     disks c.take_known.new.medium (ap (λ (r : ReceivingState). r.received) look.same) look.fifo look.changes
-    c.take_known.ensures.takes g.met.D.Disk.is_disk medium new seen c.attach.ensures follows
-    (subst (λ (s : SendingState). KeepsLimits (span_of s.sent)) (sym look.sending) c.known.ensures)
-    c.known-2.ensures.core c.known-2.ensures.hand c.take_known.ensures.follows))
+    c.take_known.ensures.takes medium new seen c.attach.ensures c.known.ensures.hand c.take_known.ensures.follows))

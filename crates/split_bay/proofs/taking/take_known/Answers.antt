@@ -1,7 +1,7 @@
 use Rattle.std.proofs.Common.{◌≡◌, List, None, ap, subst, sym, ◌∙◌}
 use Rattle.vtl_base.specs.Below.{advances_nowhere}
 use Rattle.volume_core.specs.Volume.{Part, refusal_of}
-use Rattle.tape_buffer.specs.Moves.{buffer_below, medium_moves_nowhere}
+use Rattle.tape_buffer.specs.Moves.{buffer_below, medium_moves_nowhere, unreported_moves_nowhere}
 use Rattle.tape_buffer.specs.State.{BufferState, state_of}
 use Rattle.tape_buffer.specs.Taking.{DisksState}
 use Rattle.split_bay.specs.declared.items.Item.TheVariants.{Sent}
@@ -16,7 +16,8 @@ changes-init g c = record {
   follows = c.requires;
   takes = takes_none g.D.Disk.state c.args.receiving.now c.args.medium.now
       (advances_nowhere (buffer_below g.D.Disk.state) (medium_moves_nowhere g.D.Disk.state g.met.D.Disk.is_disk)
-      c.args.medium.now.buffer);
+      c.args.medium.now.buffer)
+      (unreported_moves_nowhere g.D.Disk.state g.met.D.Disk.is_disk c.args.medium.now.buffer);
 }
 
 pub take-requires-clause-applies : goal.take-requires-clause-applies
@@ -58,5 +59,5 @@ changes-preserved g c =
           (ap (λ (l : DisksState g.row.D.Denot). l.buffer) c.take.ensures.taken)
           (ap (λ (b : BufferState g.row.D.Denot). (state_of g.D.Disk.state b).failed) takes.pending
           ∙ (still g.D.Disk.state first.buffer takes.found).1)
-          c.take.ensures.advances;
+          c.take.ensures.advances c.take.ensures.moves;
     }

@@ -4,8 +4,8 @@ use Rattle.split_runs.proofs.BegunLemmas.{begun_keep}
 use Rattle.split_runs.proofs.StepLemmas.{parts_again}
 use Rattle.split_runs.proofs.calls.begin_halves.Goals as goal
 
-pub returns : goal.returns
-returns g c =
+pub returns-clause-keeps : goal.returns-clause-keeps
+returns-clause-keeps g c =
     let back = c.known-2.ensures in
     let hosts = c.part-hosts.result.0 in
     let disks = c.part-hosts.result.1 in

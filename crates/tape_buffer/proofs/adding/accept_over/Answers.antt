@@ -37,8 +37,8 @@ unrefused g c =
 pub returns-in-Ok-add_over-clause-answer : goal.returns-in-Ok-add_over-clause-answer
 returns-in-Ok-add_over-clause-answer g c =
     accepts_more c.args.cartridge.now c.make_way.new.cartridge c.add_over.new.cartridge c.args.pending.now
-    c.make_way.new.pending c.add_over.new.pending c.args.change c.in-Ok.ensures.answer
-    c.in-Ok.ensures.stores c.in-Ok-add_over.ensures.same c.in-Ok-add_over.ensures.ok (unrefused g c)
+    c.make_way.new.pending c.add_over.new.pending c.args.change c.in-Ok-add_over.ensures.same
+    c.in-Ok-add_over.ensures.ok c.in-Ok.ensures.answer (unrefused g c)
     (sym c.has_failed.ensures ∙ c.if-has_failed.false)
     (fits_more c.args.cartridge.now.room c.frame_size.result c.has_room_over.result c.args.pending.now c.args.change
     c.has_room_over.ensures.0 c.frame_size.ensures c.if-not-has_room_over.false)
@@ -46,9 +46,8 @@ returns-in-Ok-add_over-clause-answer g c =
 pub returns-in-Ok-add_over-clause-advances : goal.returns-in-Ok-add_over-clause-advances
 returns-in-Ok-add_over-clause-advances g c =
     advances_more c.args.cartridge.now c.make_way.new.cartridge c.add_over.new.cartridge c.args.pending.now
-    c.make_way.new.pending c.add_over.new.pending c.args.change c.in-Ok.ensures.answer
-    c.in-Ok.ensures.stores c.in-Ok-add_over.ensures.same g.D.Disk.state g.met.D.Disk.is_disk
-    c.in-Ok.ensures.advances c.in-Ok.ensures.held
+    c.make_way.new.pending c.add_over.new.pending c.args.change c.in-Ok-add_over.ensures.same g.D.Disk.state
+    g.met.D.Disk.is_disk c.in-Ok.ensures.advances c.in-Ok.ensures.held
     (ap (λ (v : List Part). refusal_of v c.args.change) c.in-Ok.ensures.answer.volume_is ∙ unrefused g c)
     c.in-Ok.ensures.answer.works c.in-Ok-add_over.ensures.ok
 
@@ -94,8 +93,8 @@ returns-in-Ok-add_over-clause-shows g c =
     let between = volume_of (open_state c.make_way.new.cartridge c.make_way.new.pending) in
     subst (IsIndexOf c.add_over.new.index)
     (sym (volume_more c.args.cartridge.now c.make_way.new.cartridge c.add_over.new.cartridge c.args.pending.now
-    c.make_way.new.pending c.add_over.new.pending c.args.change c.in-Ok.ensures.answer c.in-Ok.ensures.stores
-    c.in-Ok-add_over.ensures.same c.in-Ok-add_over.ensures.ok))
+    c.make_way.new.pending c.add_over.new.pending c.args.change c.in-Ok-add_over.ensures.same
+    c.in-Ok-add_over.ensures.ok))
     (c.in-Ok-add_over.ensures.shows between
     (subst (IsIndexOf c.args.index.now) (sym c.in-Ok.ensures.answer.volume_is) c.requires.shows))
 
@@ -104,7 +103,7 @@ returns-in-Err-add_over-clause-shows g c =
     let between = volume_of (open_state c.make_way.new.cartridge c.make_way.new.pending) in
     subst (IsIndexOf c.add_over.new.index)
     (sym (volume_still c.args.cartridge.now c.make_way.new.cartridge c.add_over.new.cartridge c.args.pending.now
-    c.make_way.new.pending c.add_over.new.pending c.args.change c.in-Ok.ensures.answer c.in-Ok.ensures.stores
-    c.in-Err-add_over.ensures.same c.in-Err-add_over.ensures.err.1))
+    c.make_way.new.pending c.add_over.new.pending c.args.change c.in-Err-add_over.ensures.same
+    c.in-Err-add_over.ensures.err.1))
     (c.in-Err-add_over.ensures.shows between
     (subst (IsIndexOf c.args.index.now) (sym c.in-Ok.ensures.answer.volume_is) c.requires.shows))

@@ -2,8 +2,7 @@ use Rattle.std.proofs.Common.{arith}
 use Rattle.cartridge.specs.Contents.{volume_made}
 use Rattle.volume_core.specs.Volume.{after}
 use Rattle.tape_buffer.proofs.AddingLemmas.{pending_more}
-use Rattle.tape_buffer.proofs.ChangeLemmas.{inside_of}
-use Rattle.tape_buffer.proofs.VolumeLemmas.{stays_so}
+use Rattle.tape_buffer.proofs.VolumeLemmas.{inside_of, stays_so}
 use Rattle.tape_buffer.proofs.adding.add_over.Goals as goal
 
 pub reserve_over-requires-clause-part : goal.reserve_over-requires-clause-part

@@ -1,7 +1,7 @@
 use Rattle.std.proofs.Common.{arith}
 use Rattle.object_index.specs.Places.{reserved_of}
 use Rattle.tape_buffer.proofs.IndexLemmas.{as_many_parts, shown_reserved}
-use Rattle.tape_buffer.proofs.ChangeLemmas.{inside_of}
+use Rattle.tape_buffer.proofs.VolumeLemmas.{inside_of}
 use Rattle.tape_buffer.proofs.adding.reserve_entry.Goals as goal
 
 pub reserve-requires : goal.reserve-requires

@@ -8,14 +8,14 @@ returns-in-Ok-clause-ok g c =
     let stored = c.in-Ok.ensures in
     let shelved = c.shelve_over-in-Ok in
     let disk = g.D.Disk.state in
-    let opened = c.args.opened in (
+    let old = c.args.cartridge in (
       shelved.ensures.known,
       rw stored.answer.0 (shelved.ensures.frames ∙ stored.frame),
-      parks_after disk g.met.D.Disk.is_disk opened.cartridge c.settle_over.new.cartridge opened.pending
-          c.settle_over.new.pending (AreHonest disk opened.cartridge.disks)
+      parks_after disk g.met.D.Disk.is_disk old c.settle_over.new.cartridge c.args.pending.now
+          c.settle_over.new.pending (AreHonest disk old.disks)
           (AreHonest disk c.settle_over.new.cartridge.disks) shelved.result stored.advances.honesty.0 stored.answer
           stored.stores
           shelved.ensures.parks,
-      advances_after disk g.met.D.Disk.is_disk opened.cartridge c.settle_over.new.cartridge opened.pending
+      advances_after disk g.met.D.Disk.is_disk old c.settle_over.new.cartridge c.args.pending.now
           c.settle_over.new.pending shelved.result stored.advances shelved.ensures.advances,
     )

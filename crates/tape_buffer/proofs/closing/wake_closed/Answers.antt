@@ -12,7 +12,6 @@ use Rattle.cartridge_sides.specs.Pairs.{gate_behind}
 use Rattle.cartridge.specs.declared.error.CartridgeError.TheVariants as Cartridges
 use Rattle.cartridge.specs.Contents.{bodies_of, volume_made}
 use Rattle.cartridge.specs.State.{ClosedCartridge, OpenCartridge}
-use Rattle.tape_buffer.specs.Inner.Waking.{wake_error_of}
 use Rattle.tape_buffer.specs.Moves.{LeavesAlone, LeavesEachAlone, buffer_below}
 use Rattle.tape_buffer.specs.State.{IsPendingOver, IsSettledOn, closed_buffer, closed_state, open_buffer, open_state}
 use Rattle.tape_buffer.proofs.OpeningLemmas.{advances_opened, nothing_over, opens}
@@ -89,17 +88,10 @@ returns-in-Err-clause-err g c =
     let stays = stays_closed disk g.met.D.Disk.is_disk old new.disks told.disks told.any_moment
     (record { ours = laws.ours; whole = laws.whole; bad = laws.bad }) c.known.ensures.shows c.in-Err.refused.error
     told.refused in
-    subst (λ (error : MediumError). (error ≢ Media.Device → IsSettledOn disk new)
-    × WakesFrom (AreHonest disk old.disks) false (closed_state disk old) (Err error) (closed_state disk new)
-    × Advances (buffer_below disk) (closed_buffer old) [] (met_fault (Err error)) (closed_buffer new)
-    × LeavesAlone disk (closed_buffer old) (closed_buffer new)
-    × LeavesEachAlone disk (closed_buffer old) (closed_buffer new))
-    (sym c.wake_error.ensures)
-    (subst (λ (s : ClosedCartridge _). (wake_error_of c.in-Err.refused.error ≢ Media.Device → IsSettledOn disk s)
-    × WakesFrom (AreHonest disk old.disks) false (closed_state disk old) (Err (wake_error_of c.in-Err.refused.error))
-    (closed_state disk s)
-    × Advances (buffer_below disk) (closed_buffer old) [] (met_fault (Err (wake_error_of c.in-Err.refused.error)))
-    (closed_buffer s)
-    × LeavesAlone disk (closed_buffer old) (closed_buffer s)
-    × LeavesEachAlone disk (closed_buffer old) (closed_buffer s)) (sym told.same)
-    (stays.0, stays.1, stays.2, told.any_moment, told.each.stays))
+    subst (λ (p : MediumError × ClosedCartridge _). (p.0 ≢ Media.Device → IsSettledOn disk p.1)
+    × WakesFrom (AreHonest disk old.disks) false (closed_state disk old) (Err p.0) (closed_state disk p.1)
+    × Advances (buffer_below disk) (closed_buffer old) [] (met_fault (Err p.0)) (closed_buffer p.1)
+    × LeavesAlone disk (closed_buffer old) (closed_buffer p.1)
+    × LeavesEachAlone disk (closed_buffer old) (closed_buffer p.1))
+    (λ i. ((sym c.wake_error.ensures) i, (sym told.same) i))
+    (stays.0, stays.1, stays.2, told.any_moment, told.each.stays)

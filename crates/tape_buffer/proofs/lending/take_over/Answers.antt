@@ -1,6 +1,6 @@
 use Rattle.std.proofs.Common.{◌≡◌, ◌-◌, ◌∷◌, [], arith, sum_by}
 use Rattle.volume_core.specs.Medium.{block_bytes, frame_size}
-use Rattle.tape_buffer.proofs.LentLemmas.{advances_taken, fits_taken, pending_taken, stores_taken}
+use Rattle.tape_buffer.proofs.LentLemmas.{advances_taken, fits_taken, pending_taken, stores_taken, unreported_taken}
 use Rattle.tape_buffer.proofs.lending.take_over.Goals as goal
 
 pub push-requires : goal.push-requires
@@ -28,4 +28,9 @@ returns-clause-stores g c =
 pub returns-clause-advances : goal.returns-clause-advances
 returns-clause-advances g c =
     advances_taken c.args.cartridge.now c.args.pending.now c.args.left c.args.change c.requires.held c.requires.roomy
+    c.requires.within c.requires.applies g.D.Disk.state g.met.D.Disk.is_disk c.push.new.self c.push.ensures
+
+pub returns-clause-moves : goal.returns-clause-moves
+returns-clause-moves g c =
+    unreported_taken c.args.cartridge.now c.args.pending.now c.args.left c.args.change c.requires.held c.requires.roomy
     c.requires.within c.requires.applies g.D.Disk.state g.met.D.Disk.is_disk c.push.new.self c.push.ensures

@@ -1,4 +1,4 @@
-use Rattle.std.proofs.Common.{List, [], arith, false, refl, subst, sym}
+use Rattle.std.proofs.Common.{List, [], arith, false, subst, sym}
 use Rattle.vtl_base.specs.Below.{Advances}
 use Rattle.tape_buffer.specs.Moves.{StoresBehind, buffer_below, stores_behind_nowhere}
 use Rattle.volume_core.specs.declared.changes.Change.{Change}
@@ -7,8 +7,7 @@ use Rattle.volume_core.specs.Volume.{AllApply}
 use Rattle.tape_buffer.specs.Inner.Storing.{IsRoomyFor}
 use Rattle.tape_buffer.specs.State.{open_buffer}
 use Rattle.tape_buffer.proofs.AddingLemmas.{spelled_short}
-use Rattle.tape_buffer.proofs.CoreLemmas.{rests}
-use Rattle.tape_buffer.proofs.CoreLemmas.{advances_broken, advances_stored, behind_broken, behind_stored, torn_all}
+use Rattle.tape_buffer.proofs.CoreLemmas.{advances_broken, advances_stored, behind_broken, behind_stored, rests, torn_all}
 use Rattle.tape_buffer.proofs.LentLemmas.{roomy_broken, roomy_stored}
 use Rattle.tape_buffer.proofs.MediumLemmas.{frames_stored, settles_stored, stores_stored}
 use Rattle.tape_buffer.proofs.RoomLemmas.{listed_none, listed_some, one_frame_fits, reserved_still}
@@ -42,21 +41,18 @@ unreachable-requires-in-Err-SideFull g c =
 
 pub returns-in-Ok-clause-answer : goal.returns-in-Ok-clause-answer
 returns-in-Ok-clause-answer g c =
-    settles_stored c.args.cartridge.now c.store.new.self c.args.changes.now c.args.changes.now []
-    (listed_some c.args.changes.now c.is_empty.result c.is_empty.ensures c.if-is_empty.false) refl
-    refl c.in-Ok.ensures.answer.0
+    settles_stored c.args.cartridge.now c.store.new.self c.args.changes.now
+    (listed_some c.args.changes.now c.is_empty.result c.is_empty.ensures c.if-is_empty.false) c.in-Ok.ensures.answer.0
 
 pub returns-in-Ok-clause-frame : goal.returns-in-Ok-clause-frame
 returns-in-Ok-clause-frame g c =
-    frames_stored c.args.cartridge.now c.store.new.self c.args.changes.now c.args.changes.now []
-    (listed_some c.args.changes.now c.is_empty.result c.is_empty.ensures c.if-is_empty.false) refl
-    refl c.in-Ok.ensures.answer.0
+    frames_stored c.args.cartridge.now c.store.new.self c.args.changes.now
+    (listed_some c.args.changes.now c.is_empty.result c.is_empty.ensures c.if-is_empty.false) c.in-Ok.ensures.answer.0
 
 pub returns-in-Ok-clause-stores : goal.returns-in-Ok-clause-stores
 returns-in-Ok-clause-stores g c =
-    stores_stored c.args.cartridge.now c.store.new.self c.args.changes.now c.args.changes.now []
-    (listed_some c.args.changes.now c.is_empty.result c.is_empty.ensures c.if-is_empty.false) refl
-    refl c.in-Ok.ensures.answer.0
+    stores_stored c.args.cartridge.now c.store.new.self c.args.changes.now
+    (listed_some c.args.changes.now c.is_empty.result c.is_empty.ensures c.if-is_empty.false) c.in-Ok.ensures.answer.0
 
 pub returns-in-Ok-clause-advances : goal.returns-in-Ok-clause-advances
 returns-in-Ok-clause-advances g c =
@@ -64,8 +60,7 @@ returns-in-Ok-clause-advances g c =
     let works = told.answer.0.was_fine in
     advances_stored c.args.cartridge.now c.args.changes.now g.D.Disk.state g.met.D.Disk.is_disk c.store.new.self
     (c.known.ensures.at_rest works) works c.known.ensures.contents told.disks.keeps
-    (λ honest. told.any_moment honest works)
-    c.args.changes.now [] refl refl told.answer told.sure
+    (λ honest. told.any_moment honest works) told.answer told.sure
 
 pub returns-in-Err-Device-clause-advances : goal.returns-in-Err-Device-clause-advances
 returns-in-Err-Device-clause-advances g c =
@@ -74,8 +69,7 @@ returns-in-Err-Device-clause-advances g c =
     let works = answer.0.was_fine in
     advances_broken c.args.cartridge.now c.args.changes.now g.D.Disk.state g.met.D.Disk.is_disk c.store.new.self
     (c.known.ensures.at_rest works) works c.known.ensures.contents told.disks.keeps
-    (λ honest. told.any_moment honest works)
-    c.args.changes.now refl answer.0 c.in-Err-Device.field-0-0 answer.1
+    (λ honest. told.any_moment honest works) answer.0 c.in-Err-Device.field-0-0 answer.1
 
 pub returns-in-Err-Device-clause-held : goal.returns-in-Err-Device-clause-held
 returns-in-Err-Device-clause-held g c =
@@ -86,7 +80,7 @@ returns-in-Err-Device-clause-held g c =
       apply =
           subst (λ (contents : Contents). AllApply (volume_made contents) c.args.changes.now) (sym broken.contents)
           c.requires.held.apply;
-      torn = torn_all new.torn c.args.changes.now c.args.changes.now broken.torn refl;
+      torn = torn_all new.torn c.args.changes.now broken.torn;
       fits = omega (arith, broken.room, c.requires.held.fits);
       reserved =
           reserved_still old.reserved new.reserved c.args.changes.now broken.reserved c.requires.held.reserved;
@@ -121,20 +115,18 @@ returns-then-is_empty-clause-behind g c =
     (stores_behind_nowhere state g.met.D.Disk.is_disk old)
 
 pub returns-in-Ok-clause-behind : goal.returns-in-Ok-clause-behind
-returns-in-Ok-clause-behind g c = λ more.
+returns-in-Ok-clause-behind g c =
     let told = c.in-Ok.ensures in
     let works = told.answer.0.was_fine in
-    behind_stored c.args.cartridge.now c.args.changes.now more g.D.Disk.state g.met.D.Disk.is_disk c.store.new.self
+    behind_stored c.args.cartridge.now c.args.changes.now g.D.Disk.state g.met.D.Disk.is_disk c.store.new.self
     (c.known.ensures.at_rest works) works c.known.ensures.contents told.disks.keeps
-    (λ honest. told.any_moment honest works)
-    c.args.changes.now refl told.answer told.sure
+    (λ honest. told.any_moment honest works) told.answer.0 told.sure
 
 pub returns-in-Err-Device-clause-behind : goal.returns-in-Err-Device-clause-behind
-returns-in-Err-Device-clause-behind g c = λ more.
+returns-in-Err-Device-clause-behind g c =
     let told = c.in-Err-Device.ensures in
     let answer = (rw c.in-Err-Device.field-0-is at told.answer) in
     let works = answer.0.was_fine in
-    behind_broken c.args.cartridge.now c.args.changes.now more g.D.Disk.state g.met.D.Disk.is_disk c.store.new.self
+    behind_broken c.args.cartridge.now c.args.changes.now g.D.Disk.state g.met.D.Disk.is_disk c.store.new.self
     (c.known.ensures.at_rest works) works c.known.ensures.contents told.disks.keeps
-    (λ honest. told.any_moment honest works)
-    c.args.changes.now refl answer.0 c.in-Err-Device.field-0-0 answer.1
+    (λ honest. told.any_moment honest works) answer.0 c.in-Err-Device.field-0-0 answer.1

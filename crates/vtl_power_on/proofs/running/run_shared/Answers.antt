@@ -1,40 +1,25 @@
 use Rattle.std.proofs.Common.{◌≡◌, ◌∙◌, inl, inr, ap, length, refl}
-use Rattle.bay_moves.specs.Elements.{HeldState}
 use Rattle.library.specs.Counts.{places_filled, which_are_there}
 use Rattle.vtl_power_on.proofs.IdleLemmas.{keeps_same}
-use Rattle.vtl_power_on.proofs.RunningLemmas.{as_many, put_together, ran_over}
+use Rattle.vtl_power_on.proofs.RunningLemmas.{put_together, ran_over}
 use Rattle.vtl_power_on.proofs.running.run_shared.Goals as goal
-
-pub from_parts-requires : goal.from_parts-requires
-from_parts-requires g c =
-    as_many c.into_parts-bays.result.0.items c.in-Ok-ran.field-0.finished.bays.items c.in-Ok-ran.ensures.ends.drives
-    ∙ c.into_parts-bays.ensures.all
-
-pub not_begun-requires-in-Err : goal.not_begun-requires-in-Err
-not_begun-requires-in-Err g c = rw c.in-Err.ensures.back.0 c.into_parts-bays.ensures.all
 
 pub returns-in-Ok-ran : goal.returns-in-Ok-ran
 returns-in-Ok-ran g c =
-    inl (ran_over g.D.Disk.state c.args.held c.from_parts.result c.into_parts-bays.result.0.items
-    c.in-Ok-ran.field-0.finished.bays.items c.in-Ok-ran.field-0.finished.slots c.every_host.result
-    (g.I.Read.remaining c.args.reader.now) (g.I.Read.remaining c.run_library-ran.new.reader)
+    inl (ran_over g.D.Disk.state c.args.held c.in-Ok-ran.field-0.finished.left c.into_parts-bays.result.0.items
+    c.every_host.result (g.I.Read.remaining c.args.reader.now) (g.I.Read.remaining c.run_library-ran.new.reader)
     (g.W.Write.contents c.args.writer.now) (g.W.Write.contents c.run_library-ran.new.writer)
     c.in-Ok-ran.field-0.outcome c.in-Ok-ran.field-0.finished.counts c.in-Ok-ran.field-0.finished.answered
     c.in-Ok-ran.field-0.finished.moved c.outcome_of.result c.into_parts-bays.ensures.bays c.every_host.ensures
-    (ap (λ (held : HeldState g.row.D.Denot). held.bays) c.from_parts.ensures)
-    (ap (λ (held : HeldState g.row.D.Denot). held.slots) c.from_parts.ensures) c.in-Ok-ran.ensures.runs
-    c.in-Ok-ran.ensures.past c.in-Ok-ran.ensures.ends c.outcome_of.ensures)
+    c.in-Ok-ran.ensures.runs c.in-Ok-ran.ensures.past c.in-Ok-ran.ensures.ends c.outcome_of.ensures)
 
 pub returns-in-Err : goal.returns-in-Err
 returns-in-Err g c =
-    let bays : c.in-Err.back.bays.items ≡ c.args.held.bays =
-    rw c.in-Err.ensures.back.0 c.into_parts-bays.ensures.bays in
-    let slots : c.in-Err.back.slots ≡ c.args.held.slots =
-    c.in-Err.ensures.back.1 ∙ c.into_parts-bays.ensures.slots in
+    let parts = c.into_parts-bays.result in
     let same =
-    c.not_begun-in-Err.ensures.held
-    ∙ put_together c.args.held c.in-Err.back.slots c.in-Err.back.bays.items slots bays in
-    rw (c.in-Err.ensures.back.4, c.in-Err.ensures.back.5)
+    c.not_begun-in-Err.ensures.library ∙ c.in-Err.ensures.back.0
+    ∙ put_together c.args.held parts.1 parts.0.items c.into_parts-bays.ensures.slots c.into_parts-bays.ensures.bays in
+    rw (c.in-Err.ensures.back.1, c.in-Err.ensures.back.2)
     (inr (c.not_begun-in-Err.ensures.outcome, same, (keeps_same _, keeps_same _)))
 
 pub of_drives-requires : goal.of_drives-requires
@@ -44,7 +29,7 @@ pub returns-in_default : goal.returns-in_default
 returns-in_default g c =
     let parts = c.into_parts-bays.result in
     let same =
-    c.not_begun.ensures.held
+    c.not_begun.ensures.library ∙ c.from_parts.ensures
     ∙ put_together c.args.held parts.1 parts.0.items c.into_parts-bays.ensures.slots c.into_parts-bays.ensures.bays in
     inr (c.not_begun.ensures.outcome, same, (keeps_same _, keeps_same _))
 

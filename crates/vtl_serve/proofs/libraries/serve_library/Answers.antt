@@ -36,7 +36,7 @@ returns-clause-serves g c =
           left before moved after left' now outcome)
           c.in_ok-library.ensures.operator c.serve_opened-seats.ensures.serves));
       reported =
-          reported_of c.finish.result.counts (counts_of c.finish.result.bays.items)
+          reported_of c.finish.result.counts (counts_of c.finish.result.left.bays)
           (λ (counts : List (Option ℕ)). sum_of_counts counts ≡ sum_of_seats after) c.finish.ensures.counts;
       sums =
           c.finish.ensures.sums.same

@@ -1,16 +1,8 @@
-use Rattle.std.proofs.Common.{◌∙◌, [], ap, List, ℕ}
-use Rattle.cartridge_sides.specs.declared.which.Which.TheVariants.{First}
-use Rattle.cartridge.specs.Contents.{contents_from, heading_with, plain_head}
+use Rattle.vtl_power_on.proofs.SidesLemmas.{memory_is_failure}
 use Rattle.vtl_power_on.proofs.sides.NewSidesSidesMemDisk.cartridge.Goals as goal
 
-pub returns-in-Ok-clause-ok : goal.returns-in-Ok-clause-ok
-returns-in-Ok-clause-ok c = record {
-  shelved = c.in-Ok.shelved;
-  closed = c.of.ensures;
-  known = c.in-Ok.ensures.ok.0;
-  torn = c.in-Ok.ensures.ok.1;
-  contents =
-      c.in-Ok.ensures.ok.2
-      ∙ ap (λ (capacities : List ℕ). contents_from First (plain_head (heading_with c.args.entry.barcode capacities)) [])
-      c.slice_of.ensures.value;
-}
+pub returns-clause-ok : goal.returns-clause-ok
+returns-clause-ok c = rw c.slice_of.ensures.value at c.new_cartridge.ensures.ok
+
+pub returns-clause-failure : goal.returns-clause-failure
+returns-clause-failure c = memory_is_failure c.new_cartridge.result c.new_cartridge.ensures.err

@@ -26,7 +26,7 @@ returns-clause-err g c =
       | in-Err w ↦ rw w.result-is (
         refl,
         subst (λ (a : ℕ). is_some (home_at c.args.self.now a) ≡ true) c.address.ensures.value
-            (full_in_slot c.self.inside.held c.self.inside.waiting.items c.address.result w.in-Err.field-0.error
+            (full_in_slot c.self.inside.held c.self.inside.waiting.items c.address.result w.in-Err.refused.error
             c.args.self.now c.self.view_is on w.in-Err.ensures.err.0),
       )
     ]

@@ -7,7 +7,7 @@ use Rattle.tape_buffer.specs.State.{state_of}
 use Rattle.split_bay.specs.Fronts.{AnswersHalf, AnswersOrWaits, FrontState, LeavesOrders, hosts_half}
 use Rattle.split_bay.specs.Spans.{span_of}
 use Rattle.split_bay.proofs.FrontLemmas.{moments_passed, orders_passed, owes_after}
-use Rattle.split_bay.proofs.fronts.Front.execute_lent.Goals as goal
+use Rattle.split_bay.proofs.fronts.Front.execute.Goals as goal
 
 pub pass_on-requires : goal.pass_on-requires
 pass_on-requires g c =

@@ -7,7 +7,7 @@ use Rattle.volume_core.specs.declared.media.Turn.TheVariants.{Device, Idle, Stor
 use Rattle.volume_core.specs.Medium.{LeavesRoom, MediumState, Turns, volume_of, volume_or_empty}
 use Rattle.volume_core.specs.Stores.{Stores, after_append, stored_after, stores_nowhere}
 use Rattle.volume_core.specs.Volume.{Part, after}
-use Rattle.split_bay.specs.Found.{TurnedBefore, having_pending}
+use Rattle.split_runs.specs.Found.{TurnedBefore, having_pending}
 use Rattle.split_bay.specs.Looks.{IsTorn, Looked}
 
 -- of no partition changes make none

@@ -9,9 +9,9 @@ use Rattle.drive_commands.specs.declared.bays.Bay.{Bay}
 use Rattle.drive_commands.specs.declared.bays.Bay.TheVariants.{Empty, Loaded, Unloaded}
 use Rattle.drive_commands.specs.State.{Machine}
 use Rattle.drive_commands.specs.Turn.{after_turn}
-use Rattle.split_bay.specs.Found.{TurnedDrive, having_pending}
+use Rattle.split_runs.specs.Found.{TurnedDrive, having_pending}
 use Rattle.split_bay.specs.Looks.{LookedIn, Looks, deferred_after, fails_anew}
-use Rattle.split_bay.proofs.TurnedLemmas.{turned_before}
+use Rattle.split_runs.proofs.TurnedLemmas.{turned_before}
 
 never_both : (b : Bool) → b && not b ≡ false
 never_both true = refl
