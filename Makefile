@@ -143,6 +143,7 @@ cluster: $(if $(PROGRAM),,vtl)
 bench: need-rt
 	python3 bench/script.py
 	python3 bench/journal.py
+	python3 bench/sums.py
 	python3 bench/cartridge.py
 	python3 bench/buffer.py
 	python3 bench/program.py

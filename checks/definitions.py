@@ -103,7 +103,7 @@ def documented(path, item):
 def parted(comment):
     """A comment without its source, and the source."""
     source = SOURCE.search(comment)
-    if source and re.search(r"\bown\b|S[SPAM][CM]", source[1]):
+    if source and re.search(r"\bown\b|S[SPAM][CM]|RFC", source[1]):
         return SOURCE.sub("", comment).strip(), source[1]
     return comment, ""
 

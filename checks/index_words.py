@@ -35,6 +35,7 @@ WORDS = {
     "copy of a cartridge": ["copy_head", "spell_copy", "IsCopy"],
     "copy of a volume": ["copy_of", "frames_of", "ArePackedInto", "Makes"],
     "counts, the side that": ["SideCounts", "PairStandsFor", "IsNoPair"],
+    "CRC-32C, sum of bytes": ["crc32c", "KnownSums", "IsRemainder"],
     "crash": ["DiskState", "LeavesOnly", "IsImage", "CrashesKeepAcknowledged"],
     "cut": ["Cut", "Cuts"],
     "damaged": ["IsDamagedAt", "IsDamagedOf", "IsBroken", "IsPairDamagedAt"],

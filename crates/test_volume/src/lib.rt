@@ -1,4 +1,4 @@
-//! The tests of volume_core, change_records and object_index.
+//! The tests of volume_core, crc32c, change_records and object_index.
 #![tactic(auto)]
 
 #[cfg(test)]
@@ -15,5 +15,7 @@ mod records;
 mod searches;
 #[cfg(test)]
 mod staged;
+#[cfg(test)]
+mod sums;
 #[cfg(test)]
 mod volumes;

@@ -1,0 +1,3 @@
+pub mod Crc
+pub mod Known
+pub mod Remainder
