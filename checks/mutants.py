@@ -22,7 +22,7 @@ STOPS = mutant_drives.STOPS
 
 
 # tests that wait for what a wrong body never does, and how long each may take
-SECONDS = {"test_hosts": "60", "test_serve": "60"}
+SECONDS = {"test_hosts": "60", "test_library": "30", "test_serve": "60"}
 
 
 def crate_of(room, name):
