@@ -5,6 +5,7 @@ pub mod barcode;
 pub mod bytes;
 pub mod faults;
 pub mod laws;
+pub mod layout;
 pub mod limits;
 pub mod numbers;
 pub mod space_codes;
