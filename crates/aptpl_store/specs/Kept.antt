@@ -69,7 +69,7 @@ module _ {D : Type 0} where
     StoreMoves old made new =
         CoreMoves store_rules (one_disk state) old.disk new.disk (core_of old) (core_of new) made
 
-    -- what a contract sees below a store: the failures of its disk, whether it is honest, and its saves (own)
+    -- what a contract sees below a store: the failures of its disk, whether it is honest, and its saves; nothing opens it (own)
     abbrev pub store_below : Below (OpenStore D) PrState
     store_below =
         record {
@@ -77,4 +77,5 @@ module _ {D : Type 0} where
           honest = λ store. (state store.disk).honest;
           at_hand = λ store. Unit {0};
           moves = StoreMoves;
+          left_alone = λ old new. Unit {0};
         }

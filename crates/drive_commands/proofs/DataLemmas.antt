@@ -107,6 +107,7 @@ module _ {M K : Type 0}
       step = means (made_on_medium tallies.made) (mounted (state now) position, tallies.carries.work, refl, refl);
       advances = rw in_bay tallies.carries.advances;
       stores = rw in_bay tallies.carries.stores;
+      alone = rw in_bay tt;
       saves = rw sound (keeps_nowhere old.keeper);
       counted = tallies.counted;
     },
@@ -128,6 +129,7 @@ module _ {M K : Type 0}
       step = rw judged h.0.step;
       advances = h.0.advances;
       stores = h.0.stores;
+      alone = h.0.alone;
       saves = h.0.saves;
       counted = h.0.counted;
     },

@@ -1,5 +1,5 @@
 -- LOAD UNLOAD is a step of the drive, whatever is in it.
-use Rattle.std.proofs.Common.{◌≡◌, List, [], ℕ, Result, Ok, Err, Bool, true, false, refl, sym, ap, subst}
+use Rattle.std.proofs.Common.{◌≡◌, inl, inr, List, [], ℕ, Result, Ok, Err, Bool, true, false, refl, sym, ap, subst}
 use Rattle.vtl_base.specs.Below.{Below, Advances}
 use Rattle.scsi_attention.specs.AttentionSets.{AttentionSet}
 use Rattle.scsi_attention.specs.declared.attention_sets.Attention.TheVariants.{MediumChanged}
@@ -23,7 +23,7 @@ use Rattle.drive_commands.specs.State.{Machine, DriveState, bay_of, machine_of, 
 use Rattle.drive_commands.specs.Relations.{Made, made_nothing}
 use Rattle.drive_commands.specs.Load.{wake_answer}
 use Rattle.drive_commands.specs.LoadUnload.{LoadsAgain, LoadsIn, UnloadsInto, unloaded}
-use Rattle.drive_commands.specs.Execute.{AdvancesIn, HonestIn, StoresIn, Takes, is_device_fault, is_keeper_fault}
+use Rattle.drive_commands.specs.Execute.{AdvancesIn, HonestIn, OpensAlone, StoresIn, Takes, is_device_fault, is_keeper_fault}
 use Rattle.drive_commands.specs.Media.{ParksFrom}
 use Rattle.drive_commands.specs.StoredFirst.{GoesTo, StoredFirst}
 use Rattle.drive_commands.specs.Inner.Carries.{Carries}
@@ -77,14 +77,16 @@ module _ {M K : Type 0}
     bay_takes : (new : DriveState M K) (answer : Result Reply Fault) (bay left : Bay M) → old.bay ≡ bay
         → new.bay ≡ left → new.keeper ≡ old.keeper → new.accepted ≡ old.accepted → is_keeper_fault answer ≡ false
         → AdvancesIn below (medium_in bay) [] (is_device_fault answer) (medium_in left) → StoresIn state bay [] left
+        → OpensAlone below bay (medium_in left)
         → (S : Result Reply Fault → Made → Machine → Type 0) → S answer made_nothing (machine_of state kept new)
         → Takes state below kept keeps S old answer new
-    bay_takes new answer bay left is left_is keeper accepted sound advances stores S step =
+    bay_takes new answer bay left is left_is keeper accepted sound advances stores alone S step =
         record {
           made = made_nothing;
           step = step;
           advances = rw (is, left_is) advances;
           stores = rw (is, left_is) stores;
+          alone = rw (is, left_is) alone;
           saves = rw (keeper, sound) (keeps_nowhere old.keeper);
           counted = accepted;
         }
@@ -92,11 +94,12 @@ module _ {M K : Type 0}
     unload_takes : (new : DriveState M K) (answer : Result Reply Fault) (bay left : Bay M) → old.bay ≡ bay
         → new.bay ≡ left → new.keeper ≡ old.keeper → new.accepted ≡ old.accepted → is_keeper_fault answer ≡ false
         → AdvancesIn below (medium_in bay) [] (is_device_fault answer) (medium_in left) → StoresIn state bay [] left
+        → OpensAlone below bay (medium_in left)
         → UnloadsInto unloaded (HonestIn below (medium_in bay)) (bay_of state bay) (machine_of state kept old) answer
         made_nothing (machine_of state kept new) → Unloads now answer new
-    unload_takes new answer bay left is left_is keeper accepted sound advances stores step =
+    unload_takes new answer bay left is left_is keeper accepted sound advances stores alone step =
         subst (λ (d : DriveState M K). Unloads d answer new) same
-        (bay_takes new answer bay left is left_is keeper accepted sound advances stores
+        (bay_takes new answer bay left is left_is keeper accepted sound advances stores alone
         (UnloadsInto unloaded (HonestIn below (medium_in old.bay)) (bay_of state old.bay) (machine_of state kept old))
         (subst
         (λ (b : Bay M).
@@ -106,11 +109,12 @@ module _ {M K : Type 0}
     load_takes : (nexus : ℕ) (new : DriveState M K) (answer : Result Reply Fault) (bay left : Bay M) → old.bay ≡ bay
         → new.bay ≡ left → new.keeper ≡ old.keeper → new.accepted ≡ old.accepted → is_keeper_fault answer ≡ false
         → AdvancesIn below (medium_in bay) [] (is_device_fault answer) (medium_in left) → StoresIn state bay [] left
+        → OpensAlone below bay (medium_in left)
         → LoadsIn (HonestIn below (medium_in bay)) (bay_of state bay) nexus (machine_of state kept old) answer
         made_nothing (machine_of state kept new) → Loads nexus now answer new
-    load_takes nexus new answer bay left is left_is keeper accepted sound advances stores step =
+    load_takes nexus new answer bay left is left_is keeper accepted sound advances stores alone step =
         subst (λ (d : DriveState M K). Loads nexus d answer new) same
-        (bay_takes new answer bay left is left_is keeper accepted sound advances stores
+        (bay_takes new answer bay left is left_is keeper accepted sound advances stores alone
         (LoadsIn (HonestIn below (medium_in old.bay)) (bay_of state old.bay) nexus (machine_of state kept old))
         (subst
         (λ (b : Bay M).
@@ -128,25 +132,25 @@ module _ {M K : Type 0}
         → Unloads now (Ok (check_with medium_not_present [])) (record old { bay = slot })
     unload_none slot is e =
         unload_takes (record old { bay = slot }) (Ok (check_with medium_not_present [])) Empty Empty is e refl refl
-        refl (refl, refl) tt (refl, refl, stays slot Empty is e)
+        refl (refl, refl) tt tt (refl, refl, stays slot Empty is e)
 
     pub unload_still : (given : M) (slot : Bay M) → old.bay ≡ Unloaded given → slot ≡ Unloaded given
         → Unloads now (Ok (good_with [])) (record old { bay = slot })
     unload_still given slot is e =
         unload_takes (record old { bay = slot }) (Ok (good_with [])) (Unloaded given) (Unloaded given) is e refl refl
-        refl (nowhere given) tt (refl, refl, bay_machine old slot (Unloaded given) e)
+        refl (nowhere given) tt (inl refl) (refl, refl, bay_machine old slot (Unloaded given) e)
 
     pub unload_parked : (given parked : M) (slot : Bay M) → old.bay ≡ Loaded given → slot ≡ Unloaded parked
         → ParksFrom state below given (Ok parked) → Unloads now (Ok (good_with [])) (record old { bay = slot })
     unload_parked given parked slot is e h =
         unload_takes (record old { bay = slot }) (Ok (good_with [])) (Loaded given) (Unloaded parked) is e refl refl
-        refl h.1 tt (Ok tt, state parked, h.0, (refl, bay_machine old slot (Unloaded parked) e), refl)
+        refl h.1 tt tt (Ok tt, state parked, h.0, (refl, bay_machine old slot (Unloaded parked) e), refl)
 
     pub unload_broken : (given broken : M) (slot : Bay M) → old.bay ≡ Loaded given → slot ≡ Loaded broken
         → ParksFrom state below given (Err broken) → Unloads now (Err Writing) (record old { bay = slot })
     unload_broken given broken slot is e h =
         unload_takes (record old { bay = slot }) (Err Writing) (Loaded given) (Loaded broken) is e refl refl refl h.2
-        h.1 (Err Errors.Device, state broken, h.0, (refl, bay_machine old slot (Loaded broken) e), refl)
+        h.1 tt (Err Errors.Device, state broken, h.0, (refl, bay_machine old slot (Loaded broken) e), refl)
 
     -- LOAD of an empty drive, of a medium that has failed, and of one that is not loaded
     module _ (nexus : ℕ) where
@@ -154,14 +158,14 @@ module _ {M K : Type 0}
           → Loads nexus now (Ok (check_with medium_not_present [])) (record old { bay = slot })
       load_none slot is e =
           load_takes nexus (record old { bay = slot }) (Ok (check_with medium_not_present [])) Empty Empty is e refl
-          refl refl (refl, refl) tt (refl, refl, stays slot Empty is e)
+          refl refl (refl, refl) tt tt (refl, refl, stays slot Empty is e)
 
       pub load_failed : (given : M) (slot : Bay M) → old.bay ≡ Loaded given → slot ≡ Loaded given
           → (state given).failed ≡ true → Loads nexus now (Ok (check_with medium_failed [])) (record old { bay = slot })
       load_failed given slot is e failed =
           load_takes nexus (record old { bay = slot }) (Ok (check_with medium_failed [])) (Loaded given) (Loaded
           given) is
-          e refl refl refl (nowhere given) (stores_nowhere (state given))
+          e refl refl refl (nowhere given) (stores_nowhere (state given)) tt
           (rw failed (refl, refl, stays slot (Loaded given) is e))
 
       pub load_opened : (given opened : M) (slot : Bay M) (position : Pos) (attentions : List AttentionSet)
@@ -172,7 +176,7 @@ module _ {M K : Type 0}
           (record old { bay = slot; position = position; attentions = attentions })
       load_opened given opened slot position attentions is e at told h =
           load_takes nexus (record old { bay = slot; position = position; attentions = attentions })
-          (Ok (good_with [])) (Unloaded given) (Loaded opened) is e refl refl refl h.0.advances tt (
+          (Ok (good_with [])) (Unloaded given) (Loaded opened) is e refl refl refl h.0.advances tt (inr h.0.alone) (
             Ok tt,
             state opened,
             h.0.answer,
@@ -192,7 +196,7 @@ module _ {M K : Type 0}
           → Loads nexus now (wake_answer error) (record old { bay = slot })
       load_refused given parked error slot is e h =
           load_takes nexus (record old { bay = slot }) (wake_answer error) (Unloaded given) (Unloaded parked) is e refl
-          refl (wake_sound error) (rw (sym (wake_fault error)) h.0.advances) tt
+          refl (wake_sound error) (rw (sym (wake_fault error)) h.0.advances) tt (inr h.0.alone)
           (Err error, state parked, h.0.answer, (refl, bay_machine old slot (Unloaded parked) e), refl)
 
       -- and of one that works: what is pending is stored, and the position is the start

@@ -17,7 +17,7 @@ use Rattle.drive_commands.specs.declared.faults.Fault.{Fault}
 use Rattle.drive_commands.specs.State.{DriveState, machine_of, medium_in}
 use Rattle.drive_commands.specs.ReserveOut.{OrderWork, fault_of_save, made_by_save, order_reply, ordered}
 use Rattle.drive_commands.specs.Execute.{Takes, is_device_fault, is_keeper_fault}
-use Rattle.drive_commands.proofs.TakesLemmas.{advances_nowhere_in, still_takes, stores_nowhere_in}
+use Rattle.drive_commands.proofs.TakesLemmas.{advances_nowhere_in, opens_nowhere, still_takes, stores_nowhere_in}
 
 -- a save's fault is the keeper's, and none of the medium
 no_device_fault : (error : KeeperError) → is_device_fault {R = Reply} (Err (fault_of_save error)) ≡ false
@@ -62,6 +62,7 @@ module _ {M K : Type 0}
           step = (brought, established, left, orders, rw due (Ok tt, kept keeper, saves, (refl, refl), refl));
           advances = advances_nowhere_in state below kept keeps nowhere keeps_nowhere (medium_in old.bay);
           stores = stores_nowhere_in state below kept keeps nowhere keeps_nowhere old.bay;
+          alone = opens_nowhere state below kept keeps nowhere keeps_nowhere old.bay;
           saves = advances;
           counted = refl;
         }
@@ -80,6 +81,7 @@ module _ {M K : Type 0}
               rw (no_device_fault error)
               (advances_nowhere_in state below kept keeps nowhere keeps_nowhere (medium_in old.bay));
           stores = stores_nowhere_in state below kept keeps nowhere keeps_nowhere old.bay;
+          alone = opens_nowhere state below kept keeps nowhere keeps_nowhere old.bay;
           saves = rw (keeper_fault (kept old.keeper) left error (kept keeper) works saves) advances;
           counted = refl;
         }

@@ -1,5 +1,5 @@
 -- A drive takes a step in which its medium and its keeper do nothing, or its medium alone works.
-use Rattle.std.proofs.Common.{◌≡◌, ◌∙◌, ℕ, List, [], Option, None, Some, Result, Ok, Err, Bool, true, false, refl, ap}
+use Rattle.std.proofs.Common.{◌≡◌, ◌∙◌, inl, ℕ, List, [], Option, None, Some, Result, Ok, Err, Bool, true, false, refl, ap}
 use Rattle.vtl_base.specs.Below.{Below, Advances}
 use Rattle.scsi_sense.specs.declared.replies.Reply.{Reply}
 use Rattle.scsi_sense.specs.SenseData.{sense_bytes}
@@ -31,7 +31,7 @@ use Rattle.drive_commands.specs.Work.{Request, Work, WorkBy}
 use Rattle.drive_commands.specs.OnMedium.{OnMediumIn}
 use Rattle.drive_commands.specs.Checks.{Executes, verdict}
 use Rattle.drive_commands.specs.Inner.Carries.{Tallies}
-use Rattle.drive_commands.specs.Execute.{Takes, AdvancesIn, StoresIn, HonestIn, is_device_fault, is_keeper_fault}
+use Rattle.drive_commands.specs.Execute.{Takes, AdvancesIn, OpensAlone, StoresIn, HonestIn, is_device_fault, is_keeper_fault}
 
 -- what neither device failed in
 pub record IsFaultless (answer : Result Reply Fault) : Type 0 where
@@ -66,6 +66,11 @@ module _ {M K : Type 0}
   stores_nowhere_in (Unloaded m) = tt
   stores_nowhere_in (Loaded m) = stores_nowhere (state m)
 
+  pub opens_nowhere : (bay : Bay M) → OpensAlone below bay (medium_in bay)
+  opens_nowhere Empty = tt
+  opens_nowhere (Unloaded m) = inl refl
+  opens_nowhere (Loaded m) = tt
+
   -- a command of which no device fault came takes its step, where bay and keeper are not touched
   pub still_takes :
       (S : Result Reply Fault → Made → Machine → Type 0)
@@ -78,6 +83,7 @@ module _ {M K : Type 0}
         step = step;
         advances = rw (same.bay, sound.medium) (advances_nowhere_in (medium_in old.bay));
         stores = rw same.bay (stores_nowhere_in old.bay);
+        alone = rw same.bay (opens_nowhere old.bay);
         saves = rw (same.keeper, sound.keeper) (keeps_nowhere old.keeper);
         counted = same.accepted;
       }
@@ -139,6 +145,7 @@ module _ {M K : Type 0}
         step = rw judged h.step;
         advances = h.advances;
         stores = h.stores;
+        alone = h.alone;
         saves = h.saves;
         counted = h.counted;
       }
@@ -155,6 +162,7 @@ module _ {M K : Type 0}
         step = rw is h.step;
         advances = h.advances;
         stores = h.stores;
+        alone = h.alone;
         saves = h.saves;
         counted = h.counted;
       }
@@ -208,6 +216,7 @@ module _ {M K : Type 0}
             means (made_on_medium tallies.made) (mounted (state now) position, tallies.carries.work, refl, refl);
         advances = rw in_bay tallies.carries.advances;
         stores = rw in_bay tallies.carries.stores;
+        alone = rw in_bay tt;
         saves = rw sound (keeps_nowhere old.keeper);
         counted = tallies.counted;
       }

@@ -1,5 +1,5 @@
 -- What a call does to a drive over any medium and any keeper.
-use Rattle.std.specs.Prelude.{◌≡◌, ℕ, List, [], Option, None, Some, Bool, true, false, Result, Err}
+use Rattle.std.specs.Prelude.{◌≡◌, ◌⊎◌, ℕ, List, [], Option, None, Some, Bool, true, false, Result, Err}
 use Rattle.vtl_base.specs.Below.{Below, Advances}
 use Rattle.scsi_sense.specs.declared.replies.Reply.{Reply}
 use Rattle.pr_core.specs.declared.states.PrState.{PrState}
@@ -8,7 +8,7 @@ use Rattle.volume_core.specs.declared.changes.Change.{Change}
 use Rattle.volume_core.specs.Medium.{MediumState}
 use Rattle.volume_core.specs.Stores.{Stores}
 use Rattle.drive_commands.specs.declared.bays.Bay.{Bay}
-use Rattle.drive_commands.specs.declared.bays.Bay.TheVariants.{Loaded}
+use Rattle.drive_commands.specs.declared.bays.Bay.TheVariants.{Loaded, Unloaded}
 use Rattle.drive_commands.specs.declared.faults.Fault.{Fault}
 use Rattle.drive_commands.specs.declared.faults.Fault.TheVariants.{Writing, Reading, Saving}
 use Rattle.drive_commands.specs.State.{Machine, DriveState, machine_of, medium_in}
@@ -43,12 +43,18 @@ abbrev pub StoresIn : {M : Type 0} → (M → MediumState) → Bay M → List Ch
 StoresIn state (Loaded old) made (Loaded new) = Stores (state old) made (state new)
 StoresIn state _ made _ = Unit {0}
 
+-- a medium that is not loaded: it is not touched, or its side is left alone, as where it is opened (own)
+abbrev pub OpensAlone : {M : Type 0} → Below M Change → Bay M → Option M → Type 0
+OpensAlone below (Unloaded old) (Some new) = (new ≡ old) ⊎ below.left_alone old new
+OpensAlone below _ _ = Unit {0}
+
 -- the medium, if there is one, is honest (own)
 abbrev pub HonestIn : {M : Type 0} → Below M Change → Option M → Type 0
 HonestIn below None = Unit {0}
 HonestIn below (Some m) = below.honest m
 
--- a drive takes such a step of its machine, its medium and its keeper follow, and the changes are counted (own)
+-- a drive takes such a step of its machine, its medium and its keeper follow, a medium that is opened is left alone, and
+-- the changes are counted (own)
 pub record Takes {M K : Type 0}
     (state : M → MediumState) (below : Below M Change) (kept : K → KeeperState) (keeps : Below K PrState)
     (S : Result Reply Fault → Made → Machine → Type 0)
@@ -58,6 +64,7 @@ pub record Takes {M K : Type 0}
   pub advances :
       AdvancesIn below (medium_in old.bay) made.changes (is_device_fault answer) (medium_in new.bay)
   pub stores : StoresIn state old.bay made.changes new.bay
+  pub alone : OpensAlone below old.bay (medium_in new.bay)
   pub saves : Advances keeps old.keeper made.saved (is_keeper_fault answer) new.keeper
   pub counted : new.accepted ≡ counted_up old.accepted made.changes
 

@@ -38,10 +38,11 @@ unload_reply (Ok out) = good_with []
 unload_reply (Err reply) = reply
 
 module _ {M : Type 0} (state : M → MediumState) (below : Below M Change) where
-  -- a medium was opened, with this result (own)
+  -- a medium was opened, with this result, and its side was left alone (own)
   pub record WakesAs (old : M) (woke : Result Unit MediumError) (new : M) : Type 0 where
     pub answer : Wakes (below.honest old) (state old) woke (state new)
     pub advances : Advances below old [] (met_fault woke) new
+    pub alone : below.left_alone old new
 
   -- a medium was parked; or comes back, since the device failed (own)
   abbrev pub ParksFrom : M → Result M M → Type 0

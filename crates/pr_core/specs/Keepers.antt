@@ -88,4 +88,5 @@ nothing_below {K} = record {
   honest = λ keeper. Unit {0};
   at_hand = λ keeper. Unit {0};
   moves = λ old saved new. Unit {0};
+  left_alone = λ old new. Unit {0};
 }

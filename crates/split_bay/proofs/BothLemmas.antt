@@ -13,7 +13,7 @@ use Rattle.tape_buffer.specs.declared.holding.Holding.TheVariants as Holdings
 use Rattle.tape_buffer.specs.Aways.{IsCut, IsFoundAs, loose_in, seen_as}
 use Rattle.tape_buffer.specs.Moves.{IsHere, MovesUnreported, buffer_below, with_changes}
 use Rattle.tape_buffer.specs.State.{BufferState, awake_is_read, state_of}
-use Rattle.tape_buffer.proofs.DetachingLemmas.{LendFacts, cut_less}
+use Rattle.tape_buffer.specs.Lending.{LendFacts, cut_less}
 use Rattle.tape_buffer.specs.Taking.{DisksState}
 use Rattle.split_bay.specs.declared.items.Item.{Item}
 use Rattle.split_bay.specs.declared.items.Item.TheVariants.{Sent}

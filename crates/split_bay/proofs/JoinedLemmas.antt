@@ -9,8 +9,7 @@ use Rattle.split_bay.specs.declared.items.Item.TheVariants.{Begins, Sent}
 use Rattle.split_bay.specs.declared.noted.NotedBeginning.{NotedBeginning}
 use Rattle.split_bay.specs.Beginnings.{Beginning}
 use Rattle.split_bay.specs.Rings.{IsCounted}
-use Rattle.split_bay.specs.Spans.{KeepsLimits, NoChangeFirst, Span, begins, new_span, span_of, span_with, spans_in}
-use Rattle.split_bay.proofs.SpanLemmas.{span_more, span_next}
+use Rattle.split_bay.specs.Spans.{KeepsLimits, NoChangeFirst, Span, begins, new_span, span_of, span_with, spans_in, span_more, span_next}
 
 one_at_most : (item : Item) → begins item ≤ 1
 one_at_most (Sent change) = omega arith

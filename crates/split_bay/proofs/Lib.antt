@@ -6,5 +6,5 @@ mod JoinedLemmas
 mod JoiningLemmas
 mod LookLemmas
 mod RingLemmas
-pub mod SpanLemmas
+mod SpanLemmas
 mod TakenLemmas

@@ -6,39 +6,11 @@ use Rattle.volume_core.specs.declared.changes.Change.{Change}
 use Rattle.volume_core.specs.Medium.{block_bytes, frame_size, volume_of, volume_or_empty}
 use Rattle.volume_core.specs.Stores.{after_append}
 use Rattle.volume_core.specs.Volume.{AllApply, Part, after, changed, refusal_of}
-use Rattle.tape_buffer.proofs.PendingLemmas.{frame_of}
+use Rattle.tape_buffer.specs.Limits.{frame_of}
 use Rattle.split_bay.specs.declared.items.Item.{Item}
 use Rattle.split_bay.specs.declared.items.Item.TheVariants.{Sent}
 use Rattle.split_bay.specs.Rings.{IsCounted}
-use Rattle.split_bay.specs.Spans.{KeepsLimits, Span, TakesMore, begins, medium_begun, no_span, span_after, span_of, span_with, spans_in, volume_seen}
-
-pub span_append : (span : Span) (xs ys : List Item)
-    → span_after span (xs ++ ys) ≡ span_after (span_after span xs) ys
-span_append span [] ys = refl
-span_append span (x ∷ xs) ys = span_append (span_with span x) xs ys
-
--- one item more
-pub span_next : (items : List Item) (item : Item) → span_of (items ++ item ∷ []) ≡ span_with (span_of items) item
-span_next items item = span_append no_span items (item ∷ [])
-
-pub span_changes : (span : Span) (changes : List Change)
-    → span_after span (map Sent changes) ≡ record { begin = span.begin; since = span.since ++ changes }
-span_changes span [] = λ i. record { begin = span.begin; since = sym (append-nil span.since) i }
-span_changes span (c ∷ cs) =
-    span_changes (span_with span (Sent c)) cs
-    ∙ (λ i. record { begin = span.begin; since = append_assoc span.since (c ∷ []) cs i })
-
--- some changes more
-pub span_more : (items : List Item) (changes : List Change)
-    → span_of (items ++ map Sent changes)
-    ≡ record { begin = (span_of items).begin; since = (span_of items).since ++ changes }
-span_more items changes = span_append no_span items (map Sent changes) ∙ span_changes (span_of items) changes
-
--- of changes that all apply the last ones apply to what the first ones make
-pub apply_rest : (volume : List Part) (xs ys : List Change) → AllApply volume (xs ++ ys)
-    → AllApply (after volume xs) ys
-apply_rest volume [] ys all = all
-apply_rest volume (x ∷ xs) ys all = apply_rest (changed volume x) xs ys all.1
+use Rattle.split_bay.specs.Spans.{KeepsLimits, Span, TakesMore, begins, medium_begun, span_of, span_with, spans_in, volume_seen}
 
 -- one that applies behind others applies with them
 pub apply_more : (volume : List Part) (xs : List Change) (change : Change) → AllApply volume xs

@@ -23,10 +23,9 @@ use Rattle.split_bay.specs.declared.items.Item.{Item}
 use Rattle.split_bay.specs.declared.items.Item.TheVariants.{Sent}
 use Rattle.split_bay.specs.Backs.{FollowsSpan, LeavesBudget, TurnsBack, disks_half}
 use Rattle.split_bay.specs.Rings.{ReceivingState}
-use Rattle.split_bay.specs.Spans.{KeepsLimits, Span, medium_begun, medium_seen, span_with, volume_seen}
+use Rattle.split_bay.specs.Spans.{KeepsLimits, Span, medium_begun, medium_seen, span_with, volume_seen, apply_rest}
 use Rattle.split_bay.specs.Taken.{TakesKnown, TakesWaiting}
 use Rattle.split_bay.proofs.LookLemmas.{looked_next, looked_turn, turned, with_more}
-use Rattle.split_bay.proofs.SpanLemmas.{apply_rest}
 
 module _ (span : Span) (change : Change) (within : KeepsLimits (span_with span (Sent change))) where
   -- it keeps what is left

@@ -22,9 +22,8 @@ use Rattle.bay_moves.specs.Bays.{KeepsCartridgeIn}
 use Rattle.split_bay.specs.declared.items.Item.{Item}
 use Rattle.split_bay.specs.declared.items.Item.TheVariants.{Begins, Sent}
 use Rattle.split_bay.specs.Backs.{FollowsIn}
-use Rattle.split_bay.specs.Spans.{KeepsLimits, Span, medium_begun, medium_seen, span_of}
-use Rattle.tape_buffer.proofs.CoreLemmas.{accepts_one}
-use Rattle.split_bay.proofs.SpanLemmas.{apply_rest, span_more}
+use Rattle.split_bay.specs.Spans.{KeepsLimits, Span, medium_begun, medium_seen, span_of, apply_rest, span_more}
+use Rattle.tape_buffer.specs.Accepting.{accepts_one}
 use Rattle.split_runs.specs.Cores.{CoreMovesIn}
 
 -- the changes among some items

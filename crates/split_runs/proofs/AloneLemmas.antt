@@ -18,10 +18,9 @@ use Rattle.split_bay.specs.declared.items.Item.{Item}
 use Rattle.split_bay.specs.declared.items.Item.TheVariants.{Sent}
 use Rattle.split_bay.specs.Backs.{KeepsDiskHalf}
 use Rattle.split_bay.specs.Fronts.{FrontState, OwesHeld, OwesIn}
-use Rattle.split_bay.specs.Spans.{KeepsLimits, Span, medium_begun, span_of}
+use Rattle.split_bay.specs.Spans.{KeepsLimits, Span, medium_begun, span_of, span_more}
 use Rattle.split_runs.specs.Calls.{AcceptsAlone, HalvesState, KeepsHalves, StepsAlone, is_told, whole_medium}
 use Rattle.split_runs.specs.Cores.{CoreMovesIn, HalvesMove}
-use Rattle.split_bay.proofs.SpanLemmas.{span_more}
 use Rattle.split_runs.proofs.AcceptLemmas.{accepts_behind, begins_same, none_of, sent_behind}
 use Rattle.split_runs.proofs.CoreLemmas.{moves_still}
 use Rattle.split_runs.proofs.PartLemmas.{both_ways}

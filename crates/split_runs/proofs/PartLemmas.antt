@@ -27,11 +27,10 @@ use Rattle.split_bay.specs.Both.{AttachesIn, AttachesTo, DetachesIn, DetachesTo}
 use Rattle.split_bay.specs.Fronts.{KeepsHostsHalf, OwesHeld, OwesIn}
 use Rattle.split_bay.specs.Halves.{Joins, Parts}
 use Rattle.split_bay.specs.Rings.{SendingState}
-use Rattle.split_bay.specs.Spans.{Span, medium_begun, span_of}
+use Rattle.split_bay.specs.Spans.{Span, medium_begun, span_of, span_next}
 use Rattle.split_runs.specs.Calls.{HalvesState, KeepsHalves, is_told, whole_medium}
 use Rattle.split_runs.specs.Cores.{CoreMovesIn}
-use Rattle.split_bay.proofs.SpanLemmas.{span_next}
-use Rattle.tape_buffer.proofs.DetachingLemmas.{cut_less, lend_facts}
+use Rattle.tape_buffer.specs.Lending.{cut_less, lend_facts}
 use Rattle.split_runs.proofs.AcceptLemmas.{sent_cancel}
 use Rattle.split_runs.proofs.CoreLemmas.{IsHereIn, seen_core, tells}
 

@@ -14,10 +14,11 @@ use Rattle.volume_core.specs.Plain.{moves_on_by_changes}
 use Rattle.change_records.specs.Records.{spell_all}
 use Rattle.cartridge.specs.Contents.{volume_made}
 use Rattle.cartridge.specs.State.{OpenCartridge}
+use Rattle.tape_buffer.specs.Accepting.{accepts_one}
 use Rattle.tape_buffer.specs.Limits.{FitsBuffer}
 use Rattle.tape_buffer.specs.Moves.{buffer_below, medium_moves_on}
 use Rattle.tape_buffer.specs.State.{IsPendingOver, IsReservedFor, open_buffer, open_state}
-use Rattle.tape_buffer.proofs.CoreLemmas.{accepts_one, open_is_core}
+use Rattle.tape_buffer.proofs.CoreLemmas.{open_is_core}
 use Rattle.tape_buffer.proofs.PendingLemmas.{records_of}
 
 -- what may be pending is short

@@ -14,10 +14,9 @@ use Rattle.tape_buffer.specs.declared.budgets.Budget.{Budget}
 use Rattle.tape_buffer.specs.Aways.{IsRoomFor, KnowsAway, loose_in, seen_as, seen_with, takes_loose, takes_one}
 use Rattle.tape_buffer.specs.Budgets.{KeepsBudget}
 use Rattle.tape_buffer.specs.Frames.{AcceptsInFrames}
-use Rattle.tape_buffer.specs.Limits.{FitsBuffer}
+use Rattle.tape_buffer.specs.Limits.{FitsBuffer, frame_of}
 use Rattle.tape_buffer.proofs.VolumeLemmas.{inside_of}
 use Rattle.tape_buffer.proofs.IndexLemmas.{as_many_parts}
-use Rattle.tape_buffer.proofs.PendingLemmas.{frame_of}
 
 -- what it means that one change more is taken
 pub record Takes (left : Budget) (bytes : ℕ) : Type 0 where

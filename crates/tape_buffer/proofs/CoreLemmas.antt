@@ -7,19 +7,19 @@ use Rattle.vtl_base.specs.declared.faults.DevFault.{DevFault}
 use Rattle.tape_disk.specs.Disk.{DiskState, IsDisk}
 use Rattle.tape_disk.specs.TwoDisks.{AreHonest, EachOfTwo, Images, KeepsDisks, TwoLeave, failures_of, two_weakened}
 use Rattle.volume_core.specs.declared.changes.Change.{Change}
-use Rattle.volume_core.specs.Stores.{after_append}
-use Rattle.volume_core.specs.Volume.{Part, after, refusal_of}
+use Rattle.volume_core.specs.Volume.{after}
 use Rattle.gate_journal.specs.Heads.{base_of}
 use Rattle.cartridge.specs.Answers.{HasBroken, HasStored}
-use Rattle.cartridge.specs.Contents.{Contents, GivesContents, IsContents, ShowsContents, Start, changes_of, changes_since, start_of, volume_made, with_frames}
+use Rattle.cartridge.specs.Contents.{Contents, GivesContents, IsContents, ShowsContents, Start, changes_of, changes_since, start_of, with_frames}
 use Rattle.cartridge.specs.Disks.{IsFaultOfTwo, NoneOfTwo}
-use Rattle.cartridge.specs.Extending.{since_with, start_with, volume_since}
+use Rattle.cartridge.specs.Extending.{since_with, start_with}
 use Rattle.cartridge.specs.State.{OpenCartridge}
-use Rattle.accepted_changes.specs.Core.{Core, IsCore, IsWorking, settled, with_item}
+use Rattle.accepted_changes.specs.Core.{Core, IsCore, IsWorking, settled}
 use Rattle.accepted_changes.specs.Device.{two_disks, two_is_device, two_keep}
 use Rattle.accepted_changes.specs.Events.{CoreMoves, ShowsCore}
-use Rattle.accepted_changes.specs.Kinds.{GivesSoMany, moves_accepting, moves_failing, moves_sticking, moves_storing}
-use Rattle.tape_buffer.specs.Rules.{GivesChanges, applies_behind, is_unrefused, medium_rules}
+use Rattle.accepted_changes.specs.Kinds.{GivesSoMany, moves_failing, moves_sticking, moves_storing}
+use Rattle.tape_buffer.specs.Accepting.{marked}
+use Rattle.tape_buffer.specs.Rules.{GivesChanges, medium_rules}
 use Rattle.tape_buffer.specs.Moves.{StoresBehind, buffer_below, medium_moves_nowhere}
 use Rattle.tape_buffer.specs.State.{BufferState, IsTornFrom, open_buffer, open_core}
 use Rattle.tape_buffer.proofs.TwoLemmas.{are_disks, none_failed, one_failed, stay_honest, were_honest}
@@ -54,10 +54,6 @@ gives_more contents torn images copied gives =
 gives_as : (start : Start) (xs ys : List Change) (images : Images) → xs ≡ ys
     → GivesChanges start xs images → GivesChanges start ys images
 gives_as start xs ys images same gives = subst (λ (l : List Change). GivesChanges start l images) same gives
-
--- what was accepted over an open cartridge, with these marks of a fault of its device: reported, or not reported yet
-abbrev pub marked : {D : Type 0} → Bool → Bool → OpenCartridge D → List Change → Core Start Change
-marked fault stuck c pending = record (open_core c pending) { fault = fault; stuck = stuck }
 
 module _ {D : Type 0} (c : OpenCartridge D) (pending : List Change) where
   abbrev stored_changes : List Change
@@ -115,33 +111,6 @@ module _ {D : Type 0} (c : OpenCartridge D) (pending : List Change) where
       (λ g. inr (gives_as (start_of c.contents) (stored_changes ++ changes_of c.torn)
       (take (length stored_changes + length (changes_of c.torn)) (stored_changes ++ pending)) image
       (sym (stored_front torn)) (gives_more c.contents c.torn image copied g)))
-
-  -- one change more is accepted, where no fault was reported
-  pub accepts_one : (state : D → DiskState) → ((disk : D) → (state disk).honest → IsDisk (state disk))
-      → (fault stuck : Bool) (change : Change) → fault ≡ false → IsCore (open_core c pending)
-      → refusal_of (after (volume_made c.contents) pending) change ≡ None
-      → CoreMoves medium_rules (two_disks state) c.disks c.disks (marked fault stuck c pending)
-      (marked fault stuck c (pending ++ change ∷ [])) (change ∷ [])
-  accepts_one state is_disk fault stuck change works core none =
-      subst
-      (λ (new : Core Start Change).
-      CoreMoves medium_rules (two_disks state) c.disks c.disks (marked fault stuck c pending) new (change ∷ []))
-      (sym with_change)
-      (moves_accepting medium_rules (two_disks state) (two_is_device state) c.disks (marked fault stuck c pending)
-      change (are_disks state is_disk c.disks) (record { safe = core.safe; stored = core.stored }) works refl applies)
-    where
-      with_change : marked fault stuck c (pending ++ change ∷ []) ≡ with_item change (marked fault stuck c pending)
-      with_change =
-          λ i. record (marked fault stuck c pending) {
-            accepted = sym (append_assoc stored_changes pending (change ∷ [])) i;
-          }
-
-      applies : IsTrue (applies_behind (start_of c.contents) (stored_changes ++ pending) change)
-      applies =
-          ap is_unrefused
-          (ap (λ (v : List Part). refusal_of v change)
-          (after_append (start_of c.contents).volume stored_changes pending
-          ∙ ap (λ (v : List Part). after v pending) (sym (volume_since c.contents))) ∙ none)
 
 -- All that is pending is stored, or was in flight when the disk failed: with these marks of a fault, whatever more was
 -- accepted behind it.

@@ -14,6 +14,7 @@ use Rattle.cartridge.specs.Answers.{HasBroken, HasReserved, HasStored, KeepsRese
 use Rattle.cartridge.specs.Contents.{Contents, volume_made}
 use Rattle.cartridge.specs.Extending.{volume_more}
 use Rattle.cartridge.specs.State.{OpenCartridge}
+use Rattle.tape_buffer.specs.Accepting.{accepts_one}
 use Rattle.tape_buffer.specs.declared.budgets.Budget.{Budget}
 use Rattle.tape_buffer.specs.Inner.Storing.{IsRoomyFor}
 use Rattle.tape_buffer.specs.Limits.{FitsBuffer}
@@ -23,7 +24,7 @@ use Rattle.tape_buffer.specs.Budgets.{KeepsBudget}
 use Rattle.tape_buffer.specs.Taking.{LendsRecords, longest_body}
 use Rattle.tape_buffer.proofs.AddingLemmas.{advances_more, apply_more, pending_still, spelled_short}
 use Rattle.tape_buffer.proofs.VolumeLemmas.{inside_of, stays_so}
-use Rattle.tape_buffer.proofs.CoreLemmas.{accepts_one, open_is_core, rests}
+use Rattle.tape_buffer.proofs.CoreLemmas.{open_is_core, rests}
 use Rattle.tape_buffer.proofs.RoomLemmas.{few_entries, one_frame_fits, reserved_more, reserved_still}
 
 -- what is pending was stored, or was not

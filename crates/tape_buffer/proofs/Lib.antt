@@ -2,8 +2,8 @@ mod TwoLemmas
 mod AddingLemmas
 mod AwayLemmas
 mod ClosingLemmas
-pub mod CoreLemmas
-pub mod DetachingLemmas
+mod CoreLemmas
+mod DetachingLemmas
 mod FetchingLemmas
 mod FrameLemmas
 mod HeldLemmas
@@ -11,7 +11,7 @@ mod IndexLemmas
 mod LentLemmas
 mod MediumLemmas
 mod OpeningLemmas
-pub mod PendingLemmas
+mod PendingLemmas
 mod ReclaimingLemmas
 mod RoomLemmas
 mod SeekingLemmas

@@ -6,13 +6,8 @@ use Rattle.std.proofs.Common.{ap}
 use Rattle.volume_core.specs.declared.changes.Change.{Change}
 use Rattle.volume_core.specs.declared.changes.Change.TheVariants.{Put, Marks, Erase}
 use Rattle.volume_core.specs.Medium.{block_bytes, frame_size}
+use Rattle.tape_buffer.specs.Limits.{frame_of}
 use Rattle.change_records.specs.Records.{spell_all, spell_change, spell_head}
-
--- a frame has 15 bytes and its block's
-pub frame_of : (change : Change) → frame_size change ≡ 15 + block_bytes change
-frame_of (Put part at block) = refl
-frame_of (Marks part at count) = refl
-frame_of (Erase part at) = refl
 
 -- a record has 10 bytes and its block's
 record_of : (change : Change) → length (spell_change change) ≡ 10 + block_bytes change

@@ -11,7 +11,8 @@ use Rattle.volume_core.specs.Volume.{part_of}
 use Rattle.cartridge.specs.Answers.{KeepsReserved, entries_of}
 use Rattle.cartridge.specs.State.{Reserved}
 use Rattle.tape_buffer.specs.State.{IsReservedFor}
-use Rattle.tape_buffer.proofs.PendingLemmas.{frame_of, frames_of, records_of}
+use Rattle.tape_buffer.specs.Limits.{frame_of}
+use Rattle.tape_buffer.proofs.PendingLemmas.{frames_of, records_of}
 
 -- frames of their own take 5 bytes each beside the records
 pub frames_of_each : (changes : List Change)

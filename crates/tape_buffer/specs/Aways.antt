@@ -1,10 +1,12 @@
 -- A medium whose disks are away, behind a lock of their own: how hosts see it, and what it accepts.
-use Rattle.std.specs.Prelude.{◌≡◌, ◌⊎◌, ◌≤◌, ◌<◌, ◌+◌, ◌++◌, ◌-◌, ◌&&◌, ℕ, List, [], ◌∷◌, length, sum_by, Bool, true, false, not, nat_lt, nat_le, Option, None, Some}
+use Rattle.std.specs.Prelude.{◌≡◌, ◌⊎◌, ◌≤◌, ◌<◌, ◌+◌, ◌++◌, ◌-◌, ◌&&◌, ℕ, List, [], ◌∷◌, length, sum_by, Bool, true, false, not, nat_lt, nat_le, Option, None, Some, Result, Ok, Err}
 use Rattle.std.proofs.Common.{ap, sym, subst, ◌∙◌, arith, append_assoc, length-append}
 use Rattle.std.proofs.lemmas.List.{append-nil}
 use Rattle.std.proofs.lemmas.List.Sums.{sum_by-append}
 use Rattle.vtl_base.specs.declared.limits.TheConstants.{BUFFER_BYTES, BUFFER_RECORDS}
 use Rattle.volume_core.specs.declared.changes.Change.{Change}
+use Rattle.volume_core.specs.declared.media.MediumError.{MediumError}
+use Rattle.volume_core.specs.declared.media.MediumError.TheVariants.{Refused}
 use Rattle.volume_core.specs.Stores.{after_append}
 use Rattle.volume_core.specs.Volume.{AllApply, Part, after, changed}
 use Rattle.volume_core.specs.Medium.{MediumState, block_bytes, frame_size, volume_of, volume_or_empty}
@@ -143,6 +145,12 @@ away_moves_on a b c first second one two =
 pub record IsFoundAs (seen found : MediumState) : Type 0 where
   pub volume : volume_of found ≡ volume_of seen
   pub awake : found.awake ≡ seen.awake
+
+-- a change was accepted, or refused for what it is: memory did not run out, and no device failed (own)
+abbrev pub IsTakenOrRefused : Result Unit MediumError → Type 0
+IsTakenOrRefused (Ok done) = Unit {0}
+IsTakenOrRefused (Err (Refused cause)) = Unit {0}
+IsTakenOrRefused (Err _) = ⊥
 
 -- how much may be accepted without the disks, of what they take so: all of it, or no change (own)
 abbrev pub IsCut : Budget → Budget → Type 0

@@ -1,3 +1,4 @@
+pub mod Accepting
 pub mod Aways
 pub mod Budgets
 pub mod Catalogs
@@ -5,6 +6,7 @@ pub mod Detaching
 pub mod Frames
 pub mod Inner
 pub mod Invariants
+pub mod Lending
 pub mod Limits
 pub mod Moves
 pub mod Reclaiming

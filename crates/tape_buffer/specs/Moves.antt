@@ -110,22 +110,6 @@ module _ {D : Type 0} (state : D → DiskState) where
   abbrev pub StoresBehind : BufferState D → BufferState D → Type 0
   StoresBehind old new = (more : List Change) → MovesUnreported (with_changes old more) [] (with_changes new more)
 
-  -- what is seen below a buffered medium: the failures and the honesty of its disks, whether they are at hand, and its
-  -- steps (own)
-  abbrev pub buffer_below : Below (BufferState D) Change
-  buffer_below =
-      record {
-        failures = λ buffer. failures_on (disks_in buffer.held);
-        honest = λ buffer. HonestOn (disks_in buffer.held);
-        at_hand = λ buffer. IsHere buffer.held;
-        moves = MediumMoves;
-      }
-
-  -- each pair of images that a crash now may leave gives what is safe, or what is stored (own)
-  abbrev pub ShowsOn : Option (TwoDisks D) → Core Start Change → Type 0
-  ShowsOn None core = Unit {0}
-  ShowsOn (Some disks) core = AreHonest state disks → EachOfTwo state disks (ShowsCore medium_rules core)
-
   -- over the same two disks: at each moment of them a crash leaves what it might have left before (own)
   abbrev pub LeavesAloneOn : Option (TwoDisks D) → Option (TwoDisks D) → Type 0
   LeavesAloneOn (Some disks) (Some disks') = AreHonest state disks → TwoLeave state disks disks' (MayLeave state disks)
@@ -135,6 +119,23 @@ module _ {D : Type 0} (state : D → DiskState) where
   -- from one medium to the other nothing was written (own)
   abbrev pub LeavesAlone : BufferState D → BufferState D → Type 0
   LeavesAlone old new = LeavesAloneOn (disks_in old.held) (disks_in new.held)
+
+  -- what is seen below a buffered medium: the failures and the honesty of its disks, whether they are at hand, its
+  -- steps, and that nothing is written (own)
+  abbrev pub buffer_below : Below (BufferState D) Change
+  buffer_below =
+      record {
+        failures = λ buffer. failures_on (disks_in buffer.held);
+        honest = λ buffer. HonestOn (disks_in buffer.held);
+        at_hand = λ buffer. IsHere buffer.held;
+        moves = MediumMoves;
+        left_alone = LeavesAlone;
+      }
+
+  -- each pair of images that a crash now may leave gives what is safe, or what is stored (own)
+  abbrev pub ShowsOn : Option (TwoDisks D) → Core Start Change → Type 0
+  ShowsOn None core = Unit {0}
+  ShowsOn (Some disks) core = AreHonest state disks → EachOfTwo state disks (ShowsCore medium_rules core)
 
   -- The same of each of the two that is honest, whatever the other one is (own).
   abbrev pub LeavesEachAloneOn : Option (TwoDisks D) → Option (TwoDisks D) → Type 0

@@ -1,5 +1,5 @@
 //! Accepting a change.
-ghost use Rattle.std.specs.Prelude.{◌≡◌, ◌≤◌, ◌+◌, ◌↔◌, ◌++◌, ◌∷◌, [], List, None, IsTrue, IfErr, OnErr, OnOk, false, sum_by};
+ghost use Rattle.std.specs.Prelude.{◌≡◌, ◌≤◌, ◌+◌, ◌↔◌, ◌++◌, ◌∷◌, ◌⊎◌, [], List, None, IsTrue, IfErr, OnErr, OnOk, false, sum_by};
 ghost use Rattle.vtl_base.specs.Below.{Advances};
 ghost use Rattle.volume_core.specs.Volume.{Part, after, part_of, refusal_of};
 ghost use Rattle.volume_core.specs.Medium.{Accepts, accept_answer, accepted_by, frame_size, met_fault, volume_of};
@@ -11,7 +11,7 @@ ghost use Rattle.tape_buffer.specs.Frames.{AcceptsInFrames};
 ghost use Rattle.tape_buffer.specs.Limits.{FitsBuffer};
 ghost use Rattle.tape_buffer.specs.State.{IsPendingOver, open_buffer, open_state};
 ghost use Rattle.tape_buffer.specs.Moves.{buffer_below};
-ghost use Rattle.tape_buffer.specs.Inner.Adding.{IsReadyToAdd, IsWay, with_added};
+ghost use Rattle.tape_buffer.specs.Inner.Adding.{IsReadyToAdd, IsWay, LacksOneMore, with_added};
 
 use crate::pending::Pending;
 use crate::storing::{reserve_over, settle_over};
@@ -111,7 +111,7 @@ fn make_way<D: Disk>(
 }
 
 // Adds a change that is not refused, and for which there is room on the side and among what is pending. It is returned
-// where memory runs out.
+// where memory runs out, which is only where less is reserved than it needs.
 fn add_over<D: Disk>(
     index: &mut Index,
     cartridge: &mut Cartridge<D>,
@@ -130,6 +130,8 @@ fn add_over<D: Disk>(
     ensures same { cartridge.new ≡ record cartridge.old { reserved = cartridge.new.reserved } }
     ensures ok { OnOk result (pending.new ≡ pending.old ++ change ∷ []) }
     ensures err { IfErr result (λ back. (back ≡ change) × (pending.new ≡ pending.old)) }
+    ensures lacks { OnErr result (LacksOneMore cartridge.old.reserved pending.old change
+        ⊎ (reserved_of index.old (part_of change) ≡ 0)) }
 {
     // Called for the proof: in a cartridge that has not failed nothing is in flight, and the partition is there.
     cartridge.known();

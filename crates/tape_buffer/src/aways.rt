@@ -3,7 +3,7 @@ ghost use Rattle.std.specs.Prelude.{◌≡◌, ◌≤◌, ◌+◌, [], ◌∷◌
 ghost use Rattle.volume_core.specs.Medium.{Accepts, MediumState, accept_answer, accepted_by, block_bytes, met_fault, volume_of};
 ghost use Rattle.volume_core.specs.Stores.{Stores};
 ghost use Rattle.object_index.specs.Shapes.{IsIndexOf};
-ghost use Rattle.tape_buffer.specs.Aways.{KnowsAway, MovesAway, loose_in, seen_as, seen_with, takes_loose};
+ghost use Rattle.tape_buffer.specs.Aways.{IsTakenOrRefused, KnowsAway, MovesAway, loose_in, seen_as, seen_with, takes_loose};
 ghost use Rattle.tape_buffer.specs.Budgets.{KeepsBudget, budget_after};
 ghost use Rattle.tape_buffer.specs.Frames.{AcceptsInFrames};
 ghost use Rattle.tape_buffer.specs.Invariants.{IsHeld, buffer_of};
@@ -118,6 +118,7 @@ pub(crate) fn accept_away(
     ensures fits { FitsBuffer away.new.noted.pending }
     ensures awake { away.new.noted.awake ≡ true }
     ensures device { met_fault (accept_answer result) ≡ false }
+    ensures taken { IsTakenOrRefused (accept_answer result) }
 {
     match refusal_shown(index, &change) {
         Some(cause) => {

@@ -4,6 +4,7 @@ ghost use Rattle.vtl_base.specs.Below.{Advances};
 ghost use Rattle.volume_core.specs.declared.media.MediumError.TheVariants as Errors;
 ghost use Rattle.volume_core.specs.Medium.{Accepts, Parks, Settles, Turns, Wakes, accept_answer, accepted_by, block_bytes, met_fault, turn_met_fault};
 ghost use Rattle.volume_core.specs.Stores.{Stores};
+ghost use Rattle.tape_buffer.specs.Aways.{IsTakenOrRefused};
 ghost use Rattle.tape_buffer.specs.State.{IsSettledIn, disks_in, state_of};
 ghost use Rattle.tape_buffer.specs.Frames.{AcceptsInFrames, IsOneFrame, IsOneFrameIn, ParksInFrames, frames_in};
 ghost use Rattle.tape_buffer.specs.Moves.{HonestOn, IsHere, LeavesAlone, LeavesEachAlone, StoresBehind, takes_alone_in, buffer_below};
@@ -32,7 +33,7 @@ impl<D: Disk> Medium for Buffered<D> {
     ghost alone = { takes_alone_in };
 
     // The trait's clauses, and which frames are stored on the way: none while the change may wait beside what is
-    // pending, else one.
+    // pending, else one. A change that is taken without the disks needs no memory.
     fn accept(&mut self, change: Change) -> Result<(), NotAccepted>
         requires awake { (state_of D.state self.old).awake ≡ true }
         requires hand { takes_alone_in self.old (block_bytes change) ≡ false → IsHere self.old.held }
@@ -47,6 +48,8 @@ impl<D: Disk> Medium for Buffered<D> {
             (met_fault (accept_answer result)) self.new }
         ensures device { takes_alone_in self.old (block_bytes change) ≡ true
             → met_fault (accept_answer result) ≡ false }
+        ensures taken { takes_alone_in self.old (block_bytes change) ≡ true
+            → IsTakenOrRefused (accept_answer result) }
     {
         let Some(index) = &mut self.catalog else {
             unreachable!()

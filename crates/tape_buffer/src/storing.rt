@@ -1,5 +1,5 @@
 //! Storing what is pending, as one frame.
-ghost use Rattle.std.specs.Prelude.{◌≡◌, ◌<◌, ◌++◌, [], ◌∷◌, OnOk, length};
+ghost use Rattle.std.specs.Prelude.{◌≡◌, ◌<◌, ◌++◌, [], ◌∷◌, OnErr, OnOk, length};
 ghost use Rattle.vtl_base.specs.Below.{Advances};
 ghost use Rattle.volume_core.specs.Volume.{part_of};
 ghost use Rattle.volume_core.specs.Medium.{Settles, Turns, met_fault, turn_met_fault};
@@ -8,6 +8,7 @@ ghost use Rattle.tape_buffer.specs.Limits.{FitsBuffer};
 ghost use Rattle.tape_buffer.specs.State.{IsPendingOver, IsReservedFor, open_buffer, open_state};
 ghost use Rattle.tape_buffer.specs.Moves.{StoresBehind, buffer_below};
 ghost use Rattle.tape_buffer.specs.Frames.{IsOneFrame, IsOneFrameIn};
+ghost use Rattle.tape_buffer.specs.Inner.Adding.{LacksOneMore};
 ghost use Rattle.tape_buffer.specs.Inner.Storing.{IsRoomyFor, left_of};
 ghost use Rattle.tape_buffer.specs.declared.budgets.Budget.{Budget};
 
@@ -112,7 +113,8 @@ pub(crate) fn turn_over<D: Disk>(cartridge: &mut Cartridge<D>, pending: &mut Pen
     }
 }
 
-// Reserves the memory for storing what is pending and one more change.
+// Reserves the memory for storing what is pending and one more change. It runs out only where less than that is
+// reserved.
 pub(crate) fn reserve_over<D: Disk>(
     cartridge: &mut Cartridge<D>,
     pending: &Pending,
@@ -124,6 +126,7 @@ pub(crate) fn reserve_over<D: Disk>(
     ensures same { cartridge.new ≡ record cartridge.old { reserved = cartridge.new.reserved } }
     ensures still { IsReservedFor cartridge.new.reserved pending.now }
     ensures ok { OnOk result (IsReservedFor cartridge.new.reserved (pending.now ++ change.now ∷ [])) }
+    ensures lacks { OnErr result (LacksOneMore cartridge.old.reserved pending.now change.now) }
 {
     let body = pending.body_bytes() + change.frame_size() as usize - 5;
     match cartridge.reserve(change.part(), body, pending.len() + 1) {

@@ -82,6 +82,7 @@ staged_keeper_below =
       honest = λ keeper. Unit {0};
       at_hand = λ keeper. Unit {0};
       moves = StagedSaves;
+      left_alone = λ old new. Unit {0};
     }
 
 -- where nothing is done, nothing is saved

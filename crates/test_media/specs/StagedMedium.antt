@@ -1,5 +1,5 @@
 -- A medium for tests, as contracts see it.
-use Rattle.std.specs.Prelude.{◌≡◌, ◌≤◌, ◌++◌, ℕ, Some, List, [], Bool, false, if◌then◌else◌}
+use Rattle.std.specs.Prelude.{◌≡◌, ◌≤◌, ◌⊎◌, ◌++◌, ℕ, Some, List, [], Bool, true, false, if◌then◌else◌}
 use Rattle.std.proofs.Common.{refl, ap, sym, ◌∙◌, arith, append_assoc}
 use Rattle.std.proofs.lemmas.List.{append-nil}
 use Rattle.vtl_base.specs.Below.{Below}
@@ -51,7 +51,12 @@ pub record StagedMoves (old : Staged) (made : List Change) (new : Staged) : Type
       IsWhole old → new.faults ≡ old.faults
       → IsWhole new × (new.stored ++ new.rest ≡ (old.stored ++ old.rest) ++ made)
 
--- its device's faults are counted, it is honest, and it accepts as it moves (own)
+-- its side holds what it held, or that with all changes of the frame that was in flight (own)
+abbrev pub IsLeftAlone : Staged → Staged → Type 0
+IsLeftAlone old new =
+    (new.stored ≡ old.stored) ⊎ ((old.is_torn ≡ true) × (new.stored ≡ old.stored ++ old.rest))
+
+-- its device's faults are counted, it is honest, it accepts as it moves, and its side is left alone (own)
 abbrev pub staged_below : Below Staged Change
 staged_below =
     record {
@@ -59,6 +64,7 @@ staged_below =
       honest = λ medium. Unit {0};
       at_hand = λ medium. Unit {0};
       moves = StagedMoves;
+      left_alone = IsLeftAlone;
     }
 
 -- nothing done is the empty list

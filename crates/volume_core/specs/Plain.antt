@@ -28,7 +28,7 @@ plain_state plain =
 abbrev pub MovesByChanges : List Part → List Change → List Part → Type 0
 MovesByChanges old changes new = AllApply old changes × (new ≡ after old changes)
 
--- nothing fails below it, and it accepts what leads from one volume to the other (own)
+-- nothing fails below it, it accepts what leads from one volume to the other, and is left alone where that stays (own)
 abbrev pub plain_below : Below Plain Change
 plain_below =
     record {
@@ -36,6 +36,7 @@ plain_below =
       honest = λ plain. Unit {0};
       at_hand = λ plain. Unit {0};
       moves = λ old changes new. MovesByChanges old.volume changes new.volume;
+      left_alone = λ old new. new.volume ≡ old.volume;
     }
 
 -- a run without a call accepts nothing

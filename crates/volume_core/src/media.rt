@@ -129,8 +129,9 @@ pub trait Catalog {
 /// `wake` needs it to be awake.
 pub trait Medium: Catalog {
     /// What a contract sees below the medium: how often its device has failed; whether the device keeps the promises of
-    /// a disk (in memory, always); whether the device is at hand; and which changes the medium accepted between one of
-    /// its values and a later one. A call that may need the device is made only while the device is at hand.
+    /// a disk (in memory, always); whether the device is at hand; which changes the medium accepted between one of its
+    /// values and a later one; and when the side is left alone between the two. A call that may need the device is made
+    /// only while the device is at hand.
     ghost below: { Below Self Change };
 
     /// Whether the medium can answer a change without its device, which then need not be at hand. The number is the
@@ -243,12 +244,13 @@ pub trait Medium: Catalog {
 
     /// Opens a parked medium; after an error it stays parked. A medium that is awake stays as it is, and the result is
     /// the error `Failed` if it has failed, or else `Ok`. What the side of a parked medium holds after the call is
-    /// known only if its device keeps the promises of a disk.
+    /// known only if its device keeps the promises of a disk. Whatever the result is, the side is left alone.
     fn wake(&mut self) -> Result<(), MediumError>
         requires { below.at_hand self.old }
         ensures answer { Wakes (below.honest self.old) (Self.state self.old) result
             (Self.state self.new) }
-        ensures advances { Advances below self.old [] (met_fault result) self.new };
+        ensures advances { Advances below self.old [] (met_fault result) self.new }
+        ensures alone { below.left_alone self.old self.new };
 
     /// Whether the side has room for what is pending together with a change whose block has `bytes` bytes, 0 for a
     /// change without a block. Where the result is false, `accept` returns `SideFull` for such a change, unless it

@@ -4,12 +4,14 @@ use Rattle.std.proofs.Common.{subst}
 
 -- What a contract sees below an M that accepts Cs, as a medium accepts changes: how often the device has failed;
 -- whether it keeps the promises of a disk; whether it is at hand, so that it may be called (always, unless it is behind
--- a lock of its own); and which Cs, in order, were accepted from one value to another (own).
+-- a lock of its own); which Cs, in order, were accepted from one value to another; and that, as M defines it, a stop
+-- since the one value leaves only what one might have left then, and so what an opening leaves (own).
 pub record Below (M C : Type 0) : Type 1 where
   pub failures : M → ℕ
   pub honest : M → Type 0
   pub at_hand : M → Type 0
   pub moves : M → List C → M → Type 0
+  pub left_alone : M → M → Type 0
 
 -- the count of failures rose where the device failed in a call; else it stayed (own)
 abbrev pub Counts : Bool → ℕ → ℕ → Type 0

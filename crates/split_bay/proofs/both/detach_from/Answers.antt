@@ -8,7 +8,7 @@ use Rattle.split_bay.specs.Backs.{FollowsSpan}
 use Rattle.split_bay.specs.Fronts.{OwesAway, OwesHeld}
 use Rattle.split_bay.specs.Rings.{SendingState}
 use Rattle.split_bay.specs.Spans.{Span, span_of}
-use Rattle.tape_buffer.proofs.DetachingLemmas.{lend_facts}
+use Rattle.tape_buffer.specs.Lending.{lend_facts}
 use Rattle.split_bay.proofs.BothLemmas.{follows_lent, lent_begins, owes_lent}
 use Rattle.split_bay.proofs.JoinedLemmas.{begun_so}
 use Rattle.split_bay.proofs.both.detach_from.Goals as goal

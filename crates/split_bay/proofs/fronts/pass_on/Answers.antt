@@ -8,9 +8,8 @@ use Rattle.bay_moves.specs.Elements.{BayState}
 use Rattle.split_bay.specs.declared.items.Item.TheVariants.{Sent}
 use Rattle.split_bay.specs.Fronts.{IsFrontOf, loose_in_bay, span_since}
 use Rattle.split_bay.specs.Rings.{SendingState}
-use Rattle.split_bay.specs.Spans.{span_of}
+use Rattle.split_bay.specs.Spans.{span_of, span_next}
 use Rattle.split_bay.proofs.FrontLemmas.{stands_passed}
-use Rattle.split_bay.proofs.SpanLemmas.{span_next}
 use Rattle.split_bay.proofs.fronts.pass_on.Goals as goal
 
 pub returns-in-Some-clause-stands : goal.returns-in-Some-clause-stands

@@ -6,8 +6,7 @@ use Rattle.tape_buffer.specs.State.{BufferState, state_of}
 use Rattle.tape_buffer.specs.Taking.{DisksState}
 use Rattle.split_bay.specs.declared.items.Item.TheVariants.{Sent}
 use Rattle.split_bay.specs.Backs.{FollowsSpan}
-use Rattle.split_bay.specs.Spans.{KeepsLimits, Span, span_of}
-use Rattle.split_bay.proofs.SpanLemmas.{span_next}
+use Rattle.split_bay.specs.Spans.{KeepsLimits, Span, span_of, span_next}
 use Rattle.split_bay.proofs.TakenLemmas.{applies_next, follows_next, keeps_next, still, takes_more, takes_none}
 use Rattle.split_bay.proofs.taking.take_known.Goals as goal
 
