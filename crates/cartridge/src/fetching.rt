@@ -1,5 +1,5 @@
 //! Reading a block.
-ghost use Rattle.std.specs.Prelude.{◌≡◌, ◌<◌, ◌≤◌, Some, length, true, false, IfSome, OnOk, vec_capacity};
+ghost use Rattle.std.specs.Prelude.{◌≡◌, ◌<◌, ◌≤◌, Some, length, true, false, IfSome, OnErr, OnOk, vec_capacity, vec_len};
 ghost use Rattle.tape_disk.specs.TwoDisks.{AreHonest};
 ghost use Rattle.vtl_base.specs.declared.limits.TheConstants.{MAX_BLOCK};
 ghost use Rattle.volume_core.specs.declared.objects.Kind.TheVariants as Kinds;
@@ -12,8 +12,11 @@ use crate::cartridges::Cartridge;
 use crate::error::CartridgeError;
 use gate_journal::JournalError;
 use object_index::Placed;
+use std::alloc::AllocError;
 use tape_disk::Disk;
 use vtl_base::{ObjNo, PartNo};
+
+static ZEROS: [u8; 4_096] = [0; 4_096];
 
 impl<D: Disk> Cartridge<D> {
     /// Reads the block with object number `at` in partition `part` into `into`, in place of the bytes there. The object
@@ -62,8 +65,7 @@ impl<D: Disk> Cartridge<D> {
             Some(Placed::Mark) => unreachable!(),
             None => unreachable!(),
         };
-        into.clear();
-        into.resize(length as usize, 0)?;
+        set_length(into, length as usize)?;
         let read = self.journal.read_body(place, into);
         match read {
             Ok(()) => Ok(()),
@@ -75,4 +77,21 @@ impl<D: Disk> Cartridge<D> {
             Err(JournalError::Damaged { .. }) => unreachable!(),
         }
     }
+}
+
+// Gives `bytes` this length. What bytes they are is not said: they are to be written over. Zeros are appended a piece at
+// a time, since `resize` stores byte by byte.
+fn set_length(bytes: &mut Vec<u8>, length: usize) -> Result<(), AllocError>
+    ensures len { OnOk result (vec_len bytes.new ≡ length) }
+    ensures full { OnErr result (vec_capacity bytes.old < length) }
+{
+    bytes.truncate(length);
+    bytes.reserve(length - bytes.len())?;
+    while bytes.len() < length {
+        let piece = (length - bytes.len()).min(ZEROS.len());
+        if bytes.extend_from_slice(&ZEROS[..piece]).is_err() {
+            unreachable!();
+        }
+    }
+    Ok(())
 }

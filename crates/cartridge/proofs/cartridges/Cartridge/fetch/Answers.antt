@@ -42,19 +42,19 @@ read_body-read-requires g c =
       arith,
       c.deref_mut.ensures.len,
       ap (λ (l : List ℕ). length l) c.deref_mut.ensures.value,
-      c.in_ok-resize.ensures.len,
+      c.in_ok-set_length.ensures.len,
     ) in
     can_be_read (bodies_of i.noted.notes.frames) i.journal.extents found.0 c.in-Some-Block.place
     (length c.deref_mut.result.now) found.3 (count ∙ found.2)
 
-pub returns-in_err-resize-clause-answer : goal.returns-in_err-resize-clause-answer
-returns-in_err-resize-clause-answer g c =
+pub returns-in_err-set_length-clause-answer : goal.returns-in_err-set_length-clause-answer
+returns-in_err-set_length-clause-answer g c =
     let i = c.self.inside in
     let found = indexes_block (LiesOnSide i.noted.notes i.journal.extents) (volume_made (noted_contents i.noted.notes))
     i.index c.args.part c.args.at c.in-Some-Block.place c.in-Some-Block.length c.self.invariant.0.lies
     (sym c.place.ensures ∙ c.in-Some-Block.is ∙ ap Some c.in-Some-Block.field-0-is) in
     let short : vec_capacity c.args.into.now < length found.0 =
-    omega (arith, c.in_err-resize.ensures.full, c.clear.ensures.capacity, found.2) in
+    omega (arith, c.in_err-set_length.ensures.full, found.2) in
     let fine : c.args.self.now.failed ≡ false = search rules in
     let p = err_from_is_err_and c.from_residual.result c.from_residual.ensures.1 in
     rw (p.1, p.2) (
@@ -81,23 +81,23 @@ returns-clause-answer g c = rw (← c.self.view_is) (elim c.match-read.branch [
           arith,
           c.deref_mut.ensures.len,
           ap (λ (l : List ℕ). length l) c.deref_mut.ensures.value,
-          c.in_ok-resize.ensures.len,
+          c.in_ok-set_length.ensures.len,
         ) in
         let bytes = c.read_body-read.new.buffer in
-        let items = c.resize.new.self.items in
+        let items = c.set_length.new.bytes.items in
         let long : length bytes ≡ c.in-Some-Block.length = omega (arith, count, c.read_body-read.auto.buffer) in
         let same : length items ≡ c.in-Some-Block.length = omega (
           arith,
-          c.in_ok-resize.ensures.len,
-          c.resize.new.self.ok.0,
+          c.in_ok-set_length.ensures.len,
+          c.set_length.new.bytes.ok.0,
         ) in
-        let whole : take c.resize.new.self.len (bytes ++ drop (length bytes) items) ≡ bytes =
-        filled_whole c.resize.new.self.len bytes items (omega (arith, long, c.in_ok-resize.ensures.len))
-        (omega (arith, same, c.in_ok-resize.ensures.len)) in
+        let whole : take c.set_length.new.bytes.len (bytes ++ drop (length bytes) items) ≡ bytes =
+        filled_whole c.set_length.new.bytes.len bytes items (omega (arith, long, c.in_ok-set_length.ensures.len))
+        (omega (arith, same, c.in_ok-set_length.ensures.len)) in
         subst
         (λ (o : Option (List ℕ)).
         IfSome o (λ block.
-        length (take c.resize.new.self.len (bytes ++ drop (length bytes) items)) ≡ length block)) (sym found.1)
+        length (take c.set_length.new.bytes.len (bytes ++ drop (length bytes) items)) ≡ length block)) (sym found.1)
         (ap length whole ∙ long ∙ found.2)),
   )
   | in-Err-Device w ↦ rw w.result-is (search rules)
@@ -117,19 +117,19 @@ returns-clause-bytes g c = rw (← c.self.view_is) (λ h. elim c.match-read.bran
         arith,
         c.deref_mut.ensures.len,
         ap (λ (l : List ℕ). length l) c.deref_mut.ensures.value,
-        c.in_ok-resize.ensures.len,
+        c.in_ok-set_length.ensures.len,
       ) in
       let bytes = c.read_body-read.new.buffer in
-      let items = c.resize.new.self.items in
+      let items = c.set_length.new.bytes.items in
       let long : length bytes ≡ c.in-Some-Block.length = omega (arith, count, c.read_body-read.auto.buffer) in
       let same : length items ≡ c.in-Some-Block.length = omega (
         arith,
-        c.in_ok-resize.ensures.len,
-        c.resize.new.self.ok.0,
+        c.in_ok-set_length.ensures.len,
+        c.set_length.new.bytes.ok.0,
       ) in
-      let whole : take c.resize.new.self.len (bytes ++ drop (length bytes) items) ≡ bytes =
-      filled_whole c.resize.new.self.len bytes items (omega (arith, long, c.in_ok-resize.ensures.len))
-      (omega (arith, same, c.in_ok-resize.ensures.len)) in
+      let whole : take c.set_length.new.bytes.len (bytes ++ drop (length bytes) items) ≡ bytes =
+      filled_whole c.set_length.new.bytes.len bytes items (omega (arith, long, c.in_ok-set_length.ensures.len))
+      (omega (arith, same, c.in_ok-set_length.ensures.len)) in
       found.1
       ∙ ap Some (sym (whole
       ∙ read_is (bodies_of i.noted.notes.frames) i.journal.bodies i.journal.extents found.0 c.in-Some-Block.place
@@ -149,9 +149,9 @@ returns-clause-bound g c = on_ok_any c.match-read.result (
     omega (
       arith,
       short,
-      c.in_ok-resize.ensures.len,
-      length-take-le-whole c.resize.new.self.len (c.read_body-read.new.buffer ++ drop (length
-          c.read_body-read.new.buffer) c.resize.new.self.items),
+      c.in_ok-set_length.ensures.len,
+      length-take-le-whole c.set_length.new.bytes.len (c.read_body-read.new.buffer ++ drop (length
+          c.read_body-read.new.buffer) c.set_length.new.bytes.items),
     ))
 
 pub returns-clause-reads : goal.returns-clause-reads
@@ -167,7 +167,7 @@ returns-clause-reads g c = rw (← c.self.view_is) (elim c.match-read.branch [
         arith,
         c.deref_mut.ensures.len,
         ap (λ (l : List ℕ). length l) c.deref_mut.ensures.value,
-        c.in_ok-resize.ensures.len,
+        c.in_ok-set_length.ensures.len,
       ) in
       let fine : i.journal.failed ≡ false = search rules in
       let now = c.read_body-read.new.self.disk in
