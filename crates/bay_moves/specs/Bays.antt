@@ -170,9 +170,9 @@ module _ {D : Type 0} (state : D → DiskState) where
   out_or_in (Ok out) new = Some out
   out_or_in (Err reply) new = medium_in new.bay
 
-  -- Every moment of a power on over a cartridge, if any, and a store. No change is accepted, and nothing is written on the
-  -- cartridge. At each moment since, an image of the store's disk opens as what a loss of power leaves of the drive's new reservations, or of the state
-  -- whose save had failed (own).
+  -- Every moment of a power on over a cartridge, if any, and a store. No change is accepted, and nothing is written on
+  -- the cartridge. At each moment since, an image of the store's disk opens as what a loss of power leaves of the
+  -- drive's new reservations, or of the state whose save had failed (own).
   pub record EveryMomentOn (given : Option (BufferState D)) (store : OpenStore D) (new : BayState D) : Type 0 where
     pub cartridge : EventIn given (medium_in new.bay) []
     pub alone : StaysAlone given (medium_in new.bay)
