@@ -6,8 +6,6 @@ mod asserted;
 #[cfg(test)]
 mod holding;
 #[cfg(test)]
-mod rooms;
-#[cfg(test)]
 mod samples;
 #[cfg(test)]
 mod works;
