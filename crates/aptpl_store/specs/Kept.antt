@@ -69,7 +69,8 @@ module _ {D : Type 0} where
     StoreMoves old made new =
         CoreMoves store_rules (one_disk state) old.disk new.disk (core_of old) (core_of new) made
 
-    -- what a contract sees below a store: the failures of its disk, whether it is honest, and its saves; nothing opens it (own)
+    -- what a contract sees below a store: the failures of its disk, whether it is honest, and its saves; nothing opens
+    -- it (own)
     abbrev pub store_below : Below (OpenStore D) PrState
     store_below =
         record {

@@ -13,12 +13,14 @@ use Rattle.cartridge.specs.Contents.{Start}
 use Rattle.accepted_changes.specs.Core.{CanAcknowledge, Core, IsCore}
 use Rattle.accepted_changes.specs.Device.{one_disk, two_disks}
 use Rattle.accepted_changes.specs.Events.{IsEvent, ShowsCore}
-use Rattle.tape_buffer.specs.Moves.{IsHere, IsSafeOrPending, ShowsOn, buffer_below, medium_core}
+use Rattle.tape_buffer.specs.Moves.{IsHere, IsSafeOrPending, LeavesAlone, ShowsOn, buffer_below, medium_core}
 use Rattle.tape_buffer.specs.Rules.{medium_rules}
 use Rattle.tape_buffer.specs.State.{BufferState, IsSettledIn, disks_in, state_of}
 use Rattle.aptpl_store.specs.Contents.{ShowsStates}
 use Rattle.aptpl_store.specs.Kept.{core_of, store_below, store_kept, store_rules}
 use Rattle.aptpl_store.specs.State.{OpenStore}
+use Rattle.drive_commands.specs.declared.bays.Bay.{Bay}
+use Rattle.drive_commands.specs.declared.bays.Bay.TheVariants.{Loaded}
 use Rattle.drive_commands.specs.Data.{AnswersLent}
 use Rattle.drive_commands.specs.Execute.{Answers}
 use Rattle.drive_commands.specs.Relations.{Made}
@@ -103,6 +105,18 @@ module _ {D : Type 0} (state : D → DiskState) where
   EventIn None None made = made ≡ []
   EventIn _ _ made = ⊥
 
+  -- a cartridge and a later one, if there are both: at each moment since, a crash leaves what it might have left before
+  -- (own)
+  abbrev pub StaysAlone : Option (BufferState D) → Option (BufferState D) → Type 0
+  StaysAlone (Some old) (Some new) = LeavesAlone state old new
+  StaysAlone _ _ = Unit {0}
+
+  -- the same in an event of a drive in which none is loaded, so of each first opening (own)
+  abbrev pub UnloadedStays :
+      Bay (BufferState D) → Option (BufferState D) → Option (BufferState D) → Type 0
+  UnloadedStays (Loaded medium) before after = Unit {0}
+  UnloadedStays _ before after = StaysAlone before after
+
   -- from one store to the other, over an honest disk, the steps of one event save exactly these states (own)
   abbrev pub SavesIn : OpenStore D → OpenStore D → List PrState → Type 0
   SavesIn old new saved =
@@ -110,13 +124,15 @@ module _ {D : Type 0} (state : D → DiskState) where
       → IsEvent store_rules (one_disk state) old.disk new.disk (core_of old) (core_of new) saved
 
   -- Every moment of an event of a drive, in which the cartridge became another value: exactly these changes are
-  -- accepted and these states saved, each by the steps of one event. At each moment since, an image of the store's disk
-  -- opens as what a loss of power leaves of the reservations before, or of a state that may stand in their place (own).
+  -- accepted and these states saved, each by the steps of one event. Nothing is written on a cartridge that was not
+  -- loaded. At each moment since, an image of the store's disk opens as what a loss of power leaves of the reservations
+  -- before, or of a state that may stand in their place (own).
   pub record EveryMoment
       (old : BayState D) (event : Event OfDrive) (made : Made) (before after : Option (BufferState D))
       (new : BayState D)
       : Type 0 where
     pub cartridge : EventIn before after made.changes
+    pub alone : UnloadedStays old.bay before after
     pub saves : SavesIn old.keeper new.keeper made.saved
     pub reservations :
         (disk_of (state_of state) (buffer_below state) state old).honest
@@ -154,11 +170,12 @@ module _ {D : Type 0} (state : D → DiskState) where
   out_or_in (Ok out) new = Some out
   out_or_in (Err reply) new = medium_in new.bay
 
-  -- Every moment of a power on over a cartridge, if any, and a store. No change is accepted. At each moment since, an
-  -- image of the store's disk opens as what a loss of power leaves of the drive's new reservations, or of the state
-  -- whose save had failed (own).
+  -- Every moment of a power on over a cartridge, if any, and a store. No change is accepted, and nothing is written on
+  -- the cartridge. At each moment since, an image of the store's disk opens as what a loss of power leaves of the
+  -- drive's new reservations, or of the state whose save had failed (own).
   pub record EveryMomentOn (given : Option (BufferState D)) (store : OpenStore D) (new : BayState D) : Type 0 where
     pub cartridge : EventIn given (medium_in new.bay) []
+    pub alone : StaysAlone given (medium_in new.bay)
     pub reservations :
         (state store.disk).honest
         → LeavesOnly (state store.disk) (disk_of (state_of state) (buffer_below state) state new)
@@ -170,6 +187,7 @@ module _ {D : Type 0} (state : D → DiskState) where
       (given : Option (BufferState D)) (store : OpenStore D) (back : Option (BufferState D)) (left : OpenStore D)
       : Type 0 where
     pub cartridge : EventIn given back []
+    pub alone : StaysAlone given back
     pub reservations :
         (state store.disk).honest
         → LeavesOnly (state store.disk) (state left.disk) (ShowsStates store.heading store.states store.torn)

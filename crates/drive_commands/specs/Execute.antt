@@ -53,8 +53,8 @@ abbrev pub HonestIn : {M : Type 0} → Below M Change → Option M → Type 0
 HonestIn below None = Unit {0}
 HonestIn below (Some m) = below.honest m
 
--- a drive takes such a step of its machine, its medium and its keeper follow, a medium that is opened is left alone, and
--- the changes are counted (own)
+-- a drive takes such a step of its machine, its medium and its keeper follow, a medium that is opened is left alone,
+-- and the changes are counted (own)
 pub record Takes {M K : Type 0}
     (state : M → MediumState) (below : Below M Change) (kept : K → KeeperState) (keeps : Below K PrState)
     (S : Result Reply Fault → Made → Machine → Type 0)

@@ -25,7 +25,7 @@ use Rattle.drive_commands.specs.Load.{wake_answer, bay_when_on}
 use Rattle.drive_commands.specs.Events.{FlushTurn, Insert, Load, PowerOn, Unload}
 use Rattle.drive_commands.specs.Step.{Answered, Unanswered, Step}
 use Rattle.drive_commands.specs.Turn.{TurnsIn, turn_outcome}
-use Rattle.drive_commands.specs.Execute.{AdvancesIn, StoresIn, HonestIn}
+use Rattle.drive_commands.specs.Execute.{AdvancesIn, OpensAlone, StoresIn, HonestIn}
 
 -- what a loading is answered: GOOD, or the reply that came back with the medium (own)
 abbrev pub load_reply : {M : Type 0} → Result Unit (M × Reply) → Reply
@@ -99,6 +99,7 @@ module _ {M : Type 0} (state : M → MediumState) (below : Below M Change) where
         pub advances : AdvancesIn below (medium_in old.bay) [] (turn_met_fault turn) (medium_in new.bay)
         pub turns : TurnsIn (bay_of state old.bay) (machine_of state kept old) turn (machine_of state kept new)
         pub stores : StoresIn state old.bay [] new.bay
+        pub alone : OpensAlone below old.bay (medium_in new.bay)
         pub keeper : new.keeper ≡ old.keeper
         pub accepted : new.accepted ≡ old.accepted
 

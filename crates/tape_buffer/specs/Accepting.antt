@@ -33,17 +33,18 @@ module _ {D : Type 0} (c : OpenCartridge D) (pending : List Change) where
       CoreMoves medium_rules (two_disks state) c.disks c.disks (marked fault stuck c pending) new (change ∷ []))
       (sym with_change)
       (moves_accepting medium_rules (two_disks state) (two_is_device state) c.disks (marked fault stuck c pending)
-      change (λ honest. (is_disk c.disks.first honest.0, is_disk c.disks.second honest.1)) (record { safe = core.safe; stored = core.stored }) works refl applies)
+      change (λ honest. (is_disk c.disks.first honest.0, is_disk c.disks.second honest.1))
+      (record { safe = core.safe; stored = core.stored }) works refl applies)
     where
       with_change : marked fault stuck c (pending ++ change ∷ []) ≡ with_item change (marked fault stuck c pending)
       with_change =
           λ i. record (marked fault stuck c pending) {
-            accepted = sym (append_assoc changes_since c.contents pending (change ∷ [])) i;
+            accepted = sym (append_assoc (changes_since c.contents) pending (change ∷ [])) i;
           }
 
       applies : IsTrue (applies_behind (start_of c.contents) (changes_since c.contents ++ pending) change)
       applies =
           ap is_unrefused
           (ap (λ (v : List Part). refusal_of v change)
-          (after_append (start_of c.contents).volume changes_since c.contents pending
+          (after_append (start_of c.contents).volume (changes_since c.contents) pending
           ∙ ap (λ (v : List Part). after v pending) (sym (volume_since c.contents))) ∙ none)

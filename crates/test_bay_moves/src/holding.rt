@@ -1,20 +1,31 @@
-//! The contents of the slots and drives of a library, and a cartridge that is taken out.
+//! The contents of the slots and drives of a library, a cartridge that is taken out, and room for what hosts send.
+ghost use Rattle.std.specs.Prelude.{◌≡◌, Some};
+
 use crate::samples::{
     Answer, CHANGED, GOOD, NEVER, Once, POWERED_ON, READY, cartridge, drive, is_answer, library,
     place,
 };
 use bay_moves::{Bay, Held, Parked};
 use scsi_sense::Status;
+use split_bay::{NewRing, Rings, join, make_room, part};
 use std::alloc::Global;
+use std::marker::Brand;
 use std::process::Abort;
 use std::test::Fail;
 use tape_disk::Disk;
 use test_assertions::{assert_equal, assert_holds};
-use vtl_base::Nexus;
+use volume_core::{MediumError, Turn};
+use vtl_base::{Bytes, DriveNo, Nexus};
 
 const FIRST: &'static [u8] = b"T00001L6        ";
 
 const SECOND: &'static [u8] = b"T00002L6        ";
+
+const WRITE_1: &'static [u8] = &[0x0a, 0, 0, 0, 1, 0];
+
+const BACK_1: &'static [u8] = &[0x11, 0, 0xff, 0xff, 0xff, 0];
+
+const READ_1: &'static [u8] = &[0x08, 0, 0, 0, 1, 0];
 
 // Two cartridges are moved, out of their slots, into others, and into both drives: each move, its answer, and the
 // places and barcodes of the cartridges in slots afterwards.
@@ -117,4 +128,37 @@ fn a_cartridge_is_closed_and_taken_back(rt: HostRuntime) -> Result<(), Fail> {
     keeps(&rt, &mut bay, READ);
     drop(bay);
     Ok(())
+}
+
+// The hosts' half of a drive takes 256 blocks alone, so there is no room for more. All of them are stored.
+fn makes_room<R: Rings>(
+    rt: &impl Abort,
+    alloc: Global,
+    both: (DriveNo, Bay<Once>),
+    ring: NewRing,
+) -> Result<(), Fail>
+    requires { R.ring both.0 ≡ Some ring }
+{
+    let nexus = Nexus::new(1).expect(rt, "1");
+    let (front, back) = part(both.1, ring.into_ends::<R>(both.0));
+    let (mut front, mut back) = (front, back);
+    for _ in 0..=256 {
+        let _ = front.execute(nexus, WRITE_1, &mut Bytes::from_slice(alloc, b"x")?);
+    }
+    assert!(rt; front.fits(&back));
+    assert_equal!(rt; make_room(&mut front, &mut back), Err(MediumError::NoMemory));
+    assert!(rt; front.fits(&back));
+    let (mut bay, _ends) = join(front, back);
+    assert_equal!(rt; (bay.turn(), bay.accepted()), (Turn::Idle, 256));
+    is_answer(rt, &bay.execute(nexus, BACK_1, b""), GOOD, b"", (0, 0));
+    is_answer(rt, &bay.execute(nexus, READ_1, b""), GOOD, b"x", (0, 0));
+    Ok(())
+}
+
+#[test]
+fn what_waits_is_stored_where_no_room_is_made(rt: HostRuntime) -> Result<(), Fail> {
+    let cartridge = cartridge(rt.alloc(), b"T00001L6", NEVER)?;
+    let both = drive(rt.alloc(), 1, Some(cartridge))?;
+    let ring = NewRing::new(rt.alloc())?;
+    makes_room::<Brand>(&rt, rt.alloc(), both, ring)
 }

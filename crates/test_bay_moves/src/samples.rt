@@ -61,18 +61,14 @@ pub fn place<D: Disk + Drop>(
     address: u32,
     cartridge: Parked<D>,
 ) -> Result<(), Fail> {
-    match held.place(address, cartridge) {
-        Ok(()) => Ok(()),
-        Err(_) => Err(Fail::from("not placed")),
-    }
+    held.place(address, cartridge)
+        .map_err(|_| Fail::from("not placed"))
 }
 
 // Puts a drive into its place.
 fn install<D: Disk + Drop>(held: &mut Held<D>, both: (DriveNo, Bay<D>)) -> Result<(), Fail> {
-    match held.install(both.0, both.1) {
-        Ok(()) => Ok(()),
-        Err(_) => Err(Fail::from("not installed")),
-    }
+    held.install(both.0, both.1)
+        .map_err(|_| Fail::from("not installed"))
 }
 
 // Fills a library.

@@ -51,10 +51,8 @@ fn does<D: Disk + Drop>(
     step: Step,
     at: (usize, u64),
 ) -> Result<bool, Fail> {
-    let (nexus, drive) = (
-        Nexus::new(1).expect(rt, "1"),
-        DriveNo::new(1).expect(rt, "1"),
-    );
+    let nexus = Nexus::new(1).expect(rt, "1");
+    let drive = DriveNo::new(1).expect(rt, "1");
     match step {
         Loads => return Ok(held.move_medium(1001, 1).sense.is_none()),
         Moves(from, to, wanted) => is_answer(rt, &held.move_medium(from, to), wanted, b"", at),
@@ -97,12 +95,9 @@ fn does_all<D: Disk + Drop>(
 
 // A block is pending, or 256, which with one more take 4,369 bytes of 8,192.
 const BLOCK: Steps = &[
-    &[
-        Loads,
-        Asks(READY, POWERED_ON, b""),
-        Asks(READY, CHANGED, b""),
-    ],
-    &[Asks(READY, GOOD, b""), Lends(1, GOOD, 0)],
+    &[Loads, Asks(READY, POWERED_ON, b"")],
+    &[Asks(READY, CHANGED, b""), Asks(READY, GOOD, b"")],
+    &[Lends(1, GOOD, 0)],
 ];
 
 const BLOCKS: Steps = &[

@@ -56,4 +56,4 @@ returns-in-Err-clause-lacks g c =
     ) in
     let some : c.len.result + 1 ≡ length c.args.pending.now + 1 = omega (arith, c.len.ensures) in
     subst (λ (p : ℕ × ℕ × ℕ). Lacks c.args.cartridge.now.reserved p.0 p.1 p.2)
-    (λ i. ((c.part.ensures) i, (body i, some i))) c.in-Err.ensures.refused.1
+    (λ i. (c.part.ensures i, body i, some i)) c.in-Err.ensures.refused.1
