@@ -79,8 +79,8 @@ impl<D: Disk> Cartridge<D> {
     }
 }
 
-// Gives `bytes` this length. What bytes they are is not said: they are to be written over. Zeros are appended a piece at
-// a time, since `resize` stores byte by byte.
+// Gives `bytes` this length. What they are is not said: they are to be written over. Zeros are appended a piece at a
+// time, since `resize` stores byte by byte.
 fn set_length(bytes: &mut Vec<u8>, length: usize) -> Result<(), AllocError>
     ensures len { OnOk result (vec_len bytes.new ≡ length) }
     ensures full { OnErr result (vec_capacity bytes.old < length) }

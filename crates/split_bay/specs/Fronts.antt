@@ -18,7 +18,7 @@ use Rattle.tape_buffer.specs.declared.aways.Away.{Away}
 use Rattle.tape_buffer.specs.declared.holding.Holding.{Holding}
 use Rattle.tape_buffer.specs.declared.holding.Holding.TheVariants as Holdings
 use Rattle.tape_buffer.specs.Aways.{loose_in, seen_as}
-use Rattle.tape_buffer.specs.Detaching.{lacks_room_held, loose_of, passed}
+use Rattle.tape_buffer.specs.Detaching.{has_loose_held, lacks_room_held, loose_of, passed}
 use Rattle.tape_buffer.specs.Moves.{IsAway, takes_alone_in, buffer_below}
 use Rattle.tape_buffer.specs.State.{BufferState, state_of}
 use Rattle.bay_moves.specs.Elements.{BayState}
@@ -92,6 +92,11 @@ module _ {D : Type 0} where
   abbrev pub lacks_room_in : Option (BufferState D) → Bool
   lacks_room_in None = false
   lacks_room_in (Some medium) = lacks_room_held medium.held
+
+  -- whether the medium in a drive accepted a change that it did not pass on (own)
+  abbrev pub has_loose_in : Option (BufferState D) → Bool
+  has_loose_in None = false
+  has_loose_in (Some medium) = has_loose_held medium.held
 
   -- a drive whose medium has passed on what it accepted (own)
   abbrev pub passed_on : BayState D → BayState D

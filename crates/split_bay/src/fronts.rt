@@ -9,7 +9,7 @@ ghost use Rattle.tape_buffer.specs.Aways.{loose_in};
 ghost use Rattle.tape_buffer.specs.Detaching.{passed};
 ghost use Rattle.tape_buffer.specs.State.{state_of};
 ghost use Rattle.bay_moves.specs.Bays.{ShowsOrders};
-ghost use Rattle.split_bay.specs.Fronts.{AnswersOrWaits, AreAway, GivesOrders, IsFrontOf, KeepsHostsHalf, LeavesOrders, OwesIn, lacks_room_in, loose_in_bay, passed_on, pending_of, sending_with};
+ghost use Rattle.split_bay.specs.Fronts.{AnswersOrWaits, AreAway, GivesOrders, IsFrontOf, KeepsHostsHalf, LeavesOrders, OwesIn, has_loose_in, lacks_room_in, loose_in_bay, passed_on, pending_of, sending_with};
 ghost use Rattle.split_bay.specs.Rings.{AreEnds};
 ghost use Rattle.split_bay.specs.Spans.{span_of};
 
@@ -166,12 +166,26 @@ fn pass_on<D: Disk, R: Rings>(
     ensures drive { drive.new ≡ passed_on drive.old }
     ensures sending { sending.new ≡ sending_with sending.old (loose_in_bay drive.old.bay) }
 {
+    // Most commands make no change, and to lift the medium takes longer than to look.
+    if !has_loose(drive) {
+        return;
+    }
     let mut bay = drive.lift();
     let loose = take_loose(&mut bay);
     drive.lower(bay);
     match loose {
         Some(change) => sending.send(change),
         None => {}
+    }
+}
+
+// Whether the medium in a drive accepted a change that it did not pass on.
+fn has_loose<D: Disk>(drive: &Drive<Buffered<D>, AptplStore<D>>) -> bool
+    ensures { result ≡ has_loose_in (medium_in drive.now.bay) }
+{
+    match drive.medium() {
+        Some(medium) => medium.has_loose(),
+        None => false,
     }
 }
 

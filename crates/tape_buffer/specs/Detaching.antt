@@ -1,5 +1,5 @@
 -- How the disks of a medium go away.
-use Rattle.std.specs.Prelude.{◌≡◌, ◌==◌, ◌&&◌, List, [], Bool, false, not, None}
+use Rattle.std.specs.Prelude.{◌≡◌, ◌==◌, ◌&&◌, List, [], Bool, false, not, None, is_some}
 use Rattle.vtl_base.specs.Below.{Advances}
 use Rattle.tape_disk.specs.Disk.{DiskState}
 use Rattle.volume_core.specs.declared.changes.Change.{Change}
@@ -29,7 +29,13 @@ loose_held (Holdings.Open cartridge) = []
 loose_held (Holdings.Closed cartridge) = []
 loose_held (Holdings.Away away) = loose_in away.loose
 
--- the same, once it was passed on (own)
+-- whether there is such a change (own)
+abbrev pub has_loose_held : {C S : Type 0} → Holding C S → Bool
+has_loose_held (Holdings.Open cartridge) = false
+has_loose_held (Holdings.Closed cartridge) = false
+has_loose_held (Holdings.Away away) = is_some away.loose
+
+-- what was accepted, once it was passed on (own)
 abbrev pub passed_held : {C S : Type 0} → Holding C S → Holding C S
 passed_held (Holdings.Open cartridge) = Holdings.Open cartridge
 passed_held (Holdings.Closed cartridge) = Holdings.Closed cartridge

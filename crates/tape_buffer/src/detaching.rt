@@ -5,7 +5,7 @@ ghost use Rattle.vtl_base.specs.declared.limits.TheConstants.{BUFFER_RECORDS};
 ghost use Rattle.cartridge.specs.Shown.{HasEntriesIn, IsGrownIn, LacksEntriesIn};
 ghost use Rattle.tape_buffer.specs.Aways.{IsCut, IsFoundAs, KnowsAway, loose_in};
 ghost use Rattle.tape_buffer.specs.Catalogs.{IsCataloged};
-ghost use Rattle.tape_buffer.specs.Detaching.{DetachesFrom, IsAwayAs, away_buffer, lacks_room_held, left_in, loose_of, passed};
+ghost use Rattle.tape_buffer.specs.Detaching.{DetachesFrom, IsAwayAs, away_buffer, has_loose_held, lacks_room_held, left_in, loose_of, passed};
 ghost use Rattle.tape_buffer.specs.Inner.Lending.{MayBeLent};
 ghost use Rattle.tape_buffer.specs.Invariants.{IsHeld, buffer_of};
 ghost use Rattle.tape_buffer.specs.Limits.{FitsBuffer};
@@ -70,6 +70,16 @@ impl<D: Disk> Buffered<D> {
     {
         match &self.held {
             Holding::Away(away) => self.is_awake() && !away.failed && away.left.records == 0,
+            Holding::Open(_) | Holding::Closed(_) => false,
+        }
+    }
+
+    /// Whether there is a change that was accepted while the disks are away, and not passed on yet.
+    pub fn has_loose(&self) -> bool
+        ensures { result ≡ has_loose_held self.now.held }
+    {
+        match &self.held {
+            Holding::Away(away) => away.loose.is_some(),
             Holding::Open(_) | Holding::Closed(_) => false,
         }
     }
