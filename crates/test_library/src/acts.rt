@@ -4,9 +4,10 @@ ghost use Rattle.std.specs.List.{list_all};
 ghost use Rattle.library.specs.Counts.{has_drive};
 
 use crate::replies::{Answer, GOOD, NO_ROOM, NO_SOURCE, Step, is_answer, is_one_of};
+use crate::inventories::{has_seen, has_seen_at};
 use crate::samples::drive;
 use crate::stages::{BEGUN, ENDED, Stage, StageGate, Stands, pause};
-use library::{Element, Library, Parties, Rings, Seat};
+use library::{Library, Parties, Rings, Seat};
 use scsi_sense::Reply;
 use std::alloc::Global;
 use std::process::Abort;
@@ -119,25 +120,6 @@ fn session<D: Disk + Drop, B: Parties + Rings, H: Parties, R: Wait + Abort>(
     }
 }
 
-// This many cartridges are seen, and fourteen drives are missing.
-fn has_seen<D: Disk + Drop, B: Parties + Rings, H: Parties, R: Wait + Abort>(
-    rt: &R,
-    library: &Library<D, B, H>,
-    wanted: usize,
-) {
-    let inventory = library.inventory(rt);
-    let mut full = 0usize;
-    let mut missing = 0usize;
-    for element in inventory.slots.iter().chain(inventory.drives.iter()) {
-        match element {
-            Element::Full => full = full.saturating_add(1),
-            Element::Missing => missing = missing.saturating_add(1),
-            Element::Empty => {}
-        }
-    }
-    assert_equal!(rt; (full, missing), (wanted, 14));
-}
-
 // A host moves cartridges, with these answers. Its seat counts each move, also one that is refused, and no answer.
 fn moves<D: Disk + Drop, B: Parties + Rings, H: Parties, R: Wait + Abort>(
     rt: &R,
@@ -190,8 +172,8 @@ pub enum Act {
     MovesAbout,
     /// Its host moves cartridges, with these answers.
     Moves(&'static [(u32, u32, Answer)]),
-    /// This many addresses are seen as full.
-    Sees(usize),
+    /// A cartridge is seen at each of these addresses, and at no other.
+    Sees(&'static [u32]),
     /// It is the flusher of a drive.
     Flushes(u8, Stands),
     /// The library is closed, and this many flushers have ended.
@@ -235,7 +217,7 @@ fn does<D: Disk + Drop, B: Parties + Rings, H: Parties, R: Wait + Abort + Clock>
     act: Act,
 ) {
     match act {
-        Act::Sees(full) => has_seen(rt, library, full),
+        Act::Sees(full) => has_seen_at(rt, library, full),
         Act::Flushes(number, stands) => {
             let gate = StageGate {
                 rt,

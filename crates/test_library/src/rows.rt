@@ -66,8 +66,9 @@ static GOES_ROUND: Day = Day {
         &[Moves(&[(1, 1, NO_ROOM), (1, 2, GOOD)])],
         &[Asks(&[(1, READY, b"", NOT_PRESENT)])],
         &[Asks(&[(2, READY, b"", CHANGED), (2, READY, b"", GOOD)])],
-        &[Sees(3), Moves(&[(2, 1256, GOOD), (1256, 1001, GOOD)])],
-        &[Sees(3)],
+        &[Sees(&[2, 1002, 1003])],
+        &[Moves(&[(2, 1256, GOOD), (1256, 1001, GOOD)])],
+        &[Sees(&[1001, 1002, 1003])],
     ]],
     amounts: &[0],
     end: Some(Ok((0, 0))),
@@ -107,12 +108,13 @@ const WITHOUT_CHANGE: &'static [Step] = &[
     (1, &[0x10, 0, 0, 0, 0, 0], b"", GOOD),
 ];
 
-// A thousand commands that accept no change leave the flusher idle, even over a while. One that accepts a change wakes
-// it, and then it is idle again, until the library is closed.
+// A thousand commands that accept no change leave the flusher idle, even over a while, and so do an inventory and a move
+// that is refused. One that accepts a change wakes it, and then it is idle again, until the library is closed.
 static RESTS: Day = Day {
     hosts: &[
         &[
             &[Asks(&[ON]), Awaits(IDLE, 1), Times(200, 1, WITHOUT_CHANGE)],
+            &[Sees(&[1, 2]), Moves(&[(1, 2, NO_ROOM)])],
             &[Pauses(1), Turns([1, 1, 0, 0]), Asks(&[X])],
             &[Awaits(STORED, 1), Awaits(IDLE, 2), Pauses(1)],
             &[Turns([3, 2, 1, 1]), Counts(ENDED, 0), Ends(1)],

@@ -145,13 +145,14 @@ fn all_hosts_of_a_phase_meet(rt: HostRuntime) -> Result<(), Fail> {
     meet(&rt, rt.alloc(), 64, 128, First::Frees)
 }
 
-// After a phase of two hosts, host 2 writes a block to drive 2, and then host 1 a filemark to drive 1. The sync of the
-// filemark lasts until a flusher has stored the block.
-const STORED_BETWEEN: &str = "1 1 000000000000\n2 2 000000000000\n--\n\
+// After a phase of two hosts and a move of nothing, host 2 writes a block to drive 2, and then host 1 a filemark to drive
+// 1. The sync of the filemark lasts until a flusher has stored the block.
+const STORED_BETWEEN: &str = "1 1 000000000000\n2 2 000000000000\n--\nmove 1001 1002\n\
     2 2 0a0000000100 78\n--\n1 1 100000000100\n";
 
 const ANSWERS: &str = "CHECK 700006000000000a00000000290000000000\n\
-    CHECK 700006000000000a00000000290000000000\nGOOD\nGOOD\n";
+    CHECK 700006000000000a00000000290000000000\n\
+    CHECK 700005000000000a000000003b0e00000000\nGOOD\nGOOD\n";
 
 #[test]
 fn a_flusher_stores_between_two_phases(rt: HostRuntime) -> Result<(), Fail> {

@@ -118,6 +118,9 @@ const LOADS_AGAIN: &'static [Act] = &[
     Any(1, (1, READ_1, b"", GOOD), IN_DOUBT),
 ];
 
+// The flusher goes on behind the turn that failed: it stores another block.
+const STORES_AGAIN: &'static [Act] = &[Asks(&[X]), Awaits(STORED, 1)];
+
 // A flusher of drive 1.
 const FLUSHES: &'static [&'static [Act]] = &[&[Flushes(1, Stands::Nowhere)]];
 
@@ -146,9 +149,12 @@ static UNWRITTEN: Day = Day {
 
 // Then the cartridge is loaded again: the tape is unchanged since before the turn, or has the block.
 static LOADED_AGAIN: Day = Day {
-    hosts: &[&[FAILS, IS_REPORTED, LOADS_AGAIN, &[Ends(1)]], FLUSHES],
-    amounts: &[1, 0],
-    end: Some(Ok((1, 0))),
+    hosts: &[
+        &[FAILS, IS_REPORTED, LOADS_AGAIN, STORES_AGAIN, &[Ends(1)]],
+        FLUSHES,
+    ],
+    amounts: &[2, 0],
+    end: Some(Ok((2, 0))),
 };
 
 // Or the cartridge is moved out of the drive, which gives up what waits. No answer has reported the fault, so the end
