@@ -1,6 +1,6 @@
 //! What is read from a store's side as it is opened, one frame's body after another.
 ghost use Rattle.std.specs.Prelude.{◌≤◌};
-ghost use Rattle.aptpl_store.specs.declared.spelling.TheConstants.{STATE_BYTES};
+ghost use Rattle.vtl_base.specs.declared.layout.TheConstants.{STATE_BYTES};
 
 use crate::creating::make_frame;
 use crate::decoding::decode;
