@@ -17,7 +17,8 @@ pub(crate) fn put_head(buffer: &mut Vec<u8>, header: &Header, copied: Copied)
     requires count { length header.now.capacities.items ≤ MAX_PARTITIONS }
     requires room { LONGEST_FRONT - BEGUN_BYTES ≤ vec_capacity buffer.old }
     ensures items { buffer.new.items ≡ spell_side_head (said_of header.now copied) }
-    ensures len { vec_len buffer.new ≡ START_BYTES - BEGUN_BYTES + COPIED_BYTES + CAPACITY_BYTES * length header.now.capacities.items }
+    ensures len { vec_len buffer.new
+        ≡ START_BYTES - BEGUN_BYTES + COPIED_BYTES + CAPACITY_BYTES * length header.now.capacities.items }
     ensures room { vec_capacity buffer.old ≤ vec_capacity buffer.new }
 {
     buffer.clear();

@@ -33,7 +33,8 @@ pub struct Frame {
 }
 
 impl Model for Frame {
-    ghost use Rattle.std.specs.Prelude.{◌≤◌, ◌<◌, ◌-◌, drop, vec_len, vec_capacity};
+    ghost use Rattle.std.specs.Prelude.{◌≤◌, ◌<◌, ◌+◌, ◌-◌, drop, vec_len, vec_capacity};
+    ghost use Rattle.vtl_base.specs.declared.layout.TheConstants.{LENGTH_BYTES};
     ghost use Rattle.gate_journal.specs.Spelled.{SpelledBody, spelled_code};
 
     ghost Value = { SpelledBody };
@@ -42,10 +43,10 @@ impl Model for Frame {
 
     ghost view = { λ a. record {
       body = drop LENGTH_BYTES a.bytes.items;
-      room = vec_capacity a.bytes - AROUND;
+      room = vec_capacity a.bytes - (LENGTH_BYTES + 1);
     } };
 
-    ghost invariant = { λ a. (AROUND < vec_capacity a.bytes → LENGTH_BYTES ≤ vec_len a.bytes)
+    ghost invariant = { λ a. (LENGTH_BYTES + 1 < vec_capacity a.bytes → LENGTH_BYTES ≤ vec_len a.bytes)
         × (LENGTH_BYTES < vec_len a.bytes → vec_len a.bytes < vec_capacity a.bytes) };
 }
 

@@ -32,8 +32,8 @@ pub fn the_side_on_an_image()
         (side_on image ≡ Some (f, bs)) ↔ StandsFor f bs image }
 {}
 
-/// The values of this crate's constants for lengths. In all 5 bytes stand around a body. The longest piece of a body has
-/// 65,536 bytes, and the longest piece after bytes that were passed over has 4,096.
+/// The values of this crate's constants for lengths. In all 5 bytes stand around a body. The longest piece of a body
+/// has 65,536 bytes, and the longest piece after bytes that were passed over has 4,096.
 pub fn the_lengths()
     ensures around { AROUND ≡ 5 }
     ensures piece { PIECE_BYTES ≡ 65536 }

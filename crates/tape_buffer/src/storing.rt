@@ -126,7 +126,7 @@ pub(crate) fn reserve_over<D: Disk>(
     ensures still { IsReservedFor cartridge.new.reserved pending.now }
     ensures ok { OnOk result (IsReservedFor cartridge.new.reserved (pending.now ++ change.now ∷ [])) }
 {
-    let body = pending.body_bytes() + (change.frame_size() - FRAME_HEAD) as usize;
+    let body = pending.body_bytes() + change.frame_size() as usize - FRAME_HEAD as usize;
     match cartridge.reserve(change.part(), body, pending.len() + 1) {
         Ok(()) => Ok(()),
         Err(_) => Err(NoMemory),

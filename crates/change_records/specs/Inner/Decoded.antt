@@ -31,8 +31,8 @@ kind_decoded kind part at number there =
 -- the record whose head begins the bytes, if the `there` bytes after it suffice for its block (own)
 abbrev pub head_decoded : List ℕ → ℕ → Option Record
 head_decoded head there =
-    kind_decoded (slice_index head 0) (slice_index head 1) (big_number 4 (drop RECORD_OBJECT head)) (big_number 4 (drop RECORD_NUMBER head))
-    there
+    kind_decoded (slice_index head 0) (slice_index head 1) (big_number 4 (drop RECORD_OBJECT head))
+    (big_number 4 (drop RECORD_NUMBER head)) there
 
 -- the record that begins the bytes, if there is one (own)
 abbrev pub decoded : List ℕ → Option Record

@@ -34,7 +34,8 @@ front_read read = front_of read.header read.copied read.pair
 -- (own)
 abbrev pub FindsBytes : Result FrontBytes JournalError → DiskState → DiskState → Type 0
 FindsBytes (Ok found) old new =
-    NoneFailed old new × (found.len ≡ START_BYTES + size_behind (slice_index found.bytes BEGUN_BYTES)) × (found.len ≤ LONGEST_FRONT)
+    NoneFailed old new × (found.len ≡ START_BYTES + size_behind (slice_index found.bytes BEGUN_BYTES))
+    × (found.len ≤ LONGEST_FRONT)
     × (old.honest → (rest : List ℕ) × (old.seen ≡ take found.len found.bytes ++ rest))
 FindsBytes (Err error) old new = NotRead error (old.honest → IsNotOurs old.seen) (λ at. ⊥) ⊥ old new
 

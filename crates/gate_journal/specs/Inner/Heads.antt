@@ -26,7 +26,8 @@ count_in true byte = byte - COPY_BIT
 -- epoch and base at the start of bytes (own)
 abbrev pub copied_in : Bool → List ℕ → Option Copied
 copied_in false bytes = None
-copied_in true bytes = Some (record { epoch = big_number EPOCH_BYTES bytes; base = big_number 4 (drop EPOCH_BYTES bytes) })
+copied_in true bytes =
+    Some (record { epoch = big_number EPOCH_BYTES bytes; base = big_number 4 (drop EPOCH_BYTES bytes) })
 
 -- the head of this kind of side, of a copy or not, with which the bytes can begin (own)
 abbrev pub head_as : SideKind → Bool → List ℕ → Head
@@ -34,7 +35,9 @@ head_as kind copy bytes = record {
   heading = record {
     kind = kind;
     name = take NAME_BYTES (drop 1 bytes);
-    capacities = numbers_of (take (CAPACITY_BYTES * count_in copy (slice_index bytes 0)) (drop (START_BYTES - BEGUN_BYTES) bytes));
+    capacities =
+        numbers_of (take (CAPACITY_BYTES * count_in copy (slice_index bytes 0)) (drop (START_BYTES - BEGUN_BYTES) bytes));
   };
-  copied = copied_in copy (drop (CAPACITY_BYTES * count_in copy (slice_index bytes 0)) (drop (START_BYTES - BEGUN_BYTES) bytes));
+  copied =
+      copied_in copy (drop (CAPACITY_BYTES * count_in copy (slice_index bytes 0)) (drop (START_BYTES - BEGUN_BYTES) bytes));
 }
