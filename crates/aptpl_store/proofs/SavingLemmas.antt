@@ -13,7 +13,7 @@ use Rattle.accepted_changes.specs.Events.{CoreMoves, core_moves_nowhere}
 use Rattle.pr_core.specs.declared.states.PrState.{PrState}
 use Rattle.pr_core.specs.States.{power_loss}
 use Rattle.pr_core.specs.Keepers.{Broken, Stored, state_frame_size}
-use Rattle.aptpl_store.specs.declared.spelling.TheConstants.{STATE_BYTES}
+use Rattle.vtl_base.specs.declared.layout.TheConstants.{STATE_BYTES}
 use Rattle.aptpl_store.specs.Answers.{SavesState}
 use Rattle.aptpl_store.specs.Contents.{GivesStates, OpensAs, OpensAsEither, ShowsStates, latest}
 use Rattle.aptpl_store.specs.Inner.Open.{IsOpen, StoresStates}

@@ -5,20 +5,18 @@ ghost use Rattle.gate_journal.specs.Answers.{IsFault, NoneFailed};
 ghost use Rattle.gate_journal.specs.Side.{CLOSED, drive_name, plain, spell};
 ghost use Rattle.aptpl_store.specs.Answers.{IsStoreNotMade, disk_of_new};
 ghost use Rattle.aptpl_store.specs.Contents.{GivesStates, heading_for};
+ghost use Rattle.vtl_base.specs.declared.limits.TheConstants.{RESERVED_SAVES};
+ghost use Rattle.vtl_base.specs.declared.layout.TheConstants.{STATE_BYTES};
 
 use crate::error::{StoreError, StoreRefused};
 use crate::noted::Noted;
-use crate::spelling::STATE_BYTES;
 use crate::stores::AptplStore;
-use gate_journal::header::NAME_BYTES;
 use gate_journal::{Frame, Header, Journal, JournalError, Refused, SideKind};
 use std::alloc::Global;
 use tape_disk::Disk;
+use vtl_base::layout::{NAME_BYTES, STATE_BYTES};
+use vtl_base::limits::RESERVED_SAVES;
 use vtl_base::{DriveNo, NoMemory};
-
-/// The least number of saves for which memory is reserved in a store that was just made or opened. These saves allocate
-/// no memory.
-pub const RESERVED_SAVES: usize = 256;
 
 impl<D: Disk> AptplStore<D> {
     /// Makes the store of the drive with the number `drive` on `disk`, whatever the disk held before. The store holds

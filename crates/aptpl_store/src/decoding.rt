@@ -4,13 +4,15 @@ ghost use Rattle.pr_core.specs.declared.states.PrState.{PrState};
 ghost use Rattle.aptpl_store.specs.Spelling.{SpellsState};
 ghost use Rattle.aptpl_store.specs.Inner.Decoded.{begins_with, behind, held_decoded, key_decoded, keys_decoded, nexus_decoded, nexuses_from, state_decoded};
 ghost use Rattle.scsi_lists.specs.Actions.{type_of};
+ghost use Rattle.vtl_base.specs.declared.layout.TheConstants.{STATE_BYTES, STATE_HEAD};
 
-use crate::spelling::{HEAD_BYTES, REGISTRATION_BYTES, STATE_BYTES, fill_body};
+use crate::spelling::fill_body;
 use byteorder::{BigEndian, ByteOrder};
 use gate_journal::Frame;
 use pr_core::{PrState, Reservation, Reservations};
 use scsi_lists::PrType;
 use vtl_base::Nexus;
+use vtl_base::layout::{REGISTRATION_BYTES, STATE_BYTES, STATE_HEAD};
 use vtl_base::limits::NEXUSES;
 
 // Whether the bytes begin with the registration of a nexus.
@@ -61,11 +63,11 @@ fn held_decoded(kind: u8, holder: u8) -> Option<Reservation>
 
 // The state that a body of at least four bytes would spell.
 fn state_decoded(body: &[u8]) -> PrState
-    requires { 4 ≤ length body.now }
+    requires { STATE_HEAD ≤ length body.now }
     ensures { result ≡ state_decoded body.now }
 {
     PrState {
-        keys: keys_decoded(&body[HEAD_BYTES..]),
+        keys: keys_decoded(&body[STATE_HEAD..]),
         reservation: held_decoded(body[1], body[2]),
         aptpl: body[0] == 1,
         generation: 0,
@@ -80,7 +82,7 @@ pub(crate) fn decode(body: &[u8], spelled: &mut Frame) -> Option<Reservations>
     ensures none { IfNone result ((state : PrState) → SpellsState state body.now → ⊥) }
     ensures room { spelled.old.room ≤ spelled.new.room }
 {
-    if body.len() < HEAD_BYTES {
+    if body.len() < STATE_HEAD {
         return None;
     }
     let reservations = Reservations::of(state_decoded(body))?;

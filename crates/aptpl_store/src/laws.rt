@@ -5,9 +5,9 @@ ghost use Rattle.gate_journal.specs.Side.{Heading, IsDamagedOf};
 ghost use Rattle.pr_core.specs.declared.states.PrState.{PrState};
 ghost use Rattle.pr_core.specs.Keepers.{state_frame_size};
 ghost use Rattle.pr_core.specs.Saves.{AreSavedAlike};
-ghost use Rattle.aptpl_store.specs.declared.creating.TheConstants.{RESERVED_SAVES};
 ghost use Rattle.aptpl_store.specs.Contents.{AreAllSavedAlike, GivesStates, IsStoreAnswered, IsBadStateAt, IsNoStore, OpensAs};
 ghost use Rattle.aptpl_store.specs.Spelling.{SpellsState};
+ghost use Rattle.vtl_base.specs.declared.layout.TheConstants.{FRAME_HEAD, STATE_BYTES};
 
 /// Bytes spell at most one state, apart from its generation, which is not saved. A state has at most one spelling, of
 /// at most 580 bytes, and its frame takes 5 bytes more.
@@ -16,9 +16,9 @@ pub fn bytes_spell_one_state()
         SpellsState one body → SpellsState other body → AreSavedAlike one other }
     ensures one_spelling { (state : PrState) (one other : List ℕ) →
         SpellsState state one → SpellsState state other → one ≡ other }
-    ensures short { (state : PrState) (body : List ℕ) → SpellsState state body → length body ≤ 580 }
+    ensures short { (state : PrState) (body : List ℕ) → SpellsState state body → length body ≤ STATE_BYTES }
     ensures frame { (state : PrState) (body : List ℕ) →
-        SpellsState state body → length body + 5 ≡ state_frame_size state }
+        SpellsState state body → length body + FRAME_HEAD ≡ state_frame_size state }
 {}
 
 /// An image, the bytes that a crash may leave on the disk, gives the states of at most one store, apart from their
@@ -56,9 +56,4 @@ pub fn a_refusal_has_one_cause()
 /// at some place, or it has its first bad frame at some place.
 pub fn each_image_is_answered()
     ensures { (image : List ℕ) → IsStoreAnswered image }
-{}
-
-/// The constant of this crate as a number: memory is reserved for 256 saves.
-pub fn the_numbers()
-    ensures saves { RESERVED_SAVES ≡ 256 }
 {}

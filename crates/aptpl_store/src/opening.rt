@@ -7,8 +7,8 @@ ghost use Rattle.gate_journal.specs.Answers.{NoneFailed};
 ghost use Rattle.pr_core.specs.States.{power_loss};
 ghost use Rattle.aptpl_store.specs.Answers.{IsStoreNotOpened, Recovers, disk_of_opened};
 ghost use Rattle.aptpl_store.specs.Contents.{GivesStates, latest};
+ghost use Rattle.vtl_base.specs.declared.limits.TheConstants.{RESERVED_SAVES};
 
-use crate::creating::RESERVED_SAVES;
 use crate::error::{StoreError, StoreRefused};
 use crate::recovering::Recovered;
 use crate::stores::AptplStore;
@@ -16,6 +16,7 @@ use gate_journal::{Journal, NotDecoded};
 use pr_core::Reservations;
 use std::alloc::Global;
 use tape_disk::Disk;
+use vtl_base::limits::RESERVED_SAVES;
 
 impl<D: Disk> AptplStore<D> {
     /// Opens the store on `disk`, and returns the store and what a loss of power leaves of the state that was saved

@@ -1,16 +1,16 @@
 //! What is read from a store's side as it is opened, one frame's body after another.
 ghost use Rattle.std.specs.Prelude.{◌≤◌};
-ghost use Rattle.aptpl_store.specs.declared.spelling.TheConstants.{STATE_BYTES};
+ghost use Rattle.vtl_base.specs.declared.layout.TheConstants.{STATE_BYTES};
 
 use crate::creating::make_frame;
 use crate::decoding::decode;
 use crate::noted::Noted;
-use crate::spelling::STATE_BYTES;
 use crate::state_body::StateBody;
 use gate_journal::{Decodes, Frame, Header, NotedBytes, SideKind};
 use pr_core::Reservations;
 use std::alloc::Global;
 use vtl_base::NoMemory;
+use vtl_base::layout::STATE_BYTES;
 
 // The memory for saves, the states that the frames of a side spell, and the last of them.
 #[derive(Drop)]

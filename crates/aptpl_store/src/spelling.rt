@@ -11,21 +11,12 @@
 ghost use Rattle.std.specs.Prelude.{◌≡◌, ◌≤◌, ◌+◌, ◌++◌, count_by, is_some, length};
 ghost use Rattle.vtl_base.specs.declared.limits.TheConstants.{NEXUSES};
 ghost use Rattle.pr_core.specs.Sound.{IsSound};
-ghost use Rattle.aptpl_store.specs.declared.spelling.TheConstants.{REGISTRATION_BYTES};
 ghost use Rattle.aptpl_store.specs.Spelling.{IsKey, IsSavable, aptpl_byte, holder_byte, registration, spell_state, type_byte};
+ghost use Rattle.vtl_base.specs.declared.layout.TheConstants.{REGISTRATION_BYTES, STATE_BYTES};
 
 use gate_journal::Frame;
 use pr_core::{PrState, Reservation};
 use vtl_base::limits::NEXUSES;
-
-/// How many bytes a body has before the registrations.
-pub(crate) const HEAD_BYTES: usize = 4;
-
-/// How many bytes a registration has.
-pub(crate) const REGISTRATION_BYTES: usize = 9;
-
-/// How many bytes the longest body has: that of a state with 64 registrations.
-pub(crate) const STATE_BYTES: usize = 580;
 
 fn aptpl_byte(aptpl: bool) -> u8
     ensures { result ≡ aptpl_byte aptpl }

@@ -8,10 +8,10 @@ ghost use Rattle.aptpl_store.specs.Contents.{GivesStates, OpensAs, OpensAsEither
 ghost use Rattle.pr_core.specs.States.{power_loss};
 
 use crate::noted::Noted;
-use gate_journal::header::NAME_BYTES;
 use gate_journal::{Frame, Journal};
 use std::marker::Model;
 use tape_disk::Disk;
+use vtl_base::layout::NAME_BYTES;
 
 /// The saved reservations of a drive, open on a disk. After a device fault the store has failed until it is opened
 /// again.

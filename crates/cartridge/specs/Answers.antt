@@ -1,5 +1,6 @@
 -- What holds after each answer of a call.
 use Rattle.std.specs.Prelude.{◌≡◌, ◌⊎◌, ◌<◌, ◌≤◌, ◌+◌, ℕ, List, [], ◌∷◌, length, true, false, Result, Ok, Err, if◌then◌else◌, sum_by, slice_index_or, ◌==◌}
+use Rattle.vtl_base.specs.declared.layout.TheConstants.{FRAME_HEAD}
 use Rattle.vtl_base.specs.declared.faults.DevFault.{DevFault}
 use Rattle.volume_core.specs.declared.changes.Change.{Change}
 use Rattle.volume_core.specs.declared.changes.Change.TheVariants.{Put, Marks, Erase}
@@ -78,14 +79,14 @@ module _ {D : Type 0} where
     pub is_fine : new.failed ≡ false
     pub contents : new.contents ≡ with_frames old.contents (changes ∷ [])
     pub torn : new.torn ≡ old.torn
-    pub room : new.room + (length (spell_all changes) + 5) ≡ old.room
+    pub room : new.room + (length (spell_all changes) + FRAME_HEAD) ≡ old.room
     pub reserved : TakesReserved old.reserved changes new.reserved
 
   -- the disk failed while these changes were stored: the contents are unchanged, and these changes are the frame that
   -- was in flight (own)
   pub record HasBroken (old : OpenCartridge D) (changes : List Change) (new : OpenCartridge D) : Type 0 where
     pub was_fine : old.failed ≡ false
-    pub fitted : length (spell_all changes) + 5 ≤ old.room
+    pub fitted : length (spell_all changes) + FRAME_HEAD ≤ old.room
     pub failed : new.failed ≡ true
     pub contents : new.contents ≡ old.contents
     pub torn : new.torn ≡ changes ∷ []
@@ -95,7 +96,7 @@ module _ {D : Type 0} where
   -- memory ran out, since less was reserved than these changes take; nothing but what is reserved has changed (own)
   pub record LacksMemory (old : OpenCartridge D) (changes : List Change) (new : OpenCartridge D) : Type 0 where
     pub was_fine : old.failed ≡ false
-    pub fitted : length (spell_all changes) + 5 ≤ old.room
+    pub fitted : length (spell_all changes) + FRAME_HEAD ≤ old.room
     pub lacked : LacksReserved old.reserved changes
     pub same : new ≡ record old { reserved = new.reserved }
     pub reserved : KeepsReserved old.reserved new.reserved

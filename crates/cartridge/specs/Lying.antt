@@ -1,5 +1,6 @@
 -- Where the blocks of a side lie.
 use Rattle.std.specs.Prelude.{◌≡◌, ◌<◌, ◌≤◌, ◌+◌, ℕ, List, [], length, slice_index_or, slice_range}
+use Rattle.vtl_base.specs.declared.layout.TheConstants.{RECORD_HEAD}
 use Rattle.change_records.specs.declared.records.Record.{Record}
 use Rattle.change_records.specs.declared.records.Record.TheVariants as Records
 use Rattle.cartridge.specs.Contents.{bodies_of}
@@ -26,6 +27,6 @@ HasBlock (Records.Erase part at) = Unit {0}
 
 -- the block of a record that begins at that place lies behind its ten bytes; a record with no block lies anywhere (own)
 abbrev pub IsPlaceOf : Record → ℕ → ℕ → Type 0
-IsPlaceOf (Records.Put part at count) begin place = place ≡ begin + 10
+IsPlaceOf (Records.Put part at count) begin place = place ≡ begin + RECORD_HEAD
 IsPlaceOf (Records.Marks part at count) begin place = Unit {0}
 IsPlaceOf (Records.Erase part at) begin place = Unit {0}

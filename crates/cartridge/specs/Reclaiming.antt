@@ -1,5 +1,6 @@
 -- A cartridge is reclaimed: its volume is copied to the side that does not count, which counts from then on.
 use Rattle.std.specs.Prelude.{◌≡◌, ◌⊎◌, ◌<◌, ◌≤◌, ◌+◌, ◌-◌, ◌*◌, ◌^◌, ℕ, List, [], length, true, false, slice_index_or, sum_by, Result, Ok, Err}
+use Rattle.vtl_base.specs.declared.layout.TheConstants.{BEGUN_BYTES, FRAME_HEAD}
 use Rattle.vtl_base.specs.declared.faults.DevFault.{DevFault}
 use Rattle.vtl_base.specs.declared.limits.TheConstants.{MAX_SIDE}
 use Rattle.volume_core.specs.declared.changes.Change.{Change}
@@ -47,8 +48,8 @@ notes_copied notes = record notes { frames = copy_frames (noted_contents notes);
 -- how many bytes the side of the copy would have, its last closed gate included (own)
 abbrev pub copy_length : Contents → ℕ
 copy_length contents =
-    10 + length (spell_side_head (copy_head contents.head (bodies_of (copy_frames contents))))
-    + 5 * length (copy_frames contents) + sum_by change_size (copy_of (volume_made contents)) + 1
+    BEGUN_BYTES + length (spell_side_head (copy_head contents.head (bodies_of (copy_frames contents))))
+    + FRAME_HEAD * length (copy_frames contents) + sum_by change_size (copy_of (volume_made contents)) + 1
 
 -- the images give these contents, or the copy of their volume, which gives the same volume (own)
 abbrev pub GivesVolume : Contents → Images → Type 0

@@ -9,6 +9,7 @@ use gate_journal::BodyParts;
 use gate_journal::body_parts::PART_HEAD;
 use std::marker::Model;
 use volume_core::Change;
+use vtl_base::layout::FRAME_HEAD;
 
 // How many bytes the spelling of these changes has.
 pub(crate) fn size_of_body(changes: &[Change]) -> u32
@@ -17,7 +18,7 @@ pub(crate) fn size_of_body(changes: &[Change]) -> u32
 {
     let mut size = 0;
     for change in changes {
-        size += (change.frame_size() - 5) as u32;
+        size += (change.frame_size() - FRAME_HEAD) as u32;
     }
     size
 }

@@ -13,7 +13,6 @@ ghost use Rattle.object_index.specs.Shapes.{IsIndexOf};
 use crate::noted::Noted;
 use crate::shelved::Shelved;
 use cartridge_sides::Which;
-use gate_journal::header::NAME_BYTES;
 use gate_journal::{Frame, Journal};
 use object_index::Index;
 use object_index::laws::a_volume_is_seen_by_its_shape;
@@ -21,6 +20,7 @@ use std::alloc::Global;
 use std::marker::Model;
 use tape_disk::Disk;
 use volume_core::Kind;
+use vtl_base::layout::NAME_BYTES;
 use vtl_base::{NoMemory, ObjNo, PartNo};
 
 /// An open cartridge on two disks. On one of them lies the side that counts: the bytes of one file, which give the

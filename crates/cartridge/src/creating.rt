@@ -15,11 +15,11 @@ use crate::error::{CartridgeError, NotCreated};
 use crate::noted::Noted;
 use crate::shelved::Shelved;
 use cartridge_sides::Which;
-use gate_journal::header::NAME_BYTES;
 use gate_journal::{Header, Journal, JournalError, Refused, SideKind};
 use std::alloc::{AllocError, Global};
 use tape_disk::Disk;
 use vtl_base::Barcode;
+use vtl_base::layout::NAME_BYTES;
 
 impl<D: Disk> Cartridge<D> {
     /// Makes a closed cartridge with this barcode and no objects, whatever the disks held. It has one partition for

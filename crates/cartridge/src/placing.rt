@@ -12,11 +12,12 @@ ghost use Rattle.cartridge.specs.Lying.{HasBlock, IsPlaceOf, LiesOnSide};
 ghost use Rattle.cartridge.specs.Notes.{noted_contents, with_frame};
 
 use crate::noted::Noted;
-use change_records::{HEAD_BYTES, Record};
+use change_records::Record;
 use gate_journal::Journal;
 use object_index::Index;
 use tape_disk::Disk;
 use volume_core::{ApplyError, Change};
+use vtl_base::layout::RECORD_HEAD;
 
 // Enters the changes of the side's last frame into the index, which has room for them.
 pub(crate) fn place_frame<D: Disk>(
@@ -61,7 +62,7 @@ pub(crate) fn place_of(item: Record, at: u64) -> u64
     ensures fits { result < 2 ^ 64 - 1 }
 {
     match item {
-        Record::Put { .. } => at + HEAD_BYTES as u64,
+        Record::Put { .. } => at + RECORD_HEAD as u64,
         Record::Marks { .. } | Record::Erase { .. } => 0,
     }
 }

@@ -4,8 +4,7 @@ ghost use Rattle.std.specs.Prelude.{◌≡◌, ◌≤◌, ◌<◌, ◌+◌, ◌*
 ghost use Rattle.tape_disk.specs.TwoDisks.{AreHonest, EachOfTwo, KeepsDisks, MayLeave, TwoLeave, seen_of_two};
 ghost use Rattle.gate_journal.specs.Heads.{epoch_of};
 ghost use Rattle.gate_journal.specs.Side.{IsHeading, heading_of};
-ghost use Rattle.cartridge_sides.specs.declared.copying.TheConstants.{COPY_BODY};
-ghost use Rattle.vtl_base.specs.declared.limits.TheConstants.{MAX_CAPACITY, MAX_OBJECTS, MAX_PARTITIONS, MAX_SIDE};
+ghost use Rattle.vtl_base.specs.declared.limits.TheConstants.{COPY_BODY, MAX_CAPACITY, MAX_OBJECTS, MAX_PARTITIONS, MAX_SIDE};
 ghost use Rattle.volume_copy.specs.Copies.{copy_of};
 ghost use Rattle.volume_copy.specs.Frames.{change_size};
 ghost use Rattle.cartridge.specs.declared.error.CartridgeError.TheVariants as Errors;
@@ -14,13 +13,13 @@ ghost use Rattle.cartridge.specs.Contents.{Contents, GivesContents, volume_made}
 ghost use Rattle.cartridge.specs.Disks.{IsFaultOfTwo, NoneOfTwo, OnlyOfTwo};
 ghost use Rattle.cartridge_sides.specs.Passes.{other};
 ghost use Rattle.cartridge.specs.Reclaiming.{GivesVolume, HasBodies, IsBrokenOff, IsNotReclaimed, IsUnplanned, IsUntouched, KeepsOldSide, LeavesVolume, copy_frames, copy_length, disks_reclaimed, reclaimed_from};
+ghost use Rattle.vtl_base.specs.declared.layout.TheConstants.{FRAME_HEAD};
 
 use crate::cartridges::Cartridge;
 use crate::error::CartridgeError;
 use crate::shelved::Shelved;
 use crate::sides::{apart, in_order};
 use cartridge_sides::Which;
-use cartridge_sides::copying::COPY_BODY;
 use gate_journal::{Copied, Header, Journal};
 use std::alloc::Global;
 use tape_disk::Disk;
@@ -28,7 +27,8 @@ use thiserror::Error;
 use volume_copy::Totals;
 use volume_reclaim::reclaim_volume;
 use vtl_base::NoMemory;
-use vtl_base::limits::MAX_SIDE;
+use vtl_base::layout::{CAPACITY_BYTES, COPIED_BYTES, FRAME_HEAD, START_BYTES};
+use vtl_base::limits::{COPY_BODY, MAX_SIDE};
 
 /// Why a cartridge is not reclaimed (own).
 #[derive(Clone, Copy, PartialEq, Eq, Debug, Error)]
@@ -114,7 +114,7 @@ fn plan_copy<D: Disk>(alloc: Global, cartridge: &Cartridge<D>) -> Result<Plan, R
         plan.copied.epoch ≡ epoch_of cartridge.now.contents.head + 1) }
     ensures base { IfOk result (λ plan.
         plan.copied.base ≡ length (copy_frames cartridge.now.contents)) }
-    ensures room { IfOk result (λ plan. COPY_BODY + 5 ≤ vec_capacity plan.buffer) }
+    ensures room { IfOk result (λ plan. COPY_BODY + FRAME_HEAD ≤ vec_capacity plan.buffer) }
     ensures fits { IfOk result (λ plan. copy_length cartridge.now.contents ≤ MAX_SIDE) }
     ensures refused { IfErr result (λ error. IsUnplanned cartridge.now.contents error) }
 {
@@ -129,7 +129,7 @@ fn plan_copy<D: Disk>(alloc: Global, cartridge: &Cartridge<D>) -> Result<Plan, R
     let Ok(header) = copy_of_header(alloc, cartridge.journal.header()) else {
         return Err(ReclaimError::Cartridge(CartridgeError::NoMemory));
     };
-    let Ok(buffer) = Vec::with_capacity(alloc, COPY_BODY + 5) else {
+    let Ok(buffer) = Vec::with_capacity(alloc, COPY_BODY + FRAME_HEAD as usize) else {
         return Err(ReclaimError::Cartridge(CartridgeError::NoMemory));
     };
     Ok(Plan {
@@ -163,7 +163,8 @@ fn length_of_copy<D: Disk>(cartridge: &Cartridge<D>, totals: Totals) -> u64
     ensures { result ≡ copy_length cartridge.now.contents }
 {
     let count = cartridge.journal.header().capacities.len() as u64;
-    40 + 8 * count + 5 * u64::from(totals.frames) + totals.bytes
+    let front = (START_BYTES + COPIED_BYTES) as u64 + CAPACITY_BYTES as u64 * count;
+    front + FRAME_HEAD * u64::from(totals.frames) + totals.bytes + 1
 }
 
 // How often the cartridge was reclaimed.
@@ -221,7 +222,7 @@ fn copy_cartridge<D: Disk>(
     requires spelled { IsHeading (heading_of plan.header) }
     requires epoch { plan.copied.epoch ≡ epoch_of cartridge.contents.head + 1 }
     requires base { plan.copied.base ≡ length (copy_frames cartridge.contents) }
-    requires room { COPY_BODY + 5 ≤ vec_capacity plan.buffer }
+    requires room { COPY_BODY + FRAME_HEAD ≤ vec_capacity plan.buffer }
     ensures disks { KeepsDisks D.state cartridge.disks (disks_reclaimed result) }
     ensures ok { IfOk result (λ reclaimed. (reclaimed.known ≡ true) × (reclaimed.torn ≡ [])
         × (reclaimed.contents ≡ reclaimed_from cartridge.contents)

@@ -10,6 +10,7 @@ ghost use Rattle.cartridge.specs.Answers.{HasBroken, HasStored, KeepsReserved, L
 ghost use Rattle.cartridge.specs.Contents.{GivesContents, ShowsContents, bodies_of, volume_made};
 ghost use Rattle.cartridge.specs.Disks.{CallsOne, IsFaultOfTwo, NoneOfTwo};
 ghost use Rattle.cartridge.specs.Inner.Growing.{HasRoomWithin, IsGrown, IsSameSide};
+ghost use Rattle.vtl_base.specs.declared.layout.TheConstants.{FRAME_HEAD};
 
 use crate::bodies::{Spelled, size_of_body};
 use crate::cartridges::Cartridge;
@@ -19,6 +20,7 @@ use gate_journal::{Frame, Journal, JournalError};
 use object_index::Index;
 use tape_disk::Disk;
 use volume_core::Change;
+use vtl_base::layout::FRAME_HEAD;
 use vtl_base::{NoMemory, PartNo};
 
 impl<D: Disk> Cartridge<D> {
@@ -63,7 +65,7 @@ impl<D: Disk> Cartridge<D> {
             (HasStored self.old changes.now self.new
             × NoneOfTwo D.state self.old.disks self.new.disks)
             (LacksMemory self.old changes.now self.new)
-            ((self.old.failed ≡ false) × (self.old.room < length (spell_all changes.now) + 5)
+            ((self.old.failed ≡ false) × (self.old.room < length (spell_all changes.now) + FRAME_HEAD)
             × (self.new ≡ self.old))
             (λ fault. HasBroken self.old changes.now self.new
             × IsFaultOfTwo D.state fault self.old.disks self.new.disks)
@@ -78,7 +80,7 @@ impl<D: Disk> Cartridge<D> {
             return Err(CartridgeError::Failed);
         }
         let size = size_of_body(changes);
-        if u64::from(size) + 5 > self.journal.room() {
+        if u64::from(size) + FRAME_HEAD > self.journal.room() {
             return Err(CartridgeError::SideFull);
         }
         let Ok(()) = make_room(

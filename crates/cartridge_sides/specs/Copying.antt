@@ -1,6 +1,8 @@
 -- A copy is written, body by body.
 use Rattle.std.specs.Prelude.{◌≡◌, ◌⊎◌, ◌+◌, ◌≤◌, ℕ, List, [], ◌∷◌, ◌++◌, length, take, Some}
 use Rattle.std.specs.List.{All, flat_map}
+use Rattle.vtl_base.specs.declared.limits.TheConstants.{COPY_BODY}
+use Rattle.vtl_base.specs.declared.layout.TheConstants.{BEGUN_BYTES, FRAME_HEAD}
 use Rattle.vtl_base.specs.declared.faults.DevFault.{DevFault}
 use Rattle.tape_disk.specs.Disk.{DiskState, Each, IsPrefixOf, Only}
 use Rattle.tape_disk.specs.Moments.{LeavesOnly}
@@ -9,7 +11,6 @@ use Rattle.gate_journal.specs.declared.heads.Copied.{Copied}
 use Rattle.gate_journal.specs.Answers.{IsFault, NoneFailed}
 use Rattle.gate_journal.specs.Heads.{Head, base_of, spell_side_head}
 use Rattle.gate_journal.specs.Side.{CLOSED, frame, heading_of}
-use Rattle.cartridge_sides.specs.declared.copying.TheConstants.{COPY_BODY}
 
 -- the head of a copy with this header (own)
 abbrev pub said_of : Header → Copied → Head
@@ -22,7 +23,7 @@ IsCopyBody body = (1 ≤ length body) × (length body ≤ COPY_BODY)
 -- Where each image began with ten bytes, each image at each moment since begins with them (own).
 abbrev pub KeepsFront : DiskState → DiskState → Type 0
 KeepsFront old new =
-    (front : List ℕ) → length front ≡ 10 → Each old (IsPrefixOf front) → LeavesOnly old new (IsPrefixOf front)
+    (front : List ℕ) → length front ≡ BEGUN_BYTES → Each old (IsPrefixOf front) → LeavesOnly old new (IsPrefixOf front)
 
 -- a copy with this head and these frames follows the ten bytes, and that is sure (own)
 pub record IsWritten (head : Head) (bodies : List (List ℕ)) (old new : DiskState) : Type 0 where
@@ -30,7 +31,7 @@ pub record IsWritten (head : Head) (bodies : List (List ℕ)) (old new : DiskSta
   pub each : All IsCopyBody bodies
   pub none_failed : NoneFailed old new
   pub written : old.honest
-      → (new.seen ≡ take 10 old.seen ++ (spell_side_head head ++ (flat_map frame bodies ++ CLOSED ∷ [])))
+      → (new.seen ≡ take BEGUN_BYTES old.seen ++ (spell_side_head head ++ (flat_map frame bodies ++ CLOSED ∷ [])))
       × Only new.seen new.may_leave
 
 -- for a source of bodies
@@ -44,7 +45,7 @@ module _ {S : Type 0} (gives : S → List ℕ → S → Type 0) where
   pub record WasGiven (body : List ℕ) (at end : ℕ) (source_old source_new : S) (old new : DiskState) : Type 0 where
     pub gave : gives source_old body source_new
     pub short : IsCopyBody body
-    pub end_is : end ≡ at + 5 + length body
+    pub end_is : end ≡ at + FRAME_HEAD + length body
     pub none_failed : NoneFailed old new
     pub written : old.honest → new.seen ≡ old.seen ++ frame body
 

@@ -1,6 +1,7 @@
 -- What a pair of images of a cartridge's two disks stands for.
 use Rattle.std.specs.Prelude.{◌≡◌, ◌≢◌, ◌⊎◌, ◌<◌, ◌≤◌, ◌+◌, ℕ, List, ◌∷◌, ◌++◌, length, None}
 use Rattle.std.specs.List.{All, flat_map}
+use Rattle.vtl_base.specs.declared.layout.TheConstants.{BEGUN_BYTES}
 use Rattle.gate_journal.specs.declared.header.SideKind.TheVariants.{Cartridge}
 use Rattle.gate_journal.specs.Heads.{Head, IsHead, base_of, epoch_of, spell_side_head}
 use Rattle.gate_journal.specs.Side.{OPEN, IsBody, IsBroken, frame, start}
@@ -67,7 +68,7 @@ PairStandsFor which head bodies first second =
 
 -- the place of the gate after these frames (own)
 abbrev pub gate_behind : Head → List (List ℕ) → ℕ
-gate_behind head bodies = 10 + length (spell_side_head head ++ flat_map frame bodies)
+gate_behind head bodies = BEGUN_BYTES + length (spell_side_head head ++ flat_map frame bodies)
 
 -- The side that counts has these whole frames. What follows them, from that gate on, is broken, or is a closed gate
 -- that comes too early. The place is one of the side that counts (own).

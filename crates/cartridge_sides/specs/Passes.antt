@@ -1,6 +1,7 @@
 -- What the passes of a reclaim require of a pair of images, and what they do to it.
 use Rattle.std.specs.Prelude.{◌≡◌, ◌≢◌, ◌+◌, ◌<◌, ◌^◌, ℕ, List, [], ◌∷◌, ◌++◌, length, take, drop, Some}
 use Rattle.std.specs.List.{All, flat_map}
+use Rattle.vtl_base.specs.declared.layout.TheConstants.{BEGUN_BYTES, PAIR_GATE}
 use Rattle.tape_disk.specs.Disk.{DiskState, Only}
 use Rattle.gate_journal.specs.Crash.{Unwritten}
 use Rattle.gate_journal.specs.Heads.{Head, epoch_of, spell_side_head}
@@ -96,8 +97,8 @@ pub record IsPreparedBeside (first : List ℕ) (old new : DiskState) : Type 0 wh
 -- the pair gate is open, all bytes before and after it are unchanged, and that is sure (own)
 pub record IsPairedNow (old new : DiskState) : Type 0 where
   pub opened : (side : ℕ) × (rest : List ℕ) × (new.seen ≡ begun side OPEN ++ rest)
-  pub before : take 9 new.seen ≡ take 9 old.seen
-  pub behind : drop 10 new.seen ≡ drop 10 old.seen
+  pub before : take PAIR_GATE new.seen ≡ take PAIR_GATE old.seen
+  pub behind : drop BEGUN_BYTES new.seen ≡ drop BEGUN_BYTES old.seen
   pub sure : Only new.seen new.may_leave
 
 -- The side gate is closed: 00h where it was open, else unchanged. All bytes after it are unchanged. A crash leaves

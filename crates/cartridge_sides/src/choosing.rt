@@ -8,19 +8,14 @@ ghost use Rattle.gate_journal.specs.Reads.{OnlyOpenings, OnlyReads};
 ghost use Rattle.cartridge_sides.specs.Choosing.{Chooses, FindsCounted, SyncsBoth};
 ghost use Rattle.cartridge_sides.specs.Passes.{HasStart};
 ghost use Rattle.cartridge_sides.specs.Inner.{FindsRead, HasOpenPair, IsGreater, OpensImage};
+ghost use Rattle.vtl_base.specs.declared.layout.TheConstants.{PAIR_GATE};
 
-use crate::fronts::{FRONT_BYTES, read_front};
-use crate::gates::OPEN;
+use crate::fronts::read_front;
 use crate::which::Which;
 use gate_journal::{ParsedHead, parse_head};
 use tape_disk::Disk;
 use vtl_base::DevFault;
-
-/// The mark by which a cartridge's side is recognized.
-pub(crate) const MARK: &[u8; 8] = b"VTLCART1";
-
-/// How many bytes of a side stand before its head: its gate, the 8 bytes of its mark, and the pair gate.
-pub(crate) const START_BYTES: usize = 10;
+use vtl_base::layout::{BEGUN_BYTES, CARTRIDGE_MARK, LONGEST_FRONT, MARK_PLACE, OPEN, PAIR_GATE, SIDE_GATE};
 
 /// The side that counts.
 #[derive(Clone, Copy, Debug, PartialEq, Eq)]
@@ -85,13 +80,13 @@ fn choose_read<D: Disk>(first: &mut D, second: &mut D) -> Result<Option<Counted>
     ensures answer { FindsRead result (D.state first.old) (D.state first.new)
         (D.state second.old) (D.state second.new) }
 {
-    let mut one = [0; FRONT_BYTES];
+    let mut one = [0; LONGEST_FRONT];
     let len = read_front(first, &mut one)?;
     let one = &one[..len];
     if !has_open_pair(one) {
         return Ok(choose_alone(one));
     }
-    let mut two = [0; FRONT_BYTES];
+    let mut two = [0; LONGEST_FRONT];
     let len = read_front(second, &mut two)?;
     Ok(choose_of_two(one, &two[..len]))
 }
@@ -135,7 +130,7 @@ fn choose_of_two(first: &[u8], second: &[u8]) -> Option<Counted>
     if !has_start(second) {
         return None;
     }
-    if second[9] == OPEN {
+    if second[PAIR_GATE] == OPEN {
         return None;
     }
     match beginning(first) {
@@ -149,7 +144,7 @@ fn choose_of_two(first: &[u8], second: &[u8]) -> Option<Counted>
 fn beside_open(first: &[u8], second: &[u8], one: ParsedHead) -> Option<Counted>
     requires pair { HasOpenPair first.now }
     requires first { OpensImage first.now (Begins.Open one) }
-    requires second { HasStart second.now × (slice_index second.now 9 ≢ OPEN) }
+    requires second { HasStart second.now × (slice_index second.now PAIR_GATE ≢ OPEN) }
     ensures { Chooses first.now second.now result }
 {
     match beginning(second) {
@@ -166,7 +161,7 @@ fn beside_open(first: &[u8], second: &[u8], one: ParsedHead) -> Option<Counted>
 fn beside_closed(first: &[u8], second: &[u8]) -> Option<Counted>
     requires pair { HasOpenPair first.now }
     requires first { OpensImage first.now Begins.Closed }
-    requires second { HasStart second.now × (slice_index second.now 9 ≢ OPEN) }
+    requires second { HasStart second.now × (slice_index second.now PAIR_GATE ≢ OPEN) }
     ensures { Chooses first.now second.now result }
 {
     match beginning(second) {
@@ -204,14 +199,14 @@ fn greater(one: ParsedHead, two: ParsedHead) -> Option<Counted>
 fn has_start(image: &[u8]) -> bool
     ensures { IsTrue result ↔ HasStart image.now }
 {
-    image.len() >= START_BYTES && image[1..9] == MARK[..]
+    image.len() >= BEGUN_BYTES && image[MARK_PLACE..PAIR_GATE] == CARTRIDGE_MARK[..]
 }
 
 // Whether an image begins with any byte, the mark and an open gate.
 fn has_open_pair(image: &[u8]) -> bool
     ensures { IsTrue result ↔ HasOpenPair image.now }
 {
-    has_start(image) && image[9] == OPEN
+    has_start(image) && image[PAIR_GATE] == OPEN
 }
 
 // The beginning of an image with the ten bytes of a side.
@@ -219,10 +214,10 @@ fn beginning(image: &[u8]) -> Begins
     requires { HasStart image.now }
     ensures { OpensImage image.now result }
 {
-    if image[0] != OPEN {
+    if image[SIDE_GATE] != OPEN {
         return Begins::Closed;
     }
-    match parse_head(&image[START_BYTES..]) {
+    match parse_head(&image[BEGUN_BYTES..]) {
         Some(head) => Begins::Open(head),
         None => Begins::Headless,
     }

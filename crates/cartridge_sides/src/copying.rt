@@ -1,6 +1,6 @@
 //! Writing a copy on the side that does not count, after the first ten bytes of that side. These are not written, so
 //! its gate stays as it is.
-ghost use Rattle.std.specs.Prelude.{◌≡◌, ◌+◌, ◌*◌, ◌<◌, ◌≤◌, [], ◌∷◌, ◌++◌, ℕ, List, length, take, OnOk, IfOk, IfErr, Result, vec_capacity, vec_len};
+ghost use Rattle.std.specs.Prelude.{◌≡◌, ◌+◌, ◌-◌, ◌*◌, ◌<◌, ◌≤◌, [], ◌∷◌, ◌++◌, ℕ, List, length, take, OnOk, IfOk, IfErr, Result, vec_capacity, vec_len};
 ghost use Rattle.std.specs.List.{flat_map};
 ghost use Rattle.tape_disk.specs.Disk.{Keeps, Only, Passes};
 ghost use Rattle.tape_disk.specs.Moments.{LeavesOnly};
@@ -11,19 +11,14 @@ ghost use Rattle.cartridge_sides.specs.declared.which.Which.{Which};
 ghost use Rattle.cartridge_sides.specs.Copying.{HasCopied, HasFrames, IsCopyBody, KeepsFront, NotCopied, WasGiven, said_of};
 ghost use Rattle.cartridge_sides.specs.Passes.{ReadsClosed, SidesStandFor};
 ghost use Rattle.gate_journal.specs.Heads.{spell_side_head};
+ghost use Rattle.vtl_base.specs.declared.limits.TheConstants.{COPY_BODY};
+ghost use Rattle.vtl_base.specs.declared.layout.TheConstants.{BEGUN_BYTES, FRAME_HEAD, LONGEST_FRONT, OPEN};
 
-use crate::choosing::START_BYTES;
-use crate::gates::{CLOSED, OPEN};
 use crate::spelling::{put_head, put_length};
 use gate_journal::{Copied, Header};
 use tape_disk::Disk;
 use vtl_base::DevFault;
-
-/// The length of the longest body in a copy, in bytes.
-pub const COPY_BODY: usize = 4_194_304;
-
-/// How many bytes stand before a body: 1 for its gate, and 4 for its length.
-pub(crate) const BEFORE_BODY: usize = 5;
+use vtl_base::layout::{BEGUN_BYTES, CLOSED, OPEN};
 
 /// A source of the bodies of a copy, which supplies them one after another.
 pub trait GivesBodies {
@@ -57,7 +52,7 @@ pub fn write_copy<D: Disk, S: GivesBodies>(
     buffer: &mut Vec<u8>,
 ) -> Result<(), DevFault>
     requires header { IsHeading (heading_of header.now) }
-    requires room { COPY_BODY + 5 ≤ vec_capacity buffer.old }
+    requires room { COPY_BODY + FRAME_HEAD ≤ vec_capacity buffer.old }
     ensures disk { Keeps (D.state spare.old) (D.state spare.new) }
     ensures ok { OnOk result (HasCopied S.gives (said_of header.now copied)
         source.old source.new (D.state spare.old) (D.state spare.new)) }
@@ -82,19 +77,19 @@ fn write_head<D: Disk>(
     buffer: &mut Vec<u8>,
 ) -> Result<u64, DevFault>
     requires header { IsHeading (heading_of header.now) }
-    requires room { 61 ≤ vec_capacity buffer.old }
+    requires room { LONGEST_FRONT - BEGUN_BYTES ≤ vec_capacity buffer.old }
     ensures passes { Passes (D.state spare.old) (D.state spare.new) result }
     ensures room { vec_capacity buffer.old ≤ vec_capacity buffer.new }
     ensures front { (D.state spare.old).honest →
         KeepsFront (D.state spare.old) (D.state spare.new) }
-    ensures end { IfOk result (λ at. at ≤ 71) }
+    ensures end { IfOk result (λ at. at ≤ LONGEST_FRONT) }
     ensures written { (D.state spare.old).honest → IfOk result (λ at.
         ((D.state spare.new).seen
-        ≡ take 10 (D.state spare.old).seen ++ spell_side_head (said_of header.now copied))
+        ≡ take BEGUN_BYTES (D.state spare.old).seen ++ spell_side_head (said_of header.now copied))
         × (at ≡ length (D.state spare.new).seen)) }
 {
     put_head(buffer, header, copied);
-    let at = spare.len().min(START_BYTES as u64);
+    let at = spare.len().min(BEGUN_BYTES as u64);
     spare.cut(at)?;
     put_behind(spare, at, buffer)?;
     Ok(at + buffer.len() as u64)
@@ -108,8 +103,8 @@ fn write_frames<D: Disk, S: GivesBodies>(
     source: &mut S,
     buffer: &mut Vec<u8>,
 ) -> Result<u64, DevFault>
-    requires place { at ≤ 71 }
-    requires room { COPY_BODY + 5 ≤ vec_capacity buffer.old }
+    requires place { at ≤ LONGEST_FRONT }
+    requires room { COPY_BODY + FRAME_HEAD ≤ vec_capacity buffer.old }
     requires end { (D.state spare.old).honest → at ≡ length (D.state spare.old).seen }
     ensures disk { Keeps (D.state spare.old) (D.state spare.new) }
     ensures ok { IfOk result (λ end. (bodies : List (List ℕ)) × HasFrames S.gives count bodies end
@@ -134,7 +129,7 @@ fn write_frame<D: Disk, S: GivesBodies>(
     buffer: &mut Vec<u8>,
 ) -> Result<u64, DevFault>
     requires place { at < 36028797018963968 }
-    requires room { COPY_BODY + 5 ≤ vec_capacity buffer.old }
+    requires room { COPY_BODY + FRAME_HEAD ≤ vec_capacity buffer.old }
     requires end { (D.state spare.old).honest → at ≡ length (D.state spare.old).seen }
     ensures disk { Keeps (D.state spare.old) (D.state spare.new) }
     ensures room { vec_capacity buffer.old ≤ vec_capacity buffer.new }
@@ -156,9 +151,9 @@ fn write_frame<D: Disk, S: GivesBodies>(
 // Puts an open gate and four bytes for a length into an empty buffer.
 fn put_before_body(buffer: &mut Vec<u8>)
     requires none { buffer.old.items ≡ [] }
-    requires room { 5 ≤ vec_capacity buffer.old }
-    ensures items { buffer.new.items ≡ 165 ∷ 0 ∷ 0 ∷ 0 ∷ 0 ∷ [] }
-    ensures len { vec_len buffer.new ≡ 5 }
+    requires room { FRAME_HEAD ≤ vec_capacity buffer.old }
+    ensures items { buffer.new.items ≡ OPEN ∷ 0 ∷ 0 ∷ 0 ∷ 0 ∷ [] }
+    ensures len { vec_len buffer.new ≡ FRAME_HEAD }
     ensures room { vec_capacity buffer.new ≡ vec_capacity buffer.old }
 {
     buffer.push_reserved(OPEN);

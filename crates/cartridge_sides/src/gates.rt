@@ -6,18 +6,7 @@ ghost use Rattle.gate_journal.specs.Crash.{Unwritten};
 
 use tape_disk::Disk;
 use vtl_base::DevFault;
-
-/// An open gate; every other byte is a closed one.
-pub(crate) const OPEN: u8 = 0xa5;
-
-/// A closed gate, as it is written.
-pub(crate) const CLOSED: u8 = 0x00;
-
-/// The place of a side's own gate.
-pub(crate) const SIDE_GATE: u64 = 0;
-
-/// The place of a side's pair gate.
-pub(crate) const PAIR_GATE: u64 = 9;
+use vtl_base::layout::CLOSED;
 
 // The byte at place `at`; 00h, a closed gate, where the disk ends before that place.
 pub(crate) fn read_gate<D: Disk>(disk: &mut D, at: u64) -> Result<u8, DevFault>

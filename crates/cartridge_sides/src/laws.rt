@@ -5,11 +5,11 @@ ghost use Rattle.tape_disk.specs.Disk.{Smeared};
 ghost use Rattle.gate_journal.specs.Heads.{Head};
 ghost use Rattle.gate_journal.specs.Side.{Front, IsDamagedAt, OPEN, StandsFor};
 ghost use Rattle.gate_journal.specs.declared.header.SideKind.{SideKind};
-ghost use Rattle.cartridge_sides.specs.declared.copying.TheConstants.{COPY_BODY};
 ghost use Rattle.cartridge_sides.specs.declared.which.Which.{Which};
 ghost use Rattle.cartridge_sides.specs.Pairs.{SideCounts, IsPairDamagedAt, IsDecidedPair, IsNoPair, IsOpenSide, PairStandsFor};
 ghost use Rattle.cartridge_sides.specs.Passes.{HasWritten, IsCopy, IsShutPair, SidesStandFor, TakesOver, first_image, second_image, spell_copy};
 ghost use Rattle.cartridge_sides.specs.Roles.{MayCountBeside, front_with};
+ghost use Rattle.vtl_base.specs.declared.layout.TheConstants.{PAIR_GATE};
 
 /// Each pair of images stands for a head and frames, is not ours (none of its sides counts), or is damaged at some
 /// place.
@@ -48,10 +48,10 @@ pub fn an_opened_copy()
 /// before; if it is an open copy, no side counts.
 pub fn an_open_pair_gate_written_again()
     ensures older { (k : Head) (s first second : List ℕ) → IsOpenSide OPEN k s first → k.copied ≡ None →
-        (one : List ℕ) × Smeared 9 1 first one × SideCounts Which.First k s one second }
+        (one : List ℕ) × Smeared PAIR_GATE 1 first one × SideCounts Which.First k s one second }
     ensures nothing { (k : Head) (s first second : List ℕ) →
         IsOpenSide OPEN k s first → (k.copied ≡ None → ⊥) →
-        (one : List ℕ) × Smeared 9 1 first one × IsNoPair one second }
+        (one : List ℕ) × Smeared PAIR_GATE 1 first one × IsNoPair one second }
 {}
 
 /// The reason why the side that does not count is closed only where it is open. If that side holds a copy whose gate is
@@ -81,9 +81,4 @@ pub fn a_side_of_a_pair()
         damage.0.head.heading.kind ≡ SideKind.Cartridge →
         MayCountBeside which damage.0.pair damage.0.head spare →
         IsPairDamagedAt (first_image which counts spare) (second_image which counts spare) at }
-{}
-
-/// The constant of this crate as a number: the longest body in a copy has 4,194,304 bytes.
-pub fn the_numbers()
-    ensures body { COPY_BODY ≡ 4194304 }
 {}

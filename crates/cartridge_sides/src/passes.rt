@@ -19,10 +19,11 @@ ghost use Rattle.cartridge_sides.specs.Choosing.{FaultsOfOne};
 ghost use Rattle.cartridge_sides.specs.Pairs.{PairStandsFor};
 ghost use Rattle.cartridge_sides.specs.Passes.{HasStart, HasWritten, IsClosedNow, IsCopy, IsPairedNow, IsPrepared, IsPreparedBeside, IsShutPair, IsSureStart, SidesStandFor, TakesOver, first_image, spell_copy};
 
-use crate::gates::{CLOSED, OPEN, PAIR_GATE, SIDE_GATE, read_gate, write_gate};
+use crate::gates::{read_gate, write_gate};
 use crate::starting::write_start;
 use tape_disk::Disk;
 use vtl_base::DevFault;
+use vtl_base::layout::{CLOSED, OPEN, PAIR_GATE, SIDE_GATE};
 
 /// Prepares the second disk, if the pair gate of the first disk is closed. The second disk then holds exactly the ten
 /// bytes that a cartridge's side begins with, with both gates closed. If the pair gate is open, nothing is written.
@@ -42,7 +43,7 @@ pub fn prepare_pair<D: Disk>(first: &mut D, second: &mut D) -> Result<(), DevFau
         LeavesOnly (D.state second.old) (D.state second.new)
         (PairStandsFor which head bodies (D.state first.old).seen) }
 {
-    let before = read_gate(first, PAIR_GATE)?;
+    let before = read_gate(first, PAIR_GATE as u64)?;
     if before != OPEN {
         write_start(second)
     } else {
@@ -70,11 +71,11 @@ pub fn open_pair<D: Disk>(first: &mut D, second: &D) -> Result<(), DevFault>
 {
     // Read for the proof: it is known to be prepared.
     let _ = second;
-    let pair = read_gate(first, PAIR_GATE)?;
+    let pair = read_gate(first, PAIR_GATE as u64)?;
     if pair == OPEN {
         return Ok(());
     }
-    write_gate(first, PAIR_GATE, OPEN)
+    write_gate(first, PAIR_GATE as u64, OPEN)
 }
 
 /// Closes the gate of `spare`, the side that does not count, if that gate is open; if it is closed, nothing is written.
@@ -87,11 +88,11 @@ pub fn close_spare<D: Disk>(spare: &mut D) -> Result<(), DevFault>
         SidesStandFor which head bodies counts (D.state spare.old).seen →
         LeavesOnly (D.state spare.old) (D.state spare.new) (SidesStandFor which head bodies counts) }
 {
-    let side = read_gate(spare, SIDE_GATE)?;
+    let side = read_gate(spare, SIDE_GATE as u64)?;
     if side != OPEN {
         return Ok(());
     }
-    write_gate(spare, SIDE_GATE, CLOSED)
+    write_gate(spare, SIDE_GATE as u64, CLOSED)
 }
 
 /// Opens the gate of `spare`, on which a copy was written and synced (`write_copy`). At Ok the copy counts: its epoch
@@ -116,5 +117,5 @@ pub fn open_copy<D: Disk>(spare: &mut D) -> Result<(), DevFault>
         LeavesOnly (D.state spare.old) (D.state spare.new)
         (λ image. SidesStandFor which head bodies counts image ⊎ TakesOver which head copies counts image) }
 {
-    write_gate(spare, SIDE_GATE, OPEN)
+    write_gate(spare, SIDE_GATE as u64, OPEN)
 }

@@ -5,17 +5,16 @@ ghost use Rattle.tape_disk.specs.Moments.{LeavesOnly};
 ghost use Rattle.gate_journal.specs.Side.{CLOSED};
 ghost use Rattle.cartridge_sides.specs.Pairs.{begun};
 
-use crate::choosing::{MARK, START_BYTES};
-use crate::gates::CLOSED;
 use tape_disk::Disk;
 use vtl_base::DevFault;
+use vtl_base::layout::{BEGUN_BYTES, CARTRIDGE_MARK, CLOSED, MARK_PLACE, PAIR_GATE};
 
 // The ten bytes, with closed gates.
-fn closed_start() -> [u8; START_BYTES]
+fn closed_start() -> [u8; BEGUN_BYTES]
     ensures { result ≡ begun CLOSED CLOSED }
 {
-    let mut bytes = [CLOSED; START_BYTES];
-    bytes[1..9].copy_from_slice(MARK);
+    let mut bytes = [CLOSED; BEGUN_BYTES];
+    bytes[MARK_PLACE..PAIR_GATE].copy_from_slice(&CARTRIDGE_MARK);
     bytes
 }
 

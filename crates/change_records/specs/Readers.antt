@@ -1,6 +1,7 @@
 -- The state of a reader of records after the first bytes of a body, however these were cut.
 use Rattle.std.specs.Prelude.{◌≡◌, ◌≤◌, ◌<◌, ◌+◌, ◌-◌, ℕ, List, [], ◌∷◌, ◌++◌, length, take, drop, Option, None, Some, Result, Ok, Err}
 use Rattle.std.specs.List.{All}
+use Rattle.vtl_base.specs.declared.layout.TheConstants.{RECORD_HEAD}
 use Rattle.vtl_base.specs.declared.limits.TheConstants.{MAX_BLOCK}
 use Rattle.volume_core.specs.declared.changes.Change.{Change}
 use Rattle.change_records.specs.declared.records.Record.{Record}
@@ -37,7 +38,7 @@ pub record Stands (bytes : List ℕ) (changes : List Change) (begin at : ℕ) (h
   pub begin_is : begin ≡ length (spell_all changes)
   pub within : begin ≤ length bytes
   pub at_is : at ≡ length bytes
-  pub head_is : head ≡ take 10 (drop begin bytes)
+  pub head_is : head ≡ take RECORD_HEAD (drop begin bytes)
 
 -- of the block of this record `there` bytes came, and `left` are still to come, at least one; 0 without a record (own)
 abbrev pub IsLeft : Option Record → ℕ → ℕ → Type 0
@@ -53,9 +54,9 @@ pub record IsDecoded (item : Record) (head : List ℕ) : Type 0 where
 -- on. The reader has what it must know of them (own).
 pub record IsAfter (bytes : List ℕ) (changes : List Change) (reader : ReaderState) : Type 0 where
   pub stands : Stands bytes changes reader.begin reader.at reader.head
-  pub starts : length reader.head < 10 → reader.left ≡ 0
-  pub under : length reader.head ≡ 10 →
-      IsLeft (head_item reader.head) (length bytes - reader.begin - 10) reader.left
+  pub starts : length reader.head < RECORD_HEAD → reader.left ≡ 0
+  pub under : length reader.head ≡ RECORD_HEAD →
+      IsLeft (head_item reader.head) (length bytes - reader.begin - RECORD_HEAD) reader.left
   pub decoded : 1 ≤ reader.left → IsDecoded reader.item reader.head
 
 -- the last of the bytes ends a record, which begins at that place (own)

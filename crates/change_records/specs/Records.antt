@@ -2,6 +2,7 @@
 use Rattle.std.specs.Prelude.{◌≡◌, ◌≢◌, ◌≤◌, ◌<◌, ◌+◌, ◌^◌, ℕ, List, [], ◌∷◌, ◌++◌, length, take, drop, replicate}
 use Rattle.std.specs.List.{All, flat_map}
 use Rattle.std.specs.Int.{to_be_bytes, w32}
+use Rattle.vtl_base.specs.declared.layout.TheConstants.{BLOCK, ERASE, MARKS, RECORD_HEAD}
 use Rattle.vtl_base.specs.declared.limits.TheConstants.{MAX_BLOCK, MAX_OBJECTS}
 use Rattle.volume_core.specs.declared.changes.Change.{Change}
 use Rattle.volume_core.specs.declared.changes.Change.TheVariants.{Put, Marks, Erase}
@@ -16,9 +17,9 @@ spell_head kind part at number = kind ∷ part ∷ to_be_bytes w32 at ++ to_be_b
 
 -- The bytes of a change: for a block its length and the block, for marks their count, for an erase the number 0 (own).
 abbrev pub spell_change : Change → List ℕ
-spell_change (Put part at block) = spell_head 1 part at (length block) ++ block
-spell_change (Marks part at count) = spell_head 2 part at count
-spell_change (Erase part at) = spell_head 3 part at 0
+spell_change (Put part at block) = spell_head BLOCK part at (length block) ++ block
+spell_change (Marks part at count) = spell_head MARKS part at count
+spell_change (Erase part at) = spell_head ERASE part at 0
 
 -- partition and object number fit their width (own)
 abbrev pub IsTarget : ℕ → ℕ → Type 0
@@ -71,9 +72,9 @@ record_of (Erase part at) = Records.Erase part at
 
 -- the length of a record in bytes, with its block (own)
 abbrev pub size_of : Record → ℕ
-size_of (Records.Put part at length) = 10 + length
-size_of (Records.Marks part at count) = 10
-size_of (Records.Erase part at) = 10
+size_of (Records.Put part at length) = RECORD_HEAD + length
+size_of (Records.Marks part at count) = RECORD_HEAD
+size_of (Records.Erase part at) = RECORD_HEAD
 
 -- the change of a record, with these bytes for its block (own)
 abbrev pub change_with : Record → List ℕ → Change
@@ -105,7 +106,7 @@ outlined item = change_with item (replicate (record_length item) 0)
 
 -- the change of a record at the start of these bytes: its block follows the ten bytes of its head (own)
 abbrev pub change_in : Record → List ℕ → Change
-change_in item bytes = change_with item (take (record_length item) (drop 10 bytes))
+change_in item bytes = change_with item (take (record_length item) (drop RECORD_HEAD bytes))
 
 -- the bytes begin with this record: with the spelling of its change there, whose record it is (own)
 pub record IsAtFront (item : Record) (bytes : List ℕ) : Type 0 where

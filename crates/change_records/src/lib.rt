@@ -8,5 +8,5 @@ pub mod records;
 pub mod spelling;
 
 pub use reader::{Fed, Found, RecordReader};
-pub use records::{HEAD_BYTES, Record, RecordError};
+pub use records::{Record, RecordError};
 pub use spelling::{decode_changes, encode_change, spelled_parts};

@@ -5,8 +5,9 @@ ghost use Rattle.change_records.specs.Records.{record_length};
 ghost use Rattle.change_records.specs.Readers.{Ends, Feeds, IsAfter, PassesOver, taken_of};
 
 use crate::head::Head;
-use crate::records::{HEAD_BYTES, Record, RecordError};
+use crate::records::{Record, RecordError};
 use std::marker::Model;
+use vtl_base::layout::RECORD_HEAD;
 
 /// A reader for the records of a frame's body that comes in pieces. Between two pieces it holds the bytes of the
 /// current record's head that have come, at most 10, and a few numbers, but no bytes of a block.
@@ -170,13 +171,13 @@ impl RecordReader {
         ensures within { taken_of result (length piece.now) ≤ length piece.now }
         ensures some { 1 ≤ length piece.now → 1 ≤ taken_of result (length piece.now) }
     {
-        if self.head.len() == HEAD_BYTES {
+        if self.head.len() == RECORD_HEAD {
             // The record was bad before this piece.
             self.at += piece.len();
             return Fed::Bad { at: self.begin };
         }
         let count = self.head.fill(piece);
-        if self.head.len() < HEAD_BYTES {
+        if self.head.len() < RECORD_HEAD {
             self.at += count;
             return Fed::More;
         }

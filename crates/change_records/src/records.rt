@@ -13,25 +13,15 @@ ghost use Rattle.change_records.specs.Records.{BeginsWithRecord, IsAtFront, IsRe
 ghost use Rattle.volume_core.specs.Volume.{added_by, is_well_formed, used_of};
 ghost use Rattle.change_records.specs.Records.{record_staying, outlined, record_part};
 ghost use Rattle.change_records.specs.Inner.Decoded.{block_decoded, erase_decoded, head_decoded, marks_decoded, decoded};
+ghost use Rattle.vtl_base.specs.declared.layout.TheConstants.{RECORD_HEAD};
 
 use byteorder::{BigEndian, ByteOrder};
 use std::alloc::{AllocError, Global};
 use thiserror::Error;
 use volume_core::Change;
+use vtl_base::layout::{BLOCK, ERASE, MARKS, RECORD_HEAD, RECORD_NUMBER, RECORD_OBJECT};
 use vtl_base::limits::{MAX_BLOCK, MAX_OBJECTS, OBJECT_COST};
 use vtl_base::{Bytes, NoMemory, ObjNo, PartNo};
-
-/// The length of a record's head in bytes. The head comes before the block. It has the record's kind, the number of the
-/// partition, the count of objects that stay, and one more number: the length of the block in bytes, the count of
-/// filemarks, or 0 for an erase.
-pub const HEAD_BYTES: usize = 10;
-
-// The kinds.
-pub(crate) const BLOCK: u8 = 1;
-
-pub(crate) const MARKS: u8 = 2;
-
-pub(crate) const ERASE: u8 = 3;
 
 /// A record without the bytes of its block, which stay where they are, directly after the record's head of 10 bytes.
 #[derive(Clone, Copy, PartialEq, Eq, Debug)]
@@ -126,8 +116,8 @@ impl Record {
         ensures { result ≡ size_of self }
     {
         match self {
-            Record::Put { length, .. } => HEAD_BYTES + length as usize,
-            Record::Marks { .. } | Record::Erase { .. } => HEAD_BYTES,
+            Record::Put { length, .. } => RECORD_HEAD + length as usize,
+            Record::Marks { .. } | Record::Erase { .. } => RECORD_HEAD,
         }
     }
 
@@ -158,8 +148,8 @@ impl Record {
     {
         Ok(match self {
             Record::Put { part, at, length } => {
-                let end = HEAD_BYTES + length as usize;
-                let block = Bytes::from_slice(alloc, &bytes[HEAD_BYTES..end])?;
+                let end = RECORD_HEAD + length as usize;
+                let block = Bytes::from_slice(alloc, &bytes[RECORD_HEAD..end])?;
                 Change::Put { part, at, block }
             }
             Record::Marks { part, at, count } => Change::Marks { part, at, count },
@@ -205,20 +195,20 @@ impl Record {
 fn decoded(bytes: &[u8]) -> Option<Record>
     ensures { result ≡ decoded bytes.now }
 {
-    if bytes.len() < HEAD_BYTES {
+    if bytes.len() < RECORD_HEAD {
         return None;
     }
-    head_decoded(bytes, bytes.len() - HEAD_BYTES)
+    head_decoded(bytes, bytes.len() - RECORD_HEAD)
 }
 
 // The record with this head, if the head is valid and the `there` bytes after it suffice for the block.
 pub(crate) fn head_decoded(head: &[u8], there: usize) -> Option<Record>
-    requires { 10 ≤ length head.now }
+    requires { RECORD_HEAD ≤ length head.now }
     ensures { result ≡ head_decoded head.now there }
 {
     let part = head[1];
-    let at = BigEndian::read_u32(&head[2..]);
-    let number = BigEndian::read_u32(&head[6..]);
+    let at = BigEndian::read_u32(&head[RECORD_OBJECT..]);
+    let number = BigEndian::read_u32(&head[RECORD_NUMBER..]);
     match head[0] {
         BLOCK => block_decoded(part, at, number, there),
         MARKS => marks_decoded(part, at, number),

@@ -3,10 +3,11 @@ ghost use Rattle.std.specs.Prelude.{◌≡◌, ◌≤◌, ◌<◌, ◌+◌, ◌+
 ghost use Rattle.std.specs.Int.{to_be_bytes, w32};
 ghost use Rattle.change_records.specs.Records.{IsRecord, NotDecoded, SpellsAll, spell_change, spell_head};
 
-use crate::records::{BLOCK, ERASE, HEAD_BYTES, MARKS, Record, RecordError};
+use crate::records::{Record, RecordError};
 use byteorder::{BigEndian, ByteOrder};
 use std::alloc::{AllocError, Global};
 use volume_core::Change;
+use vtl_base::layout::{BLOCK, ERASE, MARKS, RECORD_HEAD, RECORD_NUMBER, RECORD_OBJECT};
 use vtl_base::{NoMemory, ObjNo, PartNo};
 
 /// Appends the spelling of a change to `into`. Allocates memory only where the capacity of `into` is too small. If
@@ -28,7 +29,7 @@ pub fn encode_change(change: &Change, into: &mut Vec<u8>) -> Result<(), NoMemory
 
 /// The spelling of a change in two parts: the 10 bytes of its record's head, and the bytes after them. These are the
 /// bytes of the block, borrowed and not copied; there are none for filemarks and for an erase.
-pub fn spelled_parts(change: &Change) -> ([u8; HEAD_BYTES], &[u8])
+pub fn spelled_parts(change: &Change) -> ([u8; RECORD_HEAD], &[u8])
     requires { IsRecord change.now }
     ensures { result.0 ++ result.1.now ≡ spell_change change.now }
 {
@@ -43,14 +44,14 @@ pub fn spelled_parts(change: &Change) -> ([u8; HEAD_BYTES], &[u8])
 }
 
 // The head of a record.
-fn head(kind: u8, part: PartNo, at: ObjNo, number: u32) -> [u8; HEAD_BYTES]
+fn head(kind: u8, part: PartNo, at: ObjNo, number: u32) -> [u8; RECORD_HEAD]
     ensures { result ≡ spell_head kind part at number }
 {
-    let mut head = [0; HEAD_BYTES];
+    let mut head = [0; RECORD_HEAD];
     head[0] = kind;
     head[1] = part;
-    BigEndian::write_u32(&mut head[2..], at);
-    BigEndian::write_u32(&mut head[6..], number);
+    BigEndian::write_u32(&mut head[RECORD_OBJECT..], at);
+    BigEndian::write_u32(&mut head[RECORD_NUMBER..], number);
     head
 }
 

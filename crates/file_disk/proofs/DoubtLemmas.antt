@@ -2,7 +2,8 @@
 use Rattle.std.proofs.Common.{◌≡◌, ◌≢◌, ◌⊎◌, inl, inr, ⊎_elim, ℕ, ◌<◌, ◌≤◌, min, List, length, sym, subst, ◌∙◌, arith, true, false}
 use Rattle.gate_journal.specs.Gates.{last_gate}
 use Rattle.gate_journal.specs.Side.{Front, StandsFor, spell}
-use Rattle.file_disk.specs.Opening.{IsBehindEnd, IsLeftWell, IsUnfinished, START_BYTES}
+use Rattle.vtl_base.specs.declared.layout.TheConstants.{BEGUN_BYTES}
+use Rattle.file_disk.specs.Opening.{IsBehindEnd, IsLeftWell, IsUnfinished}
 use Rattle.file_disk.specs.RawFile.{AddsNone, AddsRange, ReachesAll, ReachesRange, ReachesStill}
 use Rattle.gate_journal.specs.declared.header.SideKind.TheVariants as kinds
 use Rattle.file_disk.specs.Inner.Doubts.{BeginsSo, Covers, InSpan, IsInDoubt, IsLookedAt, LieIn}
@@ -71,11 +72,11 @@ module _ (seen : List ℕ) (passed unsynced : ℕ → Type 0) (is : IsLeftWell s
     (count_is : count ≡ length seen) (written : Written)
     (covers : (place : ℕ) → (place ≡ last) ⊎ (IsBehindEnd end place × (place < count)) → Covers written place)
     (begins : Begins) (so : BeginsSo begins seen)
-    (start : (place : ℕ) → begins ≡ Cartridge → place < START_BYTES → Covers written place)
+    (start : (place : ℕ) → begins ≡ Cartridge → place < BEGUN_BYTES → Covers written place)
     (known : begins ≢ Unfinished) where
   covered : (place : ℕ) → passed place ⊎ unsynced place → Covers written place
   covered place doubted = ⊎_elim
-      (λ (first : (front.head.heading.kind ≡ kinds.Cartridge) × (place < START_BYTES)).
+      (λ (first : (front.head.heading.kind ≡ kinds.Cartridge) × (place < BEGUN_BYTES)).
       start place (begins_so begins seen front bodies stands first.0 so known) first.1)
       (⊎_elim
       (λ (here : place ≡ last_gate front bodies).

@@ -4,17 +4,12 @@ ghost use Rattle.gate_journal.specs.Side.{mark};
 ghost use Rattle.gate_journal.specs.declared.header.SideKind.TheVariants.{Cartridge};
 ghost use Rattle.file_disk.specs.Inner.Doubts.{BeginsSo};
 ghost use Rattle.file_disk.specs.Inner.Rested.{OnlyReadFile};
+ghost use Rattle.vtl_base.specs.declared.layout.TheConstants.{MARK_PLACE, PAIR_GATE};
 
 use crate::looked::Looked;
 use crate::raw::RawFile;
 use tape_disk::Disk;
-
-/// How many bytes a side begins with before its head: its own gate, the mark of its kind, the pair gate.
-pub(crate) const START_BYTES: usize = 10;
-
-pub(crate) const OPEN: u8 = 0xa5;
-
-const MARK: &[u8] = b"VTLCART1";
+use vtl_base::layout::{BEGUN_BYTES, CARTRIDGE_MARK, MARK_PLACE, OPEN, PAIR_GATE, SIDE_GATE};
 
 /// How the bytes of a file begin.
 #[derive(Clone, Copy)]
@@ -29,21 +24,21 @@ pub(crate) enum Begins {
 }
 
 // Whether the first bytes have the mark of a cartridge's side.
-fn has_mark(start: &[u8; START_BYTES]) -> bool
-    ensures { IsTrue result ↔ (slice_range start.now 1 9 ≡ mark Cartridge) }
+fn has_mark(start: &[u8; BEGUN_BYTES]) -> bool
+    ensures { IsTrue result ↔ (slice_range start.now MARK_PLACE PAIR_GATE ≡ mark Cartridge) }
 {
-    let found = &start[1..9];
-    found == MARK
+    let found = &start[MARK_PLACE..PAIR_GATE];
+    found == CARTRIDGE_MARK.as_slice()
 }
 
 // How a file begins, by its first bytes.
-fn begins_with(start: &[u8; START_BYTES]) -> Begins
+fn begins_with(start: &[u8; BEGUN_BYTES]) -> Begins
     ensures { (rest : List ℕ) → BeginsSo result (start.now ++ rest) }
 {
     if !has_mark(start) {
         return Begins::Other;
     }
-    if start[0] == OPEN {
+    if start[SIDE_GATE] == OPEN {
         Begins::Cartridge
     } else {
         Begins::Unfinished
@@ -56,10 +51,10 @@ pub(crate) fn beginning_of<F: RawFile>(looked: &mut Looked<F>) -> Option<Begins>
     ensures begins { (F.state looked.old.file).honest →
         IfSome result (λ begins. BeginsSo begins (F.state looked.old.file).seen) }
 {
-    if looked.len() < START_BYTES as u64 {
+    if looked.len() < BEGUN_BYTES as u64 {
         return Some(Begins::Unfinished);
     }
-    let mut start = [0; START_BYTES];
+    let mut start = [0; BEGUN_BYTES];
     match looked.read_at(0, &mut start) {
         Ok(()) => Some(begins_with(&start)),
         Err(_) => None,

@@ -5,14 +5,16 @@ ghost use Rattle.file_disk.specs.Opening.{IsBehindEnd, IsLeftWell};
 ghost use Rattle.file_disk.specs.RawFile.{ReachesAll};
 ghost use Rattle.file_disk.specs.Inner.Doubts.{BeginsSo, Covers, InSpan, IsInDoubt, IsLookedAt, LieIn};
 ghost use Rattle.file_disk.specs.Inner.Rested.{OnlyReadFile, Rested};
+ghost use Rattle.vtl_base.specs.declared.layout.TheConstants.{BEGUN_BYTES};
 
 use crate::again::write_again;
-use crate::begins::{Begins, START_BYTES, beginning_of};
+use crate::begins::{Begins, beginning_of};
 use crate::disk::MAX_FILE;
 use crate::looked::Looked;
 use crate::raw::{CallFailed, RawFile};
 use crate::written::{Span, Written};
 use gate_journal::{Gates, last_gates};
+use vtl_base::layout::{BEGUN_BYTES, FRAME_HEAD};
 use vtl_base::limits::MAX_BODY;
 
 /// What is known of the places of a file that the next sync may pass over.
@@ -28,7 +30,7 @@ pub(crate) enum Doubt {
 }
 
 // How many bytes an append writes behind the end gate, at most: a length, the longest body and a gate.
-const MOST_BEHIND: u64 = MAX_BODY as u64 + 5;
+const MOST_BEHIND: u64 = MAX_BODY as u64 + FRAME_HEAD;
 
 // What a sync may pass over in a side of `bytes` bytes that begins so and has these gates: the last open gate, what an
 // append may have written behind the end gate, and in a cartridge's side its first ten bytes. None where the gates do
@@ -37,7 +39,7 @@ fn doubt_of(begins: Begins, gates: Gates, bytes: u64) -> Option<Written>
     ensures gates { IfSome result (λ written. (place : ℕ) →
         (place ≡ gates.last) ⊎ (IsBehindEnd gates.end place × (place < bytes)) → Covers written place) }
     ensures start { IfSome result (λ written. (place : ℕ) →
-        begins ≡ Begins.Cartridge → place < 10 → Covers written place) }
+        begins ≡ Begins.Cartridge → place < BEGUN_BYTES → Covers written place) }
 {
     if gates.last >= bytes || gates.end >= bytes {
         return None;
@@ -58,10 +60,10 @@ fn doubt_of(begins: Begins, gates: Gates, bytes: u64) -> Option<Written>
 // What a sync may pass over in the first ten bytes of a side that begins so: all of them in a cartridge's side, else
 // none.
 fn started(begins: Begins) -> Written
-    ensures { (place : ℕ) → begins ≡ Begins.Cartridge → place < 10 → InSpan result.start place }
+    ensures { (place : ℕ) → begins ≡ Begins.Cartridge → place < BEGUN_BYTES → InSpan result.start place }
 {
     match begins {
-        Begins::Cartridge => Written::first(START_BYTES as u64),
+        Begins::Cartridge => Written::first(BEGUN_BYTES as u64),
         _ => Written::none(),
     }
 }

@@ -1,16 +1,14 @@
 //! Looks at a file by its name: what has the name, and whether a cartridge's pair gate is open in it. No lock is taken.
 ghost use Rattle.std.specs.Prelude.{◌≡◌, ◌↔◌, IsTrue};
+ghost use Rattle.vtl_base.specs.declared.layout.TheConstants.{OPEN};
 
-use crate::begins::OPEN;
 use crate::error::FileError;
 use crate::failed::SystemCall;
 use crate::opening::{device, error_of};
 use std::fs::{self, File};
 use std::io::ErrorKind;
 use std::os::unix::fs::FileExt;
-
-// The place of the pair gate in a cartridge's file.
-const PAIR_GATE: u64 = 9;
+use vtl_base::layout::{OPEN, PAIR_GATE};
 
 /// What a look at a regular file by its name finds.
 #[derive(Clone, Copy, PartialEq, Eq, Debug)]
@@ -42,7 +40,7 @@ pub fn look(rt: &HostRuntime, path: &str) -> Result<FileLook, FileError> {
 
 // Whether a byte is an open gate.
 fn is_open(byte: u8) -> bool
-    ensures { IsTrue result ↔ (byte ≡ 165) }
+    ensures { IsTrue result ↔ (byte ≡ OPEN) }
 {
     byte == OPEN
 }
@@ -57,7 +55,7 @@ pub fn has_open_pair(rt: &HostRuntime, path: &str) -> Result<bool, FileError> {
         Err(error) => return Err(error_of(SystemCall::Open, &error)),
     };
     let mut gate = [0];
-    match file.read_exact_at(&mut gate, PAIR_GATE) {
+    match file.read_exact_at(&mut gate, PAIR_GATE as u64) {
         Ok(()) => Ok(is_open(gate[0])),
         Err(error) if error.kind() == ErrorKind::UnexpectedEof => Ok(false),
         Err(error) => Err(device(SystemCall::ReadAt, &error)),

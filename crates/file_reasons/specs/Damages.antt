@@ -1,5 +1,6 @@
 -- What stands in a file where `check` finds a damage or a bad record.
 use Rattle.std.specs.Prelude.{◌-◌, ◌==◌, ◌||◌, not, ℕ, List, ◌++◌, if◌then◌else◌, nat_le, nat_lt, string_bytes, codes, decimal}
+use Rattle.vtl_base.specs.declared.layout.TheConstants.{FRAME_HEAD}
 use Rattle.explanations.specs.Lines.{line_of}
 use Rattle.gate_journal.specs.Side.{OPEN}
 use Rattle.vtl_base.specs.declared.limits.TheConstants.{MAX_BODY}
@@ -13,9 +14,9 @@ abbrev pub frame_found : (gate length bytes : ℕ) → Found
 frame_found gate length bytes =
     if bytes == 0 then NoGate
     else if not (gate == OPEN) then Closed
-    else if nat_lt bytes 5 then NoLength
+    else if nat_lt bytes FRAME_HEAD then NoLength
     else if (length == 0) || nat_lt MAX_BODY length then BadLength length
-    else if nat_le (bytes - 5) length then CutOff length (bytes - 5)
+    else if nat_le (bytes - FRAME_HEAD) length then CutOff length (bytes - FRAME_HEAD)
     else Whole length
 
 -- what stands there, in words (own)

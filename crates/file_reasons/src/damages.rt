@@ -6,12 +6,8 @@ use crate::sizes::Size;
 use explanations::Explanation;
 use std::alloc::{AllocError, Global};
 use std::fmt;
+use vtl_base::layout::{FRAME_HEAD, OPEN};
 use vtl_base::limits::MAX_BODY;
-
-const OPEN: u8 = 0xa5;
-
-// How many bytes a frame's gate and its length take.
-const FRONT: u64 = 5;
 
 /// What a file has at the gate of a frame that is damaged or has a bad record, or where this gate should be.
 #[derive(Clone, Copy, PartialEq, Eq, Debug)]
@@ -42,14 +38,14 @@ impl Found {
             Found::NoGate
         } else if gate != OPEN {
             Found::Closed
-        } else if bytes < FRONT {
+        } else if bytes < FRAME_HEAD {
             Found::NoLength
         } else if length == 0 || length > MAX_BODY {
             Found::BadLength(length)
-        } else if bytes - FRONT <= length as u64 {
+        } else if bytes - FRAME_HEAD <= length as u64 {
             Found::CutOff {
                 length,
-                bytes: bytes - FRONT,
+                bytes: bytes - FRAME_HEAD,
             }
         } else {
             Found::Whole(length)

@@ -1,5 +1,6 @@
 -- What holds after each result of a call.
 use Rattle.std.specs.Prelude.{◌≡◌, ◌<◌, ◌≤◌, ◌^◌, ◌+◌, ◌-◌, List, [], ◌∷◌, ◌++◌, ℕ, true, false, min, Result, Ok, Err}
+use Rattle.vtl_base.specs.declared.layout.TheConstants.{FRAME_HEAD}
 use Rattle.vtl_base.specs.declared.faults.DevFault.{DevFault}
 use Rattle.tape_disk.specs.Disk.{DiskState, Only}
 use Rattle.gate_journal.specs.declared.header.SideKind.{SideKind}
@@ -32,17 +33,17 @@ MatchWrite (Err (Damaged at)) ok memory full device failed = ⊥
 -- an append of `count` bytes was done (own)
 pub record Appended {D : Type 0} (old new : OpenSide D) (count : ℕ) : Type 0 where
   pub was_fine : old.failed ≡ false
-  pub fitted : count + 5 ≤ room_behind old.end
+  pub fitted : count + FRAME_HEAD ≤ room_behind old.end
   pub is_fine : new.failed ≡ false
-  pub end : new.end ≡ old.end + 5 + count
-  pub extents : new.extents ≡ old.extents ++ (old.end + 5, count) ∷ []
+  pub end : new.end ≡ old.end + FRAME_HEAD + count
+  pub extents : new.extents ≡ old.extents ++ (old.end + FRAME_HEAD, count) ∷ []
   pub reserved : old.reserved ≤ new.reserved + 1
   pub reserved_extents : old.reserved_extents ≤ new.reserved_extents + 1
 
 -- the disk failed in an append of `count` bytes (own)
 pub record Broke {D : Type 0} (old new : OpenSide D) (count : ℕ) : Type 0 where
   pub was_fine : old.failed ≡ false
-  pub fitted : count + 5 ≤ room_behind old.end
+  pub fitted : count + FRAME_HEAD ≤ room_behind old.end
   pub failed : new.failed ≡ true
   pub end : new.end ≡ old.end
   pub extents : new.extents ≡ old.extents

@@ -1,21 +1,14 @@
 -- The heading of a side, and the ten bytes before it.
 use Rattle.std.specs.Prelude.{◌≡◌, ◌≤◌, ℕ, ◌+◌, ◌-◌, List, [], ◌∷◌, ◌++◌, length, replicate, codes, if◌then◌else◌, nat_lt, IsTrue}
 use Rattle.std.specs.List.{All}
+use Rattle.vtl_base.specs.declared.layout.TheConstants.{CARTRIDGE_MARK, NAME_BYTES, STORE_MARK}
 use Rattle.vtl_base.specs.Barcode.{IsBarcode}
 use Rattle.vtl_base.specs.Limits.{is_capacity}
 use Rattle.vtl_base.specs.declared.limits.TheConstants.{MAX_PARTITIONS, DRIVES}
 use Rattle.gate_journal.specs.declared.header.Header.{Header}
 use Rattle.gate_journal.specs.declared.header.SideKind.{SideKind}
 use Rattle.gate_journal.specs.declared.header.SideKind.TheVariants.{Cartridge, Store}
-use Rattle.gate_journal.specs.declared.header.TheConstants.{NAME_BYTES}
-
--- the byte of an open gate; any other byte is a closed gate (own)
-abbrev pub OPEN : ℕ
-OPEN = 165
-
--- the byte that is written for a closed gate (own)
-abbrev pub CLOSED : ℕ
-CLOSED = 0
+pub use Rattle.vtl_base.specs.declared.layout.TheConstants.{OPEN, CLOSED}
 
 -- The heading of a side: its kind, its name, and for a cartridge the capacity of each partition. Contracts see it in
 -- place of a `Header`, whose form in memory they do not show (own).
@@ -58,8 +51,8 @@ pub record IsHeading (heading : Heading) : Type 0 where
 
 -- the bytes by which the kind is recognized (own)
 abbrev pub mark : SideKind → List ℕ
-mark Cartridge = codes "VTLCART1"
-mark Store = codes "VTLRESV1"
+mark Cartridge = CARTRIDGE_MARK
+mark Store = STORE_MARK
 
 -- the ten bytes that a side of this kind begins with: the side gate, the mark of the kind, the pair gate (own)
 abbrev pub start : ℕ → SideKind → ℕ → List ℕ

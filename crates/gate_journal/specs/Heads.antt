@@ -2,6 +2,7 @@
 use Rattle.std.specs.Prelude.{◌≡◌, ◌<◌, ◌^◌, ℕ, ◌+◌, List, [], ◌∷◌, ◌++◌, length, Option, None, Some}
 use Rattle.std.specs.List.{flat_map}
 use Rattle.std.specs.Int.{to_be_bytes, w32, w64}
+use Rattle.vtl_base.specs.declared.layout.TheConstants.{COPY_BIT}
 use Rattle.gate_journal.specs.declared.header.SideKind.{SideKind}
 use Rattle.gate_journal.specs.declared.header.SideKind.TheVariants.{Cartridge, Store}
 use Rattle.gate_journal.specs.declared.heads.Copied.{Copied}
@@ -35,7 +36,7 @@ base_of head = base_in head.copied
 -- the count of capacities, plus 80h for a copy (own)
 abbrev pub count_byte : Option Copied → ℕ → ℕ
 count_byte None count = count
-count_byte (Some copied) count = 128 + count
+count_byte (Some copied) count = COPY_BIT + count
 
 -- the bytes of epoch and base (own)
 abbrev pub spell_copied : Option Copied → List ℕ

@@ -1,6 +1,7 @@
 -- What contracts see of an open side.
 use Rattle.std.specs.Prelude.{◌≡◌, ◌<◌, ◌≤◌, ℕ, take, slice_index_or, ◌+◌, ◌-◌, List, [], ◌∷◌, ◌++◌, length, map, slice_range, Bool, true, false, Option, refl}
 use Rattle.std.specs.Coded.{Coded, code_by, coded×, coded_ℕ, coded_bool, coded_list, coded_option}
+use Rattle.vtl_base.specs.declared.layout.TheConstants.{FRAME_HEAD}
 use Rattle.vtl_base.specs.declared.limits.TheConstants.{MAX_BODY, MAX_SIDE}
 use Rattle.tape_disk.specs.Disk.{DiskState, Only}
 use Rattle.gate_journal.specs.declared.header.SideKind.{SideKind}
@@ -36,11 +37,11 @@ bodies_at bytes extents = map (λ extent. slice_range bytes extent.0 (extent.0 +
 -- the extents of bodies of which the first has its gate at that place (own)
 abbrev pub extents_from : ℕ → List (List ℕ) → List (ℕ × ℕ)
 extents_from at [] = []
-extents_from at (body ∷ bodies) = (at + 5, length body) ∷ extents_from (at + 5 + length body) bodies
+extents_from at (body ∷ bodies) = (at + FRAME_HEAD, length body) ∷ extents_from (at + FRAME_HEAD + length body) bodies
 
 -- the extent of a body that lies before the end, after a gate and a length (own)
 pub record IsExtent (end : ℕ) (extent : ℕ × ℕ) : Type 0 where
-  pub gate : 5 ≤ extent.0
+  pub gate : FRAME_HEAD ≤ extent.0
   pub some : 1 ≤ extent.1
   pub short : extent.1 ≤ MAX_BODY
   pub within : extent.0 + extent.1 ≤ end
@@ -58,7 +59,7 @@ pub record StoresSide (disk : DiskState) (front : Front) (bodies : List (List �
 -- the body of that frame lies in the extent: after its gate, where a read returns it (own)
 pub record IsBodyAt (seen : List ℕ) (front : Front) (bodies : List (List ℕ)) (frame : ℕ) (extent : ℕ × ℕ)
     : Type 0 where
-  pub gate : extent.0 ≡ length (spell front (take frame bodies)) + 5
+  pub gate : extent.0 ≡ length (spell front (take frame bodies)) + FRAME_HEAD
   pub sized : extent.1 ≡ length (slice_index_or bodies frame [])
   pub there : slice_index_or bodies frame [] ≡ slice_range seen extent.0 (extent.0 + extent.1)
 

@@ -7,10 +7,12 @@ ghost use Rattle.gate_journal.specs.Answers.{Appended, Broke, IsFault, MatchWrit
 ghost use Rattle.gate_journal.specs.Crash.{WithOrWithout};
 ghost use Rattle.gate_journal.specs.Cuts.{CutsFirst};
 ghost use Rattle.gate_journal.specs.State.{room_behind};
+ghost use Rattle.vtl_base.specs.declared.layout.TheConstants.{FRAME_HEAD};
 
 use crate::room::make_room;
 use crate::{Journal, JournalError, NoParts};
 use tape_disk::Disk;
+use vtl_base::layout::FRAME_HEAD;
 use vtl_base::limits::MAX_SIDE;
 
 impl<D: Disk> Journal<D> {
@@ -42,9 +44,9 @@ impl<D: Disk> Journal<D> {
         ensures answer { MatchWrite result
             (Appended self.old self.new (length body.now)
             × NoneFailed (D.state self.old.disk) (D.state self.new.disk))
-            ((self.old.failed ≡ false) × (length body.now + 5 ≤ room_behind self.old.end)
+            ((self.old.failed ≡ false) × (length body.now + FRAME_HEAD ≤ room_behind self.old.end)
             × (self.old.reserved ≡ 0) × (self.new ≡ self.old))
-            ((self.old.failed ≡ false) × (room_behind self.old.end < length body.now + 5)
+            ((self.old.failed ≡ false) × (room_behind self.old.end < length body.now + FRAME_HEAD)
             × (self.new ≡ self.old))
             (λ fault. Broke self.old self.new (length body.now)
             × IsFault fault (D.state self.old.disk) (D.state self.new.disk))
@@ -66,15 +68,15 @@ impl<D: Disk> Journal<D> {
             return Err(JournalError::Failed);
         }
         let size = body.len() as u32;
-        if u64::from(size) + 5 > MAX_SIDE.saturating_sub(self.end + 1) {
+        if u64::from(size) + FRAME_HEAD > MAX_SIDE.saturating_sub(self.end + 1) {
             return Err(JournalError::SideFull);
         }
         make_room(&mut self.extents, &mut self.buffer, 1)?;
         self.buffer.extend_reserved(body);
         match self.buffer.write_behind(&mut self.disk, self.end, &NoParts) {
             Ok(()) => {
-                self.extents.push_reserved((self.end + 5, size));
-                self.end += 5 + u64::from(size);
+                self.extents.push_reserved((self.end + FRAME_HEAD, size));
+                self.end += FRAME_HEAD + u64::from(size);
                 self.reserved_extents = self.reserved_extents.saturating_sub(1);
                 Ok(())
             }

@@ -8,10 +8,10 @@ ghost use Rattle.gate_journal.specs.Reads.{OnlyReads};
 ghost use Rattle.gate_journal.specs.Inner.Behind.{FindsHidden};
 
 use crate::gates::last_gates;
-use crate::spelling::OPEN;
 use byteorder::{BigEndian, ByteOrder};
 use tape_disk::Disk;
 use vtl_base::DevFault;
+use vtl_base::layout::{FRAME_HEAD, LENGTH_BYTES, OPEN};
 use vtl_base::limits::MAX_BODY;
 
 /// Looks for frames behind the end of the side on the disk, of either kind: a whole frame behind its end gate, and an
@@ -45,22 +45,22 @@ fn hides_frames<D: Disk>(disk: &mut D, at: u64) -> Result<bool, DevFault>
     ensures answer { FindsHidden result at (D.state disk.old) (D.state disk.new) }
 {
     let len = disk.len().saturating_sub(at);
-    if len < 5 {
+    if len < FRAME_HEAD {
         return Ok(false);
     }
-    let mut bytes = [0; 4];
+    let mut bytes = [0; LENGTH_BYTES];
     disk.read_at(at + 1, &mut bytes)?;
     let size = number_in(&bytes);
-    if size == 0 || size > MAX_BODY || u64::from(size) + 5 >= len {
+    if size == 0 || size > MAX_BODY || u64::from(size) + FRAME_HEAD >= len {
         return Ok(false);
     }
     let mut gate = [0];
-    disk.read_at(at + 5 + u64::from(size), &mut gate)?;
+    disk.read_at(at + FRAME_HEAD + u64::from(size), &mut gate)?;
     Ok(gate[0] == OPEN)
 }
 
 // The number in four bytes.
-fn number_in(bytes: &[u8; 4]) -> u32
+fn number_in(bytes: &[u8; LENGTH_BYTES]) -> u32
     ensures { bytes.now ≡ to_be_bytes w32 result }
 {
     BigEndian::read_u32(bytes)

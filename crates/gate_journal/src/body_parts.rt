@@ -2,8 +2,10 @@
 ghost use Rattle.std.specs.Prelude.{◌≡◌, ◌++◌, ℕ, List, [], Some, None, IfSome, IfNone, length, slice_get};
 ghost use Rattle.gate_journal.specs.Followed.{followed};
 
+use vtl_base::layout::RECORD_HEAD;
+
 /// How many bytes the head of a part has.
-pub const PART_HEAD: usize = 10;
+pub const PART_HEAD: usize = RECORD_HEAD;
 
 /// The last parts of a body, one after another. Each part is a head of ten bytes and the bytes after the head. Where
 /// the bytes after the head are 16,384 or more, `append_frame` writes them from where they are in memory, and does not

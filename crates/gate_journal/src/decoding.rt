@@ -16,6 +16,7 @@ use crate::pieces::{PIECE_BYTES, decode_body};
 use crate::{Journal, Refused};
 use std::alloc::Global;
 use tape_disk::Disk;
+use vtl_base::layout::FRAME_HEAD;
 
 impl<D: Disk> Journal<D> {
     /// Opens the side of the decoder's kind on the disk, as `open_as` does. A new decoder then gets the bodies, each
@@ -151,10 +152,14 @@ fn decode_each<D: Disk, T: Decodes>(
     for frame in 0..journal.frames() {
         let (at, size) = journal.body_at(frame);
         if !decoder.may_have(size) {
-            return Err(OpenError::BadRecord { at: at - 5 });
+            return Err(OpenError::BadRecord {
+                at: at - FRAME_HEAD,
+            });
         }
         if !decode_body(journal, frame, decoder, buffer)? {
-            return Err(OpenError::BadRecord { at: at - 5 });
+            return Err(OpenError::BadRecord {
+                at: at - FRAME_HEAD,
+            });
         }
     }
     Ok(())

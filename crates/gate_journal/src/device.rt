@@ -10,9 +10,9 @@ ghost use Rattle.gate_journal.specs.Inner.Writing.{BehindOrGated, CutFrom, Touch
 
 use crate::body_parts::BodyParts;
 use crate::gathering::store_parts;
-use crate::spelling::OPEN;
 use tape_disk::Disk;
 use vtl_base::DevFault;
+use vtl_base::layout::OPEN;
 
 // Writes the bytes at place `at`, and syncs. At Ok a crash leaves exactly what reads return.
 fn store_at<D: Disk>(disk: &mut D, at: u64, bytes: &[u8]) -> Result<(), DevFault>

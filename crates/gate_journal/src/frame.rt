@@ -8,6 +8,7 @@ ghost use Rattle.gate_journal.specs.Followed.{FrameHasRoom, KeepsRoom, followed}
 ghost use Rattle.gate_journal.specs.Side.{IsBody};
 ghost use Rattle.gate_journal.specs.Spelled.{body_taken};
 ghost use Rattle.gate_journal.specs.Inner.Writing.{BehindOrGated, opened, tail_of};
+ghost use Rattle.vtl_base.specs.declared.layout.TheConstants.{LENGTH_BYTES};
 
 use crate::body_parts::BodyParts;
 use crate::device::write_frame;
@@ -17,12 +18,10 @@ use std::alloc::{AllocError, Global};
 use std::marker::Model;
 use tape_disk::Disk;
 use vtl_base::DevFault;
-
-/// How many bytes the length of a body takes.
-pub(crate) const LENGTH_BYTES: usize = 4;
+use vtl_base::layout::LENGTH_BYTES;
 
 /// How many bytes stand around a body in its buffer: 4 for its length before it, and 1 for the next gate after it.
-pub(crate) const AROUND: usize = 5;
+pub(crate) const AROUND: usize = LENGTH_BYTES + 1;
 
 /// The body of a frame, or the beginning of one where parts follow (`BodyParts`), in the buffer that is written to the
 /// disk. In the buffer, 4 bytes for the body's length come before the body, and 1 byte for the next gate comes after
@@ -34,7 +33,8 @@ pub struct Frame {
 }
 
 impl Model for Frame {
-    ghost use Rattle.std.specs.Prelude.{◌≤◌, ◌<◌, ◌-◌, drop, vec_len, vec_capacity};
+    ghost use Rattle.std.specs.Prelude.{◌≤◌, ◌<◌, ◌+◌, ◌-◌, drop, vec_len, vec_capacity};
+    ghost use Rattle.vtl_base.specs.declared.layout.TheConstants.{LENGTH_BYTES};
     ghost use Rattle.gate_journal.specs.Spelled.{SpelledBody, spelled_code};
 
     ghost Value = { SpelledBody };
@@ -42,12 +42,12 @@ impl Model for Frame {
     ghost coded = { spelled_code };
 
     ghost view = { λ a. record {
-      body = drop 4 a.bytes.items;
-      room = vec_capacity a.bytes - 5;
+      body = drop LENGTH_BYTES a.bytes.items;
+      room = vec_capacity a.bytes - (LENGTH_BYTES + 1);
     } };
 
-    ghost invariant = { λ a. (5 < vec_capacity a.bytes → 4 ≤ vec_len a.bytes)
-        × (4 < vec_len a.bytes → vec_len a.bytes < vec_capacity a.bytes) };
+    ghost invariant = { λ a. (LENGTH_BYTES + 1 < vec_capacity a.bytes → LENGTH_BYTES ≤ vec_len a.bytes)
+        × (LENGTH_BYTES < vec_len a.bytes → vec_len a.bytes < vec_capacity a.bytes) };
 }
 
 impl Frame {
@@ -140,7 +140,7 @@ impl Frame {
         requires body { IsBody (followed self.old.body (P.parts parts.now)) }
         requires fits { FrameHasRoom (P.parts parts.now) (length (followed self.old.body (P.parts parts.now)))
             self.old.room }
-        requires room { end + 6 + length (followed self.old.body (P.parts parts.now)) < 2 ^ 64 }
+        requires room { end + AROUND + 1 + length (followed self.old.body (P.parts parts.now)) < 2 ^ 64 }
         requires gate { (D.state disk.old).honest → end < length (D.state disk.old).seen }
         requires sure { (D.state disk.old).honest →
             Only (D.state disk.old).seen (D.state disk.old).may_leave }
@@ -181,7 +181,7 @@ fn put_length(bytes: &mut Vec<u8>)
 // Puts the length of a body into the four bytes before it.
 fn put_size(bytes: &mut Vec<u8>, size: u32)
     requires { LENGTH_BYTES ≤ length bytes.old.items }
-    ensures bytes { bytes.new.items ≡ to_be_bytes w32 size ++ drop 4 bytes.old.items }
+    ensures bytes { bytes.new.items ≡ to_be_bytes w32 size ++ drop LENGTH_BYTES bytes.old.items }
     ensures room { vec_capacity bytes.new ≡ vec_capacity bytes.old }
 {
     BigEndian::write_u32(bytes, size);

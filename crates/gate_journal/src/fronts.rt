@@ -3,10 +3,14 @@ ghost use Rattle.std.specs.Prelude.{◌≡◌, ◌↔◌, ◌≤◌, IsTrue, Opt
 ghost use Rattle.gate_journal.specs.Heads.{base_in};
 ghost use Rattle.gate_journal.specs.Side.{CLOSED, IsName, OPEN, start};
 ghost use Rattle.gate_journal.specs.Inner.Reading.{ParsesFront, copied_size};
+ghost use Rattle.vtl_base.specs.declared.layout.TheConstants.{BEGUN_BYTES, PAIR_GATE, START_BYTES};
 
-use crate::header::{NAME_BYTES, SideKind, is_name};
-use crate::heads::{COPIED_BYTES, Copied, parse_head};
-use crate::spelling::{BEGUN_BYTES, CLOSED, START_BYTES, kind_by_letter, name_in, start};
+use crate::header::{SideKind, is_name};
+use crate::heads::{Copied, parse_head};
+use crate::spelling::{kind_by_letter, name_in, start};
+use vtl_base::layout::{
+    BEGUN_BYTES, CLOSED, COPIED_BYTES, LETTER_PLACE, NAME_BYTES, PAIR_GATE, START_BYTES,
+};
 
 // What is read from a front: where the frames begin, and how many there are at least.
 #[derive(Clone, Copy)]
@@ -46,7 +50,7 @@ pub(crate) fn parse_front(bytes: &[u8]) -> Option<ParsedFront>
     if bytes.len() < START_BYTES {
         return None;
     }
-    let kind = kind_by_letter(bytes[4]);
+    let kind = kind_by_letter(bytes[LETTER_PLACE]);
     if !begin_as(kind, bytes) {
         return None;
     }
@@ -58,24 +62,24 @@ pub(crate) fn parse_front(bytes: &[u8]) -> Option<ParsedFront>
 
 // Whether the bytes begin with the ten bytes of an open side of this kind, with any pair gate.
 fn begin_as(kind: SideKind, bytes: &[u8]) -> bool
-    requires { 27 ≤ length bytes.now }
-    ensures { IsTrue result ↔ (take 10 bytes.now ≡ start OPEN kind (slice_index bytes.now 9)) }
+    requires { START_BYTES ≤ length bytes.now }
+    ensures { IsTrue result ↔ (take BEGUN_BYTES bytes.now ≡ start OPEN kind (slice_index bytes.now PAIR_GATE)) }
 {
     let mut begun = [0; BEGUN_BYTES];
     begun.copy_from_slice(&bytes[..BEGUN_BYTES]);
-    begun == start(kind, bytes[9])
+    begun == start(kind, bytes[PAIR_GATE])
 }
 
 // The front of a cartridge's side, whose first ten bytes were recognized; None where no head follows them.
 fn parse_cartridge(bytes: &[u8]) -> Option<ParsedFront>
-    requires some { 27 ≤ length bytes.now }
-    requires begins { take 10 bytes.now ≡ start OPEN SideKind.Cartridge (slice_index bytes.now 9) }
+    requires some { START_BYTES ≤ length bytes.now }
+    requires begins { take BEGUN_BYTES bytes.now ≡ start OPEN SideKind.Cartridge (slice_index bytes.now PAIR_GATE) }
     ensures { ParsesFront bytes.now result }
 {
     match parse_head(&bytes[BEGUN_BYTES..]) {
         Some(head) => Some(ParsedFront {
             kind: SideKind::Cartridge,
-            pair: bytes[9],
+            pair: bytes[PAIR_GATE],
             copied: head.copied,
             size: BEGUN_BYTES + head.size,
         }),
@@ -85,12 +89,12 @@ fn parse_cartridge(bytes: &[u8]) -> Option<ParsedFront>
 
 // The front of a store's side, whose first ten bytes were recognized; None where the rest is not that of a store.
 fn parse_store(bytes: &[u8]) -> Option<ParsedFront>
-    requires some { 27 ≤ length bytes.now }
-    requires begins { take 10 bytes.now ≡ start OPEN SideKind.Store (slice_index bytes.now 9) }
+    requires some { START_BYTES ≤ length bytes.now }
+    requires begins { take BEGUN_BYTES bytes.now ≡ start OPEN SideKind.Store (slice_index bytes.now PAIR_GATE) }
     ensures { ParsesFront bytes.now result }
 {
-    let pair = bytes[9];
-    if !are_of_store(pair, bytes[10], &name_in(bytes)) {
+    let pair = bytes[PAIR_GATE];
+    if !are_of_store(pair, bytes[BEGUN_BYTES], &name_in(bytes)) {
         return None;
     }
     Some(ParsedFront {

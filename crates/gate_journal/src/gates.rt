@@ -11,6 +11,7 @@ use crate::fronts::base_in;
 use crate::reading::{find_start, read_mark};
 use tape_disk::Disk;
 use vtl_base::DevFault;
+use vtl_base::layout::FRAME_HEAD;
 
 /// The last gates of a side: the place of each, in bytes from the start of the side.
 #[derive(Clone, Copy, PartialEq, Eq, Debug)]
@@ -74,7 +75,7 @@ fn walk_frames<D: Disk>(disk: &mut D, start: u64, base: u32) -> Result<Gates, Jo
     while let Some(size) = read_mark(disk, at, len)? {
         last = at;
         frames += 1;
-        at += 5 + u64::from(size);
+        at += FRAME_HEAD + u64::from(size);
     }
     if frames < u64::from(base) {
         return Err(JournalError::Damaged { at });

@@ -7,9 +7,9 @@ ghost use Rattle.gate_journal.specs.Side.{CLOSED};
 ghost use Rattle.gate_journal.specs.Inner.Writing.{Gathers, Touched};
 
 use crate::body_parts::BodyParts;
-use crate::spelling::CLOSED;
 use tape_disk::Disk;
 use vtl_base::DevFault;
+use vtl_base::layout::CLOSED;
 
 // Where a part has at least this many bytes behind its head, they are written from where they are in memory; fewer are
 // copied (own).

@@ -3,12 +3,11 @@ ghost use Rattle.std.specs.Prelude.{◌≡◌, ◌↔◌, ◌<◌, ◌≤◌, �
 ghost use Rattle.std.specs.List.{All};
 ghost use Rattle.gate_journal.specs.Side.{IsCount, IsHeading, IsName, drive_name, heading_of, mark};
 ghost use Rattle.vtl_base.specs.Limits.{is_capacity};
+ghost use Rattle.vtl_base.specs.declared.layout.TheConstants.{NAME_BYTES};
 
 use vtl_base::Barcode;
+use vtl_base::layout::{CARTRIDGE_MARK, NAME_BYTES, STORE_MARK};
 use vtl_base::limits::{DRIVES, MAX_CAPACITY, MAX_PARTITIONS, MIN_CAPACITY};
-
-/// How many bytes the name of a side has.
-pub const NAME_BYTES: usize = 16;
 
 /// What a side, the bytes of one file, is used for (own).
 #[derive(Clone, Copy, Debug, PartialEq, Eq)]
@@ -25,8 +24,8 @@ impl SideKind {
         ensures { result.now ≡ mark self }
     {
         match self {
-            SideKind::Cartridge => b"VTLCART1",
-            SideKind::Store => b"VTLRESV1",
+            SideKind::Cartridge => &CARTRIDGE_MARK,
+            SideKind::Store => &STORE_MARK,
         }
     }
 }

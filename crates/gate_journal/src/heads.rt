@@ -15,10 +15,14 @@ ghost use Rattle.std.specs.Prelude.{◌≡◌, ◌↔◌, ◌+◌, ◌*◌, ◌�
 ghost use Rattle.gate_journal.specs.Side.{IsHeading};
 ghost use Rattle.gate_journal.specs.Heads.{IsCopied, ParsesHead, base_in, epoch_in};
 ghost use Rattle.gate_journal.specs.Inner.Heads.{copied_in, heading_in};
+ghost use Rattle.vtl_base.specs.declared.layout.TheConstants.{CAPACITY_BYTES, COPIED_BYTES, COPY_BIT, NAME_BYTES};
 
-use crate::header::{NAME_BYTES, SideKind, is_count, is_name};
+use crate::header::{SideKind, is_count, is_name};
 use crate::spelling::hold_capacities;
 use byteorder::{BigEndian, ByteOrder};
+use vtl_base::layout::{
+    BEGUN_BYTES, CAPACITY_BYTES, COPIED_BYTES, COPY_BIT, EPOCH_BYTES, NAME_BYTES, START_BYTES,
+};
 
 /// The epoch and the base of a side that is a copy.
 #[derive(Clone, Copy, Debug, PartialEq, Eq)]
@@ -61,13 +65,7 @@ impl ParsedHead {
 }
 
 /// How many bytes of a head stand before the capacities: 1 for their count, and 16 for the name.
-const FRONT_BYTES: usize = 17;
-
-/// How many bytes the epoch and the base of a copy take.
-pub(crate) const COPIED_BYTES: usize = 12;
-
-/// What is added to the count of capacities in the head of a copy.
-pub(crate) const COPY_BIT: u8 = 0x80;
+const FRONT_BYTES: usize = START_BYTES - BEGUN_BYTES;
 
 /// Reads the head of a cartridge's side from `bytes`, the bytes of the side from place 10 on. Returns None where they
 /// do not begin with a head. The call allocates nothing.
@@ -88,10 +86,10 @@ pub fn parse_head(bytes: &[u8]) -> Option<ParsedHead>
 // Reads the head of a side that is no copy; None where the bytes do not begin with one.
 fn parse_plain(bytes: &[u8]) -> Option<ParsedHead>
     requires some { 1 ≤ length bytes.now }
-    requires plain { slice_index bytes.now 0 < 128 }
+    requires plain { slice_index bytes.now 0 < COPY_BIT }
     ensures { ParsesHead bytes.now result }
 {
-    let size = FRONT_BYTES + 8 * bytes[0] as usize;
+    let size = FRONT_BYTES + CAPACITY_BYTES * bytes[0] as usize;
     if bytes.len() < size || !are_fields(&bytes[..size], bytes[0]) {
         return None;
     }
@@ -101,11 +99,11 @@ fn parse_plain(bytes: &[u8]) -> Option<ParsedHead>
 // Reads the head of a copy; None where the bytes do not begin with one.
 fn parse_copy(bytes: &[u8]) -> Option<ParsedHead>
     requires some { 1 ≤ length bytes.now }
-    requires copy { 128 ≤ slice_index bytes.now 0 }
+    requires copy { COPY_BIT ≤ slice_index bytes.now 0 }
     ensures { ParsesHead bytes.now result }
 {
     let count = bytes[0] - COPY_BIT;
-    let size = FRONT_BYTES + 8 * count as usize;
+    let size = FRONT_BYTES + CAPACITY_BYTES * count as usize;
     if bytes.len() < size + COPIED_BYTES || !are_fields(&bytes[..size], count) {
         return None;
     }
@@ -117,7 +115,7 @@ fn parse_copy(bytes: &[u8]) -> Option<ParsedHead>
 
 // Whether name and capacities are those of a cartridge.
 fn are_fields(bytes: &[u8], count: u8) -> bool
-    requires { length bytes.now ≡ 17 + 8 * count }
+    requires { length bytes.now ≡ FRONT_BYTES + CAPACITY_BYTES * count }
     ensures { IsTrue result ↔ IsHeading (heading_in bytes.now) }
 {
     is_count(SideKind::Cartridge, count as usize)
@@ -127,8 +125,8 @@ fn are_fields(bytes: &[u8], count: u8) -> bool
 
 // The name after the count.
 fn name_at(bytes: &[u8]) -> [u8; NAME_BYTES]
-    requires { 17 ≤ length bytes.now }
-    ensures { result ≡ take 16 (drop 1 bytes.now) }
+    requires { FRONT_BYTES ≤ length bytes.now }
+    ensures { result ≡ take NAME_BYTES (drop 1 bytes.now) }
 {
     let mut name = [0; NAME_BYTES];
     name.copy_from_slice(&bytes[1..FRONT_BYTES]);
@@ -137,12 +135,12 @@ fn name_at(bytes: &[u8]) -> [u8; NAME_BYTES]
 
 // Epoch and base at the start of these bytes.
 fn copied_at(bytes: &[u8]) -> Copied
-    requires { 12 ≤ length bytes.now }
+    requires { COPIED_BYTES ≤ length bytes.now }
     ensures is { Some result ≡ copied_in true bytes.now }
     ensures fits { IsCopied SideKind.Cartridge (Some result) }
 {
     Copied {
         epoch: BigEndian::read_u64(bytes),
-        base: BigEndian::read_u32(&bytes[8..]),
+        base: BigEndian::read_u32(&bytes[EPOCH_BYTES..]),
     }
 }

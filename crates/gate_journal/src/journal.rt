@@ -7,14 +7,16 @@ ghost use Rattle.gate_journal.specs.Answers.{Appended, Broke, IsFault, MatchWrit
 ghost use Rattle.gate_journal.specs.Crash.{Unwritten, WithOrWithout};
 ghost use Rattle.gate_journal.specs.Reads.{ReadsOnce};
 ghost use Rattle.gate_journal.specs.State.{room_behind, IsBodyAt, IsBodyPart, IsExtent, LiesInBody};
+ghost use Rattle.vtl_base.specs.declared.layout.TheConstants.{CAPACITY_BYTES, START_BYTES};
 
 use crate::device::write_new;
 use crate::frame::Frame;
-use crate::spelling::{CLOSED, START_BYTES, spell_closed};
+use crate::spelling::spell_closed;
 use crate::{Copied, Header, JournalError, Refused};
 use std::alloc::Global;
 use std::marker::Model;
 use tape_disk::Disk;
+use vtl_base::layout::{CAPACITY_BYTES, CLOSED, START_BYTES};
 use vtl_base::limits::MAX_SIDE;
 
 /// An open side on a disk. After a device fault the side has failed: nothing more is read or written until it is opened
@@ -75,7 +77,7 @@ impl<D: Disk> Journal<D> {
         ensures disk { Keeps (D.state disk) (D.state (disk_after result)) }
         ensures ok { IfOk result (λ journal. (journal.front ≡ plain (heading_of header))
             × (journal.bodies ≡ []) × (journal.extents ≡ []) × (journal.failed ≡ false)
-            × (journal.end ≡ 27 + 8 * length journal.front.head.heading.capacities)
+            × (journal.end ≡ START_BYTES + CAPACITY_BYTES * length journal.front.head.heading.capacities)
             × NoneFailed (D.state disk) (D.state journal.disk)) }
         ensures bytes { IfOk result (λ journal. (D.state disk).honest →
             (D.state journal.disk).seen ≡ spell journal.front [] ++ CLOSED ∷ []) }
@@ -99,7 +101,7 @@ impl<D: Disk> Journal<D> {
         ensures disk { Keeps (D.state disk) (D.state (disk_after result)) }
         ensures ok { IfOk result (λ journal. (journal.front ≡ plain (heading_of header))
             × (journal.bodies ≡ []) × (journal.extents ≡ []) × (journal.failed ≡ false)
-            × (journal.end ≡ 27 + 8 * length journal.front.head.heading.capacities)
+            × (journal.end ≡ START_BYTES + CAPACITY_BYTES * length journal.front.head.heading.capacities)
             × NoneFailed (D.state disk) (D.state journal.disk)) }
         ensures reserved { IfOk result (λ journal. frames ≤ journal.reserved_extents) }
         ensures bytes { IfOk result (λ journal. (D.state disk).honest →
@@ -121,7 +123,7 @@ impl<D: Disk> Journal<D> {
         };
         match write_new(&mut disk, &bytes) {
             Ok(()) => {
-                let end = START_BYTES as u64 + 8 * header.capacities.len() as u64;
+                let end = (START_BYTES + CAPACITY_BYTES * header.capacities.len()) as u64;
                 Ok(Journal {
                     disk,
                     header,

@@ -8,9 +8,11 @@ ghost use Rattle.gate_journal.specs.Answers.{Appended, Broke, IsFault, MatchWrit
 ghost use Rattle.gate_journal.specs.Crash.{WithOrWithout};
 ghost use Rattle.gate_journal.specs.Cuts.{CutsFirst};
 ghost use Rattle.gate_journal.specs.State.{room_behind};
+ghost use Rattle.vtl_base.specs.declared.layout.TheConstants.{FRAME_HEAD};
 
 use crate::{BodyParts, Frame, Journal, JournalError};
 use tape_disk::Disk;
+use vtl_base::layout::FRAME_HEAD;
 use vtl_base::limits::MAX_SIDE;
 
 impl<D: Disk> Journal<D> {
@@ -54,10 +56,10 @@ impl<D: Disk> Journal<D> {
             (Appended self.old self.new (length (followed frame.old.body (P.parts parts.now)))
             × NoneFailed (D.state self.old.disk) (D.state self.new.disk))
             ((self.old.failed ≡ false)
-            × (length (followed frame.old.body (P.parts parts.now)) + 5 ≤ room_behind self.old.end)
+            × (length (followed frame.old.body (P.parts parts.now)) + FRAME_HEAD ≤ room_behind self.old.end)
             × (self.old.reserved_extents ≡ 0) × (self.new ≡ self.old))
             ((self.old.failed ≡ false)
-            × (room_behind self.old.end < length (followed frame.old.body (P.parts parts.now)) + 5)
+            × (room_behind self.old.end < length (followed frame.old.body (P.parts parts.now)) + FRAME_HEAD)
             × (self.new ≡ self.old))
             (λ fault. Broke self.old self.new (length (followed frame.old.body (P.parts parts.now)))
             × IsFault fault (D.state self.old.disk) (D.state self.new.disk))
@@ -80,14 +82,14 @@ impl<D: Disk> Journal<D> {
             return Err(JournalError::Failed);
         }
         let size = frame.size_with(parts);
-        if u64::from(size) + 5 > MAX_SIDE.saturating_sub(self.end + 1) {
+        if u64::from(size) + FRAME_HEAD > MAX_SIDE.saturating_sub(self.end + 1) {
             return Err(JournalError::SideFull);
         }
         self.extents.reserve(1)?;
         match frame.write_behind(&mut self.disk, self.end, parts) {
             Ok(()) => {
-                self.extents.push_reserved((self.end + 5, size));
-                self.end += 5 + u64::from(size);
+                self.extents.push_reserved((self.end + FRAME_HEAD, size));
+                self.end += FRAME_HEAD + u64::from(size);
                 self.reserved_extents = self.reserved_extents.saturating_sub(1);
                 Ok(())
             }

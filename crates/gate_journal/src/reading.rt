@@ -8,22 +8,26 @@ ghost use Rattle.gate_journal.specs.Crash.{Unwritten};
 ghost use Rattle.gate_journal.specs.Reads.{OnlyOpenings, OnlyReads, SyncsFirst};
 ghost use Rattle.gate_journal.specs.Inner.Found.{FindsBytes, FindsParsed, FindsStart, FindsKind, FindsAsked, FindsMark, FindsFrames, FindsSide};
 ghost use Rattle.tape_disk.specs.Moments.{LeavesOnly};
+ghost use Rattle.vtl_base.specs.declared.layout.TheConstants.{START_BYTES};
 
 use crate::error::JournalError;
 use crate::fronts::{ParsedFront, base_in, copied_size, parse_front};
 use crate::header::{Header, SideKind};
-use crate::heads::{COPIED_BYTES, COPY_BIT, Copied};
-use crate::spelling::{HEADER_BYTES, OPEN, START_BYTES, name_in};
+use crate::heads::Copied;
+use crate::spelling::name_in;
 use byteorder::{BigEndian, ByteOrder};
 use std::alloc::{AllocError, Global};
 use tape_disk::Disk;
 use vtl_base::DevFault;
+use vtl_base::layout::{
+    BEGUN_BYTES, CAPACITY_BYTES, COPIED_BYTES, COPY_BIT, FRAME_HEAD, LONGEST_FRONT, OPEN, START_BYTES,
+};
 use vtl_base::limits::MAX_BODY;
 
 // The bytes of a front, before others, and how many they are.
 #[derive(Clone, Copy)]
 struct FrontBytes {
-    bytes: [u8; HEADER_BYTES],
+    bytes: [u8; LONGEST_FRONT],
     len: usize,
 }
 
@@ -156,10 +160,10 @@ fn read_bytes<D: Disk>(disk: &mut D) -> Result<FrontBytes, JournalError>
     if size < START_BYTES as u64 {
         return Err(JournalError::NotOurs);
     }
-    let mut bytes = [0; HEADER_BYTES];
+    let mut bytes = [0; LONGEST_FRONT];
     disk.read_at(0, &mut bytes[..START_BYTES])?;
-    let more = size_behind(bytes[10]);
-    if more > HEADER_BYTES - START_BYTES {
+    let more = size_behind(bytes[BEGUN_BYTES]);
+    if more > LONGEST_FRONT - START_BYTES {
         return Err(JournalError::NotOurs);
     }
     if size - (START_BYTES as u64) < more as u64 {
@@ -175,15 +179,15 @@ fn size_behind(count: u8) -> usize
     ensures { result ≡ size_behind count }
 {
     if count < COPY_BIT {
-        8 * count as usize
+        CAPACITY_BYTES * count as usize
     } else {
-        8 * (count - COPY_BIT) as usize + COPIED_BYTES
+        CAPACITY_BYTES * (count - COPY_BIT) as usize + COPIED_BYTES
     }
 }
 
 // The header in the bytes of a front, given what `parse_front` read from them.
 fn header_parsed(alloc: Global, bytes: &[u8], parsed: ParsedFront) -> Result<Header, AllocError>
-    requires some { 27 + copied_size parsed.copied ≤ parsed.size }
+    requires some { START_BYTES + copied_size parsed.copied ≤ parsed.size }
     requires inside { parsed.size ≤ length bytes.now }
     ensures { IfOk result (λ header. heading_of header ≡ heading_parsed parsed bytes.now) }
 {
@@ -201,9 +205,9 @@ fn numbers(alloc: Global, bytes: &[u8]) -> Result<Vec<u64>, AllocError>
 {
     let mut numbers = Vec::new(alloc);
     let mut rest = bytes;
-    while rest.len() >= 8 {
+    while rest.len() >= CAPACITY_BYTES {
         numbers.push(BigEndian::read_u64(rest))?;
-        rest = &rest[8..];
+        rest = &rest[CAPACITY_BYTES..];
     }
     Ok(numbers)
 }
@@ -224,7 +228,7 @@ pub(crate) fn read_mark<D: Disk>(
     ensures reads { OnlyReads D.effect disk.old disk.new }
     ensures answer { FindsMark result at len (D.state disk.old) (D.state disk.new) }
 {
-    if len - at < 5 {
+    if len - at < FRAME_HEAD {
         let mut gate = [0];
         disk.read_at(at, &mut gate)?;
         return if gate[0] == OPEN {
@@ -233,20 +237,20 @@ pub(crate) fn read_mark<D: Disk>(
             Ok(None)
         };
     }
-    let mut mark = [0; 5];
+    let mut mark = [0; FRAME_HEAD as usize];
     disk.read_at(at, &mut mark)?;
     if mark[0] != OPEN {
         return Ok(None);
     }
     let size = length_behind(&mark);
-    if size == 0 || size > MAX_BODY || u64::from(size) + 5 >= len - at {
+    if size == 0 || size > MAX_BODY || u64::from(size) + FRAME_HEAD >= len - at {
         return Err(JournalError::Damaged { at });
     }
     Ok(Some(size))
 }
 
 // The length after an open gate.
-fn length_behind(mark: &[u8; 5]) -> u32
+fn length_behind(mark: &[u8; FRAME_HEAD as usize]) -> u32
     requires { slice_index mark.now 0 ≡ OPEN }
     ensures { mark.now ≡ OPEN ∷ to_be_bytes w32 result }
 {
@@ -276,8 +280,8 @@ pub(crate) fn read_frames<D: Disk>(
     let mut at = start;
     while let Some(size) = read_mark(disk, at, len)? {
         extents.reserve(1)?;
-        extents.push_reserved((at + 5, size));
-        at += 5 + u64::from(size);
+        extents.push_reserved((at + FRAME_HEAD, size));
+        at += FRAME_HEAD + u64::from(size);
     }
     if extents.len() < base as usize {
         return Err(JournalError::Damaged { at });

@@ -33,41 +33,30 @@ ghost use Rattle.std.specs.Int.{to_be_bytes, w64};
 ghost use Rattle.vtl_base.specs.Limits.{is_capacity};
 ghost use Rattle.gate_journal.specs.Side.{CLOSED, OPEN, heading_of, plain, spell_front, start};
 ghost use Rattle.gate_journal.specs.Inner.Reading.{kind_by_letter, numbers_of};
+ghost use Rattle.vtl_base.specs.declared.limits.TheConstants.{MAX_PARTITIONS};
+ghost use Rattle.vtl_base.specs.declared.layout.TheConstants.{NAME_BYTES, NAME_PLACE, START_BYTES};
 
-use crate::header::{Header, NAME_BYTES, SideKind, is_capacity};
-use crate::heads::COPIED_BYTES;
+use crate::header::{Header, SideKind, is_capacity};
 use byteorder::{BigEndian, ByteOrder};
 use std::alloc::{AllocError, Global};
-use vtl_base::limits::MAX_PARTITIONS;
-
-/// An open gate.
-pub(crate) const OPEN: u8 = 0xa5;
-
-/// A closed gate, as it is written.
-pub(crate) const CLOSED: u8 = 0x00;
-
-/// How many bytes of a side stand before its head: its gate, the 8 bytes of its mark, and the pair gate.
-pub(crate) const BEGUN_BYTES: usize = 10;
-
-/// How many bytes of a front stand before the capacities.
-pub(crate) const START_BYTES: usize = 27;
-
-/// How many bytes the longest front has: that of a copy with 4 capacities.
-pub(crate) const HEADER_BYTES: usize = START_BYTES + 8 * MAX_PARTITIONS as usize + COPIED_BYTES;
+use vtl_base::layout::{
+    BEGUN_BYTES, CAPACITY_BYTES, CARTRIDGE_MARK, CLOSED, LETTER_PLACE, MARK_PLACE,
+    NAME_BYTES, NAME_PLACE, OPEN, PAIR_GATE, START_BYTES,
+};
 
 // The ten bytes at the start of a side of this kind, where its gate is open and its pair gate is this byte.
 pub(crate) fn start(kind: SideKind, pair: u8) -> [u8; BEGUN_BYTES]
     ensures { result ≡ start OPEN kind pair }
 {
     let mut bytes = [OPEN; BEGUN_BYTES];
-    bytes[1..9].copy_from_slice(kind.mark());
-    bytes[9] = pair;
+    bytes[MARK_PLACE..PAIR_GATE].copy_from_slice(kind.mark());
+    bytes[PAIR_GATE] = pair;
     bytes
 }
 
 // The bytes of the front of a side that is no copy and whose pair gate is closed.
 pub(crate) fn spell_header(alloc: Global, header: &Header) -> Result<Vec<u8>, AllocError>
-    requires { length header.now.capacities.items ≤ 4 }
+    requires { length header.now.capacities.items ≤ MAX_PARTITIONS }
     ensures { IfOk result (λ bytes. bytes.items ≡ spell_front (plain (heading_of header.now))) }
 {
     let mut bytes = Vec::new(alloc);
@@ -84,7 +73,7 @@ fn spell_capacities(bytes: &mut Vec<u8>, capacities: &[u64]) -> Result<(), Alloc
         bytes.new.items ≡ bytes.old.items ++ flat_map (to_be_bytes w64) capacities.now) }
 {
     for capacity in capacities {
-        let mut number = [0; 8];
+        let mut number = [0; CAPACITY_BYTES];
         BigEndian::write_u64(&mut number, *capacity);
         bytes.extend_from_slice(&number)?;
     }
@@ -93,7 +82,7 @@ fn spell_capacities(bytes: &mut Vec<u8>, capacities: &[u64]) -> Result<(), Alloc
 
 // The bytes that `spell_header` returns, but with the side's gate closed, and followed by a closed gate.
 pub(crate) fn spell_closed(alloc: Global, header: &Header) -> Result<Vec<u8>, AllocError>
-    requires { length header.now.capacities.items ≤ 4 }
+    requires { length header.now.capacities.items ≤ MAX_PARTITIONS }
     ensures { IfOk result (λ bytes.
         bytes.items ≡ CLOSED ∷ drop 1 (spell_front (plain (heading_of header.now))) ++ CLOSED ∷ []) }
 {
@@ -107,7 +96,7 @@ pub(crate) fn spell_closed(alloc: Global, header: &Header) -> Result<Vec<u8>, Al
 pub(crate) fn kind_by_letter(byte: u8) -> SideKind
     ensures { result ≡ kind_by_letter byte }
 {
-    if byte == b'C' {
+    if byte == CARTRIDGE_MARK[LETTER_PLACE - MARK_PLACE] {
         SideKind::Cartridge
     } else {
         SideKind::Store
@@ -116,11 +105,11 @@ pub(crate) fn kind_by_letter(byte: u8) -> SideKind
 
 // The name in the bytes of a front, which are at least 27.
 pub(crate) fn name_in(bytes: &[u8]) -> [u8; NAME_BYTES]
-    requires { 27 ≤ length bytes.now }
-    ensures { result ≡ take 16 (drop 11 bytes.now) }
+    requires { START_BYTES ≤ length bytes.now }
+    ensures { result ≡ take NAME_BYTES (drop NAME_PLACE bytes.now) }
 {
     let mut name = [0; NAME_BYTES];
-    name.copy_from_slice(&bytes[11..START_BYTES]);
+    name.copy_from_slice(&bytes[NAME_PLACE..START_BYTES]);
     name
 }
 
@@ -129,11 +118,11 @@ pub(crate) fn hold_capacities(bytes: &[u8]) -> bool
     ensures { IsTrue result ↔ All (λ bytes. IsTrue (is_capacity bytes)) (numbers_of bytes.now) }
 {
     let mut rest = bytes;
-    while rest.len() >= 8 {
+    while rest.len() >= CAPACITY_BYTES {
         if !is_capacity(BigEndian::read_u64(rest)) {
             return false;
         }
-        rest = &rest[8..];
+        rest = &rest[CAPACITY_BYTES..];
     }
     true
 }

@@ -1,5 +1,6 @@
 -- Where reservations are saved to outlive a loss of power, as a contract sees it.
 use Rattle.std.specs.Prelude.{◌≡◌, ◌<◌, ◌+◌, ◌*◌, ℕ, Option, None, Some, Result, Ok, Err, List, [], ◌∷◌, Bool, true, false, is_some, count_by}
+use Rattle.vtl_base.specs.declared.layout.TheConstants.{FRAME_HEAD, REGISTRATION_BYTES, STATE_HEAD}
 use Rattle.vtl_base.specs.Below.{Below}
 use Rattle.pr_core.specs.declared.states.PrState.{PrState}
 use Rattle.pr_core.specs.declared.keepers.KeeperError.{KeeperError}
@@ -18,7 +19,7 @@ pub record KeeperState : Type 0 where
 -- the bytes of a state in a store, as a frame of its own: 9 for gate, length, APTPL, type, holder and count, and 9 for
 -- each registration (own)
 abbrev pub state_frame_size : PrState → ℕ
-state_frame_size state = 9 + 9 * count_by is_some state.keys
+state_frame_size state = FRAME_HEAD + STATE_HEAD + REGISTRATION_BYTES * count_by is_some state.keys
 
 -- a state, as a frame of its own, exceeds the room (own)
 abbrev pub IsStoreFull : Option ℕ → PrState → Type 0

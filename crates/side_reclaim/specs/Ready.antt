@@ -1,5 +1,6 @@
 -- Two disks that are made ready for a copy.
 use Rattle.std.specs.Prelude.{◌≡◌, ℕ, List, drop}
+use Rattle.vtl_base.specs.declared.layout.TheConstants.{BEGUN_BYTES}
 use Rattle.tape_disk.specs.Disk.{DiskState, Only}
 use Rattle.tape_disk.specs.TwoDisks.{Images, TwoDisks, seen_of_two}
 use Rattle.gate_journal.specs.Heads.{Head}
@@ -32,7 +33,8 @@ module _ {D : Type 0} (state : D → DiskState) where
   -- the disks still give the side surely, and all bytes after the first ten of the side that counts stay (own)
   pub record StillGives (old new : TwoDisks D) (which : Which) (head : Head) (bodies : List (List ℕ)) : Type 0 where
     pub gives : GivesSurely new which head bodies
-    pub same : drop 10 (counting which (seen_of_two state new)) ≡ drop 10 (counting which (seen_of_two state old))
+    pub same : drop BEGUN_BYTES (counting which (seen_of_two state new))
+        ≡ drop BEGUN_BYTES (counting which (seen_of_two state old))
 
   -- where the first disk's pair gate is closed, the second disk is prepared (own)
   abbrev pub IsPreparedIfShut : TwoDisks D → Type 0

@@ -5,9 +5,10 @@ ghost use Rattle.tape_disk.specs.Moments.{LeavesOnly};
 ghost use Rattle.gate_journal.specs.Heads.{Head};
 ghost use Rattle.gate_journal.specs.Side.{IsHeading, heading_of};
 ghost use Rattle.cartridge_sides.specs.declared.which.Which.{Which};
-ghost use Rattle.cartridge_sides.specs.declared.copying.TheConstants.{COPY_BODY};
+ghost use Rattle.vtl_base.specs.declared.limits.TheConstants.{COPY_BODY};
 ghost use Rattle.cartridge_sides.specs.Copying.{NotCopied};
 ghost use Rattle.side_reclaim.specs.Taking.{HasTaken, MayTake, WithOrWithoutCopy};
+ghost use Rattle.vtl_base.specs.declared.layout.TheConstants.{FRAME_HEAD};
 
 use cartridge_sides::{GivesBodies, open_copy, write_copy};
 use gate_journal::{Copied, Header};
@@ -26,7 +27,7 @@ pub fn copy_over<D: Disk, S: GivesBodies>(
     buffer: &mut Vec<u8>,
 ) -> Result<(), DevFault>
     requires header { IsHeading (heading_of header.now) }
-    requires room { COPY_BODY + 5 ≤ vec_capacity buffer.old }
+    requires room { COPY_BODY + FRAME_HEAD ≤ vec_capacity buffer.old }
     ensures disk { Keeps (D.state spare.old) (D.state spare.new) }
     ensures ok { OnOk result ((copies : List (List ℕ)) × HasTaken S.gives header.now copied copies
         source.old source.new (D.state spare.old) (D.state spare.new)) }

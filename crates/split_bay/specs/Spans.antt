@@ -2,10 +2,11 @@
 use Rattle.std.specs.Prelude.{◌≡◌, ◌≤◌, ◌+◌, ◌++◌, ℕ, List, [], ◌∷◌, length, map, sum_by, false, not, ◌&&◌, Option, None, Some, refl}
 use Rattle.std.proofs.Common.{sym, ◌∙◌, append_assoc}
 use Rattle.std.proofs.lemmas.List.{append-nil}
+use Rattle.vtl_base.specs.declared.layout.TheConstants.{FRAMED_HEAD}
 use Rattle.volume_core.specs.declared.changes.Change.{Change}
 use Rattle.volume_core.specs.Volume.{AllApply, Part, after, changed}
 use Rattle.volume_core.specs.Medium.{MediumState, block_bytes, frame_size, volume_of}
-use Rattle.split_bay.specs.declared.items.TheConstants.{RING_RECORDS}
+use Rattle.vtl_base.specs.declared.limits.TheConstants.{RING_RECORDS}
 use Rattle.split_bay.specs.declared.items.Item.{Item}
 use Rattle.split_bay.specs.declared.items.Item.TheVariants.{Begins, Sent}
 use Rattle.split_bay.specs.Beginnings.{Beginning, nothing_begins}
@@ -78,7 +79,7 @@ pub record KeepsLimits (span : Span) : Type 0 where
 pub record TakesMore (span : Span) (bytes : ℕ) : Type 0 where
   pub few : length span.since + 1 ≤ span.begin.left
   pub short : sum_by block_bytes span.since + bytes ≤ span.begin.bytes
-  pub fits : sum_by frame_size span.since + (15 + bytes) ≤ span.begin.room
+  pub fits : sum_by frame_size span.since + (FRAMED_HEAD + bytes) ≤ span.begin.room
 
 -- with an item the span keeps its limits (own)
 abbrev pub MayFollow : List Item → Item → Type 0

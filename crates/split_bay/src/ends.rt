@@ -4,18 +4,19 @@ ghost use mathlib.Core.List.{IsPrefix};
 ghost use Rattle.rtrb.specs.Ring.{known_items, producer_capacity, received, sent};
 ghost use Rattle.volume_core.specs.Medium.{block_bytes};
 ghost use Rattle.volume_core.specs.Volume.{refusal_of};
-ghost use Rattle.split_bay.specs.declared.items.TheConstants.{RING_RECORDS};
+ghost use Rattle.vtl_base.specs.declared.limits.TheConstants.{RING_RECORDS};
 ghost use Rattle.split_bay.specs.declared.items.Item.TheVariants as Items;
 ghost use Rattle.split_bay.specs.Rings.{ReceivesFrom, SendsInto};
 ghost use Rattle.split_bay.specs.Spans.{IsChangeFirst, KeepsLimits, NoChangeFirst, TakesMore, span_of, volume_seen};
 
-use crate::items::{Item, RING_RECORDS};
+use crate::items::Item;
 use crate::protocol::InSpans;
 use rtrb::{Consumer, Producer};
 use std::alloc::Global;
 use std::marker::{Brand, Model, PhantomData};
 use volume_core::Change;
 use vtl_base::DriveNo;
+use vtl_base::layout::FRAMED_HEAD;
 
 /// The ring of each drive, by the drive's number. One implementation names the rings of all drives, so all bays have
 /// the same type.
@@ -50,7 +51,7 @@ pub struct Sending<R: Rings> {
 impl<R: Rings> Model for Sending<R> {
     ghost use Rattle.std.specs.Prelude.{◌≡◌, ◌≤◌};
     ghost use Rattle.rtrb.specs.Ring.{known_free, producer_capacity, sent};
-    ghost use Rattle.split_bay.specs.declared.items.TheConstants.{RING_RECORDS};
+    ghost use Rattle.vtl_base.specs.declared.limits.TheConstants.{RING_RECORDS};
     ghost use Rattle.split_bay.specs.Rings.{IsCounted, SendingState, SendsInto};
 
     ghost Value = { SendingState };
@@ -128,7 +129,7 @@ impl<R: Rings> Sending<R> {
     {
         let size = change.frame_size();
         self.left -= 1;
-        self.bytes -= size - 15;
+        self.bytes -= size - FRAMED_HEAD;
         self.room -= size;
         self.producer.push_reserved(Item::Sent(change));
     }

@@ -2,10 +2,6 @@
 use crate::noted::NotedBeginning;
 use volume_core::Change;
 
-/// The number of places in a drive's ring. At most this many changes may be sent before the halves are joined and split
-/// again, which allocates memory for more changes.
-pub const RING_RECORDS: usize = 256;
-
 /// What the hosts' half of a bay sends to the disk's half.
 #[derive(Drop)]
 pub enum Item {

@@ -1,6 +1,6 @@
 //! Steps that need both ends of a ring.
 ghost use Rattle.std.specs.Prelude.{◌≡◌, ◌≤◌, ◌↔◌, ◌++◌, [], ◌∷◌, IsTrue};
-ghost use Rattle.split_bay.specs.declared.items.TheConstants.{RING_RECORDS};
+ghost use Rattle.vtl_base.specs.declared.limits.TheConstants.{RING_RECORDS};
 ghost use Rattle.split_bay.specs.declared.items.Item.TheVariants as Items;
 ghost use Rattle.split_bay.specs.Rings.{AreEnds};
 ghost use Rattle.split_bay.specs.Spans.{spans_in};

@@ -18,6 +18,6 @@ pub use backs::Back;
 pub use ends::{Receiving, Rings, Sending};
 pub use fronts::Front;
 pub use halves::{execute_both, make_room, settle_both, tell};
-pub use items::{Item, RING_RECORDS};
+pub use items::Item;
 pub use new_rings::NewRing;
 pub use wholes::{Ends, join, part};

@@ -2,12 +2,13 @@
 ghost use Rattle.std.specs.Prelude.{◌≡◌, [], Some};
 
 use crate::ends::{Receiving, Rings, Sending};
-use crate::items::{Item, RING_RECORDS};
+use crate::items::Item;
 use crate::protocol::InSpans;
 use crate::wholes::Ends;
 use rtrb::{Consumer, Producer, RingBuffer};
 use std::alloc::Global;
 use std::marker::Model;
+use vtl_base::limits::RING_RECORDS;
 use vtl_base::{DriveNo, NoMemory};
 
 /// A ring of 256 places into which nothing was sent yet. Contracts see a ring as its sending end.
@@ -20,7 +21,7 @@ pub struct NewRing {
 impl Model for NewRing {
     ghost use Rattle.std.specs.Prelude.{◌≡◌, []};
     ghost use Rattle.rtrb.specs.Ring.{IsPair, producer_capacity, received, sent};
-    ghost use Rattle.split_bay.specs.declared.items.TheConstants.{RING_RECORDS};
+    ghost use Rattle.vtl_base.specs.declared.limits.TheConstants.{RING_RECORDS};
     ghost use Rattle.split_bay.specs.Rings.{Sender};
 
     ghost Value = { Sender };

@@ -3,6 +3,7 @@ use Rattle.std.specs.Prelude.{◌≡◌, ◌⊎◌, ◌≤◌, ◌<◌, ◌+◌,
 use Rattle.std.proofs.Common.{ap, sym, subst, ◌∙◌, arith, append_assoc, length-append}
 use Rattle.std.proofs.lemmas.List.{append-nil}
 use Rattle.std.proofs.lemmas.List.Sums.{sum_by-append}
+use Rattle.vtl_base.specs.declared.layout.TheConstants.{FRAMED_HEAD}
 use Rattle.vtl_base.specs.declared.limits.TheConstants.{BUFFER_BYTES, BUFFER_RECORDS}
 use Rattle.volume_core.specs.declared.changes.Change.{Change}
 use Rattle.volume_core.specs.declared.media.MediumError.{MediumError}
@@ -30,7 +31,7 @@ loose_in (Some change) = change ∷ []
 
 -- one change more is within the budget, whose block has so many bytes, 0 for a change with no block (own)
 abbrev pub takes_one : Budget → ℕ → Bool
-takes_one left bytes = nat_lt 0 left.records && (nat_le bytes left.bytes && nat_le (15 + bytes) left.room)
+takes_one left bytes = nat_lt 0 left.records && (nat_le bytes left.bytes && nat_le (FRAMED_HEAD + bytes) left.room)
 
 -- the same, once what was accepted before was passed on (own)
 abbrev pub takes_loose : Budget → List Change → ℕ → Bool

@@ -1,5 +1,6 @@
 -- How many changes a medium may take without memory and without its device, and what is then pending.
 use Rattle.std.specs.Prelude.{◌≡◌, ◌⊎◌, ◌+◌, ◌*◌, ℕ, List, true, false, length, sum_by}
+use Rattle.vtl_base.specs.declared.layout.TheConstants.{RECORD_HEAD}
 use Rattle.vtl_base.specs.declared.limits.TheConstants.{BUFFER_BYTES, BUFFER_RECORDS}
 use Rattle.volume_core.specs.declared.changes.Change.{Change}
 use Rattle.volume_core.specs.Medium.{block_bytes, frame_size}
@@ -17,7 +18,7 @@ pub record DisksState (D : Type 0) : Type 0 where
 
 -- the bytes of the longest body of what is pending (own)
 abbrev pub longest_body : ℕ
-longest_body = BUFFER_BYTES + 10 * BUFFER_RECORDS
+longest_body = BUFFER_BYTES + RECORD_HEAD * BUFFER_RECORDS
 
 module _ {D : Type 0} where
   -- How many records a medium may take: as many as its buffer, if it works; or none, since it has failed, or since

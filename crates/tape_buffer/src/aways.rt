@@ -11,6 +11,7 @@ ghost use Rattle.tape_buffer.specs.Limits.{FitsBuffer};
 ghost use Rattle.tape_buffer.specs.Moves.{IsHere};
 ghost use Rattle.tape_buffer.specs.State.{state_of};
 ghost use Rattle.tape_buffer.specs.declared.budgets.Budget.{Budget};
+ghost use Rattle.vtl_base.specs.declared.limits.TheConstants.{BUFFER_RECORDS};
 
 use crate::budgets::Budget;
 use crate::holding::{Holding, known_in};
@@ -22,6 +23,7 @@ use object_index::Index;
 use std::marker::Model;
 use tape_disk::Disk;
 use volume_core::{Change, MediumError, NotAccepted};
+use vtl_base::layout::FRAMED_HEAD;
 
 /// The kind of note that says how hosts see a medium. No value of this type is made.
 pub struct SeenNote {}
@@ -61,14 +63,14 @@ impl Away {
             return false;
         }
         let bytes = bytes as u64;
-        self.left.records > 0 && bytes <= self.left.bytes && 15 + bytes <= self.left.room
+        self.left.records > 0 && bytes <= self.left.bytes && FRAMED_HEAD + bytes <= self.left.room
     }
 
     // Keeps a change that was accepted, until it is passed on.
     fn keep(&mut self, change: Change)
         requires loose { self.old.loose ≡ None }
         requires within { KeepsBudget self.old.left (change ∷ []) }
-        requires few { self.old.waiting ≤ 256 }
+        requires few { self.old.waiting ≤ BUFFER_RECORDS }
         ensures { self.new ≡ record {
           noted = seen_with self.old.noted (change ∷ []);
           failed = self.old.failed;

@@ -22,10 +22,11 @@ use crate::pending::{Pending, block_bytes};
 use cartridge::{Cartridge, Shelved};
 use tape_disk::Disk;
 use volume_core::Change;
+use vtl_base::layout::RECORD_HEAD;
 use vtl_base::limits::{BUFFER_BYTES, BUFFER_RECORDS};
 
 // The bytes of the longest body of what is pending: of all records that may be, with all their bytes.
-const LONGEST_BODY: usize = BUFFER_BYTES + 10 * BUFFER_RECORDS;
+const LONGEST_BODY: usize = BUFFER_BYTES + RECORD_HEAD * BUFFER_RECORDS;
 
 // How much may be accepted over what is held, once memory is reserved for it.
 pub(crate) fn allow<D: Disk>(held: &mut Holding<(Cartridge<D>, Pending), Shelved<D>>) -> Budget

@@ -19,6 +19,7 @@ use crate::storing::{settle_over, turn_over};
 use std::mem;
 use tape_disk::Disk;
 use volume_core::{Change, Medium, MediumError, NotAccepted, Turn};
+use vtl_base::layout::FRAMED_HEAD;
 use vtl_base::{ObjNo, PartNo};
 
 impl<D: Disk> Medium for Buffered<D> {
@@ -168,9 +169,9 @@ impl<D: Disk> Medium for Buffered<D> {
     fn has_room_for(&self, bytes: u32) -> bool {
         match &self.held {
             Holding::Open((cartridge, pending)) => {
-                has_room_over(cartridge, pending, 15 + bytes as u64)
+                has_room_over(cartridge, pending, FRAMED_HEAD + bytes as u64)
             }
-            Holding::Away(away) => 15 + bytes as u64 <= away.left.room,
+            Holding::Away(away) => FRAMED_HEAD + bytes as u64 <= away.left.room,
             Holding::Closed(_) => unreachable!(),
         }
     }

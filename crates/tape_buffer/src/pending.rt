@@ -4,11 +4,13 @@ ghost use Rattle.vtl_base.specs.declared.limits.TheConstants.{BUFFER_BYTES, MAX_
 ghost use Rattle.volume_core.specs.Medium.{block_bytes, frame_size};
 ghost use Rattle.change_records.specs.Records.{spell_all};
 ghost use Rattle.tape_buffer.specs.Limits.{FitsBuffer};
+ghost use Rattle.vtl_base.specs.declared.layout.TheConstants.{FRAME_HEAD};
 
 use std::alloc::Global;
 use std::marker::Model;
 use volume_core::Change;
 use vtl_base::NoMemory;
+use vtl_base::layout::{FRAMED_HEAD, RECORD_HEAD};
 use vtl_base::limits::{BUFFER_BYTES, BUFFER_RECORDS};
 
 /// Pending changes, in order: at most 256, whose blocks have at most 4,194,304 bytes in all (own). There is memory for
@@ -98,7 +100,7 @@ impl Pending {
     pub(crate) fn frame_bytes(&self) -> u64
         ensures { result ≡ sum_by frame_size self.now }
     {
-        15 * self.changes.len() as u64 + self.bytes
+        FRAMED_HEAD * self.changes.len() as u64 + self.bytes
     }
 
     /// How many bytes the blocks of further changes may have in all.
@@ -111,9 +113,9 @@ impl Pending {
     /// The length in bytes of the body of one frame with all pending changes.
     pub(crate) fn body_bytes(&self) -> usize
         ensures value { result ≡ length (spell_all self.now) }
-        ensures bound { result + 5 ≤ MAX_BODY }
+        ensures bound { result + FRAME_HEAD ≤ MAX_BODY }
     {
-        10 * self.changes.len() + self.bytes as usize
+        RECORD_HEAD * self.changes.len() + self.bytes as usize
     }
 
     /// Adds a change after the others. With it, the changes must still be within the limits. Allocates nothing.

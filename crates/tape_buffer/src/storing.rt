@@ -17,6 +17,7 @@ use cartridge::{Cartridge, CartridgeError};
 use tape_disk::Disk;
 use volume_core::{Change, MediumError, Turn};
 use vtl_base::NoMemory;
+use vtl_base::layout::FRAME_HEAD;
 
 // Stores these changes, which are all that is pending over an open cartridge. It takes no memory. At Ok none of them is
 // pending any more.
@@ -128,7 +129,7 @@ pub(crate) fn reserve_over<D: Disk>(
     ensures ok { OnOk result (IsReservedFor cartridge.new.reserved (pending.now ++ change.now ∷ [])) }
     ensures lacks { OnErr result (LacksOneMore cartridge.old.reserved pending.now change.now) }
 {
-    let body = pending.body_bytes() + change.frame_size() as usize - 5;
+    let body = pending.body_bytes() + change.frame_size() as usize - FRAME_HEAD as usize;
     match cartridge.reserve(change.part(), body, pending.len() + 1) {
         Ok(()) => Ok(()),
         Err(_) => Err(NoMemory),

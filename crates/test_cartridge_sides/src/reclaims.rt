@@ -1,6 +1,5 @@
 //! The passes of a reclaim, one after another.
 use crate::rows::BODY;
-use cartridge_sides::copying::COPY_BODY;
 use cartridge_sides::{
     Counted, GivesBodies, Which, choose, close_spare, open_copy, open_pair, prepare_pair,
     write_copy,
@@ -9,6 +8,7 @@ use gate_journal::{Copied, Header, SideKind};
 use std::alloc::Global;
 use tape_disk::Disk;
 use vtl_base::DevFault;
+use vtl_base::limits::COPY_BODY;
 
 /// The fault of a source that has no body left.
 pub const NONE_LEFT: DevFault = DevFault { failures: 9 };

@@ -9,7 +9,7 @@ use Rattle.std.proofs.lemmas.List.Sums.{sum_by-append}
 use Rattle.volume_core.specs.declared.changes.Change.{Change}
 use Rattle.change_records.specs.Records.{spell_all, spell_change}
 use Rattle.volume_copy.specs.declared.entries.Entry.{Entry}
-use Rattle.volume_copy.specs.declared.totals.TheConstants.{FRAME_BODY}
+use Rattle.vtl_base.specs.declared.limits.TheConstants.{COPY_BODY}
 use Rattle.volume_copy.specs.Entries.{entry_size}
 use Rattle.volume_copy.specs.Frames.{NoMoreFits}
 use Rattle.volume_copy.specs.Inner.SoFar.{HasSpelled}
@@ -66,7 +66,7 @@ module _ (honest : Type 0) (lies : List ℕ → ℕ → Type 0) where
 
   -- no more entry fits
   pub frame_done : (items rest : List Entry) (old now : List ℕ) (count : ℕ)
-      → HasSpelled honest lies items rest old now count → items ≢ [] → All FitsFrame rest → count ≤ FRAME_BODY
+      → HasSpelled honest lies items rest old now count → items ≢ [] → All FitsFrame rest → count ≤ COPY_BODY
       → NoMoreFits entry_size count rest
       → (frame : List Entry) × (body : List ℕ) × (now ≡ old ++ body)
       × SpellsFrame honest lies frame rest items body

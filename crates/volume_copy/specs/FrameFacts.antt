@@ -9,7 +9,7 @@ use Rattle.std.proofs.lemmas.List.Sums.{sum_by-cons}
 use Rattle.volume_core.specs.declared.changes.Change.{Change}
 use Rattle.change_records.specs.Records.{size_of}
 use Rattle.volume_copy.specs.declared.entries.Entry.{Entry}
-use Rattle.volume_copy.specs.declared.totals.TheConstants.{FRAME_BODY}
+use Rattle.vtl_base.specs.declared.limits.TheConstants.{COPY_BODY}
 use Rattle.volume_copy.specs.Entries.{entry_size}
 use Rattle.volume_copy.specs.Frames.{ArePackedInto, IsFirstFrame, NoMoreFits, change_size, frames_behind, frames_by, frames_of, in_front}
 use Rattle.volume_copy.specs.Matching.{AllFramesMatch, AllMatch, Matches, all_by}
@@ -20,26 +20,26 @@ module _ {A : Type 0} (size : A → ℕ) where
   abbrev pub more_frames : ℕ → List A → ℕ
   more_frames bytes [] = 0
   more_frames bytes (item ∷ items) =
-      if nat_le (bytes + size item) FRAME_BODY then more_frames (bytes + size item) items
+      if nat_le (bytes + size item) COPY_BODY then more_frames (bytes + size item) items
       else suc (more_frames (size item) items)
 
   -- the next one fits
-  goes_in : (bytes : ℕ) (item : A) (items : List A) → bytes + size item ≤ FRAME_BODY
+  goes_in : (bytes : ℕ) (item : A) (items : List A) → bytes + size item ≤ COPY_BODY
       → frames_behind size bytes (item ∷ items) ≡ in_front size item (frames_behind size (bytes + size item) items)
   goes_in bytes item items fits =
       ap (λ (b : Bool). if b then in_front size item (frames_behind size (bytes + size item) items)
       else ([] ∷ in_front size item (frames_behind size (size item) items)))
-      (le-leb (bytes + size item) FRAME_BODY fits)
+      (le-leb (bytes + size item) COPY_BODY fits)
 
   -- the next one does not fit
-  stays_out : (bytes : ℕ) (item : A) (items : List A) → FRAME_BODY < bytes + size item
+  stays_out : (bytes : ℕ) (item : A) (items : List A) → COPY_BODY < bytes + size item
       → frames_behind size bytes (item ∷ items) ≡ [] ∷ frames_by size (item ∷ items)
   stays_out bytes item items passes =
       ap (λ (b : Bool). if b then in_front size item (frames_behind size (bytes + size item) items)
       else ([] ∷ in_front size item (frames_behind size (size item) items)))
-      (lt-leb (bytes + size item) FRAME_BODY passes)
+      (lt-leb (bytes + size item) COPY_BODY passes)
 
-  rest_begins : (bytes : ℕ) (frame rest : List A) → bytes + sum_by size frame ≤ FRAME_BODY
+  rest_begins : (bytes : ℕ) (frame rest : List A) → bytes + sum_by size frame ≤ COPY_BODY
       → NoMoreFits size (bytes + sum_by size frame) rest
       → frames_behind size bytes (frame ++ rest) ≡ frame ∷ frames_by size rest
   rest_begins bytes [] [] fits full = refl
@@ -76,7 +76,7 @@ module _ {A : Type 0} (size : A → ℕ) where
     rest : List A
     frames_are : frames_behind size bytes items ≡ frame ∷ frames_by size rest
     whole : items ≡ frame ++ rest
-    fits : bytes + sum_by size frame ≤ FRAME_BODY
+    fits : bytes + sum_by size frame ≤ COPY_BODY
     full : NoMoreFits size (bytes + sum_by size frame) rest
     packed : ArePackedInto size rest (frames_by size rest)
 
@@ -96,7 +96,7 @@ module _ {A : Type 0} (size : A → ℕ) where
         behind.packed,
       )
 
-  split : (bytes : ℕ) (items : List A) → bytes ≤ FRAME_BODY → All (λ item. size item ≤ FRAME_BODY) items
+  split : (bytes : ℕ) (items : List A) → bytes ≤ COPY_BODY → All (λ item. size item ≤ COPY_BODY) items
       → Splits bytes items
   split bytes [] fits each =
       record {
@@ -109,15 +109,15 @@ module _ {A : Type 0} (size : A → ℕ) where
         packed = refl;
       }
   split bytes (item ∷ items) fits each =
-      by (λ n low. split n items low (All-tail (λ item. size item ≤ FRAME_BODY) item items each))
-      (leb_tells (bytes + size item) FRAME_BODY)
+      by (λ n low. split n items low (All-tail (λ item. size item ≤ COPY_BODY) item items each))
+      (leb_tells (bytes + size item) COPY_BODY)
     where
-      one : size item ≤ FRAME_BODY
-      one = All-head (λ item. size item ≤ FRAME_BODY) item items each
+      one : size item ≤ COPY_BODY
+      one = All-head (λ item. size item ≤ COPY_BODY) item items each
 
-      by : ((n : ℕ) → n ≤ FRAME_BODY → Splits n items)
-          → ((nat_le (bytes + size item) FRAME_BODY ≡ true) × (bytes + size item ≤ FRAME_BODY))
-          ⊎ ((nat_le (bytes + size item) FRAME_BODY ≡ false) × (FRAME_BODY < bytes + size item))
+      by : ((n : ℕ) → n ≤ COPY_BODY → Splits n items)
+          → ((nat_le (bytes + size item) COPY_BODY ≡ true) × (bytes + size item ≤ COPY_BODY))
+          ⊎ ((nat_le (bytes + size item) COPY_BODY ≡ false) × (COPY_BODY < bytes + size item))
           → Splits bytes (item ∷ items)
       by behind_of (inl here) =
           let behind = behind_of (bytes + size item) here.1 in
@@ -145,12 +145,12 @@ module _ {A : Type 0} (size : A → ℕ) where
           }
 
   -- items that each fit a frame are packed into frames
-  pub are_packed : (items : List A) → All (λ item. size item ≤ FRAME_BODY) items
+  pub are_packed : (items : List A) → All (λ item. size item ≤ COPY_BODY) items
       → ArePackedInto size items (frames_by size items)
   are_packed [] each = refl
   are_packed (item ∷ items) each =
-      begun item items (split (size item) items (All-head (λ item. size item ≤ FRAME_BODY) item items each)
-      (All-tail (λ item. size item ≤ FRAME_BODY) item items each))
+      begun item items (split (size item) items (All-head (λ item. size item ≤ COPY_BODY) item items each)
+      (All-tail (λ item. size item ≤ COPY_BODY) item items each))
 
   -- the frames, one after another, are the items
   pub frames_whole : (items : List A) (frames : List (List A)) → ArePackedInto size items frames
@@ -161,10 +161,10 @@ module _ {A : Type 0} (size : A → ℕ) where
 
   -- no frame is empty, and each fits
   pub frames_fit : (items : List A) (frames : List (List A)) → ArePackedInto size items frames
-      → All (λ frame. (1 ≤ length frame) × (sum_by size frame ≤ FRAME_BODY)) frames
-  frames_fit items [] packed = All-nil (λ frame. (1 ≤ length frame) × (sum_by size frame ≤ FRAME_BODY))
+      → All (λ frame. (1 ≤ length frame) × (sum_by size frame ≤ COPY_BODY)) frames
+  frames_fit items [] packed = All-nil (λ frame. (1 ≤ length frame) × (sum_by size frame ≤ COPY_BODY))
   frames_fit items (frame ∷ frames) packed =
-      All-cons (λ frame. (1 ≤ length frame) × (sum_by size frame ≤ FRAME_BODY)) frame frames
+      All-cons (λ frame. (1 ≤ length frame) × (sum_by size frame ≤ COPY_BODY)) frame frames
       (packed.1.some, packed.1.fits) (frames_fit packed.0 frames packed.2)
 
   length_front : (item : A) (frames : List (List A)) (n : ℕ) → length frames ≡ suc n
@@ -177,7 +177,7 @@ module _ {A : Type 0} (size : A → ℕ) where
       → length (frames_behind size bytes items) ≡ suc (more_frames bytes items)
   frames_counted bytes [] = refl
   frames_counted bytes (item ∷ items) =
-      by (λ n. frames_counted n items) (nat_le (bytes + size item) FRAME_BODY)
+      by (λ n. frames_counted n items) (nat_le (bytes + size item) COPY_BODY)
     where
       by : ((n : ℕ) → length (frames_behind size n items) ≡ suc (more_frames n items)) → (b : Bool)
           → length (if b then in_front size item (frames_behind size (bytes + size item) items)
@@ -193,19 +193,19 @@ module _ {A : Type 0} (size : A → ℕ) where
 
   -- how many frames there are
   pub all_counted : (items : List A) → All (λ item. 1 ≤ size item) items
-      → more_frames FRAME_BODY items ≡ length (frames_by size items)
+      → more_frames COPY_BODY items ≡ length (frames_by size items)
   all_counted [] each = refl
   all_counted (item ∷ items) each =
       let one = All-head (λ item. 1 ≤ size item) item items each in
-      ap (λ (b : Bool). if b then more_frames (FRAME_BODY + size item) items else suc (more_frames (size item) items))
-      (lt-leb (FRAME_BODY + size item) FRAME_BODY (omega arith))
+      ap (λ (b : Bool). if b then more_frames (COPY_BODY + size item) items else suc (more_frames (size item) items))
+      (lt-leb (COPY_BODY + size item) COPY_BODY (omega arith))
       ∙ sym (length_front item (frames_behind size (size item) items) (more_frames (size item) items)
       (frames_counted (size item) items))
 
   -- at most as many as there are items
   pub frames_few : (bytes : ℕ) (items : List A) → more_frames bytes items ≤ length items
   frames_few bytes [] = omega arith
-  frames_few bytes (item ∷ items) = by (λ n. frames_few n items) (nat_le (bytes + size item) FRAME_BODY)
+  frames_few bytes (item ∷ items) = by (λ n. frames_few n items) (nat_le (bytes + size item) COPY_BODY)
     where
       by : ((n : ℕ) → more_frames n items ≤ length items) → (b : Bool)
           → (if b then more_frames (bytes + size item) items else suc (more_frames (size item) items))
@@ -234,11 +234,11 @@ module _ (P : List ℕ → ℕ → Type 0) where
   match_behind bytes (change ∷ changes) [] match = absurd match
   match_behind bytes (change ∷ changes) (entry ∷ entries) match =
       subst (λ (n : ℕ). AllFramesMatch P
-      (if nat_le (bytes + n) FRAME_BODY then in_front change_size change (frames_behind change_size (bytes + n) changes)
+      (if nat_le (bytes + n) COPY_BODY then in_front change_size change (frames_behind change_size (bytes + n) changes)
       else ([] ∷ in_front change_size change (frames_behind change_size n changes)))
       (frames_behind entry_size bytes (entry ∷ entries)))
       (sym (same_size change entry match.0))
-      (by (λ n. match_behind n changes entries match.1) (nat_le (bytes + entry_size entry) FRAME_BODY))
+      (by (λ n. match_behind n changes entries match.1) (nat_le (bytes + entry_size entry) COPY_BODY))
     where
       by : ((n : ℕ) → AllFramesMatch P (frames_behind change_size n changes) (frames_behind entry_size n entries))
           → (b : Bool) → AllFramesMatch P

@@ -2,21 +2,21 @@
 use Rattle.std.specs.Prelude.{◌≡◌, ◌≤◌, ◌<◌, ◌+◌, ℕ, List, [], ◌∷◌, ◌++◌, length, sum_by, nat_le, if◌then◌else◌}
 use Rattle.volume_core.specs.declared.changes.Change.{Change}
 use Rattle.change_records.specs.Records.{record_of, size_of}
-use Rattle.volume_copy.specs.declared.totals.TheConstants.{FRAME_BODY}
+use Rattle.vtl_base.specs.declared.limits.TheConstants.{COPY_BODY}
 
 -- for a size of each item in bytes
 module _ {A : Type 0} (size : A → ℕ) where
   -- the first of these items does not fit after these bytes of a frame, or there is none (own)
   abbrev pub NoMoreFits : ℕ → List A → Type 0
   NoMoreFits bytes [] = Unit {0}
-  NoMoreFits bytes (item ∷ items) = FRAME_BODY < bytes + size item
+  NoMoreFits bytes (item ∷ items) = COPY_BODY < bytes + size item
 
   -- A frame of the first of these items, and the rest. It is not empty, has at most 4,194,304 bytes, and would have
   -- more with the next item (own).
   pub record IsFirstFrame (frame rest items : List A) : Type 0 where
     pub whole : items ≡ frame ++ rest
     pub some : 1 ≤ length frame
-    pub fits : sum_by size frame ≤ FRAME_BODY
+    pub fits : sum_by size frame ≤ COPY_BODY
     pub full : NoMoreFits (sum_by size frame) rest
 
   -- these are packed into these frames (own)
@@ -34,7 +34,7 @@ module _ {A : Type 0} (size : A → ℕ) where
   abbrev pub frames_behind : ℕ → List A → List (List A)
   frames_behind bytes [] = [] ∷ []
   frames_behind bytes (item ∷ items) =
-      if nat_le (bytes + size item) FRAME_BODY then in_front item (frames_behind (bytes + size item) items)
+      if nat_le (bytes + size item) COPY_BODY then in_front item (frames_behind (bytes + size item) items)
       else ([] ∷ in_front item (frames_behind (size item) items))
 
   -- the frames of these items (own)

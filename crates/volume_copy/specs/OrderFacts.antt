@@ -13,7 +13,7 @@ use Rattle.volume_core.specs.declared.changes.Change.TheVariants.{Put, Marks, Er
 use Rattle.volume_core.specs.Volume.{IsObject, IsPart, IsVolume, Part, part_of}
 use Rattle.change_records.specs.Inner.Spelled.{length-spell}
 use Rattle.change_records.specs.Records.{IsRecord, spell_all, spell_change}
-use Rattle.volume_copy.specs.declared.totals.TheConstants.{FRAME_BODY}
+use Rattle.vtl_base.specs.declared.limits.TheConstants.{COPY_BODY}
 use Rattle.volume_copy.specs.Copies.{AreApart, IsApartFrom, NoRunIsCut, copy_objects, copy_of, copy_parts, marks_change}
 use Rattle.volume_copy.specs.Frames.{change_size}
 
@@ -132,7 +132,7 @@ pub copy_spelled : (volume : List Part) → IsVolume volume → All IsRecord (co
 copy_spelled volume is = parts_spelled 0 volume (omega (arith, is.few)) is.each
 
 -- a change that has a spelling has at least one byte, and fits a frame
-pub record_fits : (change : Change) → IsRecord change → (1 ≤ change_size change) × (change_size change ≤ FRAME_BODY)
+pub record_fits : (change : Change) → IsRecord change → (1 ≤ change_size change) × (change_size change ≤ COPY_BODY)
 record_fits (Put part at block) is = (omega arith, omega (arith, is.2))
 record_fits (Marks part at count) is = (omega arith, omega arith)
 record_fits (Erase part at) is = (omega arith, omega arith)

@@ -7,7 +7,7 @@ use Rattle.std.proofs.lemmas.List.Sums.{sum_by-cons}
 use Rattle.volume_core.specs.declared.changes.Change.{Change}
 use Rattle.volume_core.specs.Volume.{IsVolume, Part}
 use Rattle.change_records.specs.Records.{IsRecord, spell_all}
-use Rattle.volume_copy.specs.declared.totals.TheConstants.{FRAME_BODY}
+use Rattle.vtl_base.specs.declared.limits.TheConstants.{COPY_BODY}
 use Rattle.volume_copy.specs.Copies.{copy_of}
 use Rattle.volume_copy.specs.FrameFacts.{are_packed, frames_fit, frames_whole}
 use Rattle.volume_copy.specs.Frames.{ArePackedInto, change_size, frames_of}
@@ -15,12 +15,12 @@ use Rattle.volume_copy.specs.OrderFacts.{copy_spelled, record_fits, spelling_siz
 
 -- the body of a frame that may be written (own)
 abbrev pub IsFrameBody : List Change → Type 0
-IsFrameBody frame = (1 ≤ length (spell_all frame)) × (length (spell_all frame) ≤ FRAME_BODY)
+IsFrameBody frame = (1 ≤ length (spell_all frame)) × (length (spell_all frame) ≤ COPY_BODY)
 
-each_fits : (changes : List Change) → All IsRecord changes → All (λ change. change_size change ≤ FRAME_BODY) changes
-each_fits [] each = All-nil (λ change. change_size change ≤ FRAME_BODY)
+each_fits : (changes : List Change) → All IsRecord changes → All (λ change. change_size change ≤ COPY_BODY) changes
+each_fits [] each = All-nil (λ change. change_size change ≤ COPY_BODY)
 each_fits (change ∷ changes) each =
-    All-cons (λ change. change_size change ≤ FRAME_BODY) change changes
+    All-cons (λ change. change_size change ≤ COPY_BODY) change changes
     (record_fits change (All-head IsRecord change changes each)).1
     (each_fits changes (All-tail IsRecord change changes each))
 
@@ -36,7 +36,7 @@ copy_in_frames volume is =
     frames_whole change_size (copy_of volume) (frames_of (copy_of volume)) (copy_packed volume is)
 
 abbrev Fitting : List Change → Type 0
-Fitting frame = (1 ≤ length frame) × (sum_by change_size frame ≤ FRAME_BODY)
+Fitting frame = (1 ≤ length frame) × (sum_by change_size frame ≤ COPY_BODY)
 
 body : (frame : List Change) → Fitting frame → All IsRecord frame → IsFrameBody frame
 body [] fits each = absurd (omega (arith, fits.0))

@@ -10,7 +10,7 @@ use Rattle.change_records.specs.declared.records.Record.{Record}
 use Rattle.change_records.specs.declared.records.Record.TheVariants as Records
 use Rattle.change_records.specs.Records.{record_of, size_of}
 use Rattle.object_index.specs.Shapes.{blanked, shape_of}
-use Rattle.volume_copy.specs.declared.totals.TheConstants.{FRAME_BODY}
+use Rattle.vtl_base.specs.declared.limits.TheConstants.{COPY_BODY}
 use Rattle.volume_copy.specs.Copies.{copy_objects, copy_of, copy_parts, marks_change}
 use Rattle.volume_copy.specs.Frames.{change_size, frames_behind, frames_by, frames_of, in_front}
 
@@ -45,7 +45,7 @@ map_behind : (bytes : ℕ) (changes : List Change)
     ≡ frames_behind size_of bytes (map record_of changes)
 map_behind bytes [] = refl
 map_behind bytes (change ∷ changes) =
-    by (λ n. map_behind n changes) (nat_le (bytes + change_size change) FRAME_BODY)
+    by (λ n. map_behind n changes) (nat_le (bytes + change_size change) COPY_BODY)
   where
     by : ((n : ℕ) → map (map record_of) (frames_behind change_size n changes)
         ≡ frames_behind size_of n (map record_of changes))

@@ -13,12 +13,12 @@ use Rattle.object_index.specs.declared.places.Placed.{Placed}
 use Rattle.object_index.specs.declared.places.Placed.TheVariants.{Block, Mark}
 use Rattle.object_index.specs.Places.{PlacedPart, blank, filled, filled_part, outline, placed_objects}
 use Rattle.volume_copy.specs.declared.entries.Entry.{Entry}
-use Rattle.volume_copy.specs.declared.totals.TheConstants.{FRAME_BODY}
+use Rattle.vtl_base.specs.declared.limits.TheConstants.{COPY_BODY}
 use Rattle.volume_copy.specs.Entries.{block_entry, entries_from, entries_in, entry_size, marks_entries, object_entries, part_entries}
 
 -- the record of an entry has at least one byte, and fits a frame (own)
 abbrev pub FitsFrame : Entry → Type 0
-FitsFrame entry = (1 ≤ entry_size entry) × (entry_size entry ≤ FRAME_BODY)
+FitsFrame entry = (1 ≤ entry_size entry) × (entry_size entry ≤ COPY_BODY)
 
 marks_fit : (part first marks : ℕ) → All FitsFrame (marks_entries part first marks)
 marks_fit part first zero = All-nil FitsFrame

@@ -1,5 +1,6 @@
 -- What the body of a copy's frame spells.
 use Rattle.std.specs.Prelude.{◌≡◌, ℕ, List, length, sum_by}
+use Rattle.vtl_base.specs.declared.layout.TheConstants.{BLOCK, ERASE, MARKS}
 use Rattle.volume_core.specs.declared.changes.Change.{Change}
 use Rattle.change_records.specs.declared.records.Record.{Record}
 use Rattle.change_records.specs.declared.records.Record.TheVariants as Records
@@ -11,9 +12,9 @@ use Rattle.volume_copy.specs.Matching.{AllMatch, Matches}
 
 -- the head of a record: all but the bytes of its block (own)
 abbrev pub record_head : Record → List ℕ
-record_head (Records.Put part at size) = spell_head 1 part at size
-record_head (Records.Marks part at count) = spell_head 2 part at count
-record_head (Records.Erase part at) = spell_head 3 part at 0
+record_head (Records.Put part at size) = spell_head BLOCK part at size
+record_head (Records.Marks part at count) = spell_head MARKS part at count
+record_head (Records.Erase part at) = spell_head ERASE part at 0
 
 -- for a reader of blocks: whether it is honest, and where blocks lie
 module _ (honest : Type 0) (lies : List ℕ → ℕ → Type 0) where

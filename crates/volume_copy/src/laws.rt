@@ -5,7 +5,7 @@ ghost use Rattle.volume_core.specs.declared.changes.Change.{Change};
 ghost use Rattle.volume_core.specs.Volume.{IsVolume, Part, empty_volume};
 ghost use Rattle.change_records.specs.Records.{IsRecord, record_of, spell_all};
 ghost use Rattle.object_index.specs.Shapes.{shape_of};
-ghost use Rattle.volume_copy.specs.declared.totals.TheConstants.{FRAME_BODY};
+ghost use Rattle.vtl_base.specs.declared.limits.TheConstants.{COPY_BODY};
 ghost use Rattle.volume_copy.specs.Copies.{Makes, NoRunIsCut, copy_of};
 ghost use Rattle.volume_copy.specs.CopyFacts.{capacities_of};
 ghost use Rattle.volume_copy.specs.Frames.{ArePackedInto, change_size, frames_of};
@@ -36,9 +36,8 @@ pub fn a_copy_is_packed()
     ensures whole { (volume : List Part) → IsVolume volume →
         flat_map (λ frame. frame) (frames_of (copy_of volume)) ≡ copy_of volume }
     ensures bodies { (volume : List Part) → IsVolume volume →
-        All (λ frame. (1 ≤ length (spell_all frame)) × (length (spell_all frame) ≤ FRAME_BODY))
+        All (λ frame. (1 ≤ length (spell_all frame)) × (length (spell_all frame) ≤ COPY_BODY))
         (frames_of (copy_of volume)) }
-    ensures bound { FRAME_BODY ≡ 4194304 }
 {}
 
 /// There is only one way to pack changes into frames: that of `frames_of`.

@@ -12,4 +12,4 @@ pub use blocks::ReadsBlocks;
 pub use cursor::{Ahead, Cursor};
 pub use entries::Entry;
 pub use spelling::spell_frame;
-pub use totals::{FRAME_BODY, Totals};
+pub use totals::Totals;

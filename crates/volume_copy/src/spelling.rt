@@ -2,7 +2,7 @@
 ghost use Rattle.std.specs.Prelude.{◌≡◌, ◌≢◌, ◌≤◌, ◌+◌, ◌-◌, [], ◌∷◌, ◌++◌, ℕ, List, IfErr, IfNone, IfOk, IfSome, OnOk, length, take, vec_capacity, vec_len};
 ghost use Rattle.change_records.specs.Records.{spell_head};
 ghost use Rattle.volume_copy.specs.declared.entries.Entry.{Entry};
-ghost use Rattle.volume_copy.specs.declared.totals.TheConstants.{FRAME_BODY};
+ghost use Rattle.vtl_base.specs.declared.limits.TheConstants.{COPY_BODY};
 ghost use Rattle.volume_copy.specs.Entries.{entries_from, entry_size};
 ghost use Rattle.volume_copy.specs.Frames.{NoMoreFits};
 ghost use Rattle.volume_copy.specs.Spelling.{IsBlockRead, SpellsEntry, SpellsFrame, record_head};
@@ -10,18 +10,12 @@ ghost use Rattle.volume_copy.specs.Spelling.{IsBlockRead, SpellsEntry, SpellsFra
 use crate::blocks::ReadsBlocks;
 use crate::cursor::{Ahead, Cursor};
 use crate::entries::Entry;
-use crate::totals::FRAME_BODY;
 use byteorder::{BigEndian, ByteOrder};
-use change_records::{HEAD_BYTES, Record};
+use change_records::Record;
 use object_index::Index;
+use vtl_base::layout::{BLOCK, ERASE, MARKS, RECORD_HEAD, RECORD_NUMBER, RECORD_OBJECT};
+use vtl_base::limits::COPY_BODY;
 use vtl_base::{DevFault, ObjNo, PartNo};
-
-// The kinds of records.
-const BLOCK: u8 = 1;
-
-const MARKS: u8 = 2;
-
-const ERASE: u8 = 3;
 
 /// Appends the body of the frame that begins at `start` to `buffer`, and returns the position after that frame.
 /// `reader` reads the blocks from the places that `index` has for them. An entry must follow `start`, and `buffer` must
@@ -33,7 +27,7 @@ pub fn spell_frame<R: ReadsBlocks>(
     buffer: &mut Vec<u8>,
 ) -> Result<Cursor, DevFault>
     requires some { entries_from index.now start.part start.at ≢ [] }
-    requires room { vec_len buffer.old + FRAME_BODY ≤ vec_capacity buffer.old }
+    requires room { vec_len buffer.old + COPY_BODY ≤ vec_capacity buffer.old }
     ensures room { vec_capacity buffer.old ≤ vec_capacity buffer.new }
     ensures reads { OnOk result (R.reads reader.old reader.new) }
     ensures ok { IfOk result (λ behind. (frame : List Entry) × (body : List ℕ)
@@ -58,15 +52,15 @@ pub fn spell_frame<R: ReadsBlocks>(
 // The next entry of a copy. None at the end of the copy, or where the entry does not fit after the first `bytes` bytes
 // of a frame.
 fn fitting(cursor: Cursor, index: &Index, bytes: usize) -> Option<Ahead>
-    requires { bytes ≤ FRAME_BODY }
+    requires { bytes ≤ COPY_BODY }
     ensures next { IfSome result (λ ahead. entries_from index.now cursor.part cursor.at
         ≡ ahead.entry ∷ entries_from index.now ahead.behind.part ahead.behind.at) }
-    ensures fits { IfSome result (λ ahead. bytes + entry_size ahead.entry ≤ FRAME_BODY) }
+    ensures fits { IfSome result (λ ahead. bytes + entry_size ahead.entry ≤ COPY_BODY) }
     ensures none { IfNone result
         (NoMoreFits entry_size bytes (entries_from index.now cursor.part cursor.at)) }
 {
     let ahead = cursor.next(index)?;
-    if ahead.entry.item.size() <= FRAME_BODY - bytes {
+    if ahead.entry.item.size() <= COPY_BODY - bytes {
         Some(ahead)
     } else {
         None
@@ -144,7 +138,7 @@ fn put(buffer: &mut Vec<u8>, bytes: &[u8])
 }
 
 // The head of a record.
-fn head_of(item: Record) -> [u8; HEAD_BYTES]
+fn head_of(item: Record) -> [u8; RECORD_HEAD]
     ensures { result ≡ record_head item }
 {
     match item {
@@ -155,13 +149,13 @@ fn head_of(item: Record) -> [u8; HEAD_BYTES]
 }
 
 // The head of a record of this kind.
-fn head(kind: u8, part: PartNo, at: ObjNo, number: u32) -> [u8; HEAD_BYTES]
+fn head(kind: u8, part: PartNo, at: ObjNo, number: u32) -> [u8; RECORD_HEAD]
     ensures { result ≡ spell_head kind part at number }
 {
-    let mut head = [0; HEAD_BYTES];
+    let mut head = [0; RECORD_HEAD];
     head[0] = kind;
     head[1] = part;
-    BigEndian::write_u32(&mut head[2..], at);
-    BigEndian::write_u32(&mut head[6..], number);
+    BigEndian::write_u32(&mut head[RECORD_OBJECT..], at);
+    BigEndian::write_u32(&mut head[RECORD_NUMBER..], number);
     head
 }

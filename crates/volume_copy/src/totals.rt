@@ -1,15 +1,13 @@
 //! The size of a copy.
 ghost use Rattle.std.specs.Prelude.{◌≡◌, ◌≤◌, ◌<◌, ◌+◌, ◌*◌, length, sum_by};
-ghost use Rattle.vtl_base.specs.declared.limits.TheConstants.{MAX_CAPACITY, MAX_OBJECTS, MAX_PARTITIONS};
+ghost use Rattle.vtl_base.specs.declared.limits.TheConstants.{COPY_BODY, MAX_CAPACITY, MAX_OBJECTS, MAX_PARTITIONS};
 ghost use Rattle.volume_copy.specs.Entries.{entries_in, entry_size};
 ghost use Rattle.volume_copy.specs.Frames.{frames_by};
 ghost use Rattle.volume_copy.specs.Inner.Packed.{packed_with};
 
 use crate::cursor::Cursor;
 use object_index::Index;
-
-/// The greatest length of the body of a copy's frame, in bytes.
-pub const FRAME_BODY: usize = 4_194_304;
+use vtl_base::limits::COPY_BODY;
 
 /// The size of a copy.
 #[derive(Clone, Copy, PartialEq, Eq, Debug)]
@@ -56,12 +54,12 @@ impl Packed {
     fn none() -> Self
         ensures frames { result.frames ≡ 0 }
         ensures bytes { result.bytes ≡ 0 }
-        ensures last { result.last ≡ FRAME_BODY }
+        ensures last { result.last ≡ COPY_BODY }
     {
         Packed {
             frames: 0,
             bytes: 0,
-            last: FRAME_BODY,
+            last: COPY_BODY,
         }
     }
 
@@ -69,12 +67,12 @@ impl Packed {
     fn with(self, size: usize) -> Self
         requires frames { self.frames ≤ MAX_OBJECTS * MAX_PARTITIONS }
         requires bytes { self.bytes ≤ MAX_CAPACITY * MAX_PARTITIONS }
-        requires last { self.last ≤ FRAME_BODY }
-        requires size { size ≤ FRAME_BODY }
+        requires last { self.last ≤ COPY_BODY }
+        requires size { size ≤ COPY_BODY }
         ensures { result ≡ packed_with self size }
     {
         let bytes = self.bytes + size as u64;
-        if self.last + size <= FRAME_BODY {
+        if self.last + size <= COPY_BODY {
             Packed {
                 frames: self.frames,
                 bytes,

@@ -1,5 +1,6 @@
 -- The state of a medium, and how a medium answers.
 use Rattle.std.specs.Prelude.{◌≡◌, ◌⊎◌, ◌<◌, ◌≤◌, ◌+◌, ◌++◌, ℕ, Option, None, Some, Result, Ok, Err, List, [], ◌∷◌, length, sum_by, Bool, true, false}
+use Rattle.vtl_base.specs.declared.layout.TheConstants.{FRAMED_HEAD}
 use Rattle.volume_core.specs.declared.changes.Change.{Change}
 use Rattle.volume_core.specs.declared.changes.Change.TheVariants.{Put, Marks, Erase}
 use Rattle.volume_core.specs.declared.media.MediumError.{MediumError}
@@ -38,9 +39,9 @@ volume_of state = after (volume_or_empty state.stored) state.pending
 
 -- what a change takes of a side as a frame of its own: gate, length and record, 15 bytes, and the block's own (own)
 abbrev pub frame_size : Change → ℕ
-frame_size (Put part at block) = 15 + length block
-frame_size (Marks part at count) = 15
-frame_size (Erase part at) = 15
+frame_size (Put part at block) = FRAMED_HEAD + length block
+frame_size (Marks part at count) = FRAMED_HEAD
+frame_size (Erase part at) = FRAMED_HEAD
 
 -- the bytes of a change's block; marks and an erasing have none (own)
 abbrev pub block_bytes : Change → ℕ
@@ -61,7 +62,7 @@ Fits (Some room) changes = sum_by frame_size changes ≤ room
 -- beside these changes a frame of a block of this many bytes, 0 for a change with none, fits the room (own)
 abbrev pub HasRoomFor : Option ℕ → List Change → ℕ → Type 0
 HasRoomFor None changes bytes = Unit {0}
-HasRoomFor (Some room) changes bytes = sum_by frame_size changes + (15 + bytes) ≤ room
+HasRoomFor (Some room) changes bytes = sum_by frame_size changes + (FRAMED_HEAD + bytes) ≤ room
 
 -- of the room of a side at most what these changes take as frames of their own is gone; no bound stays none (own)
 abbrev pub LeavesRoom : Option ℕ → List Change → Option ℕ → Type 0

@@ -5,6 +5,7 @@ ghost use Rattle.volume_core.specs.Medium.{frame_size};
 
 use std::alloc::Global;
 use thiserror::Error;
+use vtl_base::layout::FRAMED_HEAD;
 use vtl_base::limits::{MAX_BLOCK, OBJECT_COST};
 use vtl_base::{Bytes, NoMemory, ObjNo, PartNo};
 
@@ -79,8 +80,8 @@ impl Change {
         ensures { result ≡ frame_size self.now }
     {
         match self {
-            Change::Put { block, .. } => 15 + block.len() as u64,
-            Change::Marks { .. } | Change::Erase { .. } => 15,
+            Change::Put { block, .. } => FRAMED_HEAD + block.len() as u64,
+            Change::Marks { .. } | Change::Erase { .. } => FRAMED_HEAD,
         }
     }
 

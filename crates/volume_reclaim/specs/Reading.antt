@@ -1,5 +1,6 @@
 -- Blocks are read where they lie on a disk, and nothing is written.
 use Rattle.std.specs.Prelude.{◌≡◌, ◌<◌, ◌≤◌, ◌+◌, ℕ, List, length, slice_range}
+use Rattle.vtl_base.specs.declared.layout.TheConstants.{BEGUN_BYTES}
 use Rattle.vtl_base.specs.declared.faults.DevFault.{DevFault}
 use Rattle.tape_disk.specs.Disk.{DiskState, Keeps}
 use Rattle.gate_journal.specs.Answers.{IsFault, NoneFailed}
@@ -7,7 +8,7 @@ use Rattle.gate_journal.specs.Crash.{Unwritten}
 
 -- the block lies at that place of the bytes, after the first ten of a side (own)
 pub record LiesAtPlace (seen block : List ℕ) (place : ℕ) : Type 0 where
-  pub behind : 10 < place
+  pub behind : BEGUN_BYTES < place
   pub inside : place + length block ≤ length seen
   pub there : slice_range seen place (place + length block) ≡ block
 

@@ -1,5 +1,6 @@
 -- A volume is copied to the side that does not count, which counts from then on.
 use Rattle.std.specs.Prelude.{◌≡◌, ◌+◌, ℕ, List, drop, length, map}
+use Rattle.vtl_base.specs.declared.layout.TheConstants.{BEGUN_BYTES}
 use Rattle.volume_core.specs.Volume.{Part}
 use Rattle.tape_disk.specs.Disk.{DiskState}
 use Rattle.tape_disk.specs.TwoDisks.{Images, TwoDisks}
@@ -50,7 +51,7 @@ GivesCopy which head volume = GivesSide (other which) (copy_head head (copy_bodi
 -- Both sides are open. The one that counted before is unchanged from place 10 on; the other has the copy of the volume
 -- there, and nothing after it (own).
 pub record KeepsBesideCopy (which : Which) (head : Head) (volume : List Part) (before images : Images) : Type 0 where
-  pub old_side : IsOpenSideOf (drop 10 (counting which before)) (counting which images)
+  pub old_side : IsOpenSideOf (drop BEGUN_BYTES (counting which before)) (counting which images)
   pub written : IsOpenSideOf (spell_copy head (copy_bodies volume)) (resting which images)
 
 -- The premise of the promises about bytes. Two disks surely stand for a head and frames, and this index has their

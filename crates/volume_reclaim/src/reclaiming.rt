@@ -4,10 +4,11 @@ ghost use Rattle.volume_core.specs.Volume.{Part};
 ghost use Rattle.tape_disk.specs.TwoDisks.{AreHonest, EachOfTwo, KeepsDisks, TwoLeave, seen_of_two};
 ghost use Rattle.gate_journal.specs.Heads.{Head};
 ghost use Rattle.gate_journal.specs.Side.{IsHeading, heading_of};
-ghost use Rattle.cartridge_sides.specs.declared.copying.TheConstants.{COPY_BODY};
+ghost use Rattle.vtl_base.specs.declared.limits.TheConstants.{COPY_BODY};
 ghost use Rattle.cartridge_sides.specs.Choosing.{FaultsOfOne};
 ghost use Rattle.side_reclaim.specs.Ready.{GivesSide, IsReady};
 ghost use Rattle.volume_reclaim.specs.Reclaiming.{GivesCopy, KeepsBesideCopy, MayReclaim, two_by};
+ghost use Rattle.vtl_base.specs.declared.layout.TheConstants.{FRAME_HEAD};
 
 use crate::blocks::Blocks;
 use crate::source::Source;
@@ -44,7 +45,7 @@ pub fn reclaim_volume<D: Disk>(
     buffer: Vec<u8>,
 ) -> Ended<D>
     requires header { IsHeading (heading_of header.now) }
-    requires room { COPY_BODY + 5 ≤ vec_capacity buffer }
+    requires room { COPY_BODY + FRAME_HEAD ≤ vec_capacity buffer }
     ensures disks { KeepsDisks D.state (record { first = first; second = second })
         (record { first = result.first; second = result.second }) }
     ensures faults { FaultsOfOne result.result (D.state first) (D.state result.first)
@@ -118,7 +119,7 @@ fn copy_sides<D: Disk>(
     buffer: Vec<u8>,
 ) -> Copying<D>
     requires header { IsHeading (heading_of header.now) }
-    requires room { COPY_BODY + 5 ≤ vec_capacity buffer }
+    requires room { COPY_BODY + FRAME_HEAD ≤ vec_capacity buffer }
     ensures disks { KeepsDisks D.state (record { first = counts; second = spare })
         (record { first = result.counts; second = result.spare }) }
     ensures faults { FaultsOfOne result.result (D.state counts) (D.state result.counts)

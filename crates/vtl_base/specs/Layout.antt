@@ -1,6 +1,6 @@
 -- The layout of a file, in numbers.
 use Rattle.std.specs.Prelude.{◌≡◌, codes}
-use Rattle.vtl_base.specs.declared.layout.TheConstants.{OPEN, CLOSED, CARTRIDGE_MARK, STORE_MARK, SIDE_GATE, MARK, LETTER, PAIR_GATE, BEGUN_BYTES, NAME, NAME_BYTES, START_BYTES, CAPACITY_BYTES, COPY_BIT, EPOCH_BYTES, COPIED_BYTES, LENGTH_BYTES, FRAME_HEAD, RECORD_HEAD, BLOCK, MARKS, ERASE, RECORD_OBJECT, RECORD_NUMBER, FRAMED_HEAD, STATE_HEAD, REGISTRATION_BYTES}
+use Rattle.vtl_base.specs.declared.layout.TheConstants.{OPEN, CLOSED, CARTRIDGE_MARK, STORE_MARK, SIDE_GATE, MARK_PLACE, LETTER_PLACE, PAIR_GATE, BEGUN_BYTES, NAME_PLACE, NAME_BYTES, START_BYTES, CAPACITY_BYTES, LONGEST_FRONT, COPY_BIT, EPOCH_BYTES, COPIED_BYTES, LENGTH_BYTES, FRAME_HEAD, RECORD_HEAD, BLOCK, MARKS, ERASE, RECORD_OBJECT, RECORD_NUMBER, FRAMED_HEAD, STATE_HEAD, REGISTRATION_BYTES, STATE_BYTES}
 
 -- each number and mark of the layout of a file, written out (own)
 pub record LayoutInNumbers : Type 0 where
@@ -9,14 +9,15 @@ pub record LayoutInNumbers : Type 0 where
   pub cartridge_mark : CARTRIDGE_MARK ≡ codes "VTLCART1"
   pub store_mark : STORE_MARK ≡ codes "VTLRESV1"
   pub side_gate : SIDE_GATE ≡ 0
-  pub mark : MARK ≡ 1
-  pub letter : LETTER ≡ 4
+  pub mark_place : MARK_PLACE ≡ 1
+  pub letter_place : LETTER_PLACE ≡ 4
   pub pair_gate : PAIR_GATE ≡ 9
   pub begun_bytes : BEGUN_BYTES ≡ 10
-  pub name : NAME ≡ 11
+  pub name_place : NAME_PLACE ≡ 11
   pub name_bytes : NAME_BYTES ≡ 16
   pub start_bytes : START_BYTES ≡ 27
   pub capacity_bytes : CAPACITY_BYTES ≡ 8
+  pub longest_front : LONGEST_FRONT ≡ 71
   pub copy_bit : COPY_BIT ≡ 128
   pub epoch_bytes : EPOCH_BYTES ≡ 8
   pub copied_bytes : COPIED_BYTES ≡ 12
@@ -31,3 +32,4 @@ pub record LayoutInNumbers : Type 0 where
   pub framed_head : FRAMED_HEAD ≡ 15
   pub state_head : STATE_HEAD ≡ 4
   pub registration_bytes : REGISTRATION_BYTES ≡ 9
+  pub state_bytes : STATE_BYTES ≡ 580

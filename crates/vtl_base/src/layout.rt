@@ -1,5 +1,6 @@
 //! The layout of a file, in numbers: the bytes of a side, of its frames, and of the records in them (own). Numbers of
 //! several bytes are big-endian. docs/FORMATS.md has the layout in words.
+use crate::limits::{MAX_PARTITIONS, NEXUSES};
 
 /// The byte of an open gate. Every other byte is a closed gate.
 pub const OPEN: u8 = 0xa5;
@@ -17,10 +18,10 @@ pub const STORE_MARK: [u8; 8] = *b"VTLRESV1";
 pub const SIDE_GATE: usize = 0;
 
 /// The place of a side's mark.
-pub const MARK: usize = 1;
+pub const MARK_PLACE: usize = 1;
 
 /// The place of the letter in which the marks of the two kinds differ first.
-pub const LETTER: usize = 4;
+pub const LETTER_PLACE: usize = 4;
 
 /// The place of a side's pair gate.
 pub const PAIR_GATE: usize = 9;
@@ -30,7 +31,7 @@ pub const PAIR_GATE: usize = 9;
 pub const BEGUN_BYTES: usize = 10;
 
 /// The place of a side's name.
-pub const NAME: usize = 11;
+pub const NAME_PLACE: usize = 11;
 
 /// How many bytes the name of a side has.
 pub const NAME_BYTES: usize = 16;
@@ -40,6 +41,9 @@ pub const START_BYTES: usize = 27;
 
 /// How many bytes a capacity takes.
 pub const CAPACITY_BYTES: usize = 8;
+
+/// How many bytes the longest front has: that of a copy with 4 capacities.
+pub const LONGEST_FRONT: usize = START_BYTES + CAPACITY_BYTES * MAX_PARTITIONS as usize + COPIED_BYTES;
 
 /// What is added to the count of capacities in the head of a copy.
 pub const COPY_BIT: u8 = 0x80;
@@ -54,7 +58,7 @@ pub const COPIED_BYTES: usize = 12;
 pub const LENGTH_BYTES: usize = 4;
 
 /// How many bytes of a frame stand before its body: 1 for its gate, and 4 for the length of the body.
-pub const FRAME_HEAD: usize = 5;
+pub const FRAME_HEAD: u64 = 5;
 
 /// How many bytes the head of a record has: its kind, its partition, its object number and a number.
 pub const RECORD_HEAD: usize = 10;
@@ -76,10 +80,13 @@ pub const RECORD_NUMBER: usize = 6;
 
 /// How many bytes a frame of one record has, not counting those of its block: the head of the frame, and that of the
 /// record.
-pub const FRAMED_HEAD: usize = 15;
+pub const FRAMED_HEAD: u64 = 15;
 
 /// How many bytes of a saved state stand before its registrations.
 pub const STATE_HEAD: usize = 4;
 
 /// How many bytes a registration takes in a saved state: 1 for its nexus, and 8 for its key.
 pub const REGISTRATION_BYTES: usize = 9;
+
+/// How many bytes the longest saved state has: that with a registration of each nexus.
+pub const STATE_BYTES: usize = STATE_HEAD + REGISTRATION_BYTES * NEXUSES as usize;

@@ -25,11 +25,22 @@ pub const MAX_SIDE: u64 = 1_099_511_627_776;
 /// The length of the longest body of a frame, in bytes. The shortest body has one byte.
 pub const MAX_BODY: u32 = 8_388_608;
 
+/// The length of the longest body of a frame in a copy, in bytes.
+pub const COPY_BODY: usize = 4_194_304;
+
 /// The most changes that a drive's buffer holds.
 pub const BUFFER_RECORDS: usize = 256;
 
 /// The most bytes of blocks that a drive's buffer holds.
 pub const BUFFER_BYTES: usize = 4_194_304;
+
+/// The number of places in a drive's ring. At most this many changes may be sent before the halves are joined and split
+/// again, which allocates memory for more changes.
+pub const RING_RECORDS: usize = 256;
+
+/// The least number of saves for which memory is reserved in a store that was just made or opened. These saves allocate
+/// no memory.
+pub const RESERVED_SAVES: usize = 256;
 
 /// How many drives a library may have.
 pub const DRIVES: u8 = 16;

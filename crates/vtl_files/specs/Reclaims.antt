@@ -3,6 +3,7 @@ use Rattle.std.specs.Prelude.{◌≡◌, ◌≢◌, ◌⊎◌, ◌<◌, ◌≤�
 use Rattle.std.specs.List.{find, starts_with}
 use Rattle.std.specs.Io.KnownBytes.{Appends}
 use Rattle.std.specs.Io.KnownBytes as Known
+use Rattle.vtl_base.specs.declared.layout.TheConstants.{BEGUN_BYTES}
 use Rattle.vtl_base.specs.declared.limits.TheConstants.{MAX_SIDE}
 use Rattle.tape_disk.specs.Disk.{DiskState}
 use Rattle.tape_disk.specs.TwoDisks.{AreHonest, EachOfTwo, Images, KeepsDisks, MayLeave, TwoDisks, TwoLeave, failures_of, seen_of_two}
@@ -124,7 +125,7 @@ entry_with barcode entries = find (λ entry. bytes_eq entry.barcode barcode) ent
 -- The bytes of a second file at most that a reclaim writes over behind a closed pair gate: those that it writes itself
 -- before it opens that gate (own).
 abbrev pub spare_bytes : ℕ
-spare_bytes = 10
+spare_bytes = BEGUN_BYTES
 
 module _ (looks : List ℕ → Result FileLook FileError → Type 0) (pairs : List ℕ → Result Bool FileError → Type 0)
     (file second_file : List ℕ) where

@@ -13,6 +13,7 @@ use std::alloc::Global;
 use std::io::Write;
 use tape_buffer::reclaim;
 use tape_disk::Disk;
+use vtl_base::layout::BEGUN_BYTES;
 use vtl_base::{Barcode, Bytes};
 use vtl_config::{CartridgeEntry, Config, FileName, UsedName};
 use vtl_faults::faults::{Verdict, VtlFault};
@@ -23,7 +24,7 @@ const LINE_ROOM: usize = 80;
 
 // How many bytes of a second file a reclaim writes itself before it opens the pair gate. Behind a closed pair gate it
 // writes over no longer file (own).
-const SPARE_BYTES: u64 = 10;
+const SPARE_BYTES: u64 = BEGUN_BYTES as u64;
 
 // Appends bytes to a text whose capacity is large enough for them.
 fn put(text: &mut Vec<u8>, bytes: &[u8])

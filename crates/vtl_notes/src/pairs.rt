@@ -5,10 +5,11 @@ use file_reasons::{PairFault, PairReason};
 use std::alloc::{AllocError, Global};
 use std::cell::Cell;
 use tape_disk::Disk;
+use vtl_base::layout::{BEGUN_BYTES, CARTRIDGE_MARK, MARK_PLACE, OPEN, PAIR_GATE};
 use vtl_config::second_file;
 
 // The bytes of a second file at most over which a reclaim writes behind a closed pair gate.
-const SPARE_BYTES: u64 = 10;
+const SPARE_BYTES: u64 = BEGUN_BYTES as u64;
 
 /// A note of the second file for which an order is refused.
 #[derive(Drop)]
@@ -105,13 +106,12 @@ impl LostSecond {
 
 /// Whether these bytes begin as those of a cartridge's first file whose pair gate is open.
 pub(crate) fn has_open_pair(first: &[u8]) -> bool {
-    first
-        .get(1..10)
-        .is_some_and(|start| start == b"VTLCART1\xa5".as_slice())
+    let mark = first.get(MARK_PLACE..PAIR_GATE);
+    mark.is_some_and(|mark| mark == CARTRIDGE_MARK.as_slice()) && first.get(PAIR_GATE) == Some(&OPEN)
 }
 
 // Whether a disk begins as a cartridge's first file whose pair gate is open.
 fn begins_pair<D: Disk>(disk: &mut D) -> bool {
-    let mut start = [0; 10];
-    disk.len() >= 10 && disk.read_at(0, &mut start).is_ok() && has_open_pair(&start)
+    let mut start = [0; BEGUN_BYTES];
+    disk.len() >= BEGUN_BYTES as u64 && disk.read_at(0, &mut start).is_ok() && has_open_pair(&start)
 }

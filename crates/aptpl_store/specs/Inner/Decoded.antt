@@ -2,6 +2,7 @@
 use Rattle.std.specs.Prelude.{◌&&◌, ◌==◌, ◌-◌, ℕ, Bool, nat_le, List, [], ◌∷◌, length, drop, slice_index, Option, None, Some, if◌then◌else◌}
 use Rattle.std.specs.List.{flat_map, range_with_len}
 use Rattle.byteorder.specs.Endian.{big_number}
+use Rattle.vtl_base.specs.declared.layout.TheConstants.{REGISTRATION_BYTES, STATE_HEAD}
 use Rattle.vtl_base.specs.declared.limits.TheConstants.{NEXUSES}
 use Rattle.scsi_lists.specs.declared.actions.PrType.{PrType}
 use Rattle.scsi_lists.specs.Actions.{type_of}
@@ -20,7 +21,7 @@ registrations_of state some = flat_map (λ nexus. registration (key_of state nex
 
 -- the bytes begin with the registration of a nexus (own)
 abbrev pub begins_with : ℕ → List ℕ → Bool
-begins_with nexus bytes = nat_le 9 (length bytes) && (slice_index bytes 0 == nexus)
+begins_with nexus bytes = nat_le REGISTRATION_BYTES (length bytes) && (slice_index bytes 0 == nexus)
 
 -- the key of a nexus, where the bytes begin with its registration (own)
 abbrev pub key_decoded : ℕ → List ℕ → Option ℕ
@@ -28,7 +29,7 @@ key_decoded nexus bytes = if begins_with nexus bytes then Some (big_number 8 (dr
 
 -- the bytes after the registration of a nexus, where they begin with it (own)
 abbrev pub behind : ℕ → List ℕ → List ℕ
-behind nexus bytes = if begins_with nexus bytes then drop 9 bytes else bytes
+behind nexus bytes = if begins_with nexus bytes then drop REGISTRATION_BYTES bytes else bytes
 
 -- the keys of these nexuses, each of which may have its registration next (own)
 unfoldable pub keys_decoded : List ℕ → List ℕ → List (Option ℕ)
@@ -48,7 +49,7 @@ held_decoded (Some kind) holder = Some (record { kind = kind; holder = holder })
 abbrev pub state_decoded : List ℕ → PrState
 state_decoded body =
     record {
-      keys = keys_decoded (nexuses_from 1) (drop 4 body);
+      keys = keys_decoded (nexuses_from 1) (drop STATE_HEAD body);
       reservation = held_decoded (type_of (slice_index body 1)) (nexus_decoded (slice_index body 2));
       aptpl = slice_index body 0 == 1;
       generation = 0;

@@ -4,7 +4,7 @@ use Rattle.std.specs.List.{All}
 use Rattle.tape_disk.specs.Disk.{DiskState, Each}
 use Rattle.gate_journal.specs.declared.header.SideKind.TheVariants.{Store}
 use Rattle.gate_journal.specs.Side.{Front, Heading, plain}
-use Rattle.aptpl_store.specs.declared.spelling.TheConstants.{STATE_BYTES}
+use Rattle.vtl_base.specs.declared.layout.TheConstants.{STATE_BYTES}
 use Rattle.aptpl_store.specs.Contents.{ShowsStates, state_bodies}
 use Rattle.aptpl_store.specs.NotedStates.{NotedStates}
 use Rattle.aptpl_store.specs.Spelling.{IsSavable}

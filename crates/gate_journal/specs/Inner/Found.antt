@@ -1,6 +1,7 @@
 -- What a reader of a side finds.
 use Rattle.std.specs.Prelude.{◌≡◌, ◌≢◌, ◌⊎◌, ◌<◌, ◌≤◌, ◌+◌, ◌^◌, ℕ, List, ◌∷◌, ◌++◌, length, take, drop, slice_index, Result, Ok, Err, Option, Some, None, false}
 use Rattle.std.specs.List.{All, flat_map}
+use Rattle.vtl_base.specs.declared.layout.TheConstants.{BEGUN_BYTES, FRAME_HEAD, LONGEST_FRONT, START_BYTES}
 use Rattle.vtl_base.specs.declared.limits.TheConstants.{MAX_BODY}
 use Rattle.tape_disk.specs.Disk.{DiskState, Only}
 use Rattle.gate_journal.specs.declared.header.SideKind.{SideKind}
@@ -8,7 +9,6 @@ use Rattle.gate_journal.specs.declared.reading.Frames.{Frames}
 use Rattle.gate_journal.specs.declared.reading.FrontBytes.{FrontBytes}
 use Rattle.gate_journal.specs.declared.reading.ReadFront.{ReadFront}
 use Rattle.gate_journal.specs.declared.fronts.ParsedFront.{ParsedFront}
-use Rattle.gate_journal.specs.declared.spelling.TheConstants.{HEADER_BYTES}
 use Rattle.gate_journal.specs.declared.error.JournalError.{JournalError}
 use Rattle.gate_journal.specs.declared.error.JournalError.TheVariants.{NotOurs, Damaged, SideFull, Device, Failed, NoMemory}
 use Rattle.gate_journal.specs.Side.{OPEN, AreTooFew, Front, IsBody, IsFront, StandsFor, IsNotOurs, IsBroken, BeginsWithFrame, base_of, frame, front_of, spell_front}
@@ -34,14 +34,15 @@ front_read read = front_of read.header read.copied read.pair
 -- (own)
 abbrev pub FindsBytes : Result FrontBytes JournalError → DiskState → DiskState → Type 0
 FindsBytes (Ok found) old new =
-    NoneFailed old new × (found.len ≡ 27 + size_behind (slice_index found.bytes 10)) × (found.len ≤ HEADER_BYTES)
+    NoneFailed old new × (found.len ≡ START_BYTES + size_behind (slice_index found.bytes BEGUN_BYTES))
+    × (found.len ≤ LONGEST_FRONT)
     × (old.honest → (rest : List ℕ) × (old.seen ≡ take found.len found.bytes ++ rest))
 FindsBytes (Err error) old new = NotRead error (old.honest → IsNotOurs old.seen) (λ at. ⊥) ⊥ old new
 
 -- the bytes of the front at the start of the disk, with what is read from them; or there is no front (own)
 abbrev pub FindsParsed : Result (FrontBytes × ParsedFront) JournalError → DiskState → DiskState → Type 0
 FindsParsed (Ok found) old new =
-    NoneFailed old new × (found.0.len ≤ HEADER_BYTES) × ParsesFront (take found.0.len found.0.bytes) (Some found.1)
+    NoneFailed old new × (found.0.len ≤ LONGEST_FRONT) × ParsesFront (take found.0.len found.0.bytes) (Some found.1)
     × (old.honest → (rest : List ℕ) × (old.seen ≡ take found.0.len found.0.bytes ++ rest))
 FindsParsed (Err error) old new = NotRead error (old.honest → IsNotOurs old.seen) (λ at. ⊥) ⊥ old new
 
@@ -72,9 +73,9 @@ FindsMark (Ok None) at len old new =
     NoneFailed old new
     × (old.honest → (gate : ℕ) × (rest : List ℕ) × (gate ≢ OPEN) × (drop at old.seen ≡ gate ∷ rest))
 FindsMark (Ok (Some size)) at len old new =
-    NoneFailed old new × (1 ≤ size) × (size ≤ MAX_BODY) × (at + 5 + size < len)
+    NoneFailed old new × (1 ≤ size) × (size ≤ MAX_BODY) × (at + FRAME_HEAD + size < len)
     × (old.honest → (body : List ℕ) × (rest : List ℕ) × (length body ≡ size)
-    × (drop at old.seen ≡ frame body ++ rest) × (rest ≡ drop (at + 5 + size) old.seen))
+    × (drop at old.seen ≡ frame body ++ rest) × (rest ≡ drop (at + FRAME_HEAD + size) old.seen))
 FindsMark (Err error) at len old new =
     NotRead error ⊥
     (λ place. (place ≡ at)

@@ -3,6 +3,7 @@ use Rattle.std.proofs.Common.{◌≡◌, inl, inr, ℕ, ◌≤◌, ◌+◌, ◌*
 use Rattle.std.specs.Prelude.{Option, None, Some, ◌-◌, if◌then◌else◌}
 use Rattle.std.proofs.lemmas.Bool.{cases_eq, le-ltb, lt-ltb}
 use Rattle.std.proofs.lemmas.List.{append_cancel_left, drop_at, take_at}
+use Rattle.vtl_base.specs.declared.layout.TheConstants.{BEGUN_BYTES, PAIR_GATE}
 use Rattle.gate_journal.specs.declared.header.SideKind.{SideKind}
 use Rattle.gate_journal.specs.declared.header.SideKind.TheVariants.{Cartridge, Store}
 use Rattle.gate_journal.specs.declared.heads.Copied.{Copied}
@@ -16,7 +17,7 @@ use Rattle.gate_journal.specs.Inner.Reading.{BeginsWithFront, copied_size, size_
 
 -- the front of that kind, of a copy or not, with which the bytes can begin (own)
 abbrev pub front_as : SideKind → Bool → List ℕ → Front
-front_as kind copy bytes = record { head = head_as kind copy (drop 10 bytes); pair = get_or bytes 9 0 }
+front_as kind copy bytes = record { head = head_as kind copy (drop BEGUN_BYTES bytes); pair = get_or bytes PAIR_GATE 0 }
 
 -- the bytes after the first ten
 pub behind_start : (kind : SideKind) (pair : ℕ) (head rest : List ℕ) →

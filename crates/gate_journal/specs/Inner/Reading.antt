@@ -1,6 +1,7 @@
 -- What a reader takes for a front, before it is known to be a front.
-use Rattle.std.specs.Prelude.{◌≡◌, ℕ, ◌+◌, ◌-◌, ◌*◌, List, [], ◌∷◌, ◌++◌, length, take, drop, slice_range, ◌==◌, if◌then◌else◌, nat_lt, Option, None, Some}
+use Rattle.std.specs.Prelude.{◌≡◌, ℕ, ◌+◌, ◌-◌, ◌*◌, List, [], ◌∷◌, ◌++◌, length, take, drop, slice_index, slice_range, ◌==◌, if◌then◌else◌, nat_lt, Option, None, Some}
 use Rattle.byteorder.specs.Endian.{big_number}
+use Rattle.vtl_base.specs.declared.layout.TheConstants.{CAPACITY_BYTES, CARTRIDGE_MARK, COPIED_BYTES, COPY_BIT, LETTER_PLACE, MARK_PLACE, NAME_BYTES, NAME_PLACE, START_BYTES}
 use Rattle.gate_journal.specs.declared.fronts.ParsedFront.{ParsedFront}
 use Rattle.gate_journal.specs.declared.header.SideKind.{SideKind}
 use Rattle.gate_journal.specs.declared.header.SideKind.TheVariants.{Cartridge, Store}
@@ -10,21 +11,23 @@ use Rattle.gate_journal.specs.Side.{Front, Heading, IsFront, spell_front}
 -- the numbers in groups of eight bytes (own)
 abbrev pub numbers_of : List ℕ → List ℕ
 numbers_of (a ∷ b ∷ c ∷ d ∷ e ∷ f ∷ g ∷ h ∷ rest) =
-    big_number 8 (a ∷ b ∷ c ∷ d ∷ e ∷ f ∷ g ∷ h ∷ []) ∷ numbers_of rest
+    big_number CAPACITY_BYTES (a ∷ b ∷ c ∷ d ∷ e ∷ f ∷ g ∷ h ∷ []) ∷ numbers_of rest
 numbers_of rest = []
 
 -- the kind, by the first letter in which the marks differ (own)
 abbrev pub kind_by_letter : ℕ → SideKind
-kind_by_letter byte = if byte == 67 then Cartridge else Store
+kind_by_letter byte = if byte == slice_index CARTRIDGE_MARK (LETTER_PLACE - MARK_PLACE) then Cartridge else Store
 
 -- the length of a front after its first 27 bytes, by the byte of its count (own)
 abbrev pub size_behind : ℕ → ℕ
-size_behind byte = if nat_lt byte 128 then 8 * byte else 8 * (byte - 128) + 12
+size_behind byte =
+    if nat_lt byte COPY_BIT then CAPACITY_BYTES * byte
+    else CAPACITY_BYTES * (byte - COPY_BIT) + COPIED_BYTES
 
 -- the bytes that epoch and base take in the front of a copy (own)
 abbrev pub copied_size : Option Copied → ℕ
 copied_size None = 0
-copied_size (Some copied) = 12
+copied_size (Some copied) = COPIED_BYTES
 
 -- the bytes begin with the spelling of a front (own)
 abbrev pub BeginsWithFront : List ℕ → Type 0
@@ -47,6 +50,6 @@ ParsesFront bytes (Some parsed) =
 abbrev pub heading_parsed : ParsedFront → List ℕ → Heading
 heading_parsed parsed bytes = record {
   kind = parsed.kind;
-  name = take 16 (drop 11 bytes);
-  capacities = numbers_of (slice_range bytes 27 (parsed.size - copied_size parsed.copied));
+  name = take NAME_BYTES (drop NAME_PLACE bytes);
+  capacities = numbers_of (slice_range bytes START_BYTES (parsed.size - copied_size parsed.copied));
 }

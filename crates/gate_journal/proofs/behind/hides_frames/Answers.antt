@@ -5,8 +5,8 @@ use Rattle.gate_journal.specs.Reads.{reads_one, reads_then}
 use Rattle.gate_journal.proofs.BehindLemmas.{hides, is_open, must_fit}
 use Rattle.gate_journal.proofs.behind.hides_frames.Goals as goal
 
-pub returns-then-len-lt5-clause-answer : goal.returns-then-len-lt5-clause-answer
-returns-then-len-lt5-clause-answer g c = (
+pub returns-then-len-lt-FRAME_HEAD-clause-answer : goal.returns-then-len-lt-FRAME_HEAD-clause-answer
+returns-then-len-lt-FRAME_HEAD-clause-answer g c = (
   refl,
   λ h. (
     λ never. absurd (cc),
@@ -15,7 +15,7 @@ returns-then-len-lt5-clause-answer g c = (
       must_fit (g.D.Disk.state c.args.disk.now).seen c.args.at (c.requires h) w,
       c.len.ensures.length h,
       c.saturating_sub-len.ensures,
-      c.if-len-lt5.true,
+      c.if-len-lt-FRAME_HEAD.true,
     )),
   ),
 )

@@ -5,7 +5,7 @@ use Rattle.std.proofs.lemmas.List.Elements.{All-head, All-tail}
 use Rattle.object_index.specs.Places.{PlacedPart}
 use Rattle.volume_copy.specs.declared.entries.Entry.{Entry}
 use Rattle.volume_copy.specs.declared.totals.Packed.{Packed}
-use Rattle.volume_copy.specs.declared.totals.TheConstants.{FRAME_BODY}
+use Rattle.vtl_base.specs.declared.limits.TheConstants.{COPY_BODY}
 use Rattle.volume_copy.specs.Entries.{entries_from, entries_in, entry_size}
 use Rattle.volume_copy.specs.EntryFacts.{part_begins}
 use Rattle.volume_copy.specs.FrameFacts.{all_counted, frames_few, more_frames}
@@ -33,7 +33,7 @@ loop-ahead-init c =
     record {
       frames =
           (λ i. none.ensures.frames i + more_frames entry_size (none.ensures.last i) (same i))
-          ∙ none_before (more_frames entry_size FRAME_BODY (entries_in parts));
+          ∙ none_before (more_frames entry_size COPY_BODY (entries_in parts));
       bytes = omega (arith, none.ensures.bytes, ap (sum_by entry_size) same);
       last = omega (arith, none.ensures.last);
       fit = subst (All FitsFrame) (sym same) (entries_fit parts c.parts.ensures.limits);
@@ -44,7 +44,7 @@ loop-ahead-init c =
 pub with-packed-requires-clause-frames : goal.with-packed-requires-clause-frames
 with-packed-requires-clause-frames c =
     let inv = c.loop-ahead.invariant in
-    omega (arith, inv.frames, inv.few, frames_few entry_size FRAME_BODY (entries_in c.args.index.now))
+    omega (arith, inv.frames, inv.few, frames_few entry_size COPY_BODY (entries_in c.args.index.now))
 
 pub loop-ahead-preserved : goal.loop-ahead-preserved
 loop-ahead-preserved c =
@@ -72,7 +72,7 @@ loop-ahead-preserved c =
           ∙ on.1
           ∙ ap (λ (n : ℕ). packed.bytes + n) (sym bytes)
           ∙ inv.bytes;
-      last = subst (λ (n : ℕ). n ≤ FRAME_BODY) (ap (λ (p : Packed). p.last) (sym is)) on.2;
+      last = subst (λ (n : ℕ). n ≤ COPY_BODY) (ap (λ (p : Packed). p.last) (sym is)) on.2;
       fit = All-tail FitsFrame entry behind fit;
       few = inv.few;
       bound = inv.bound;
@@ -90,4 +90,4 @@ returns-clause-frames c =
 pub returns-clause-few : goal.returns-clause-few
 returns-clause-few c =
     let inv = c.loop-ahead.invariant in
-    omega (arith, inv.frames, inv.few, frames_few entry_size FRAME_BODY (entries_in c.args.index.now))
+    omega (arith, inv.frames, inv.few, frames_few entry_size COPY_BODY (entries_in c.args.index.now))
