@@ -10,7 +10,7 @@ use Rattle.tape_buffer.specs.Limits.{frame_of}
 use Rattle.split_bay.specs.declared.items.Item.{Item}
 use Rattle.split_bay.specs.declared.items.Item.TheVariants.{Sent}
 use Rattle.split_bay.specs.Rings.{IsCounted}
-use Rattle.split_bay.specs.Spans.{KeepsLimits, Span, TakesMore, begins, medium_begun, span_of, span_with, spans_in, volume_seen}
+use Rattle.split_bay.specs.Spans.{KeepsLimits, Span, TakesMore, begins, medium_begun, span_next, span_of, span_with, spans_in, volume_seen}
 
 -- one that applies behind others applies with them
 pub apply_more : (volume : List Part) (xs : List Change) (change : Change) → AllApply volume xs
