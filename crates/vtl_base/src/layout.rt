@@ -43,7 +43,9 @@ pub const START_BYTES: usize = 27;
 pub const CAPACITY_BYTES: usize = 8;
 
 /// How many bytes the longest front has: that of a copy with 4 capacities.
-pub const LONGEST_FRONT: usize = START_BYTES + CAPACITY_BYTES * MAX_PARTITIONS as usize + COPIED_BYTES;
+pub const LONGEST_FRONT: usize = START_BYTES
+    + CAPACITY_BYTES * MAX_PARTITIONS as usize
+    + COPIED_BYTES;
 
 /// What is added to the count of capacities in the head of a copy.
 pub const COPY_BIT: u8 = 0x80;
