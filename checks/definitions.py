@@ -1,5 +1,5 @@
 #!/usr/bin/env python3
-"""Writes DEFINITIONS.md: the definitions in crates/*/specs, the limits and the laws, each by the comment over it; and
+"""Writes DEFINITIONS.md: the definitions in crates/*/specs, limits, layout and laws, each by the comment over it; and
 crates/README.md: the crates by their kinds (crate_list.py).
 
 definitions.py           writes the files
@@ -109,12 +109,12 @@ def parted(comment):
 
 
 def limits():
-    """Each limit: its name, words and source, value, file."""
-    constant = r"pub const (\w+): \w+ = (.*);"
+    """Each limit, and each number and mark of a file: its name, words and source, value, file."""
+    constant = r"pub const (\w+): [^=]+ = (.*);"
     for path in files_below("vtl_base", "src", ".rt"):
-        if os.path.basename(path) == "limits.rt":
+        if os.path.basename(path) in ("limits.rt", "layout.rt"):
             for name, value, words in documented(path, constant):
-                yield name, words, value.replace("_", ","), below_crates(path)
+                yield name, words, re.sub(r"(?<=\d)_(?=\d)", ",", value), below_crates(path)
 
 
 def laws():
@@ -155,7 +155,7 @@ def whole():
                    for name in names if name not in listed]
         see = ", ".join(f"`{name}` ({listed.get(name)})" for name in names) or WORDS[word]
         text.append(f"| {word} | {see} |\n")
-    text.append("\n## Limits\n\n| Name | In words | Value | File |\n|---|---|---|---|\n")
+    text.append("\n## Limits, and the layout of a file\n\n| Name | In words | Value | File |\n|---|---|---|---|\n")
     text += [f"| `{name}` | {cell(words)} | {value} | {file} |\n" for name, words, value, file in limits()]
     text.append("\n## Laws\n\nEach is a public function that does nothing, and its contract is the law.\n\n")
     text.append("| Name | In words | File |\n|---|---|---|\n")

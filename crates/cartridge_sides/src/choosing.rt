@@ -15,7 +15,9 @@ use crate::which::Which;
 use gate_journal::{ParsedHead, parse_head};
 use tape_disk::Disk;
 use vtl_base::DevFault;
-use vtl_base::layout::{BEGUN_BYTES, CARTRIDGE_MARK, LONGEST_FRONT, MARK_PLACE, OPEN, PAIR_GATE, SIDE_GATE};
+use vtl_base::layout::{
+    BEGUN_BYTES, CARTRIDGE_MARK, LONGEST_FRONT, MARK_PLACE, OPEN, PAIR_GATE, SIDE_GATE,
+};
 
 /// The side that counts.
 #[derive(Clone, Copy, Debug, PartialEq, Eq)]

@@ -20,7 +20,8 @@ use std::alloc::{AllocError, Global};
 use tape_disk::Disk;
 use vtl_base::DevFault;
 use vtl_base::layout::{
-    BEGUN_BYTES, CAPACITY_BYTES, COPIED_BYTES, COPY_BIT, FRAME_HEAD, LONGEST_FRONT, OPEN, START_BYTES,
+    BEGUN_BYTES, CAPACITY_BYTES, COPIED_BYTES, COPY_BIT, FRAME_HEAD, LONGEST_FRONT, OPEN,
+    START_BYTES,
 };
 use vtl_base::limits::MAX_BODY;
 

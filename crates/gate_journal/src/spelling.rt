@@ -40,8 +40,8 @@ use crate::header::{Header, SideKind, is_capacity};
 use byteorder::{BigEndian, ByteOrder};
 use std::alloc::{AllocError, Global};
 use vtl_base::layout::{
-    BEGUN_BYTES, CAPACITY_BYTES, CARTRIDGE_MARK, CLOSED, LETTER_PLACE, MARK_PLACE,
-    NAME_BYTES, NAME_PLACE, OPEN, PAIR_GATE, START_BYTES,
+    BEGUN_BYTES, CAPACITY_BYTES, CARTRIDGE_MARK, CLOSED, LETTER_PLACE, MARK_PLACE, NAME_BYTES,
+    NAME_PLACE, OPEN, PAIR_GATE, START_BYTES,
 };
 
 // The ten bytes at the start of a side of this kind, where its gate is open and its pair gate is this byte.

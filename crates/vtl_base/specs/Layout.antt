@@ -1,5 +1,6 @@
 -- The layout of a file, in numbers.
-use Rattle.std.specs.Prelude.{◌≡◌, codes}
+use Rattle.std.specs.Prelude.{◌≡◌, ◌+◌, ◌*◌, codes}
+use Rattle.vtl_base.specs.declared.limits.TheConstants.{MAX_PARTITIONS}
 use Rattle.vtl_base.specs.declared.layout.TheConstants.{OPEN, CLOSED, CARTRIDGE_MARK, STORE_MARK, SIDE_GATE, MARK_PLACE, LETTER_PLACE, PAIR_GATE, BEGUN_BYTES, NAME_PLACE, NAME_BYTES, START_BYTES, CAPACITY_BYTES, LONGEST_FRONT, COPY_BIT, EPOCH_BYTES, COPIED_BYTES, LENGTH_BYTES, FRAME_HEAD, RECORD_HEAD, BLOCK, MARKS, ERASE, RECORD_OBJECT, RECORD_NUMBER, FRAMED_HEAD, STATE_HEAD, REGISTRATION_BYTES, STATE_BYTES}
 
 -- each number and mark of the layout of a file, written out (own)
@@ -18,6 +19,7 @@ pub record LayoutInNumbers : Type 0 where
   pub start_bytes : START_BYTES ≡ 27
   pub capacity_bytes : CAPACITY_BYTES ≡ 8
   pub longest_front : LONGEST_FRONT ≡ 71
+  pub front_parts : LONGEST_FRONT ≡ START_BYTES + CAPACITY_BYTES * MAX_PARTITIONS + COPIED_BYTES
   pub copy_bit : COPY_BIT ≡ 128
   pub epoch_bytes : EPOCH_BYTES ≡ 8
   pub copied_bytes : COPIED_BYTES ≡ 12

@@ -1,6 +1,6 @@
 //! The layout of a file, in numbers: the bytes of a side, of its frames, and of the records in them (own). Numbers of
 //! several bytes are big-endian. docs/FORMATS.md has the layout in words.
-use crate::limits::{MAX_PARTITIONS, NEXUSES};
+use crate::limits::NEXUSES;
 
 /// The byte of an open gate. Every other byte is a closed gate.
 pub const OPEN: u8 = 0xa5;
@@ -43,7 +43,7 @@ pub const START_BYTES: usize = 27;
 pub const CAPACITY_BYTES: usize = 8;
 
 /// How many bytes the longest front has: that of a copy with 4 capacities.
-pub const LONGEST_FRONT: usize = START_BYTES + CAPACITY_BYTES * MAX_PARTITIONS as usize + COPIED_BYTES;
+pub const LONGEST_FRONT: usize = 71;
 
 /// What is added to the count of capacities in the head of a copy.
 pub const COPY_BIT: u8 = 0x80;

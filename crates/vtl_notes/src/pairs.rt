@@ -107,7 +107,8 @@ impl LostSecond {
 /// Whether these bytes begin as those of a cartridge's first file whose pair gate is open.
 pub(crate) fn has_open_pair(first: &[u8]) -> bool {
     let mark = first.get(MARK_PLACE..PAIR_GATE);
-    mark.is_some_and(|mark| mark == CARTRIDGE_MARK.as_slice()) && first.get(PAIR_GATE) == Some(&OPEN)
+    mark.is_some_and(|mark| mark == CARTRIDGE_MARK.as_slice())
+        && first.get(PAIR_GATE) == Some(&OPEN)
 }
 
 // Whether a disk begins as a cartridge's first file whose pair gate is open.

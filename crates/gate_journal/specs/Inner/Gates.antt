@@ -11,7 +11,8 @@ use Rattle.gate_journal.specs.Side.{OPEN, IsNotOurs, IsDamagedAt}
 
 -- the last open gate of a side with these extents: that of the last frame, or of the side where it has no frame (own)
 abbrev pub gate_before : List (ℕ × ℕ) → ℕ
-gate_before extents = if length extents == 0 then 0 else (slice_index_or extents (length extents - 1) (0, 0)).0 - FRAME_HEAD
+gate_before extents =
+    if length extents == 0 then 0 else (slice_index_or extents (length extents - 1) (0, 0)).0 - FRAME_HEAD
 
 -- the last gates of the frames from the start up to a closed gate, at least as many as the base; or the place where the
 -- frames break off (own)

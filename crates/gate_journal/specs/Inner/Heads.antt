@@ -11,7 +11,11 @@ use Rattle.gate_journal.specs.Inner.Reading.{numbers_of}
 
 -- name and capacities in the bytes of a head that end with these (own)
 abbrev pub heading_in : List ℕ → Heading
-heading_in bytes = record { kind = Cartridge; name = take NAME_BYTES (drop 1 bytes); capacities = numbers_of (drop (START_BYTES - BEGUN_BYTES) bytes) }
+heading_in bytes = record {
+  kind = Cartridge;
+  name = take NAME_BYTES (drop 1 bytes);
+  capacities = numbers_of (drop (START_BYTES - BEGUN_BYTES) bytes);
+}
 
 -- a head is that of a copy (own)
 abbrev pub is_copy : Option Copied → Bool
@@ -36,8 +40,10 @@ head_as kind copy bytes = record {
     kind = kind;
     name = take NAME_BYTES (drop 1 bytes);
     capacities =
-        numbers_of (take (CAPACITY_BYTES * count_in copy (slice_index bytes 0)) (drop (START_BYTES - BEGUN_BYTES) bytes));
+        numbers_of (take (CAPACITY_BYTES * count_in copy (slice_index bytes 0))
+        (drop (START_BYTES - BEGUN_BYTES) bytes));
   };
   copied =
-      copied_in copy (drop (CAPACITY_BYTES * count_in copy (slice_index bytes 0)) (drop (START_BYTES - BEGUN_BYTES) bytes));
+      copied_in copy (drop (CAPACITY_BYTES * count_in copy (slice_index bytes 0))
+      (drop (START_BYTES - BEGUN_BYTES) bytes));
 }
