@@ -20,7 +20,7 @@ use object_index::laws::a_volume_is_seen_by_its_shape;
 use std::alloc::Global;
 use std::marker::Model;
 use tape_disk::Disk;
-use volume_core::Kind;
+use volume_core::{Catalog, Kind};
 use vtl_base::{NoMemory, ObjNo, PartNo};
 
 /// An open cartridge on two disks. On one of them lies the side that counts: the bytes of one file, which give the

@@ -13,6 +13,7 @@ use crate::error::CartridgeError;
 use gate_journal::JournalError;
 use object_index::Placed;
 use tape_disk::Disk;
+use volume_core::Catalog;
 use vtl_base::{ObjNo, PartNo};
 
 impl<D: Disk> Cartridge<D> {

@@ -26,6 +26,7 @@ use std::alloc::Global;
 use tape_disk::Disk;
 use thiserror::Error;
 use volume_copy::Totals;
+use volume_core::Catalog;
 use volume_reclaim::reclaim_volume;
 use vtl_base::NoMemory;
 use vtl_base::limits::MAX_SIDE;

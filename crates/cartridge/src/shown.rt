@@ -12,32 +12,15 @@ use crate::reserving::reserve_each;
 use change_records::Record;
 use object_index::Index;
 use object_index::laws::{a_volume_is_seen_by_its_shape, an_index_follows_a_volume};
-use volume_core::{ApplyError, Change, Refusal};
+use volume_core::{ApplyError, Catalog, Change, Refusal, refusal};
 use vtl_base::NoMemory;
-use vtl_base::limits::MAX_OBJECTS;
 
 /// Why the volume that `index` shows refuses a change: the first cause that holds, or None where the change is not
 /// refused.
 pub fn refusal_shown(index: &Index, change: &Change) -> Option<Refusal>
     ensures { (volume : List Part) → IsIndexOf index.now volume → result ≡ refusal_of volume change.now }
 {
-    a_volume_is_seen_by_its_shape();
-    let part = change.part();
-    if part >= index.parts() {
-        return Some(Refusal::NoPartition);
-    }
-    let staying = change.staying();
-    if staying > index.count(part) {
-        return Some(Refusal::PastEnd);
-    }
-    let left = index.capacity(part) - index.used(part, staying);
-    if change.added() > MAX_OBJECTS - staying || change.cost() > left {
-        return Some(Refusal::NoRoom);
-    }
-    if !change.is_well_formed() {
-        return Some(Refusal::TooLong);
-    }
-    None
+    refusal(index, change)
 }
 
 /// Reserves memory in the index for a change, and returns the change's entry. Returns None where the volume that the

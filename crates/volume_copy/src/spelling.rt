@@ -14,6 +14,7 @@ use crate::totals::FRAME_BODY;
 use byteorder::{BigEndian, ByteOrder};
 use change_records::{HEAD_BYTES, Record};
 use object_index::Index;
+use volume_core::Catalog;
 use vtl_base::{DevFault, ObjNo, PartNo};
 
 // The kinds of records.

@@ -7,6 +7,7 @@ ghost use Rattle.volume_copy.specs.Inner.Packed.{packed_with};
 
 use crate::cursor::Cursor;
 use object_index::Index;
+use volume_core::Catalog;
 
 /// The greatest length of the body of a copy's frame, in bytes.
 pub const FRAME_BODY: usize = 4_194_304;

@@ -10,7 +10,7 @@ use Rattle.object_index.proofs.partitions.PlacedPartition.apply.Goals as goal
 pub add-requires-clause-cost : goal.add-requires-clause-cost
 add-requires-clause-cost c =
     let part : PlacedPart = placed_of c.self.inside.capacity c.self.inside.table in
-    let none = rw (← c.self.view_is) at (sym c.refusal.ensures ∙ c.in_default.is) in
+    let none = rw (← c.self.view_is) at c.requires.fits in
     let made : c.cut.new.self.objects ++ objects_of_run c.in-Some-of.run'
     ≡ take (records.record_staying c.args.item) part.objects ++ placed_by c.args.item c.args.place =
     (λ i. c.cut.ensures.objects i ++ objects_of_run c.in-Some-of.run')
@@ -23,7 +23,7 @@ add-requires-clause-cost c =
 pub invariant_of-self-in-Some-of : goal.invariant_of-self-in-Some-of
 invariant_of-self-in-Some-of c =
     let part : PlacedPart = placed_of c.self.inside.capacity c.self.inside.table in
-    let none = rw (← c.self.view_is) at (sym c.refusal.ensures ∙ c.in_default.is) in
+    let none = rw (← c.self.view_is) at c.requires.fits in
     let made : c.add.new.self.objects
     ≡ take (records.record_staying c.args.item) part.objects ++ placed_by c.args.item c.args.place =
     c.add.ensures.objects
@@ -36,7 +36,7 @@ invariant_of-self-in-Some-of c =
 pub invariant_of-self-in_default-of : goal.invariant_of-self-in_default-of
 invariant_of-self-in_default-of c =
     let part : PlacedPart = placed_of c.self.inside.capacity c.self.inside.table in
-    let none = rw (← c.self.view_is) at (sym c.refusal.ensures ∙ c.in_default.is) in
+    let none = rw (← c.self.view_is) at c.requires.fits in
     let made : c.cut-in_default-of.new.self.objects
     ≡ take (records.record_staying c.args.item) part.objects ++ placed_by c.args.item c.args.place =
     c.cut-in_default-of.ensures.objects
@@ -49,7 +49,7 @@ invariant_of-self-in_default-of c =
 pub returns-in_ok-reserve-clause-limits : goal.returns-in_ok-reserve-clause-limits
 returns-in_ok-reserve-clause-limits c =
     let part : PlacedPart = placed_of c.self.inside.capacity c.self.inside.table in
-    let none = rw (← c.self.view_is) at (sym c.refusal.ensures ∙ c.in_default.is) in
+    let none = rw (← c.self.view_is) at c.requires.fits in
     let made : c.add.new.self.objects
     ≡ take (records.record_staying c.args.item) part.objects ++ placed_by c.args.item c.args.place =
     c.add.ensures.objects
@@ -62,7 +62,7 @@ returns-in_ok-reserve-clause-limits c =
 pub returns-in_default-of-clause-limits : goal.returns-in_default-of-clause-limits
 returns-in_default-of-clause-limits c =
     let part : PlacedPart = placed_of c.self.inside.capacity c.self.inside.table in
-    let none = rw (← c.self.view_is) at (sym c.refusal.ensures ∙ c.in_default.is) in
+    let none = rw (← c.self.view_is) at c.requires.fits in
     let made : c.cut-in_default-of.new.self.objects
     ≡ take (records.record_staying c.args.item) part.objects ++ placed_by c.args.item c.args.place =
     c.cut-in_default-of.ensures.objects
