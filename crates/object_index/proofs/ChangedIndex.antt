@@ -70,10 +70,10 @@ module _ (parts : List PlacedPart) (item : Record) (place : ℕ) (old new : Plac
       (slice_get-map (filled_part blank) parts (records.record_part item) ∙ ap (option_map (filled_part blank)) here)
 
   pub after_here : new ≡ record {
-        capacity = old.capacity;
-        objects = take (records.record_staying item) old.objects ++ placed_by item place;
-        reserved = new.reserved;
-      }
+    capacity = old.capacity;
+    objects = take (records.record_staying item) old.objects ++ placed_by item place;
+    reserved = new.reserved;
+  }
       → slice_set parts (records.record_part item) new
       ≡ placed_after parts item place
       (reserved_of (slice_set parts (records.record_part item) new) (records.record_part item))
