@@ -31,26 +31,6 @@ as_many_parts parts volume is =
       length-map volume shape_of_part,
     )
 
-grown_outline : (old new : List PlacedPart) → IsGrown old new → outline new ≡ outline old
-grown_outline [] [] grown = refl
-grown_outline (p ∷ ps) (q ∷ qs) grown =
-    λ i. record {
-      capacity = grown.0.0 i;
-      objects = map (filled blank) (grown.0.1 i);
-    } ∷ grown_outline ps qs grown.1 i
-grown_outline [] (q ∷ qs) grown = absurd grown
-grown_outline (p ∷ ps) [] grown = absurd grown
-
--- with more reserved an index shows the same volume
-pub shown_grown : (old new : List PlacedPart) (volume : List Part) (part reserved : ℕ)
-    → new ≡ with_objects old part (placed_objects old part) reserved → reserved_of old part ≤ reserved
-    → IsIndexOf old volume → IsIndexOf new volume
-shown_grown old new volume part reserved is grows shows =
-    ap outline is
-    ∙ grown_outline old (with_objects old part (placed_objects old part) reserved)
-    (reserve_grown old part reserved grows)
-    ∙ shows
-
 -- a change puts one block or run of marks at most
 at_most_one : (same : Bool) → (if same then 1 else 0) ≤ 1
 at_most_one true = omega arith

@@ -13,7 +13,6 @@ mod OpeningLemmas
 mod PieceLemmas
 mod PlacingLemmas
 mod RecordLemmas
-mod RefusalLemmas
 mod ShownLemmas
 mod StoreLemmas
 mod StoringLemmas

@@ -2,9 +2,7 @@
 use Rattle.std.specs.Prelude.{◌≡◌, ◌≤◌, List, Option, None, Some, ℕ}
 use Rattle.volume_core.specs.declared.changes.Change.{Change}
 use Rattle.volume_core.specs.Volume.{Part, part_of, refusal_of}
-use Rattle.change_records.specs.declared.records.Record.{Record}
 use Rattle.object_index.specs.Places.{PlacedPart, reserved_of}
-use Rattle.change_records.specs.Records.{record_of}
 use Rattle.object_index.specs.Shapes.{IsIndexOf}
 use Rattle.cartridge.specs.Inner.Growing.{HasEntries, IsGrown, LacksEntries}
 
@@ -13,17 +11,6 @@ pub record MayEnter (parts : List PlacedPart) (volume : List Part) (change : Cha
   pub shows : IsIndexOf parts volume
   pub none : refusal_of volume change ≡ None
   pub roomy : 1 ≤ reserved_of parts (part_of change)
-
--- this is the entry of a change that the volume does not refuse which the index shows, and there is room for it (own)
-pub record IsEntryFor (old : List PlacedPart) (change : Change) (item : Record) (new : List PlacedPart) : Type 0 where
-  pub item_is : item ≡ record_of change
-  pub none : (volume : List Part) → IsIndexOf old volume → refusal_of volume change ≡ None
-  pub roomy : 1 ≤ reserved_of new (part_of change)
-
--- a volume that the index shows refuses the change, or nothing is reserved in the index for it (own)
-abbrev pub HasNoEntryFor : List PlacedPart → Change → Type 0
-HasNoEntryFor old change = (volume : List Part) → IsIndexOf old volume → refusal_of volume change ≡ None
-    → reserved_of old (part_of change) ≡ 0
 
 -- a catalog, if there is one, is as it was, and no less is reserved (own)
 abbrev pub IsGrownIn : Option (List PlacedPart) → Option (List PlacedPart) → Type 0

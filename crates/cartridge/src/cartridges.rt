@@ -19,7 +19,7 @@ use object_index::laws::a_volume_is_seen_by_its_shape;
 use std::alloc::Global;
 use std::marker::Model;
 use tape_disk::Disk;
-use volume_core::Kind;
+use volume_core::{Catalog, Kind};
 use vtl_base::layout::NAME_BYTES;
 use vtl_base::{NoMemory, ObjNo, PartNo};
 

@@ -14,6 +14,7 @@ use gate_journal::JournalError;
 use object_index::Placed;
 use std::alloc::AllocError;
 use tape_disk::Disk;
+use volume_core::Catalog;
 use vtl_base::{ObjNo, PartNo};
 
 static ZEROS: [u8; 4_096] = [0; 4_096];

@@ -25,6 +25,7 @@ use std::alloc::Global;
 use tape_disk::Disk;
 use thiserror::Error;
 use volume_copy::Totals;
+use volume_core::Catalog;
 use volume_reclaim::reclaim_volume;
 use vtl_base::NoMemory;
 use vtl_base::layout::{CAPACITY_BYTES, COPIED_BYTES, FRAME_HEAD, START_BYTES};

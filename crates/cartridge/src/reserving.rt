@@ -9,6 +9,7 @@ use crate::cartridges::Cartridge;
 use crate::error::CartridgeError;
 use object_index::Index;
 use tape_disk::Disk;
+use volume_core::Catalog;
 use vtl_base::NoMemory;
 
 impl<D: Disk> Cartridge<D> {

@@ -1,63 +1,26 @@
 //! The catalog of a volume as a caller sees it: an index with the kinds and lengths of the objects, in which the places
 //! of blocks mean nothing.
-ghost use Rattle.std.specs.Prelude.{◌≡◌, ◌≤◌, ◌+◌, List, None, ℕ, IfNone, IfSome, OnErr, OnOk, length};
+ghost use Rattle.std.specs.Prelude.{◌≡◌, ◌≤◌, ◌+◌, List, ℕ, OnErr, OnOk, length};
 ghost use Rattle.volume_core.specs.declared.changes.Change.{Change};
-ghost use Rattle.volume_core.specs.Volume.{Part, changed, part_of, refusal_of};
+ghost use Rattle.volume_core.specs.Volume.{Part, changed, refusal_of};
 ghost use Rattle.object_index.specs.Places.{reserved_of};
 ghost use Rattle.change_records.specs.Records.{record_of};
 ghost use Rattle.object_index.specs.Shapes.{IsIndexOf};
-ghost use Rattle.cartridge.specs.Shown.{HasEntriesIn, HasNoEntryFor, IsEntryFor, IsGrownIn, LacksEntriesIn, MayEnter};
+ghost use Rattle.cartridge.specs.Shown.{HasEntriesIn, IsGrownIn, LacksEntriesIn, MayEnter};
 
 use crate::reserving::reserve_each;
 use change_records::Record;
 use object_index::Index;
 use object_index::laws::{a_volume_is_seen_by_its_shape, an_index_follows_a_volume};
-use volume_core::{ApplyError, Change, Refusal};
+use volume_core::{ApplyError, Catalog, Change, Refusal, refusal};
 use vtl_base::NoMemory;
-use vtl_base::limits::MAX_OBJECTS;
 
 /// Why the volume that `index` shows refuses a change: the first cause that holds, or None where the change is not
 /// refused.
 pub fn refusal_shown(index: &Index, change: &Change) -> Option<Refusal>
     ensures { (volume : List Part) → IsIndexOf index.now volume → result ≡ refusal_of volume change.now }
 {
-    a_volume_is_seen_by_its_shape();
-    let part = change.part();
-    if part >= index.parts() {
-        return Some(Refusal::NoPartition);
-    }
-    let staying = change.staying();
-    if staying > index.count(part) {
-        return Some(Refusal::PastEnd);
-    }
-    let left = index.capacity(part) - index.used(part, staying);
-    if change.added() > MAX_OBJECTS - staying || change.cost() > left {
-        return Some(Refusal::NoRoom);
-    }
-    if !change.is_well_formed() {
-        return Some(Refusal::TooLong);
-    }
-    None
-}
-
-/// Reserves memory in the index for a change, and returns the change's entry. Returns None where the volume that the
-/// index shows refuses the change, or where memory runs out and none was reserved for the change.
-pub fn entry_for(index: &mut Index, change: &Change) -> Option<Record>
-    requires { (volume : List Part) × IsIndexOf index.old volume }
-    ensures shows { (volume : List Part) → IsIndexOf index.old volume → IsIndexOf index.new volume }
-    ensures entry { IfSome result (λ item. IsEntryFor index.old change.now item index.new) }
-    ensures none { IfNone result (HasNoEntryFor index.old change.now) }
-{
-    match refusal_shown(index, change) {
-        Some(_) => return None,
-        None => {}
-    }
-    // Called for the proof: the index keeps the limits of a volume.
-    let _ = index.parts();
-    let Ok(()) = index.reserve(change.part(), 1) else {
-        return None;
-    };
-    Some(Record::of(change))
+    refusal(index, change)
 }
 
 /// Enters the change whose entry is `item` into an index in which memory for it is reserved. The volume that the index

@@ -19,7 +19,7 @@ use crate::placing::place_frame;
 use gate_journal::{Frame, Journal, JournalError};
 use object_index::Index;
 use tape_disk::Disk;
-use volume_core::Change;
+use volume_core::{Catalog, Change};
 use vtl_base::layout::FRAME_HEAD;
 use vtl_base::{NoMemory, PartNo};
 

@@ -10,7 +10,7 @@
 //! | 10 on | the bytes of the block, if there is one |
 ghost use Rattle.std.specs.Prelude.{◌≡◌, ◌≤◌, ◌<◌, ◌-◌, ◌^◌, IfOk, IfSome, IfNone, length};
 ghost use Rattle.change_records.specs.Records.{BeginsWithRecord, IsAtFront, IsRecord, change_in, record_of, size_of};
-ghost use Rattle.volume_core.specs.Volume.{added_by, is_well_formed, used_of};
+ghost use Rattle.volume_core.specs.Volume.{demand_of};
 ghost use Rattle.change_records.specs.Records.{record_staying, outlined, record_part};
 ghost use Rattle.change_records.specs.Inner.Decoded.{block_decoded, erase_decoded, head_decoded, marks_decoded, decoded};
 ghost use Rattle.vtl_base.specs.declared.layout.TheConstants.{RECORD_HEAD};
@@ -18,9 +18,9 @@ ghost use Rattle.vtl_base.specs.declared.layout.TheConstants.{RECORD_HEAD};
 use byteorder::{BigEndian, ByteOrder};
 use std::alloc::{AllocError, Global};
 use thiserror::Error;
-use volume_core::Change;
+use volume_core::{Change, Demand};
 use vtl_base::layout::{BLOCK, ERASE, MARKS, RECORD_HEAD, RECORD_NUMBER, RECORD_OBJECT};
-use vtl_base::limits::{MAX_BLOCK, MAX_OBJECTS, OBJECT_COST};
+use vtl_base::limits::{MAX_BLOCK, MAX_OBJECTS};
 use vtl_base::{Bytes, NoMemory, ObjNo, PartNo};
 
 /// A record without the bytes of its block, which stay where they are, directly after the record's head of 10 bytes.
@@ -157,36 +157,14 @@ impl Record {
         })
     }
 
-    /// How many objects the record adds.
-    pub fn added(self) -> u32
-        ensures { result ≡ length (added_by (outlined self)) }
+    /// What the record's change asks of its partition.
+    pub fn demand(self) -> Demand
+        ensures { result ≡ demand_of (outlined self) }
     {
         match self {
-            Record::Put { .. } => 1,
-            Record::Marks { count, .. } => count,
-            Record::Erase { .. } => 0,
-        }
-    }
-
-    /// How many bytes of a partition's capacity the added objects take: 16 for each, and the length of a block.
-    pub fn cost(self) -> u64
-        ensures { result ≡ used_of (added_by (outlined self)) }
-    {
-        match self {
-            Record::Put { length, .. } => length as u64 + OBJECT_COST,
-            Record::Marks { count, .. } => count as u64 * OBJECT_COST,
-            Record::Erase { .. } => 0,
-        }
-    }
-
-    /// Whether the block has 1 to 1,048,576 bytes, or there is at least one filemark. Always true for an erase.
-    pub fn is_well_formed(self) -> bool
-        ensures { result ≡ is_well_formed (outlined self) }
-    {
-        match self {
-            Record::Put { length, .. } => length >= 1 && length <= MAX_BLOCK,
-            Record::Marks { count, .. } => count > 0,
-            Record::Erase { .. } => true,
+            Record::Put { length, .. } => Demand::block(length as usize),
+            Record::Marks { count, .. } => Demand::marks(count),
+            Record::Erase { .. } => Demand::nothing(),
         }
     }
 }

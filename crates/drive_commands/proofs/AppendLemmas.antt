@@ -1,6 +1,6 @@
 -- What a change at the position makes of a medium, and how it is answered.
 use Rattle.std.proofs.Common.{◌≡◌, ◌<◌, ◌≤◌, ◌+◌, ◌++◌, if◌then◌else◌, ℕ, zero, suc, List, [], ◌∷◌, Option, Some, None, Result, Ok, Err, Bool, true, false, IsTrue, length, not, ◌==◌, take, nat_le, slice_get, slice_set, refl, arith, sym, ◌∙◌, ap, inl, inr, length-append, append-nil}
-use Rattle.std.proofs.lemmas.Bool.{eqb-true}
+use Rattle.std.proofs.lemmas.Bool.{and_from, eqb-true, le-leb}
 use Rattle.std.proofs.lemmas.Bool.Decides.{nat_tests}
 use Rattle.std.proofs.lemmas.List.{length-take-le}
 use Rattle.std.proofs.lemmas.List.Sums.{sum_by_push}
@@ -168,35 +168,6 @@ fault_refused medium.Device amount = refl
 fault_refused medium.Failed amount = refl
 fault_refused medium.Unreadable amount = refl
 
--- what the objects before a block and the block take together
-used_with_block : (objects : List Object) (block : List ℕ)
-    → used_of (objects ++ Block block ∷ []) ≡ used_of objects + (length block + OBJECT_COST)
-used_with_block objects block = sum_by_push cost_of objects (Block block)
-
--- whether a block fits behind the first objects of a partition
-block_in : (part : Part) (number at : ℕ) (block : List ℕ) → at ≤ length part.objects → at < MAX_OBJECTS
-    → 1 ≤ length block → length block ≤ MAX_BLOCK
-    → refusal_in (Some part) (put_at (record { part = number; obj = at }) block)
-    ≡ (if nat_le (used_of (take at part.objects) + (length block + OBJECT_COST)) part.capacity then None
-    else Some NoRoom)
-block_in part number at block inside below some short =
-    let used = used_with_block (take at part.objects) block in
-    let count : length (take at part.objects ++ Block block ∷ []) ≡ at + 1 =
-    simp length-append (omega (arith, length-take-le at part.objects inside)) in
-    rw (used, count) (grind (arith, nat_tests))
-
--- whether a block fits at a position
-pub room_for_block : (volume : List Part) (position : Pos) (block : List ℕ) → position.part < length volume
-    → position.obj ≤ length (objects_of volume position.part) → position.obj < MAX_OBJECTS
-    → 1 ≤ length block → length block ≤ MAX_BLOCK
-    → refusal_of volume (put_at position block)
-    ≡ (if nat_le (used_up_to volume position.part position.obj + (length block + OBJECT_COST))
-    (capacity_of volume position.part) then None
-    else Some NoRoom)
-room_for_block volume position block within at below some short =
-    let (part, is) = part_at volume position.part within in
-    rw is (block_in part position.part position.obj block (rw is at at) below some short)
-
 -- what stays of a partition fits it
 erase_in : (part : Part) (number at : ℕ) → at ≤ length part.objects → length part.objects ≤ MAX_OBJECTS
     → used_of (take at part.objects) ≤ part.capacity
@@ -258,6 +229,21 @@ pub restored_is : (made : List Change) (part at : ℕ) (sent : List ℕ)
     → restored (returned_of made (Put part at sent)) [] ≡ data_left made sent
 restored_is [] part at sent = refl
 restored_is (change ∷ changes) part at sent = refl
+
+-- a WRITE that the partition has no room for
+pub write_lacks_room : (buffered : Bool) (sent : List ℕ) (u : MediumState) (p : Pos) (cause : Refusal)
+    → 1 ≤ length sent → length sent ≤ MAX_BLOCK → IsOnWorkingMedium (mounted u p)
+    → refusal_of (volume_of u) (put_at p sent) ≡ Some cause
+    → WriteWork buffered sent (mounted u p) (Ok (check_with (volume_overflow (Some (length sent))) [])) [] (mounted u p)
+write_lacks_room buffered [] u p cause some short ready refused = absurd (omega (arith, some))
+write_lacks_room buffered (byte ∷ bytes) u p cause some short ready refused =
+    let size = length (byte ∷ bytes) in
+    let formed : is_well_formed (put_at p (byte ∷ bytes)) ≡ true =
+    and_from (nat_le 1 size) (nat_le size MAX_BLOCK) (le-leb 1 size some) (le-leb size MAX_BLOCK short) in
+    let room =
+    refused_for_room (volume_of u) (put_at p (byte ∷ bytes)) cause ready.on.on_tape.part ready.on.on_tape.object formed
+    refused in
+    rw room (refl, refl, refl)
 
 -- a WRITE that the side has no room for
 pub write_lacks_side : (buffered : Bool) (sent : List ℕ) (u : MediumState) (p : Pos) (has : Bool) → 1 ≤ length sent

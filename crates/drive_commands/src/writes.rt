@@ -1,11 +1,8 @@
 //! WRITE.
-ghost use Rattle.std.specs.Prelude.{◌≡◌, ◌≤◌, [], false, length, None, Some, if◌then◌else◌};
+ghost use Rattle.std.specs.Prelude.{◌≡◌, ◌≤◌, [], false, length};
 ghost use Rattle.vtl_base.specs.declared.limits.TheConstants.{MAX_BLOCK};
-ghost use Rattle.volume_core.specs.declared.changes.Refusal.TheVariants as Refusals;
-ghost use Rattle.volume_core.specs.Volume.{refusal_of};
-ghost use Rattle.volume_core.specs.Medium.{volume_of};
 ghost use Rattle.drive_commands.specs.State.{IsPositioned, mounted};
-ghost use Rattle.drive_commands.specs.Write.{WriteWork, put_at};
+ghost use Rattle.drive_commands.specs.Write.{WriteWork};
 ghost use Rattle.drive_commands.specs.Data.{data_left};
 ghost use Rattle.drive_commands.specs.Inner.Appending.{restored};
 ghost use Rattle.drive_commands.specs.Inner.Carries.{IsOnWorkingMedium, Tallies};
@@ -15,9 +12,8 @@ use crate::faults::Fault;
 use positioning::Pos;
 use scsi_sense::{Reply, Sense};
 use std::alloc::Global;
-use volume_core::{Catalog, Change, Medium};
+use volume_core::{Change, Demand, Medium, refusal_for};
 use vtl_base::Bytes;
-use vtl_base::limits::{MAX_OBJECTS, OBJECT_COST};
 
 /// Writes the bytes in `sent` as one block at the position, and moves the position past the block, to the end of data
 /// (SSC-4, WRITE(6)). In unbuffered mode the block is stored before the answer. A WRITE of 0 bytes does nothing. A
@@ -97,8 +93,17 @@ pub fn write_copy<M: Medium>(
         return Ok(Reply::good(Bytes::new(alloc)));
     }
     let amount = sent.len() as u32;
-    if !has_room(medium, *position, sent) {
-        return Ok(Reply::check(Sense::volume_overflow(Some(amount)), Bytes::new(alloc)));
+    match refusal_for(
+        medium,
+        position.part,
+        position.obj,
+        Demand::block(sent.len()),
+    ) {
+        Some(_) => {
+            let sense = Sense::volume_overflow(Some(amount));
+            return Ok(Reply::check(sense, Bytes::new(alloc)));
+        }
+        None => {}
     }
     if !medium.has_room_for(amount) {
         return Err(Fault::SideFull {
@@ -107,18 +112,4 @@ pub fn write_copy<M: Medium>(
     }
     let mut copy = Bytes::from_slice(alloc, sent)?;
     write(alloc, medium, position, accepted, buffered, &mut copy)
-}
-
-// Whether these bytes fit as a block at the position.
-fn has_room<C: Catalog>(medium: &C, position: Pos, sent: &[u8]) -> bool
-    requires on { IsPositioned (C.state medium.now) position }
-    requires some { 1 ≤ length sent.now }
-    requires short { length sent.now ≤ MAX_BLOCK }
-    ensures { refusal_of (volume_of (C.state medium.now)) (put_at position sent.now)
-        ≡ (if result then None else Some Refusals.NoRoom) }
-{
-    let capacity = medium.capacity(position.part);
-    let before = medium.used(position.part, position.obj);
-    let cost = sent.len() as u64 + OBJECT_COST;
-    position.obj < MAX_OBJECTS && before + cost <= capacity
 }

@@ -1,13 +1,12 @@
 -- An index with one changed partition.
-use Rattle.std.proofs.Common.{◌≡◌, ℕ, List, ◌++◌, take, sym, ◌∙◌, ap, subst, arith, Some, Ok, Err, Result}
+use Rattle.std.proofs.Common.{◌≡◌, ◌<◌, ℕ, List, ◌++◌, length, take, refl, sym, ◌∙◌, ap, subst, arith, None, Some}
 use Rattle.std.specs.Prelude.{slice_get, slice_set, Option}
 use Rattle.std.specs.Option.{option_map}
-use Rattle.std.proofs.lemmas.List.{length-set, map-set}
+use Rattle.std.proofs.lemmas.List.{length-map, length-set, map-set}
 use Rattle.std.proofs.lemmas.List.Elements.{All-set}
 use Rattle.std.proofs.lemmas.Option.{slice_get-map, slice_get_within}
-use Rattle.volume_core.specs.declared.volumes.ApplyError.{ApplyError}
-use Rattle.volume_core.specs.declared.volumes.ApplyError.TheVariants as Errors
-use Rattle.volume_core.specs.Volume.{AppliesUnless, IsPart, IsVolume, Part, refusal_in, refusal_of}
+use Rattle.volume_core.specs.declared.changes.Change.{Change}
+use Rattle.volume_core.specs.Volume.{IsPart, IsVolume, Part, part_of, refusal_in, refusal_of}
 use Rattle.object_index.specs.declared.places.Placed.{Placed}
 use Rattle.change_records.specs.declared.records.Record.{Record}
 use Rattle.change_records.specs.Records as records
@@ -61,35 +60,44 @@ module _ (parts : List PlacedPart) (number : ℕ) (old new : PlacedPart) (here :
   pub set_same : new ≡ old → slice_set parts number new ≡ parts
   set_same same = ap (slice_set parts number) same ∙ set_here parts number old here
 
--- the result of a partition is that of the index
+-- a partition refuses what the index refuses, and the index changes where it does
 module _ (parts : List PlacedPart) (item : Record) (place : ℕ) (old new : PlacedPart)
     (here : slice_get parts (records.record_part item) ≡ Some old) where
-  refusal_here : refusal_of (outline parts) (outlined item) ≡ refusal_in (Some (filled_part blank old)) (outlined item)
+  pub refusal_here : refusal_of (outline parts) (outlined item) ≡ refusal_in (Some (filled_part blank old)) (outlined item)
   refusal_here =
       (λ i. refusal_in (slice_get (outline parts) (target_filled blank item 0 i)) (outlined item))
       ∙ ap (λ (p : Option Part). refusal_in p (outlined item))
       (slice_get-map (filled_part blank) parts (records.record_part item) ∙ ap (option_map (filled_part blank)) here)
 
-  pub applies_here : (result : Result Unit ApplyError)
-      → AppliesUnless (refusal_in (Some (filled_part blank old)) (outlined item)) old (record {
-        capacity = old.capacity;
-        objects = take (records.record_staying item) old.objects ++ placed_by item place;
-        reserved = new.reserved;
-      }) result new
-      → AppliesUnless (refusal_of (outline parts) (outlined item)) parts
-      (placed_after parts item place
-      (reserved_of (slice_set parts (records.record_part item) new) (records.record_part item))) result
-      (slice_set parts (records.record_part item) new)
-  applies_here (Ok done) answer = (
-    refusal_here ∙ answer.0,
-    set_is parts (records.record_part item) old new here
-        (take (records.record_staying item) old.objects ++ placed_by item place) answer.1
-        ∙ ap (λ (l : List Placed). with_objects parts (records.record_part item)
-        (take (records.record_staying item) l ++ placed_by item place)
-        (reserved_of (slice_set parts (records.record_part item) new) (records.record_part item)))
-        (sym (objects_here parts (records.record_part item) old new here)),
-  )
-  applies_here (Err (Errors.Refused cause)) answer =
-      (refusal_here ∙ answer.0, set_same parts (records.record_part item) old new here answer.1)
-  applies_here (Err Errors.NoMemory) answer =
-      (refusal_here ∙ answer.0, set_same parts (records.record_part item) old new here answer.1)
+  pub after_here : new ≡ record {
+    capacity = old.capacity;
+    objects = take (records.record_staying item) old.objects ++ placed_by item place;
+    reserved = new.reserved;
+  }
+      → slice_set parts (records.record_part item) new
+      ≡ placed_after parts item place
+      (reserved_of (slice_set parts (records.record_part item) new) (records.record_part item))
+  after_here same =
+      set_is parts (records.record_part item) old new here
+      (take (records.record_staying item) old.objects ++ placed_by item place) same
+      ∙ ap (λ (l : List Placed). with_objects parts (records.record_part item)
+      (take (records.record_staying item) l ++ placed_by item place)
+      (reserved_of (slice_set parts (records.record_part item) new) (records.record_part item)))
+      (sym (objects_here parts (records.record_part item) old new here))
+
+-- a record that is not refused is one of a partition that is there
+pub inside_of : (parts : List PlacedPart) (item : Record) → refusal_of (outline parts) (outlined item) ≡ None
+    → records.record_part item < length parts
+inside_of parts item none =
+    let found = there (slice_get (outline parts) (part_of (outlined item))) (outlined item) none in
+    omega (
+      arith,
+      slice_get_within (outline parts) (part_of (outlined item)) found.0 found.1,
+      target_filled blank item 0,
+      length-map parts (filled_part blank),
+    )
+  where
+    there : (found : Option Part) (change : Change) → refusal_in found change ≡ None
+        → (part : Part) × (found ≡ Some part)
+    there None change none = absurd (cc)
+    there (Some part) change none = (part, refl)

@@ -89,64 +89,11 @@ module _ (part : PlacedPart) (item : Record) where
   abbrev room : Bool
   room = has_room seen (objects_after seen.objects change)
 
-  reached : staying ≤ length part.objects → past ≡ false
-  reached few = le-ltb (length seen.objects) (staying_of change)
-      (omega (arith, few, staying_is, length-map part.objects (filled blank)))
-
-  length_after : length (objects_after seen.objects change) ≡ length staying_objects + length (added_by change)
-  length_after =
-      length-append (take (staying_of change) seen.objects) (added_by change)
-      ∙ ap (λ (l : List Object). length l + length (added_by change))
-      (ap (λ (n : ℕ). take n seen.objects) staying_is ∙ take-map (filled blank) staying part.objects)
-      ∙ ap (λ (n : ℕ). n + length (added_by change)) (length-map staying_objects (filled blank))
-
   used_after : used_of (objects_after seen.objects change) ≡ cost_of_objects staying_objects + used_of (added_by change)
   used_after =
       sum_by-append cost_of (take (staying_of change) seen.objects) (added_by change)
       ∙ ap (λ (n : ℕ). n + used_of (added_by change))
       (ap (λ (n : ℕ). used_of (take n seen.objects)) staying_is ∙ used_taken part.objects staying)
-
-  -- too many objects, or too many bytes
-  no_room : staying ≤ length part.objects → room ≡ false → refusal_in (Some seen) change ≡ Some NoRoom
-  no_room few full =
-      cond-false past (Some PastEnd)
-      (if not room then Some NoRoom else (if not (is_well_formed change) then Some TooLong else None)) (reached few)
-      ∙ cond-true (not room) (Some NoRoom) (if not (is_well_formed change) then Some TooLong else None)
-      (not_from_false room full)
-
-  pub too_many : staying ≤ length part.objects → MAX_OBJECTS < length staying_objects + length (added_by change)
-      → refusal_in (Some seen) change ≡ Some NoRoom
-  too_many few many = no_room few (and_left _ (nat_le (used_of (objects_after seen.objects change)) part.capacity)
-      (lt-leb (length (objects_after seen.objects change)) MAX_OBJECTS (omega (arith, many, length_after))))
-
-  pub too_large : staying ≤ length part.objects
-      → part.capacity < cost_of_objects staying_objects + used_of (added_by change)
-      → refusal_in (Some seen) change ≡ Some NoRoom
-  too_large few large = no_room few (and_right (nat_le (length (objects_after seen.objects change)) MAX_OBJECTS) _
-      (lt-leb (used_of (objects_after seen.objects change)) part.capacity (omega (arith, large, used_after))))
-
-  module _ (few : staying ≤ length part.objects) (enough : length staying_objects + length (added_by change) ≤
-      MAX_OBJECTS)
-      (fits : cost_of_objects staying_objects + used_of (added_by change) ≤ part.capacity) where
-    roomy : room ≡ true
-    roomy = and_from _ _
-        (le-leb (length (objects_after seen.objects change)) MAX_OBJECTS (omega (arith, enough, length_after)))
-        (le-leb (used_of (objects_after seen.objects change)) part.capacity (omega (arith, fits, used_after)))
-
-    up_to_form : refusal_in (Some seen) change ≡ (if not (is_well_formed change) then Some TooLong else None)
-    up_to_form =
-        cond-false past (Some PastEnd)
-        (if not room then Some NoRoom else (if not (is_well_formed change) then Some TooLong else None)) (reached few)
-        ∙ cond-false (not room) (Some NoRoom) (if not (is_well_formed change) then Some TooLong else None)
-        (not_from_true room roomy)
-
-    pub too_long : is_well_formed change ≡ false → refusal_in (Some seen) change ≡ Some TooLong
-    too_long bad = up_to_form
-        ∙ cond-true (not (is_well_formed change)) (Some TooLong) None (not_from_false (is_well_formed change) bad)
-
-    pub no_refusal : is_well_formed change ≡ true → refusal_in (Some seen) change ≡ None
-    no_refusal good = up_to_form
-        ∙ cond-false (not (is_well_formed change)) (Some TooLong) None (not_from_true (is_well_formed change) good)
 
   formed_objects : (c : Change) → is_well_formed c ≡ true → All IsObject (added_by c)
   formed_objects (Changes.Put p n block) formed =

@@ -145,6 +145,27 @@ refusal_by_shape volume change =
     of_it None = refl
     of_it (Some part) = refusal_by_part part change
 
+blanked_twice : (object : Object) → blanked (blanked object) ≡ blanked object
+blanked_twice (Block bytes) = ap (λ (n : ℕ). Block (replicate n 0)) (length-replicate (length bytes) 0)
+blanked_twice Mark = refl
+
+objects_twice : (objects : List Object) → map blanked (map blanked objects) ≡ map blanked objects
+objects_twice [] = refl
+objects_twice (object ∷ objects) = λ i. blanked_twice object i ∷ objects_twice objects i
+
+shape_twice : (volume : List Part) → shape_of (shape_of volume) ≡ shape_of volume
+shape_twice [] = refl
+shape_twice (part ∷ parts) =
+    λ i. record { capacity = part.capacity; objects = objects_twice part.objects i } ∷ shape_twice parts i
+
+-- the shape of a volume refuses what the volume refuses (own)
+pub refusal_of_shape : (volume : List Part) (change : Change) → refusal_of (shape_of volume) change
+    ≡ refusal_of volume change
+refusal_of_shape volume change =
+    sym (refusal_by_shape (shape_of volume) change)
+    ∙ ap (λ (shape : List Part). refusal_of shape (shape_of_change change)) (shape_twice volume)
+    ∙ refusal_by_shape volume change
+
 -- the shape after a change
 pub shape_changed : (volume : List Part) (change : Change)
     → shape_of (changed volume change) ≡ changed (shape_of volume) (shape_of_change change)

@@ -1,8 +1,8 @@
 //! The index of a cartridge: where each object lies.
-ghost use Rattle.std.specs.Prelude.{◌≡◌, ◌≤◌, ◌<◌, ◌+◌, ◌-◌, ◌^◌, ◌++◌, IsTrue, Err, IfOk, IfSome, OnOk, OnErr, Some, length, map, take, slice_get};
+ghost use Rattle.std.specs.Prelude.{◌≡◌, ◌≤◌, ◌<◌, ◌+◌, ◌-◌, ◌^◌, ◌++◌, IsTrue, Err, IfOk, IfSome, OnOk, OnErr, length, map, take, slice_get};
 ghost use Rattle.std.specs.Option.{option_copied};
-ghost use Rattle.vtl_base.specs.declared.limits.TheConstants.{MAX_CAPACITY, MAX_OBJECTS, MAX_PARTITIONS};
-ghost use Rattle.volume_core.specs.Volume.{AppliesUnless, IsMarkOf, IsVolume, are_capacities, capacity_of, count_of, kind_at, mark_count, marks_upto, refusal_of, used_up_to};
+ghost use Rattle.vtl_base.specs.declared.limits.TheConstants.{MAX_PARTITIONS};
+ghost use Rattle.volume_core.specs.Volume.{AppliesUnless, IsVolume, are_capacities, refusal_of};
 ghost use Rattle.object_index.specs.MarkRuns.{AddsDigitsOfRuns, IsRunUpto, IsRunWith};
 ghost use Rattle.change_records.specs.Records.{outlined, record_part};
 ghost use Rattle.object_index.specs.Places.{CanAdd, empty_placed, objects_of_run, outline, placed_after, placed_objects, reserved_of, runs_of, unreserved, with_objects};
@@ -14,7 +14,7 @@ use crate::runs::MarkRun;
 use change_records::Record;
 use std::alloc::Global;
 use std::marker::Model;
-use volume_core::{ApplyError, Kind, Refusal};
+use volume_core::{ApplyError, Catalog, Kind, Refusal, refusal_for};
 use vtl_base::{NoMemory, ObjNo, PartNo, Steps};
 
 /// An index of where each object of a cartridge lies. It has 1 to 4 partitions, with an entry of 24 bytes for each
@@ -69,64 +69,12 @@ impl Index {
         self.partitions.get(part as usize)
     }
 
-    /// How many partitions there are, 1 to 4.
-    pub fn parts(&self) -> PartNo
-        ensures parts { result ≡ length self.now }
-        ensures some { 1 ≤ result }
-        ensures few { result ≤ MAX_PARTITIONS }
-        ensures limits { IsVolume (outline self.now) }
-    {
-        self.partitions.len() as PartNo
-    }
-
-    /// The capacity of a partition in bytes, 0 where there is no such partition.
-    pub fn capacity(&self, part: PartNo) -> u64
-        ensures capacity { result ≡ capacity_of (outline self.now) part }
-        ensures bound { result ≤ MAX_CAPACITY }
-    {
-        match self.partition(part) {
-            Some(partition) => partition.capacity(),
-            None => 0,
-        }
-    }
-
-    /// How many objects a partition has, 0 where there is no such partition.
-    pub fn count(&self, part: PartNo) -> ObjNo
-        ensures count { result ≡ count_of (outline self.now) part }
-        ensures bound { result ≤ MAX_OBJECTS }
-    {
-        match self.partition(part) {
-            Some(partition) => partition.count(),
-            None => 0,
-        }
-    }
-
     /// The object with number `at` in a partition; for a block, with its place and its length. None where there is no
     /// such object.
     pub fn place(&self, part: PartNo, at: ObjNo) -> Option<Placed>
         ensures { result ≡ slice_get (placed_objects self.now part) at }
     {
         self.partition(part)?.place(at)
-    }
-
-    /// The kind of the object with number `at` in a partition: a block or a filemark. None where there is no such
-    /// object.
-    pub fn kind_at(&self, part: PartNo, at: ObjNo) -> Option<Kind>
-        ensures { result ≡ kind_at (outline self.now) part at }
-    {
-        Some(self.place(part, at)?.kind())
-    }
-
-    /// How many bytes of its capacity the first `n` objects of a partition take. Where the partition has fewer objects,
-    /// all of them are counted.
-    pub fn used(&self, part: PartNo, n: ObjNo) -> u64
-        ensures used { result ≡ used_up_to (outline self.now) part n }
-        ensures bound { result ≤ capacity_of (outline self.now) part }
-    {
-        match self.partition(part) {
-            Some(partition) => partition.used(n),
-            None => 0,
-        }
     }
 
     /// The last run of filemarks of a partition that begins before object number `n`; None where no filemark comes
@@ -155,45 +103,11 @@ impl Index {
         }
     }
 
-    /// How many filemarks are among the first `n` objects of a partition. Where the partition has fewer objects, all
-    /// its filemarks are counted.
-    pub fn marks_upto(&self, part: PartNo, n: ObjNo) -> u32
-        ensures marks { result ≡ marks_upto (outline self.now) part n }
-        ensures bound { result ≤ MAX_OBJECTS }
-    {
-        // Called for the proof: a partition has no more objects than it may.
-        let _ = self.count(part);
-        let mut steps = Steps::new();
-        match self.run_upto(part, n, &mut steps) {
-            Some(run) => run.before + run.count.min(n - run.first),
-            None => 0,
-        }
-    }
-
-    /// The object number of filemark `k` of a partition. Filemarks are counted from 0, and the partition must have more
-    /// than `k` of them.
-    pub fn mark_at(&self, part: PartNo, k: u32) -> ObjNo
-        requires { k < mark_count (outline self.now) part }
-        ensures { IsMarkOf (outline self.now) part k result }
-    {
-        // Called for the proof: a partition has no more objects than it may.
-        let _ = self.count(part);
-        let mut steps = Steps::new();
-        match self.run_of(part, k, &mut steps) {
-            Some(run) => run.first + (k - run.before),
-            None => unreachable!(),
-        }
-    }
-
-    /// Why the change of the record `item` would be refused: the first cause that holds. None where the change would
-    /// not be refused.
-    pub fn refusal(&self, item: Record) -> Option<Refusal>
+    // Why the change of a record is refused; None where it is not.
+    fn refusal(&self, item: Record) -> Option<Refusal>
         ensures { result ≡ refusal_of (outline self.now) (outlined item) }
     {
-        match self.partition(item.part()) {
-            Some(partition) => partition.refusal(item),
-            None => Some(Refusal::NoPartition),
-        }
+        refusal_for(self, item.part(), item.staying(), item.demand())
     }
 
     /// Reserves memory for `runs` later additions to a partition, which then allocate nothing. An addition is a block
@@ -254,11 +168,75 @@ impl Index {
         ensures memory { result ≡ Err Errors.NoMemory →
             reserved_of self.old (record_part item) < runs_of item }
     {
-        let part = item.part() as usize;
-        if part >= self.partitions.len() {
-            return Err(ApplyError::Refused(Refusal::NoPartition));
+        if let Some(cause) = self.refusal(item) {
+            return Err(ApplyError::Refused(cause));
         }
-        let partition = &mut self.partitions[part];
-        partition.apply(item, place)
+        let partition = &mut self.partitions[item.part() as usize];
+        match partition.apply(item, place) {
+            Ok(()) => Ok(()),
+            Err(_) => Err(ApplyError::NoMemory),
+        }
+    }
+}
+
+impl Catalog for Index {
+    ghost use Rattle.volume_core.specs.Plain.{volume_state};
+    ghost use Rattle.object_index.specs.Places.{PlacedPart, outline};
+    ghost use Rattle.std.specs.Prelude.{List};
+
+    ghost state = { λ (parts : List PlacedPart). volume_state (outline parts) };
+
+    fn parts(&self) -> PartNo
+        ensures parts { result ≡ length self.now }
+        ensures some { 1 ≤ result }
+        ensures few { result ≤ MAX_PARTITIONS }
+        ensures limits { IsVolume (outline self.now) }
+    {
+        self.partitions.len() as PartNo
+    }
+
+    fn capacity(&self, part: PartNo) -> u64 {
+        match self.partition(part) {
+            Some(partition) => partition.capacity(),
+            None => 0,
+        }
+    }
+
+    fn count(&self, part: PartNo) -> ObjNo {
+        match self.partition(part) {
+            Some(partition) => partition.count(),
+            None => 0,
+        }
+    }
+
+    fn kind_at(&self, part: PartNo, at: ObjNo) -> Option<Kind> {
+        Some(self.place(part, at)?.kind())
+    }
+
+    fn used(&self, part: PartNo, n: ObjNo) -> u64 {
+        match self.partition(part) {
+            Some(partition) => partition.used(n),
+            None => 0,
+        }
+    }
+
+    fn marks_upto(&self, part: PartNo, n: ObjNo) -> u32 {
+        // Called for the proof: a partition has no more objects than it may.
+        let _ = self.count(part);
+        let mut steps = Steps::new();
+        match self.run_upto(part, n, &mut steps) {
+            Some(run) => run.before + run.count.min(n - run.first),
+            None => 0,
+        }
+    }
+
+    fn mark_at(&self, part: PartNo, k: u32) -> ObjNo {
+        // Called for the proof: a partition has no more objects than it may.
+        let _ = self.count(part);
+        let mut steps = Steps::new();
+        match self.run_of(part, k, &mut steps) {
+            Some(run) => run.first + (k - run.before),
+            None => unreachable!(),
+        }
     }
 }

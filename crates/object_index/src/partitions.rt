@@ -1,9 +1,8 @@
 //! The partitions of an index.
-ghost use Rattle.std.specs.Prelude.{◌≡◌, ◌≤◌, ◌<◌, ◌+◌, ◌-◌, ◌^◌, ◌++◌, [], IsTrue, IfOk, OnOk, OnErr, Some, Err, length, take, slice_get};
+ghost use Rattle.std.specs.Prelude.{◌≡◌, ◌≤◌, ◌<◌, ◌+◌, ◌-◌, ◌^◌, ◌++◌, [], IsTrue, IfOk, OnOk, OnErr, None, Some, length, take, slice_get};
 ghost use Rattle.vtl_base.specs.declared.limits.TheConstants.{MAX_CAPACITY, MAX_OBJECTS};
 ghost use Rattle.vtl_base.specs.Limits.{is_capacity};
-ghost use Rattle.volume_core.specs.Volume.{AppliesUnless, IsPart, refusal_in, used_of};
-ghost use Rattle.volume_core.specs.declared.volumes.ApplyError.TheVariants as Errors;
+ghost use Rattle.volume_core.specs.Volume.{IsPart, refusal_in, used_of};
 ghost use Rattle.object_index.specs.MarkRuns.{AddsDigitsOfRuns, IsRunUpto, IsRunWith};
 ghost use Rattle.change_records.specs.Records.{record_staying, outlined};
 ghost use Rattle.object_index.specs.Places.{CanAdd, IsPlace, blank, empty_placed, filled_part, objects_of_run, placed_by, runs_of, unreserved, with_run};
@@ -14,8 +13,6 @@ use crate::tables::ObjectTable;
 use change_records::Record;
 use std::alloc::{AllocError, Global};
 use std::marker::Model;
-use volume_core::{ApplyError, Refusal};
-use vtl_base::limits::{MAX_OBJECTS, OBJECT_COST};
 use vtl_base::{ObjNo, Steps};
 
 // A partition. A contract sees its capacity, its objects with their places, and how many runs can be added
@@ -115,27 +112,6 @@ impl PlacedPartition {
         self.table.run_of(k, steps)
     }
 
-    // Why the change of a record for this partition would be refused; None where it would not.
-    pub(crate) fn refusal(&self, item: Record) -> Option<Refusal>
-        ensures { result ≡ refusal_in (Some (filled_part blank self.now)) (outlined item) }
-    {
-        let at = item.staying();
-        if at > self.table.count() {
-            return Some(Refusal::PastEnd);
-        }
-        let used = self.table.used(at);
-        if item.added() > MAX_OBJECTS - at {
-            return Some(Refusal::NoRoom);
-        }
-        if item.cost() > self.capacity - used {
-            return Some(Refusal::NoRoom);
-        }
-        if !item.is_well_formed() {
-            return Some(Refusal::TooLong);
-        }
-        None
-    }
-
     // Makes room for `runs` more runs, which then take no memory.
     pub(crate) fn reserve(&mut self, runs: usize) -> Result<(), AllocError>
         ensures same { self.new ≡ record self.old { reserved = self.new.reserved } }
@@ -175,22 +151,19 @@ impl PlacedPartition {
         Ok(())
     }
 
-    // Carries out a record for this partition, or refuses it.
-    pub(crate) fn apply(&mut self, item: Record, place: u64) -> Result<(), ApplyError>
-        requires { place < 2 ^ 64 - 1 }
-        ensures answer { AppliesUnless (refusal_in (Some (filled_part blank self.old)) (outlined item))
-            self.old (record {
-              capacity = self.old.capacity;
-              objects = take (record_staying item) self.old.objects ++ placed_by item place;
-              reserved = self.new.reserved;
-            }) result self.new }
+    // Carries out a record for this partition, whose change is not refused.
+    pub(crate) fn apply(&mut self, item: Record, place: u64) -> Result<(), AllocError>
+        requires place { place < 2 ^ 64 - 1 }
+        requires fits { refusal_in (Some (filled_part blank self.old)) (outlined item) ≡ None }
+        ensures ok { OnOk result (self.new ≡ record {
+          capacity = self.old.capacity;
+          objects = take (record_staying item) self.old.objects ++ placed_by item place;
+          reserved = self.new.reserved;
+        }) }
+        ensures err { OnErr result ((self.old.reserved < runs_of item) × (self.new ≡ self.old)) }
         ensures reserved { self.old.reserved ≤ self.new.reserved + runs_of item }
-        ensures memory { result ≡ Err Errors.NoMemory → self.old.reserved < runs_of item }
         ensures limits { IsPart (filled_part blank self.new) }
     {
-        if let Some(cause) = self.refusal(item) {
-            return Err(ApplyError::Refused(cause));
-        }
         if let Some(run) = Run::of(item, place) {
             self.table.reserve(1)?;
             self.table.cut(item.staying());

@@ -5,7 +5,7 @@ use object_index::{Index, Placed, Run};
 use std::process::Abort;
 use std::test::Fail;
 use test_assertions::assert_equal;
-use volume_core::{ApplyError, Refusal};
+use volume_core::{ApplyError, Catalog, Refusal, refusal_for};
 use vtl_base::{ObjNo, PartNo};
 
 fn record(part: PartNo, at: ObjNo, add: Add) -> Record {
@@ -81,7 +81,8 @@ fn index_against_a_list(rt: HostRuntime) -> Result<(), Fail> {
     let mut list = Vec::new(alloc);
     for (part, at, add, place, refusal) in ROWS {
         let item = record(*part, *at, *add);
-        assert_equal!(rt; index.refusal(item), *refusal; (add, at));
+        let found = refusal_for(&index, item.part(), item.staying(), item.demand());
+        assert_equal!(rt; found, *refusal; (add, at));
         if *place < u64::MAX {
             let applied = index.apply(item, *place).err();
             assert_equal!(rt; applied, refusal.map(ApplyError::Refused); (add, at));

@@ -10,6 +10,7 @@ use std::process::Abort;
 use std::test::Fail;
 use std::time::{CpuClock, Duration};
 use test_assertions::{assert_equal, assert_holds};
+use volume_core::Catalog;
 use vtl_base::Steps;
 
 // A block of one byte and a filemark, this many times, and then as many blocks.

@@ -6,7 +6,8 @@ use std::test::Fail;
 use test_assertions::assert_equal;
 use volume_core::Refusal::{NoPartition, NoRoom, PastEnd, TooLong};
 use volume_core::{
-    ApplyError, Change, Kind, Object, Refusal, Volume, are_capacities, is_in_early_zone,
+    ApplyError, Catalog, Change, Kind, Object, Refusal, Volume, are_capacities, is_in_early_zone,
+    refusal,
 };
 use vtl_base::{Bytes, ObjNo, PartNo};
 
@@ -39,14 +40,14 @@ type Row = (PartNo, ObjNo, Add, Option<Refusal>, u32, u64, bool);
 
 // The change of a row is applied, or refused for its cause; the volume after it.
 fn assert_row(rt: &impl Abort, alloc: Global, volume: &mut Volume, row: &Row) -> Result<(), Fail> {
-    let (part, at, add, refusal, count, used, early) = *row;
+    let (part, at, add, cause, count, used, early) = *row;
     let change = make_change(alloc, part, at, add)?;
-    assert_equal!(rt; volume.refusal(&change), refusal; (add, at));
+    assert_equal!(rt; refusal(volume, &change), cause; (add, at));
     let applied = match volume.apply(change) {
         Ok(()) => None,
         Err(refused) => Some(refused.error),
     };
-    assert_equal!(rt; applied, refusal.map(ApplyError::Refused); (add, at));
+    assert_equal!(rt; applied, cause.map(ApplyError::Refused); (add, at));
     assert_equal!(rt; (volume.count(part), volume.used(part, u32::MAX)), (count, used); (add, at));
     assert_equal!(rt; is_in_early_zone(volume.capacity(part), used), early; (add, at));
     Ok(())

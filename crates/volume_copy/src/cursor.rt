@@ -9,6 +9,7 @@ ghost use Rattle.volume_copy.specs.Entries.{entries_from};
 use crate::entries::Entry;
 use change_records::Record;
 use object_index::{Index, Placed};
+use volume_core::Catalog;
 use vtl_base::{ObjNo, PartNo, Steps};
 
 /// A position in a copy: before object `at` of partition `part`, or at the end of the partition's objects. A position

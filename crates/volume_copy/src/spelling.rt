@@ -13,6 +13,7 @@ use crate::entries::Entry;
 use byteorder::{BigEndian, ByteOrder};
 use change_records::Record;
 use object_index::Index;
+use volume_core::Catalog;
 use vtl_base::layout::{BLOCK, ERASE, MARKS, RECORD_HEAD, RECORD_NUMBER, RECORD_OBJECT};
 use vtl_base::limits::COPY_BODY;
 use vtl_base::{DevFault, ObjNo, PartNo};

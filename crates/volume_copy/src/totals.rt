@@ -7,6 +7,7 @@ ghost use Rattle.volume_copy.specs.Inner.Packed.{packed_with};
 
 use crate::cursor::Cursor;
 use object_index::Index;
+use volume_core::Catalog;
 use vtl_base::limits::COPY_BODY;
 
 /// The size of a copy.

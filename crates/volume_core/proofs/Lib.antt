@@ -1,2 +1,3 @@
 mod VolumeLemmas
+mod RefusalLemmas
 mod MarkLemmas

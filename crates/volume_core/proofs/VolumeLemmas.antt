@@ -1,25 +1,28 @@
 -- A volume changes where one of its partitions does.
-use Rattle.std.proofs.Common.{◌≡◌, ℕ, List, Some, Ok, Err, slice_get, slice_set, Result, refl}
+use Rattle.std.proofs.Common.{◌≡◌, ◌<◌, ℕ, List, Option, None, Some, slice_get, slice_set, length, refl}
 use Rattle.std.proofs.lemmas.List.{set-get_or}
-use Rattle.std.proofs.lemmas.Option.{get_or_from_slice_get}
+use Rattle.std.proofs.lemmas.Option.{get_or_from_slice_get, slice_get_within}
 use Rattle.volume_core.specs.declared.changes.Change.{Change}
-use Rattle.volume_core.specs.declared.volumes.ApplyError.{ApplyError}
-use Rattle.volume_core.specs.declared.volumes.ApplyError.TheVariants.{Refused, NoMemory}
-use Rattle.volume_core.specs.Volume.{Part, part_of, refusal_in, part_after, AppliesUnless, Applies}
+use Rattle.volume_core.specs.Volume.{Part, changed, part_of, refusal_in, refusal_of, part_after}
+
+there : (found : Option Part) (change : Change) → refusal_in found change ≡ None → (part : Part) × (found ≡ Some part)
+there None change none = absurd (cc)
+there (Some part) change none = (part, refl)
+
+-- a change that is not refused is one of a partition that is there
+pub inside_of : (volume : List Part) (change : Change) → refusal_of volume change ≡ None
+    → part_of change < length volume
+inside_of volume change none =
+    let found = there (slice_get volume (part_of change)) change none in
+    slice_get_within volume (part_of change) found.0 found.1
 
 -- a partition that stays leaves the volume as it is
-set_same : (volume : List Part) (number : ℕ) (old new : Part)
+pub set_same : (volume : List Part) (number : ℕ) (old new : Part)
     → slice_get volume number ≡ Some old → new ≡ old → slice_set volume number new ≡ volume
 set_same volume number old new at same =
     rw same (rw (get_or_from_slice_get volume number old old at) at (set-get_or volume number old))
 
--- what its partition answers, the volume answers
-pub applies_at : (volume : List Part) (change : Change) (result : Result Unit ApplyError) (old new : Part)
-    → slice_get volume (part_of change) ≡ Some old
-    → AppliesUnless (refusal_in (Some old) change) old (part_after old change) result new
-    → Applies volume change result (slice_set volume (part_of change) new)
-applies_at volume change (Ok done) old new at answer = (rw at answer.0, rw (at, answer.1) refl)
-applies_at volume change (Err (Refused cause)) old new at answer =
-    (rw at answer.0, set_same volume (part_of change) old new at answer.1)
-applies_at volume change (Err NoMemory) old new at answer =
-    (rw at answer.0, set_same volume (part_of change) old new at answer.1)
+-- where its partition is changed, the volume is
+pub changed_at : (volume : List Part) (change : Change) (old new : Part) → slice_get volume (part_of change) ≡ Some old
+    → new ≡ part_after old change → slice_set volume (part_of change) new ≡ changed volume change
+changed_at volume change old new at is = rw (at, is) refl

@@ -1,5 +1,5 @@
 -- A medium that holds all in memory, as contracts see it.
-use Rattle.std.specs.Prelude.{◌≡◌, ◌++◌, None, Some, List, [], ◌∷◌, Bool, false, refl}
+use Rattle.std.specs.Prelude.{◌≡◌, ◌++◌, None, Some, List, [], ◌∷◌, Bool, true, false, refl}
 use Rattle.std.proofs.Common.{subst}
 use Rattle.vtl_base.specs.Below.{Below}
 use Rattle.volume_core.specs.declared.changes.Change.{Change}
@@ -23,6 +23,10 @@ plain_state plain =
       room = None;
       unread = false;
     }
+
+-- a volume in memory as one of these that is open (own)
+abbrev pub volume_state : List Part → MediumState
+volume_state volume = plain_state (record { volume = volume; awake = true })
 
 -- the changes apply in order, and lead from one volume to the other (own)
 abbrev pub MovesByChanges : List Part → List Change → List Part → Type 0

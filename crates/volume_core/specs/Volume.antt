@@ -9,6 +9,7 @@ use Rattle.volume_core.specs.declared.objects.Kind.{Kind}
 use Rattle.volume_core.specs.declared.objects.Kind.TheVariants as Kinds
 use Rattle.volume_core.specs.declared.changes.Change.{Change}
 use Rattle.volume_core.specs.declared.changes.Change.TheVariants.{Put, Marks, Erase}
+use Rattle.volume_core.specs.declared.changes.Demand.{Demand}
 use Rattle.volume_core.specs.declared.changes.Refusal.{Refusal}
 use Rattle.volume_core.specs.declared.changes.Refusal.TheVariants.{NoPartition, PastEnd, NoRoom, TooLong}
 use Rattle.volume_core.specs.declared.volumes.ApplyError.{ApplyError}
@@ -182,6 +183,11 @@ abbrev pub is_well_formed : Change → Bool
 is_well_formed (Put part at block) = nat_le 1 (length block) && nat_le (length block) MAX_BLOCK
 is_well_formed (Marks part at count) = nat_le 1 count
 is_well_formed (Erase part at) = true
+
+-- what a change asks of its partition: how many objects it adds, what these take, and whether it is well formed (own)
+abbrev pub demand_of : Change → Demand
+demand_of change =
+    record { objects = length (added_by change); bytes = used_of (added_by change); formed = is_well_formed change }
 
 -- why a partition refuses a change: the first cause of these that holds (own)
 abbrev pub refusal_in : Option Part → Change → Option Refusal

@@ -1,6 +1,7 @@
 //! Changes of a volume, and why one is refused.
-ghost use Rattle.std.specs.Prelude.{◌≡◌, IfOk, OnErr, length};
-ghost use Rattle.volume_core.specs.Volume.{part_of, staying_of, added_by, used_of, is_well_formed, HasLongBlock};
+ghost use Rattle.std.specs.Prelude.{◌≡◌, ◌<◌, ◌^◌, ℕ, List, IfOk, OnErr, length};
+ghost use Rattle.volume_core.specs.declared.changes.Change.TheVariants.{Put, Marks, Erase};
+ghost use Rattle.volume_core.specs.Volume.{part_of, staying_of, demand_of, HasLongBlock};
 ghost use Rattle.volume_core.specs.Medium.{frame_size};
 
 use std::alloc::Global;
@@ -104,37 +105,61 @@ impl Change {
         }
     }
 
-    /// How many objects the change adds (own).
-    pub fn added(&self) -> u32
-        ensures { result ≡ length (added_by self.now) }
+    /// What the change asks of its partition (own).
+    pub fn demand(&self) -> Demand
+        ensures { result ≡ demand_of self.now }
     {
         match self {
-            Change::Put { .. } => 1,
-            Change::Marks { count, .. } => *count,
-            Change::Erase { .. } => 0,
+            Change::Put { block, .. } => Demand::block(block.len()),
+            Change::Marks { count, .. } => Demand::marks(*count),
+            Change::Erase { .. } => Demand::nothing(),
+        }
+    }
+}
+
+/// What a change asks of its partition, apart from its place: as much as its refusal depends on (own).
+#[derive(Clone, Copy)]
+pub struct Demand {
+    // How many objects are added.
+    pub(crate) objects: u32,
+    // How many bytes of the capacity they take.
+    pub(crate) bytes: u64,
+    // Whether a block has 1 to 1,048,576 bytes, and there is at least one filemark.
+    pub(crate) formed: bool,
+}
+
+impl Demand {
+    /// That of a block of this many bytes (SSC-4, WRITE; limits own).
+    pub fn block(size: usize) -> Demand
+        requires { size < 2 ^ 63 }
+        ensures { (part at : ℕ) (block : List ℕ) → length block ≡ size → result ≡ demand_of (Put part at block) }
+    {
+        Demand {
+            objects: 1,
+            bytes: size as u64 + OBJECT_COST,
+            formed: 1 <= size && size <= MAX_BLOCK as usize,
         }
     }
 
-    /// How many bytes of the partition's capacity the added objects take (own).
-    pub fn cost(&self) -> u64
-        ensures { result ≡ used_of (added_by self.now) }
+    /// That of this many filemarks (SSC-4, WRITE FILEMARKS; limits own).
+    pub fn marks(count: u32) -> Demand
+        ensures { (part at : ℕ) → result ≡ demand_of (Marks part at count) }
     {
-        match self {
-            Change::Put { block, .. } => block.len() as u64 + OBJECT_COST,
-            Change::Marks { count, .. } => *count as u64 * OBJECT_COST,
-            Change::Erase { .. } => 0,
+        Demand {
+            objects: count,
+            bytes: count as u64 * OBJECT_COST,
+            formed: count > 0,
         }
     }
 
-    /// Whether the block of a `Put` has 1 to 1,048,576 bytes, or a `Marks` has at least one filemark. Always true for
-    /// an `Erase` (own).
-    pub fn is_well_formed(&self) -> bool
-        ensures { result ≡ is_well_formed self.now }
+    /// That of an erase, which adds nothing (SSC-4, ERASE).
+    pub fn nothing() -> Demand
+        ensures { (part at : ℕ) → result ≡ demand_of (Erase part at) }
     {
-        match self {
-            Change::Put { block, .. } => !block.is_empty() && block.len() <= MAX_BLOCK as usize,
-            Change::Marks { count, .. } => *count > 0,
-            Change::Erase { .. } => true,
+        Demand {
+            objects: 0,
+            bytes: 0,
+            formed: true,
         }
     }
 }

@@ -1,19 +1,16 @@
 //! Partitions in memory.
-ghost use Rattle.std.specs.Prelude.{◌≡◌, ◌≤◌, ◌<◌, IsTrue, IfErr, Some, Err, slice_get, take, length};
+ghost use Rattle.std.specs.Prelude.{◌≡◌, ◌≤◌, ◌<◌, IsTrue, IfErr, OnOk, None, Some, slice_get, take, length};
 ghost use Rattle.std.specs.Option.{option_copied};
 ghost use Rattle.vtl_base.specs.declared.limits.TheConstants.{MAX_CAPACITY, MAX_OBJECTS};
 ghost use Rattle.vtl_base.specs.Limits.{is_capacity};
-ghost use Rattle.volume_core.specs.Volume.{IsPart, empty_part, used_of, kind_in, block_in, marks_in, refusal_in, part_after, AddsObjects, AppliesUnless, apply_answer};
+ghost use Rattle.volume_core.specs.Volume.{IsPart, empty_part, used_of, kind_in, block_in, marks_in, refusal_in, part_after, AddsObjects};
 ghost use Rattle.volume_core.specs.declared.objects.Kind.TheVariants as Kinds;
-ghost use Rattle.volume_core.specs.declared.volumes.ApplyError.TheVariants as Errors;
 
-use crate::changes::{Change, Refusal};
+use crate::changes::Change;
 use crate::object_list::ObjectList;
 use crate::objects::Kind;
-use crate::volumes::{ApplyError, NotApplied};
 use std::alloc::Global;
 use std::marker::Model;
-use vtl_base::limits::MAX_OBJECTS;
 
 // A partition. A contract sees its capacity and its objects.
 #[derive(Drop)]
@@ -93,54 +90,22 @@ impl Partition {
         self.stock.mark_at(k) as u32
     }
 
-    // Why a change of this partition would be refused; None where it would not.
-    pub(crate) fn refusal(&self, change: &Change) -> Option<Refusal>
-        ensures { result ≡ refusal_in (Some self.now) change.now }
-    {
-        let at = change.staying() as usize;
-        if at > self.stock.len() {
-            return Some(Refusal::PastEnd);
-        }
-        let used = self.stock.used(at);
-        let fits = change.added() as usize <= MAX_OBJECTS as usize - at
-            && change.cost() <= self.capacity - used;
-        if !fits {
-            return Some(Refusal::NoRoom);
-        }
-        if !change.is_well_formed() {
-            return Some(Refusal::TooLong);
-        }
-        None
-    }
-
-    // Carries out a change of this partition, or refuses it. An erase takes no memory.
-    pub(crate) fn apply(&mut self, change: Change) -> Result<(), NotApplied>
-        ensures answer { AppliesUnless (refusal_in (Some self.old) change) self.old
-            (part_after self.old change) (apply_answer result) self.new }
-        ensures returned { IfErr result (λ refused. refused.change ≡ change) }
-        ensures memory { apply_answer result ≡ Err Errors.NoMemory → AddsObjects change }
+    // Carries out a change of this partition that is not refused. It is returned where memory runs out, and an erase
+    // takes none.
+    pub(crate) fn apply(&mut self, change: Change) -> Result<(), Change>
+        requires { refusal_in (Some self.old) change ≡ None }
+        ensures ok { OnOk result (self.new ≡ part_after self.old change) }
+        ensures err { IfErr result (λ back. (back ≡ change) × (self.new ≡ self.old) × AddsObjects change) }
         ensures limits { IsPart self.new }
     {
-        if let Some(cause) = self.refusal(&change) {
-            return Err(NotApplied {
-                error: ApplyError::Refused(cause),
-                change,
-            });
-        }
         match change {
             Change::Put { part, at, block } => match self.stock.put(at as usize, block) {
                 Ok(()) => Ok(()),
-                Err(block) => Err(NotApplied {
-                    error: ApplyError::NoMemory,
-                    change: Change::Put { part, at, block },
-                }),
+                Err(block) => Err(Change::Put { part, at, block }),
             },
             Change::Marks { part, at, count } => match self.stock.marks(at as usize, count) {
                 Ok(()) => Ok(()),
-                Err(_) => Err(NotApplied {
-                    error: ApplyError::NoMemory,
-                    change: Change::Marks { part, at, count },
-                }),
+                Err(_) => Err(Change::Marks { part, at, count }),
             },
             Change::Erase { at, .. } => {
                 self.stock.erase(at as usize);

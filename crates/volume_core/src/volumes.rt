@@ -1,15 +1,17 @@
 //! Volumes in memory.
-ghost use Rattle.std.specs.Prelude.{◌≡◌, ◌≤◌, ◌<◌, IsTrue, IfOk, IfErr, IfSome, Err, length, slice_get};
+ghost use Rattle.std.specs.Prelude.{◌≡◌, ◌≤◌, IsTrue, IfOk, IfErr, IfSome, Err, length, slice_get};
 ghost use Rattle.std.specs.List.{list_all};
 ghost use Rattle.std.specs.Option.{option_copied};
-ghost use Rattle.vtl_base.specs.declared.limits.TheConstants.{MAX_BLOCK, MAX_CAPACITY, MAX_OBJECTS, MAX_PARTITIONS};
+ghost use Rattle.vtl_base.specs.declared.limits.TheConstants.{MAX_BLOCK};
 ghost use Rattle.vtl_base.specs.Limits.{is_capacity};
 ghost use Rattle.volume_core.specs.declared.volumes.ApplyError.TheVariants as Errors;
-ghost use Rattle.volume_core.specs.Volume.{AddsObjects, Applies, IsMarkOf, IsPart, apply_answer, are_capacities, block_at, capacity_of, count_of, empty_volume, is_in_early_zone, kind_at, mark_count, marks_upto, refusal_of, used_up_to};
+ghost use Rattle.volume_core.specs.Volume.{AddsObjects, Applies, IsPart, apply_answer, are_capacities, block_at, empty_volume, is_in_early_zone};
 
 use crate::changes::{Change, Refusal};
+use crate::media::Catalog;
 use crate::objects::Kind;
 use crate::partitions::Partition;
+use crate::refusals::refusal;
 use std::alloc::{AllocError, Global};
 use std::marker::Model;
 use thiserror::Error;
@@ -116,97 +118,12 @@ impl Volume {
         self.partitions.get(part as usize)
     }
 
-    /// How many partitions there are, 1 to 4.
-    pub fn parts(&self) -> PartNo
-        ensures parts { result ≡ length self.now }
-        ensures some { 1 ≤ result }
-        ensures few { result ≤ MAX_PARTITIONS }
-    {
-        self.partitions.len() as PartNo
-    }
-
-    /// The capacity of a partition in bytes, 0 where there is no such partition.
-    pub fn capacity(&self, part: PartNo) -> u64
-        ensures capacity { result ≡ capacity_of self.now part }
-        ensures bound { result ≤ MAX_CAPACITY }
-    {
-        match self.partition(part) {
-            Some(partition) => partition.capacity(),
-            None => 0,
-        }
-    }
-
-    /// How many objects a partition has, 0 where there is no such partition.
-    pub fn count(&self, part: PartNo) -> u32
-        ensures count { result ≡ count_of self.now part }
-        ensures bound { result ≤ MAX_OBJECTS }
-    {
-        match self.partition(part) {
-            Some(partition) => partition.count(),
-            None => 0,
-        }
-    }
-
-    /// The kind of the object with number `at` in a partition: a block or a filemark. None where there is no such
-    /// object.
-    pub fn kind_at(&self, part: PartNo, at: ObjNo) -> Option<Kind>
-        ensures { result ≡ kind_at self.now part at }
-    {
-        self.partition(part)?.kind_at(at as usize)
-    }
-
-    /// How many bytes of a partition's capacity its first `n` objects take. If it has fewer objects, all of them are
-    /// counted.
-    pub fn used(&self, part: PartNo, n: ObjNo) -> u64
-        ensures used { result ≡ used_up_to self.now part n }
-        ensures bound { result ≤ capacity_of self.now part }
-    {
-        match self.partition(part) {
-            Some(partition) => partition.used(n as usize),
-            None => 0,
-        }
-    }
-
-    /// How many filemarks are among the first `n` objects of a partition. Where it has fewer objects, all its filemarks
-    /// are counted. The call walks over these objects.
-    pub fn marks_upto(&self, part: PartNo, n: ObjNo) -> u32
-        ensures marks { result ≡ marks_upto self.now part n }
-        ensures bound { result ≤ MAX_OBJECTS }
-    {
-        match self.partition(part) {
-            Some(partition) => partition.marks_upto(n as usize),
-            None => 0,
-        }
-    }
-
-    /// The object number of filemark `k` of a partition, whose first filemark is filemark 0. The partition must have
-    /// more than `k` filemarks. The search walks over the objects up to that filemark.
-    pub fn mark_at(&self, part: PartNo, k: u32) -> ObjNo
-        requires { k < mark_count self.now part }
-        ensures { IsMarkOf self.now part k result }
-    {
-        match self.partition(part) {
-            Some(partition) => partition.mark_at(k as usize),
-            None => unreachable!(),
-        }
-    }
-
     /// The bytes of the block with number `at` in a partition; None where there is no such object, or it is a filemark.
     pub fn block_at(&self, part: PartNo, at: ObjNo) -> Option<&[u8]>
         ensures block { option_copied result ≡ block_at self.now part at }
         ensures bound { IfSome result (λ block. length block.now ≤ MAX_BLOCK) }
     {
         self.partition(part)?.block_at(at as usize)
-    }
-
-    /// Why the volume would refuse a change: the first cause that holds. None where it would not refuse the change.
-    pub fn refusal(&self, change: &Change) -> Option<Refusal>
-        ensures { result ≡ refusal_of self.now change.now }
-    {
-        match self.partition(change.part()) {
-            Some(partition) => partition.refusal(change),
-            None => Some(Refusal::NoPartition),
-        }
     }
 
     /// Carries out a change, or refuses it for the first cause that holds. The error is `NoMemory` only if no cause
@@ -217,14 +134,66 @@ impl Volume {
         ensures returned { IfErr result (λ refused. refused.change ≡ change) }
         ensures memory { apply_answer result ≡ Err Errors.NoMemory → AddsObjects change }
     {
-        let part = change.part() as usize;
-        if part >= self.partitions.len() {
-            return Err(NotApplied {
-                error: ApplyError::Refused(Refusal::NoPartition),
-                change,
-            });
+        if let Some(cause) = refusal(self, &change) {
+            let error = ApplyError::Refused(cause);
+            return Err(NotApplied { error, change });
         }
-        let partition = &mut self.partitions[part];
-        partition.apply(change)
+        let partition = &mut self.partitions[change.part() as usize];
+        match partition.apply(change) {
+            Ok(()) => Ok(()),
+            Err(change) => {
+                let error = ApplyError::NoMemory;
+                Err(NotApplied { error, change })
+            }
+        }
+    }
+}
+
+impl Catalog for Volume {
+    ghost use Rattle.volume_core.specs.Plain.{volume_state};
+
+    ghost state = { volume_state };
+
+    fn parts(&self) -> PartNo {
+        self.partitions.len() as PartNo
+    }
+
+    fn capacity(&self, part: PartNo) -> u64 {
+        match self.partition(part) {
+            Some(partition) => partition.capacity(),
+            None => 0,
+        }
+    }
+
+    fn count(&self, part: PartNo) -> u32 {
+        match self.partition(part) {
+            Some(partition) => partition.count(),
+            None => 0,
+        }
+    }
+
+    fn kind_at(&self, part: PartNo, at: ObjNo) -> Option<Kind> {
+        self.partition(part)?.kind_at(at as usize)
+    }
+
+    fn used(&self, part: PartNo, n: ObjNo) -> u64 {
+        match self.partition(part) {
+            Some(partition) => partition.used(n as usize),
+            None => 0,
+        }
+    }
+
+    fn marks_upto(&self, part: PartNo, n: ObjNo) -> u32 {
+        match self.partition(part) {
+            Some(partition) => partition.marks_upto(n as usize),
+            None => 0,
+        }
+    }
+
+    fn mark_at(&self, part: PartNo, k: u32) -> ObjNo {
+        match self.partition(part) {
+            Some(partition) => partition.mark_at(k as usize),
+            None => unreachable!(),
+        }
     }
 }

@@ -1,6 +1,6 @@
 //! The calls of a medium for tests, as a drive makes them.
 use super::StagedMedium;
-use volume_core::{Catalog, Change, Kind, Medium, MediumError, NotAccepted, Turn};
+use volume_core::{Catalog, Change, Kind, Medium, MediumError, NotAccepted, Turn, refusal};
 use vtl_base::{NoMemory, ObjNo, PartNo};
 
 impl Catalog for StagedMedium {
@@ -52,7 +52,7 @@ impl Medium for StagedMedium {
             let error = MediumError::Failed;
             return Err(NotAccepted { error, change });
         }
-        if let Some(cause) = self.volume().refusal(&change) {
+        if let Some(cause) = refusal(self.volume(), &change) {
             let error = MediumError::Refused(cause);
             return Err(NotAccepted { error, change });
         }

@@ -10,64 +10,64 @@ use Rattle.object_index.proofs.partitions.PlacedPartition.apply.Goals as goal
 pub add-requires-clause-cost : goal.add-requires-clause-cost
 add-requires-clause-cost c =
     let part : PlacedPart = placed_of c.self.inside.capacity c.self.inside.table in
-    let none = rw (← c.self.view_is) at (sym c.refusal.ensures ∙ c.in_default.is) in
-    let made : c.cut.new.self.objects ++ objects_of_run c.in-Some-of.run'
+    let none = rw (← c.self.view_is) at c.requires.fits in
+    let made : c.cut.new.self.objects ++ objects_of_run c.in-Some.run'
     ≡ take (records.record_staying c.args.item) part.objects ++ placed_by c.args.item c.args.place =
-    (λ i. c.cut.ensures.objects i ++ objects_of_run c.in-Some-of.run')
-    ∙ (λ i. take (c.staying.ensures i) (c.in_ok-reserve.ensures.objects i) ++ objects_of_run c.in-Some-of.run')
+    (λ i. c.cut.ensures.objects i ++ objects_of_run c.in-Some.run')
+    ∙ (λ i. take (c.staying.ensures i) (c.in_ok-reserve.ensures.objects i) ++ objects_of_run c.in-Some.run')
     ∙ ap (λ (l : List Placed). take (records.record_staying c.args.item) part.objects ++ l) (sym
-    c.in-Some-of.ensures.0) in
+    c.in-Some.ensures.0) in
     let fits = cost_fits part c.args.item c.args.place c.self.invariant none in
     omega (arith, fits, ap cost_of_objects made)
 
-pub invariant_of-self-in-Some-of : goal.invariant_of-self-in-Some-of
-invariant_of-self-in-Some-of c =
+pub invariant_of-self-in-Some : goal.invariant_of-self-in-Some
+invariant_of-self-in-Some c =
     let part : PlacedPart = placed_of c.self.inside.capacity c.self.inside.table in
-    let none = rw (← c.self.view_is) at (sym c.refusal.ensures ∙ c.in_default.is) in
+    let none = rw (← c.self.view_is) at c.requires.fits in
     let made : c.add.new.self.objects
     ≡ take (records.record_staying c.args.item) part.objects ++ placed_by c.args.item c.args.place =
     c.add.ensures.objects
-    ∙ (λ i. c.cut.ensures.objects i ++ objects_of_run c.in-Some-of.run')
-    ∙ (λ i. take (c.staying.ensures i) (c.in_ok-reserve.ensures.objects i) ++ objects_of_run c.in-Some-of.run')
+    ∙ (λ i. c.cut.ensures.objects i ++ objects_of_run c.in-Some.run')
+    ∙ (λ i. take (c.staying.ensures i) (c.in_ok-reserve.ensures.objects i) ++ objects_of_run c.in-Some.run')
     ∙ ap (λ (l : List Placed). take (records.record_staying c.args.item) part.objects ++ l) (sym
-    c.in-Some-of.ensures.0) in
+    c.in-Some.ensures.0) in
     rw made (limits_placed part c.args.item c.args.place c.add.new.self.reserved c.self.invariant none)
 
-pub invariant_of-self-in_default-of : goal.invariant_of-self-in_default-of
-invariant_of-self-in_default-of c =
+pub invariant_of-self-in_default : goal.invariant_of-self-in_default
+invariant_of-self-in_default c =
     let part : PlacedPart = placed_of c.self.inside.capacity c.self.inside.table in
-    let none = rw (← c.self.view_is) at (sym c.refusal.ensures ∙ c.in_default.is) in
-    let made : c.cut-in_default-of.new.self.objects
+    let none = rw (← c.self.view_is) at c.requires.fits in
+    let made : c.cut-in_default.new.self.objects
     ≡ take (records.record_staying c.args.item) part.objects ++ placed_by c.args.item c.args.place =
-    c.cut-in_default-of.ensures.objects
-    ∙ ap (λ (n : ℕ). take n part.objects) c.staying-in_default-of.ensures
+    c.cut-in_default.ensures.objects
+    ∙ ap (λ (n : ℕ). take n part.objects) c.staying-in_default.ensures
     ∙ sym (append-nil (take (records.record_staying c.args.item) part.objects))
     ∙ ap (λ (l : List Placed). take (records.record_staying c.args.item) part.objects ++ l) (sym
-    c.in_default-of.ensures.0) in
-    rw made (limits_placed part c.args.item c.args.place c.cut-in_default-of.new.self.reserved c.self.invariant none)
+    c.in_default.ensures.0) in
+    rw made (limits_placed part c.args.item c.args.place c.cut-in_default.new.self.reserved c.self.invariant none)
 
 pub returns-in_ok-reserve-clause-limits : goal.returns-in_ok-reserve-clause-limits
 returns-in_ok-reserve-clause-limits c =
     let part : PlacedPart = placed_of c.self.inside.capacity c.self.inside.table in
-    let none = rw (← c.self.view_is) at (sym c.refusal.ensures ∙ c.in_default.is) in
+    let none = rw (← c.self.view_is) at c.requires.fits in
     let made : c.add.new.self.objects
     ≡ take (records.record_staying c.args.item) part.objects ++ placed_by c.args.item c.args.place =
     c.add.ensures.objects
-    ∙ (λ i. c.cut.ensures.objects i ++ objects_of_run c.in-Some-of.run')
-    ∙ (λ i. take (c.staying.ensures i) (c.in_ok-reserve.ensures.objects i) ++ objects_of_run c.in-Some-of.run')
+    ∙ (λ i. c.cut.ensures.objects i ++ objects_of_run c.in-Some.run')
+    ∙ (λ i. take (c.staying.ensures i) (c.in_ok-reserve.ensures.objects i) ++ objects_of_run c.in-Some.run')
     ∙ ap (λ (l : List Placed). take (records.record_staying c.args.item) part.objects ++ l) (sym
-    c.in-Some-of.ensures.0) in
+    c.in-Some.ensures.0) in
     rw made (limits_placed part c.args.item c.args.place c.add.new.self.reserved c.self.invariant none)
 
-pub returns-in_default-of-clause-limits : goal.returns-in_default-of-clause-limits
-returns-in_default-of-clause-limits c =
+pub returns-in_default-clause-limits : goal.returns-in_default-clause-limits
+returns-in_default-clause-limits c =
     let part : PlacedPart = placed_of c.self.inside.capacity c.self.inside.table in
-    let none = rw (← c.self.view_is) at (sym c.refusal.ensures ∙ c.in_default.is) in
-    let made : c.cut-in_default-of.new.self.objects
+    let none = rw (← c.self.view_is) at c.requires.fits in
+    let made : c.cut-in_default.new.self.objects
     ≡ take (records.record_staying c.args.item) part.objects ++ placed_by c.args.item c.args.place =
-    c.cut-in_default-of.ensures.objects
-    ∙ ap (λ (n : ℕ). take n part.objects) c.staying-in_default-of.ensures
+    c.cut-in_default.ensures.objects
+    ∙ ap (λ (n : ℕ). take n part.objects) c.staying-in_default.ensures
     ∙ sym (append-nil (take (records.record_staying c.args.item) part.objects))
     ∙ ap (λ (l : List Placed). take (records.record_staying c.args.item) part.objects ++ l) (sym
-    c.in_default-of.ensures.0) in
-    rw made (limits_placed part c.args.item c.args.place c.cut-in_default-of.new.self.reserved c.self.invariant none)
+    c.in_default.ensures.0) in
+    rw made (limits_placed part c.args.item c.args.place c.cut-in_default.new.self.reserved c.self.invariant none)

@@ -5,7 +5,7 @@ use Rattle.object_index.specs.MarkFacts.{mark_count_outlined, objects_outlined}
 use Rattle.volume_core.specs.declared.objects.Object.{Object}
 use Rattle.std.specs.Prelude.{List, length}
 use Rattle.object_index.proofs.IndexMarks.{mark_of_run, run_within}
-use Rattle.object_index.proofs.index.Index.mark_at.Goals as goal
+use Rattle.object_index.proofs.index.IndexCatalog.mark_at.Goals as goal
 
 pub overflow_add-result : goal.overflow_add-result
 overflow_add-result c =
@@ -24,7 +24,7 @@ overflow_add-result c =
 
 pub unreachable-requires : goal.unreachable-requires
 unreachable-requires c =
-    omega (arith, c.requires, mark_count_outlined c.args.self.now c.args.part, c.in-None.ensures.found)
+    omega (arith, c.requires.mark, mark_count_outlined c.args.self.now c.args.part, c.in-None.ensures.found)
 
 pub returns : goal.returns
 returns c =

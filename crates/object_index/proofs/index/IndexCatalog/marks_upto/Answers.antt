@@ -6,7 +6,7 @@ use Rattle.volume_core.specs.declared.objects.Object.{Object}
 use Rattle.object_index.specs.Places.{blank, filled, placed_objects}
 use Rattle.object_index.specs.MarkRuns.{is_placed_mark}
 use Rattle.object_index.specs.MarkFacts.{marks_outlined, objects_outlined}
-use Rattle.object_index.proofs.index.Index.marks_upto.Goals as goal
+use Rattle.object_index.proofs.index.IndexCatalog.marks_upto.Goals as goal
 
 pub returns-in-Some-clause-marks : goal.returns-in-Some-clause-marks
 returns-in-Some-clause-marks c =
