@@ -1,5 +1,5 @@
 -- A drive whose disks are away, and the end of its ring.
-use Rattle.std.proofs.Common.{◌≡◌, ◌+◌, ◌++◌, ℕ, List, [], length, Bool, true, false, Option, None, Some, refl, sym, ◌∙◌, ap, subst, arith, append_assoc, length-append}
+use Rattle.std.proofs.Common.{◌≡◌, ◌+◌, ◌++◌, ℕ, List, [], length, Bool, true, false, Some, refl, sym, ◌∙◌, ap, subst, arith, append_assoc, length-append}
 use Rattle.std.specs.Prelude.{not, ◌&&◌, is_some}
 use Rattle.std.proofs.lemmas.List.{append-nil}
 use Rattle.std.proofs.lemmas.List.Sums.{sum_by-append}
@@ -24,12 +24,12 @@ use Rattle.tape_buffer.specs.declared.holding.Holding.{Holding}
 use Rattle.tape_buffer.specs.declared.holding.Holding.TheVariants as Holdings
 use Rattle.tape_buffer.specs.Aways.{MovesAway, loose_in, seen_as, seen_with}
 use Rattle.tape_buffer.specs.Budgets.{KeepsBudget, budget_after}
-use Rattle.tape_buffer.specs.Detaching.{has_loose_held, loose_held, passed, passed_held}
+use Rattle.tape_buffer.specs.Detaching.{loose_held, passed, passed_held}
 use Rattle.tape_buffer.specs.Moves.{IsAway, MovesIn, away_in, buffer_below, takes_alone_in}
 use Rattle.tape_buffer.specs.State.{BufferState, state_held, state_of}
 use Rattle.bay_moves.specs.Elements.{BayState}
 use Rattle.bay_moves.specs.Reservations.{HoldingGoesOn}
-use Rattle.split_bay.specs.Fronts.{IsFrontOf, KeepsOrders, LeavesOrders, LeftIn, OwesAway, OwesHeld, OwesIn, has_loose_in, loose_in_bay, passed_on, pending_of, span_since}
+use Rattle.split_bay.specs.Fronts.{IsFrontOf, KeepsOrders, LeavesOrders, LeftIn, OwesAway, OwesHeld, OwesIn, loose_in_bay, passed_on, pending_of, span_since}
 use Rattle.split_bay.specs.Spans.{Span, medium_begun, medium_seen, volume_seen}
 
 -- what is seen with these changes more
@@ -174,29 +174,6 @@ stands_passed (Unloaded medium) span next owes is =
 stands_passed (Loaded medium) span next owes is =
     let left = owes_passed medium.held span owes in
     (subst (λ (s : Span). OwesHeld (passed_held medium.held) s) (sym is) left.0, left.1)
-
-not_some : (found : Option Change) → is_some found ≡ false → found ≡ None
-not_some None is = refl
-not_some (Some change) is = absurd (cc)
-
-passed_none : {C S : Type 0} (held : Holding C S) → has_loose_held held ≡ false
-    → (loose_held held ≡ []) × (held ≡ passed_held held)
-passed_none (Holdings.Away a) is =
-    let none = not_some a.loose is in
-    (ap loose_in none, λ i. Holdings.Away (record a { loose = none i }))
-passed_none (Holdings.Open c) is = (refl, refl)
-passed_none (Holdings.Closed c) is = (refl, refl)
-
--- where nothing is to be passed on, all is passed on
-pub passed_by_none : {D : Type 0} (bay : Bay (BufferState D)) → has_loose_in (medium_in bay) ≡ false
-    → (loose_in_bay bay ≡ []) × (bay ≡ bay_of passed bay)
-passed_by_none Empty is = (refl, refl)
-passed_by_none (Unloaded medium) is =
-    let none = passed_none medium.held is in
-    (none.0, λ i. Unloaded (record medium { held = none.1 i }))
-passed_by_none (Loaded medium) is =
-    let none = passed_none medium.held is in
-    (none.0, λ i. Loaded (record medium { held = none.1 i }))
 
 -- hosts see just what was sent, where nothing is owed
 pub seen_sent : {D : Type 0} (state : D → DiskState) (medium : BufferState D) (span : Span)

@@ -57,7 +57,7 @@ impl<M: Medium, K: Keeper> Drive<M, K> {
         if let Some(condition) = self.condition_due(nexus) {
             return Some(Denial::Reported(condition));
         }
-        if opcode.is_stopped_by_reservation() && !self.reservations.allowed(nexus) {
+        if !self.reservations.allowed(nexus) && opcode.is_stopped_by_reservation() {
             return Some(Denial::Conflict);
         }
         self.need_denial(opcode)
