@@ -93,12 +93,8 @@ pub fn write_copy<M: Medium>(
         return Ok(Reply::good(Bytes::new(alloc)));
     }
     let amount = sent.len() as u32;
-    match refusal_for(
-        medium,
-        position.part,
-        position.obj,
-        Demand::block(sent.len()),
-    ) {
+    let demand = Demand::block(sent.len());
+    match refusal_for(medium, position.part, position.obj, demand) {
         Some(_) => {
             let sense = Sense::volume_overflow(Some(amount));
             return Ok(Reply::check(sense, Bytes::new(alloc)));

@@ -63,7 +63,8 @@ module _ (parts : List PlacedPart) (number : ℕ) (old new : PlacedPart) (here :
 -- a partition refuses what the index refuses, and the index changes where it does
 module _ (parts : List PlacedPart) (item : Record) (place : ℕ) (old new : PlacedPart)
     (here : slice_get parts (records.record_part item) ≡ Some old) where
-  pub refusal_here : refusal_of (outline parts) (outlined item) ≡ refusal_in (Some (filled_part blank old)) (outlined item)
+  pub refusal_here : refusal_of (outline parts) (outlined item)
+      ≡ refusal_in (Some (filled_part blank old)) (outlined item)
   refusal_here =
       (λ i. refusal_in (slice_get (outline parts) (target_filled blank item 0 i)) (outlined item))
       ∙ ap (λ (p : Option Part). refusal_in p (outlined item))

@@ -16,7 +16,7 @@ returns-in-Some-clause-carries g c =
     let some : 1 ≤ length sent = search rules in
     let refused : refusal_of (volume_of (g.M.Catalog.state medium)) (put_at position sent) ≡ Some c.in-Some.field-0 =
     sym (c.refusal_for.ensures (put_at position sent) refl refl
-    (sym (c.block.ensures position.part position.obj sent refl))) ∙ c.in-Some.is in
+    (sym (c.block-demand.ensures position.part position.obj sent refl))) ∙ c.in-Some.is in
     let reply : c.check.result ≡ check_with (volume_overflow (Some (length sent))) [] =
     c.check.ensures ∙ (λ i. check_with (c.volume_overflow-sense.ensures i) (c.new.ensures i)) in
     rw reply
@@ -41,7 +41,7 @@ returns-then-not-has_room_for-clause-carries g c =
     let some : 1 ≤ length sent = search rules in
     let none : refusal_of (volume_of (g.M.Catalog.state medium)) (put_at position sent) ≡ None =
     sym (c.refusal_for.ensures (put_at position sent) refl refl
-    (sym (c.block.ensures position.part position.obj sent refl))) ∙ c.in-None.is in
+    (sym (c.block-demand.ensures position.part position.obj sent refl))) ∙ c.in-None.is in
     record {
       made = [];
       carries = record {
@@ -62,7 +62,7 @@ returns-in_err-copy-clause-carries g c =
     let some : 1 ≤ length sent = search rules in
     let none : refusal_of (volume_of (g.M.Catalog.state medium)) (put_at position sent) ≡ None =
     sym (c.refusal_for.ensures (put_at position sent) refl refl
-    (sym (c.block.ensures position.part position.obj sent refl))) ∙ c.in-None.is in
+    (sym (c.block-demand.ensures position.part position.obj sent refl))) ∙ c.in-None.is in
     let exit = err_from_is_err_and c.from_residual.result c.from_residual.ensures.1 in
     rw (exit.1 ∙ ap Err exit.2)
     (record {

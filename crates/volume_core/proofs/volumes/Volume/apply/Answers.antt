@@ -20,7 +20,9 @@ returns-clause-answer c =
     slice_get_read _ _ _ _ len within c.index_mut-partition.ensures.value in
     let here = rw c.part.ensures at read in
     rw (← c.self.view_is, c.part.ensures) (elim c.match-apply.branch [
-      | in-Ok w ↦ rw w.result-is (none, changed_at partitions.items change partition c.apply.new.self here w.in-Ok.ensures.ok)
+      | in-Ok w ↦
+          rw w.result-is
+          (none, changed_at partitions.items change partition c.apply.new.self here w.in-Ok.ensures.ok)
       | in-Err w ↦
           rw w.result-is
           (none, set_same partitions.items (part_of change) partition c.apply.new.self here w.in-Err.ensures.err.1)
