@@ -145,8 +145,8 @@ fn all_hosts_of_a_phase_meet(rt: HostRuntime) -> Result<(), Fail> {
     meet(&rt, rt.alloc(), 64, 128, First::Frees)
 }
 
-// After a phase of two hosts and a move of nothing, host 2 writes a block to drive 2, and then host 1 a filemark to drive
-// 1. The sync of the filemark lasts until a flusher has stored the block.
+// After a phase of two hosts and a move of nothing, host 2 writes a block to drive 2, and then host 1 a filemark to
+// drive 1. The sync of the filemark lasts until a flusher has stored the block.
 const STORED_BETWEEN: &str = "1 1 000000000000\n2 2 000000000000\n--\nmove 1001 1002\n\
     2 2 0a0000000100 78\n--\n1 1 100000000100\n";
 
