@@ -18,7 +18,7 @@ returns-in-Some-clause-carries g c =
     sym (c.refusal_for.ensures (put_at position sent) refl refl
     (sym (c.block-demand.ensures position.part position.obj sent refl))) ∙ c.in-Some.is in
     let reply : c.check.result ≡ check_with (volume_overflow (Some (length sent))) [] =
-    c.check.ensures ∙ (λ i. check_with (c.volume_overflow-sense.ensures i) (c.new.ensures i)) in
+    c.check.ensures ∙ (λ i. check_with (c.volume_overflow-sense.ensures i) (c.new-in-Some.ensures i)) in
     rw reply
     (record {
       made = [];

@@ -6,8 +6,8 @@ use Rattle.cartridge.specs.Notes.{noted_contents}
 use Rattle.cartridge.proofs.OpenLemmas.{open_shape}
 use Rattle.cartridge.proofs.cartridges.Cartridge.mark_at.Goals as goal
 
-pub mark_at-requires : goal.mark_at-requires
-mark_at-requires g c =
+pub mark_at-requires-clause-mark : goal.mark_at-requires-clause-mark
+mark_at-requires-clause-mark g c =
     let i = c.self.inside in
     let shape = open_shape i.journal.front.head.heading i.journal.extents i.journal.failed i.index i.noted.notes
     c.self.invariant.0 in
