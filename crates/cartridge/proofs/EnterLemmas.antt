@@ -1,6 +1,6 @@
 -- A change is entered into the catalog.
 use Rattle.std.proofs.Common.{◌≡◌, ◌≤◌, ◌<◌, ◌+◌, ℕ, List, [], ◌∷◌, length, None, Some, refl, sym, ◌∙◌, ap, arith}
-use Rattle.std.specs.Prelude.{Bool, true, false, ◌==◌, if◌then◌else◌, map, slice_get, sum_by}
+use Rattle.std.specs.Prelude.{Bool, true, false, ◌==◌, if◌then◌else◌, slice_get, sum_by}
 use Rattle.std.proofs.lemmas.List.{length-map}
 use Rattle.std.proofs.lemmas.List.Sums.{sum_by-cons}
 use Rattle.volume_core.specs.declared.changes.Change.{Change}
@@ -10,11 +10,10 @@ use Rattle.volume_core.specs.Volume.{Part, changed, part_of, refusal_of}
 use Rattle.change_records.specs.declared.records.Record.{Record}
 use Rattle.change_records.specs.Records.{IsRecord, record_of}
 use Rattle.change_records.specs.Records.{outlined, record_part}
-use Rattle.object_index.specs.Places.{PlacedPart, blank, filled, filled_part, outline, placed_after, placed_objects, reserved_of, runs_of, with_objects}
+use Rattle.object_index.specs.Places.{PlacedPart, blank, filled_part, outline, placed_after, reserved_of, runs_of}
 use Rattle.object_index.specs.Shapes.{IsIndexOf, shape_of_part}
 use Rattle.cartridge.specs.Answers.{entries_of}
-use Rattle.cartridge.specs.Inner.Growing.{IsGrown, TakesEntries}
-use Rattle.cartridge.proofs.GrowingLemmas.{reserve_grown}
+use Rattle.cartridge.specs.Inner.Growing.{TakesEntries}
 use Rattle.cartridge.proofs.PlacingLemmas.{takes_next}
 use Rattle.cartridge.proofs.RecordLemmas.{applying, same_length}
 use Rattle.cartridge.proofs.WalkingLemmas.{refused_alike}
