@@ -51,10 +51,7 @@ fn new_side(alloc: Global) -> Result<Journal<MemDisk>, Fail> {
     if !header.can_be_spelled() {
         return Err(Fail::from("no header"));
     }
-    match Journal::create(alloc, MemDisk::new(alloc), header) {
-        Ok(side) => Ok(side),
-        Err(_) => Err(Fail::from("not made")),
-    }
+    Journal::create(alloc, MemDisk::new(alloc), header).map_err(|_| Fail::from("not made"))
 }
 
 // The side has some frames, its end gate is at this place, and this is the room after it.

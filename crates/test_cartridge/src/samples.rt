@@ -135,10 +135,9 @@ pub fn store_two<D: Disk + Drop>(
 
 /// A new cartridge with this capacity.
 pub fn made(alloc: Global, capacity: u64) -> Result<Known<MemDisk>, Fail> {
-    match Known::made(alloc, MemDisk::new(alloc), MemDisk::new(alloc), &[capacity]) {
-        Ok(known) => Ok(known),
-        Err(_) => Err(Fail::from("not made")),
-    }
+    Known::made(alloc, MemDisk::new(alloc), MemDisk::new(alloc), &[capacity]).map_err(
+        |_| Fail::from("not made"),
+    )
 }
 
 /// An empty disk that never fails.

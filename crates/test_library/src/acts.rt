@@ -3,8 +3,8 @@ ghost use Rattle.std.specs.Prelude.{◌≡◌, nat_eq};
 ghost use Rattle.std.specs.List.{list_all};
 ghost use Rattle.library.specs.Counts.{has_drive};
 
-use crate::replies::{Answer, GOOD, NO_ROOM, NO_SOURCE, Step, is_answer, is_one_of};
 use crate::inventories::{has_seen, has_seen_at};
+use crate::replies::{Answer, GOOD, NO_ROOM, NO_SOURCE, Step, is_answer, is_one_of};
 use crate::samples::drive;
 use crate::stages::{BEGUN, ENDED, Stage, StageGate, Stands, pause};
 use library::{Library, Parties, Rings, Seat};

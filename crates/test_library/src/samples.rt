@@ -148,10 +148,10 @@ fn shelve<D: Disk + Drop>(
     address: u32,
     cartridge: Parked<D>,
 ) -> Result<(), Fail> {
-    match sample.slots.place(address, cartridge) {
-        Ok(()) => Ok(()),
-        Err(_) => Err(Fail::from("not placed")),
-    }
+    sample
+        .slots
+        .place(address, cartridge)
+        .map_err(|_| Fail::from("not placed"))
 }
 
 /// So many drives, in each a new cartridge with its number; or, with no drive that is loaded, two empty drives, and
