@@ -278,9 +278,4 @@ EDITS = [
      "                note_move(&mut self.labels, reply.status, from, to);\n",
      "                library.close(rt);\n                note_move(&mut self.labels, reply.status, from, to);\n",
      ["a_drive_answers_while_another_stands_in_its_turn"]),
-    ("an inventory of a desk closes the library", "vtl_serve", "src/desks.rt",
-     "                let entries = inventory_of(alloc, library, &self.labels)?;\n",
-     "                library.close(self.rt);\n"
-     "                let entries = inventory_of(alloc, library, &self.labels)?;\n",
-     ["a_drive_answers_while_another_stands_in_its_turn"]),
 ]

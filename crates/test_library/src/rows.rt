@@ -66,8 +66,10 @@ static GOES_ROUND: Day = Day {
         &[Moves(&[(1, 1, NO_ROOM), (1, 2, GOOD)])],
         &[Asks(&[(1, READY, b"", NOT_PRESENT)])],
         &[Asks(&[(2, READY, b"", CHANGED), (2, READY, b"", GOOD)])],
-        &[Sees(&[2, 1002, 1003])],
-        &[Moves(&[(2, 1256, GOOD), (1256, 1001, GOOD)])],
+        &[
+            Sees(&[2, 1002, 1003]),
+            Moves(&[(2, 1256, GOOD), (1256, 1001, GOOD)]),
+        ],
         &[Sees(&[1001, 1002, 1003])],
     ]],
     amounts: &[0],
@@ -108,8 +110,8 @@ const WITHOUT_CHANGE: &'static [Step] = &[
     (1, &[0x10, 0, 0, 0, 0, 0], b"", GOOD),
 ];
 
-// A thousand commands that accept no change leave the flusher idle, even over a while, and so do an inventory and a move
-// that is refused. One that accepts a change wakes it, and then it is idle again, until the library is closed.
+// A thousand commands that accept no change leave the flusher idle, even over a while, as do an inventory and a refused
+// move. One that accepts a change wakes it, and then it is idle again, until the library is closed.
 static RESTS: Day = Day {
     hosts: &[
         &[
