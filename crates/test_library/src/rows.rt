@@ -66,10 +66,8 @@ static GOES_ROUND: Day = Day {
         &[Moves(&[(1, 1, NO_ROOM), (1, 2, GOOD)])],
         &[Asks(&[(1, READY, b"", NOT_PRESENT)])],
         &[Asks(&[(2, READY, b"", CHANGED), (2, READY, b"", GOOD)])],
-        &[
-            Sees(&[2, 1002, 1003]),
-            Moves(&[(2, 1256, GOOD), (1256, 1001, GOOD)]),
-        ],
+        &[Sees(&[2, 1002, 1003])],
+        &[Moves(&[(2, 1256, GOOD), (1256, 1001, GOOD)])],
         &[Sees(&[1001, 1002, 1003])],
     ]],
     amounts: &[0],
