@@ -209,9 +209,9 @@ impl Write for Counting<'_> {
     }
 }
 
-// Each of 16 drives has a flusher, which takes a turn. A move is refused. Each host takes its power on condition. Host 1
-// writes a block to drive 1, whose flusher then stands in a turn with the disk's half of the drive locked. Host 1 sends
-// a REWIND to drive 1, which waits for that half, and host 2 one command to drive 2, which is answered first.
+// Each of 16 drives has a flusher, which takes a turn. A move is refused. Hosts take their power on condition. Host 1
+// writes a block to drive 1, whose flusher then stands in a turn with the disk's half of the drive locked. Host 1
+// sends a REWIND to drive 1, which waits for that half, and host 2 one command to drive 2, which is answered first.
 static SENT: &'static [&'static str] = &[
     "02 00 00 08 00000000 00000007 00000000 000003ea 000003eb",
     "01 01 01 06 00000000 00000001 00000000 000000000000",
