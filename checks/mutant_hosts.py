@@ -267,6 +267,9 @@ EDITS = [
     ("a move closes the library", "library", "src/moving.rt", "        let source = self.drive_at(from);\n",
      "        self.close(rt);\n        let source = self.drive_at(from);\n",
      ["a_flusher_rests_until_a_change_is_accepted", "a_flusher_stores_between_two_phases"]),
+    ("drive 1 has no flusher beside a script", "library_scripts", "src/runs.rt",
+     "    beside_flushers(rt, library, gate, 1, &mut work)\n",
+     "    beside_flushers(rt, library, gate, 2, &mut work)\n", ["a_flusher_stores_between_two_phases"]),
     ("a move of a script closes the library", "library_scripts", "src/stages.rt",
      "        let reply = library.move_medium(rt, &mut self.operator, from, to);\n",
      "        library.close(rt);\n        let reply = library.move_medium(rt, &mut self.operator, from, to);\n",
@@ -274,10 +277,5 @@ EDITS = [
     ("a move of a desk closes the library", "vtl_serve", "src/desks.rt",
      "                note_move(&mut self.labels, reply.status, from, to);\n",
      "                library.close(rt);\n                note_move(&mut self.labels, reply.status, from, to);\n",
-     ["a_drive_answers_while_another_stands_in_its_turn"]),
-    ("an inventory of a desk closes the library", "vtl_serve", "src/desks.rt",
-     "                let entries = inventory_of(alloc, library, &self.labels)?;\n",
-     "                library.close(self.rt);\n"
-     "                let entries = inventory_of(alloc, library, &self.labels)?;\n",
      ["a_drive_answers_while_another_stands_in_its_turn"]),
 ]

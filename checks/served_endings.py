@@ -142,29 +142,28 @@ class Ends:
                          objects >= 2 * sum(length >= it for it in stored))
 
     def kept_open(self, room):
-        """Writes a block without a filemark, waits for its frame with the input open, and kills the program. The
-        seconds that this took."""
+        """Writes a block without a filemark, waits for its frame with the input open, does the same again, and kills
+        the program. The seconds that the slower of the two took."""
         child = subprocess.Popen([self.program, "serve", "--config", "library.toml"], cwd=room, bufsize=0,
                                  stdin=subprocess.PIPE, stdout=subprocess.PIPE)
-        file = os.path.join(room, "t1.tape")
-        before, sent = os.path.getsize(file), [EXCHANGE[0], EXCHANGE[1]]
-        child.stdin.write(b"".join(it for it, _ in sent))
-        answers = b"".join(it for _, it in sent)
-        found = b""
-        while len(found) < len(answers):
-            found += child.stdout.read(len(answers) - len(found)) or b"an end"
-        begun = time.monotonic()
-        while os.path.getsize(file) < before + 18 and time.monotonic() - begun < LATEST:
-            time.sleep(0.001)
-        took = time.monotonic() - begun
+        file, took = os.path.join(room, "t1.tape"), []
+        for sent in ([EXCHANGE[0], EXCHANGE[1]], [EXCHANGE[1]]):
+            before, answers, found = os.path.getsize(file), b"".join(it for _, it in sent), b""
+            child.stdin.write(b"".join(it for it, _ in sent))
+            while len(found) < len(answers):
+                found += child.stdout.read(len(answers) - len(found)) or b"an end"
+            begun = time.monotonic()
+            while os.path.getsize(file) < before + 18 and time.monotonic() - begun < LATEST:
+                time.sleep(0.001)
+            took.append(time.monotonic() - begun)
+            self.see("what is answered before a flusher's turn", answers, found)
         time.sleep(0.05)
         child.kill()
         child.communicate()
-        self.see("what is answered before a flusher's turn", answers, found)
-        return took
+        return max(took)
 
     def waits(self):
-        """What waits is stored by a flusher's turn, with no command behind it and the input open."""
+        """What waits is stored by a flusher's turn, with no command behind it and the input open. So is the next."""
         took = []
         for _ in range(5):
             with tempfile.TemporaryDirectory(prefix="vtl-served-") as room:
@@ -174,7 +173,7 @@ class Ends:
                 run("create", "--config", "library.toml")
                 took.append(self.kept_open(room))
                 self.see("a block that waited is stored by a flusher", True,
-                         b"partition 0 objects 1 used 19\n" in run("check", "t1.tape").stdout)
+                         b"partition 0 objects 2 used 38\n" in run("check", "t1.tape").stdout)
         self.see("the fastest of five turns comes soon", True, min(took) < SOON)
 
     def inventories(self):

@@ -3,11 +3,10 @@ ghost use Rattle.std.specs.Prelude.{◌≡◌, nat_eq};
 ghost use Rattle.std.specs.List.{list_all};
 ghost use Rattle.library.specs.Counts.{has_drive};
 
-use crate::inventories::{has_seen, has_seen_at};
 use crate::replies::{Answer, GOOD, NO_ROOM, NO_SOURCE, Step, is_answer, is_one_of};
 use crate::samples::drive;
 use crate::stages::{BEGUN, ENDED, Stage, StageGate, Stands, pause};
-use library::{Library, Parties, Rings, Seat};
+use library::{Element, Library, Parties, Rings, Seat};
 use scsi_sense::Reply;
 use std::alloc::Global;
 use std::process::Abort;
@@ -120,6 +119,26 @@ fn session<D: Disk + Drop, B: Parties + Rings, H: Parties, R: Wait + Abort>(
     }
 }
 
+// This many cartridges are seen, all at these addresses if there are some, and fourteen drives are missing.
+fn has_seen<D: Disk + Drop, B: Parties + Rings, H: Parties, R: Wait + Abort>(
+    rt: &R,
+    library: &Library<D, B, H>,
+    wanted: usize,
+    at: &[u32],
+) {
+    let inventory = library.inventory(rt);
+    let (mut full, mut missing) = (0usize, 0usize);
+    let seen = inventory.drives.iter().chain(inventory.slots.iter());
+    for (address, element) in (1..17u32).chain(1001..1257u32).zip(seen) {
+        match element {
+            Element::Full => full = full.saturating_add(1),
+            Element::Missing => missing = missing.saturating_add(1),
+            Element::Empty => assert_holds!(rt; !at.contains(&address); address),
+        }
+    }
+    assert_equal!(rt; (full, missing), (wanted, 14));
+}
+
 // A host moves cartridges, with these answers. Its seat counts each move, also one that is refused, and no answer.
 fn moves<D: Disk + Drop, B: Parties + Rings, H: Parties, R: Wait + Abort>(
     rt: &R,
@@ -153,7 +172,7 @@ fn moves_about<D: Disk + Drop, B: Parties + Rings, H: Parties, R: Wait + Abort>(
                 is_one_of(rt, &reply, &[GOOD, NO_SOURCE, NO_ROOM]);
             }
         }
-        has_seen(rt, library, 3);
+        has_seen(rt, library, 3, &[]);
     }
 }
 
@@ -217,7 +236,7 @@ fn does<D: Disk + Drop, B: Parties + Rings, H: Parties, R: Wait + Abort + Clock>
     act: Act,
 ) {
     match act {
-        Act::Sees(full) => has_seen_at(rt, library, full),
+        Act::Sees(at) => has_seen(rt, library, at.len(), at),
         Act::Flushes(number, stands) => {
             let gate = StageGate {
                 rt,

@@ -8,8 +8,6 @@ mod asserted;
 #[cfg(test)]
 mod days;
 #[cfg(test)]
-mod inventories;
-#[cfg(test)]
 mod replies;
 #[cfg(test)]
 mod rows;

@@ -108,8 +108,8 @@ const WITHOUT_CHANGE: &'static [Step] = &[
     (1, &[0x10, 0, 0, 0, 0, 0], b"", GOOD),
 ];
 
-// A thousand commands that accept no change leave the flusher idle, even over a while, and so do an inventory and a
-// refused move. One that accepts a change wakes it, and then it is idle again, until the library is closed.
+// A thousand commands that accept no change leave the flusher idle, even over a while, as do an inventory and a refused
+// move. One that accepts a change wakes it, and then it is idle again, until the library is closed.
 static RESTS: Day = Day {
     hosts: &[
         &[

@@ -145,10 +145,10 @@ fn all_hosts_of_a_phase_meet(rt: HostRuntime) -> Result<(), Fail> {
     meet(&rt, rt.alloc(), 64, 128, First::Frees)
 }
 
-// After a phase of two hosts and a move of nothing, host 2 writes a block to drive 2, and then host 1 a filemark to
-// drive 1. The sync of the filemark lasts until a flusher has stored the block.
+// After a phase of two hosts and a move of nothing, host 1 writes a block to drive 1, and then host 2 a filemark to
+// drive 2. The sync of the filemark lasts until a flusher has synced the cartridge of drive 1.
 const STORED_BETWEEN: &str = "1 1 000000000000\n2 2 000000000000\n--\nmove 1001 1002\n\
-    2 2 0a0000000100 78\n--\n1 1 100000000100\n";
+    1 1 0a0000000100 78\n--\n2 2 100000000100\n";
 
 const ANSWERS: &str = "CHECK 700006000000000a00000000290000000000\n\
     CHECK 700006000000000a00000000290000000000\n\
@@ -157,14 +157,14 @@ const ANSWERS: &str = "CHECK 700006000000000a00000000290000000000\n\
 #[test]
 fn a_flusher_stores_between_two_phases(rt: HostRuntime) -> Result<(), Fail> {
     let stage = Arc::new(rt.alloc(), Stage::new(1, false))?;
-    let sample = make_sample(&rt, rt.alloc(), &stage, 2, First::Fails(NEVER))?;
+    let sample = make_sample(&rt, rt.alloc(), &stage, 2, First::Frees)?;
     stage.add(ARMED, 1);
     writes(
         &rt,
         rt.alloc(),
         &stage,
         sample,
-        Stands::Frees,
+        Stands::Nowhere,
         STORED_BETWEEN,
         ANSWERS,
     )?;

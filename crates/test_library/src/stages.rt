@@ -143,8 +143,6 @@ pub enum Stands {
     Behind(usize, u64),
     /// It takes no turn.
     Shut,
-    /// Nowhere, and each turn that stores something frees a sync that lasts.
-    Frees,
 }
 
 /// The gate of a flusher of this drive. A sign that does not come in 1,000 looks ends the test.
@@ -181,10 +179,8 @@ impl<'a, R: Clock + Abort> Gate for StageGate<'a, R> {
 
     fn after_turn(&self, turn: Turn) {
         self.stage.end(self.number, turn);
-        match (turn, self.stands) {
-            (Turn::Device, Stands::Behind(sign, until)) => self.stand(sign, until),
-            (Turn::Stored(_), Stands::Frees) => self.stage.add(FREED, 1),
-            _ => {}
+        if let (Turn::Device, Stands::Behind(sign, until)) = (turn, self.stands) {
+            self.stand(sign, until);
         }
     }
 }

@@ -118,8 +118,7 @@ const LOADS_AGAIN: &'static [Act] = &[
     Any(1, (1, READ_1, b"", GOOD), IN_DOUBT),
 ];
 
-// The flusher goes on behind the turn that failed: it stores another block.
-const STORES_AGAIN: &'static [Act] = &[Asks(&[X]), Awaits(STORED, 1)];
+const STORES_AGAIN: &'static [Act] = &[Asks(&[X]), Awaits(STORED, 1), Ends(1)];
 
 // A flusher of drive 1.
 const FLUSHES: &'static [&'static [Act]] = &[&[Flushes(1, Stands::Nowhere)]];
@@ -147,12 +146,9 @@ static UNWRITTEN: Day = Day {
     end: Some(Err(FinishError::Unwritten)),
 };
 
-// Then the cartridge is loaded again: the tape is unchanged since before the turn, or has the block.
+// Then the cartridge is loaded again: the tape is unchanged since before the turn, or has the block. More is stored.
 static LOADED_AGAIN: Day = Day {
-    hosts: &[
-        &[FAILS, IS_REPORTED, LOADS_AGAIN, STORES_AGAIN, &[Ends(1)]],
-        FLUSHES,
-    ],
+    hosts: &[&[FAILS, IS_REPORTED, LOADS_AGAIN, STORES_AGAIN], FLUSHES],
     amounts: &[2, 0],
     end: Some(Ok((2, 0))),
 };

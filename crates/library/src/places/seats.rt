@@ -1,5 +1,5 @@
 //! A host's seat.
-ghost use Rattle.std.specs.Prelude.{◌≡◌, ◌+◌, ◌^◌, ◌<◌};
+ghost use Rattle.std.specs.Prelude.{◌≡◌, ◌+◌, ◌^◌, ◌<◌, true, false};
 
 use ledgers::{Moves, Parties, PartyShare, Tally};
 use std::marker::Model;
@@ -66,12 +66,20 @@ impl<H: Parties> Seat<H> {
         }
     }
 
+    // Whether 2^64 - 1 commands of the host are counted as answered, so that one more can not be counted.
+    fn is_full(&self) -> bool
+        ensures within { result ≡ false → self.now.answered + 1 < 2 ^ 64 }
+        ensures full { result ≡ true → self.now.answered + 1 ≡ 2 ^ 64 }
+    {
+        self.answered == u64::MAX
+    }
+
     // Counts one more command of the host as answered. Where 2^64 - 1 are counted already, the call waits on `rt` and
     // never returns. Only the two calls that ask a half, or both, count an answer.
     pub(super) fn count_answer<R: Wait>(&mut self, rt: &R)
         ensures { self.new ≡ record self.old { answered = self.old.answered + 1 } }
     {
-        if self.answered == u64::MAX {
+        if self.is_full() {
             for _ in rt.forever() {}
             unreachable!()
         }
