@@ -8,6 +8,7 @@ ghost use Rattle.library.specs.Counts.{AcceptedNone, has_drive, places_filled, w
 ghost use Rattle.library.specs.Ends.{EndsShared};
 ghost use Rattle.library.specs.RingRows.{AreRings};
 ghost use Rattle.library_scripts.specs.Crews.{AnswersCrew};
+ghost use Rattle.library_scripts.specs.Inner.InPlace.{AreInPlace};
 ghost use Rattle.library_scripts.specs.Inner.Jobs.{IsServedStage};
 ghost use Rattle.library_scripts.specs.Inner.Staged.{AreReady, crew_of};
 ghost use Rattle.library_scripts.specs.Ran.{RunsShared};
@@ -17,7 +18,7 @@ use crate::jobs::Job;
 use crate::serving::serve_all;
 use crate::stages::Stage;
 use ledgers::Parties;
-use library::{Finished, Gate, Library, Rings, Sealed, Seat, Unopened, beside_flushers};
+use library::{Finished, Gate, Library, Operator, Rings, Sealed, Seat, Unopened, beside_flushers};
 use std::alloc::Global;
 use std::io::{Read, Write};
 use std::marker::{Send, Sync};
@@ -53,6 +54,87 @@ fn make_rooms<H: Parties>(alloc: Global) -> Result<Rooms<H>, NoMemory>
         jobs: Vec::with_capacity(alloc, NEXUSES as usize)?,
         seats: Vec::with_capacity(alloc, NEXUSES as usize)?,
     })
+}
+
+// The seats of all hosts, and the operator, who makes the moves.
+#[derive(Drop)]
+struct Seated<H: Parties> {
+    rooms: Rooms<H>,
+    seats: Vec<Seat<H>>,
+    operator: Operator<H>,
+}
+
+// The seats and the operator after a script over a library, and how the script ended.
+#[derive(Drop)]
+struct RanFor<H: Parties> {
+    seats: Vec<Seat<H>>,
+    operator: Operator<H>,
+    outcome: Result<(), ScriptFault>,
+}
+
+// Runs the script over an open library while each drive has a flusher beside it; then closes the library, so that every
+// flusher ends.
+fn run_opened<
+    'a,
+    D: Disk + Drop + Send,
+    B: Parties + Rings + Send + Sync,
+    H: Parties + Send + Sync,
+    R: Threads + Wait + Sync,
+    G: Gate + Sync,
+    I: Read,
+    O: Write,
+>(
+    rt: &'a R,
+    alloc: Global,
+    library: &'a Library<D, B, H>,
+    seated: Seated<H>,
+    gate: &G,
+    reader: &mut I,
+    writer: &mut O,
+) -> RanFor<H>
+    requires jobs { (seated.rooms.jobs.items ≡ []) × (NEXUSES ≤ vec_capacity seated.rooms.jobs) }
+    requires seats { (seated.rooms.seats.items ≡ []) × (NEXUSES ≤ vec_capacity seated.rooms.seats) }
+    requires places { AreInPlace seated.seats.items }
+    ensures runs { RunsScript (has_drive library.now) (AnswersCrew D.state)
+        (record { drives = library.now; seats = seated.seats.items; moved = seated.operator })
+        (I.remaining reader.old) (O.contents writer.old)
+        (record { drives = library.now; seats = result.seats.items; moved = result.operator })
+        (O.contents writer.new) result.outcome }
+    ensures past { result.outcome ≢ Err ScriptFault.ReadFault →
+        TakesWithin (I.remaining reader.old) 0 (I.remaining reader.new) }
+    ensures places { AreInPlace result.seats.items }
+{
+    let Seated {
+        rooms,
+        seats,
+        operator,
+    } = seated;
+    let serve = |stage: &mut Stage<D, B, H, R>|
+        requires { AreReady stage.now }
+        ensures { IsServedStage D.state stage.entry.now stage.exit.now }
+    { serve_all(stage) };
+    let mut crew = Crew {
+        hosts: Stage::of(rt, alloc, library, rooms.jobs, seats, operator),
+        serve,
+    };
+    let mut work = || -> Result<(), ScriptFault>
+        ensures runs { RunsScript (has_drive crew.entry.hosts.drives) (AnswersCrew D.state) (crew_of crew.entry.hosts)
+            (I.remaining reader.entry.now) (O.contents writer.entry.now) (crew_of crew.exit.hosts)
+            (O.contents writer.exit.now) result }
+        ensures past { result ≢ Err ScriptFault.ReadFault →
+            TakesWithin (I.remaining reader.entry.now) 0 (I.remaining reader.exit.now) }
+    {
+        let outcome = run_script(alloc, &mut crew, reader, writer);
+        library.close(rt);
+        outcome
+    };
+    let outcome = beside_flushers(rt, library, gate, 1, &mut work);
+    let (seats, operator) = crew.hosts.into_parts(rooms.seats);
+    RanFor {
+        seats,
+        operator,
+        outcome,
+    }
 }
 
 /// Opens the library of these parts, runs a script over it for the hosts, which have the numbers 1 to 64, and for the
@@ -102,27 +184,16 @@ pub fn run_library<
         return Err(Sealed::from_parts(parts.bays, parts.slots));
     };
     let (library, seats, operator) = Library::<D, B, H>::new(alloc, parts)?;
-    let serve = |stage: &mut Stage<D, B, H, R>|
-        requires { AreReady stage.now }
-        ensures { IsServedStage D.state stage.entry.now stage.exit.now }
-    { serve_all(stage) };
-    let mut crew = Crew {
-        hosts: Stage::of(rt, alloc, &library, rooms.jobs, seats, operator),
-        serve,
+    let seated = Seated {
+        rooms,
+        seats,
+        operator,
     };
-    let mut work = || -> Result<(), ScriptFault>
-        ensures runs { RunsScript (has_drive crew.entry.hosts.drives) (AnswersCrew D.state) (crew_of crew.entry.hosts)
-            (I.remaining reader.entry.now) (O.contents writer.entry.now) (crew_of crew.exit.hosts)
-            (O.contents writer.exit.now) result }
-        ensures past { result ≢ Err ScriptFault.ReadFault →
-            TakesWithin (I.remaining reader.entry.now) 0 (I.remaining reader.exit.now) }
-    {
-        let outcome = run_script(alloc, &mut crew, reader, writer);
-        library.close(rt);
-        outcome
-    };
-    let outcome = beside_flushers(rt, &library, gate, 1, &mut work);
-    let (seats, operator) = crew.hosts.into_parts(rooms.seats);
+    let RanFor {
+        seats,
+        operator,
+        outcome,
+    } = run_opened(rt, alloc, &library, seated, gate, reader, writer);
     Ok(Ran {
         finished: library.finish(rt, seats, operator),
         outcome,
