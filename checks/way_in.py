@@ -16,8 +16,8 @@ FIRST = [("vtl", "main", "main"), ("vtl_program", "explaining", "run_explained")
          ("vtl_power_on", "library_orders", "use_library"), ("vtl_power_on", "using", "with_library")]
 # Each ends with the function that starts the flushers; that calls a closure, which stands in the function before it and
 # calls the one that reads the first line or frame.
-WAYS = {"run": [*FIRST, ("library_scripts", "runs", "run_library"), ("library", "beside", "beside_flushers"),
-                ("vtl_script", "scripts", "run_script")],
+WAYS = {"run": [*FIRST, ("library_scripts", "runs", "run_library"), ("library_scripts", "runs", "run_opened"),
+                ("library", "beside", "beside_flushers"), ("vtl_script", "scripts", "run_script")],
         "serve": [*FIRST, ("vtl_serve", "libraries", "serve_library"), ("vtl_serve", "libraries", "serve_opened"),
                   ("library", "beside", "beside_flushers"), ("vtl_hosts", "turns", "serve_hosts")]}
 OF_LIBRARY = ("vtl_power_on", "library_scripts", "vtl_serve")
