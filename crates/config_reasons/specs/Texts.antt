@@ -180,6 +180,7 @@ finding_lines file rule findings =
     line_of (refused_text rule findings.found) ++ (line_of (where_text file findings)
     ++ (line_of (allowed_text rule findings) ++ line_of (rule_fix rule findings.found)))
 
+-- the lines of what was found, if it is there (own)
 abbrev pub option_lines : List ℕ → Rule → Option Findings → List ℕ
 option_lines file rule None = []
 option_lines file rule (Some findings) = finding_lines file rule findings

@@ -173,19 +173,7 @@ const NO_BARCODE: &[u8] =
 
 static WRONG_VALUES: &'static [Row<'static>] = &[
     (b"drive = 1", "drive is 1", TOP, DRIVES),
-    (b"cartridge = \"a\"", "cartridge is 'a', a text", TOP, CARTRIDGES),
     (NO_BARCODE, "barcode is 't1'", ENTRY, BARCODES),
-];
-
-const BRACKETS: &str = "begin each entry with [[cartridge]], in two brackets";
-
-const DRIVE_BRACKETS: &str = "begin each entry with [[drive]], in two brackets";
-
-// A table in the place of a list, what is said of it, what is allowed, and what to do.
-static TABLES: &'static [Row<'static>] = &[
-    (b"cartridge = {}", "cartridge is a table", CARTRIDGES, BRACKETS),
-    (b"[cartridge]\nbarcode = \"A\"\n", "cartridge is a table", CARTRIDGES, BRACKETS),
-    (b"[drive]\nnumber = 1\n", "drive is a table", DRIVES, DRIVE_BRACKETS),
 ];
 
 // Entries that are no tables.
@@ -219,8 +207,12 @@ fn values_that_are_refused(rt: HostRuntime) -> Result<(), Fail> {
     for &(text, refused, place, allowed) in WRONG_VALUES {
         has(&rt, alloc, text, (refused, place, allowed, CHANGE))?;
     }
-    for &(text, refused, allowed, to_do) in TABLES {
-        has(&rt, alloc, text, (refused, TOP, allowed, to_do))?;
+    for (name, allowed) in [("drive", DRIVES), ("cartridge", CARTRIDGES)] {
+        let text = format!(in alloc; "[{name}]\n")?;
+        let refused = format!(in alloc; "{name} is a table")?;
+        let to_do = format!(in alloc; "begin each entry with [[{name}]], in two brackets")?;
+        let reason = (refused.as_str(), TOP, allowed, to_do.as_str());
+        has(&rt, alloc, text.as_str().as_bytes(), reason)?;
     }
     for &(text, refused, place) in ENTRIES {
         let to_do = "write the entry as [[cartridge]] or [[drive]], with its keys below";

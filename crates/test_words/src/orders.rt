@@ -20,11 +20,7 @@ fn breaks(rt: &impl Abort, alloc: Global, text: &str, place: Place, rule: Rule) 
 static OF_THE_TOP: &'static [(&'static str, Place, Rule)] = &[
     ("cartridge = 1\ndrive = 1\nx = 1\n", Top, OtherKey),
     ("cartridge = 1\ndrive = 1\n", Top, OtherKind(Key::Drive)),
-    (
-        "cartridge = 1\ndrive = [{}]\n",
-        Top,
-        OtherKind(Key::Cartridge),
-    ),
+    ("cartridge=1\ndrive=[{}]", Top, OtherKind(Key::Cartridge)),
     (
         "cartridge = [{}]\ndrive = [{}]\n",
         Drive(1),

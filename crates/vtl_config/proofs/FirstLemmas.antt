@@ -25,31 +25,55 @@ use Rattle.vtl_config.specs.declared.keys.Key.TheVariants.{Cartridge, Drive, Bar
 use Rattle.vtl_config.specs.declared.rules.ConfigError.{ConfigError}
 use Rattle.vtl_config.specs.declared.rules.ConfigError.TheVariants as errors
 use Rattle.vtl_config.specs.declared.rules.Rule.{Rule}
-use Rattle.vtl_config.specs.declared.rules.Rule.TheVariants.{Double}
+use Rattle.vtl_config.specs.declared.rules.Rule.TheVariants.{Double, NoSuchDrive}
 use Rattle.vtl_config.specs.declared.rules.TableError.{TableError}
 use Rattle.vtl_config.specs.declared.rules.TableError.TheVariants.{Refused, NoMemory}
 use Rattle.vtl_config.proofs.FitLemmas.{right_value, drive_key_go, drive_fits, cartridge_key_go, cartridge_fits, all_whole, held}
 use Rattle.vtl_config.proofs.SameLemmas.{same_text, same_whole}
 
+late_1 : 0 < 1
+late_1 = omega arith
+
+late_2 : 0 < 2
+late_2 = omega arith
+
+late_3 : 0 < 3
+late_3 = omega arith
+
+late_4 : 0 < 4
+late_4 = omega arith
+
+early_1 : 1 < 5
+early_1 = omega arith
+
+early_2 : 2 < 5
+early_2 = omega arith
+
+early_3 : 3 < 5
+early_3 = omega arith
+
+early_4 : 4 < 5
+early_4 = omega arith
+
 key_late : (key : Key) → 0 < key_turn key
-key_late Cartridge = omega arith
-key_late Drive = omega arith
-key_late Barcode = omega arith
-key_late File = omega arith
-key_late Capacities = omega arith
-key_late Home = omega arith
-key_late Number = omega arith
-key_late Reservations = omega arith
+key_late Cartridge = late_2
+key_late Drive = late_1
+key_late Barcode = late_1
+key_late File = late_2
+key_late Capacities = late_3
+key_late Home = late_4
+key_late Number = late_1
+key_late Reservations = late_2
 
 key_early : (key : Key) → key_turn key < 5
-key_early Cartridge = omega arith
-key_early Drive = omega arith
-key_early Barcode = omega arith
-key_early File = omega arith
-key_early Capacities = omega arith
-key_early Home = omega arith
-key_early Number = omega arith
-key_early Reservations = omega arith
+key_early Cartridge = early_2
+key_early Drive = early_1
+key_early Barcode = early_1
+key_early File = early_2
+key_early Capacities = early_3
+key_early Home = early_4
+key_early Number = early_1
+key_early Reservations = early_2
 
 -- a rule that a value misfits by has the turn of its key
 misfit_turn : (key : Key) (found : Option Data) (rule : Rule) → Misfits key found rule → turn_of rule ≡ key_turn key
@@ -63,6 +87,10 @@ alone_turn keys entry rule (rules_of.other_key told others) =
 alone_turn keys entry rule (misfits key has misfit) =
     let turn : turn_of rule ≡ key_turn key = misfit_turn key (value_at key entry) rule misfit in
     omega (arith, turn, key_early key)
+
+-- a rule whose turn is 0 comes first
+pub first_of_all : (breaks : Rule → Type 0) (rule : Rule) → turn_of rule ≡ 0 → IsFirst breaks rule
+first_of_all breaks rule turn = λ other earlier broken. absurd (omega (arith, turn, earlier))
 
 -- a table whose values are right up to the turn of a rule
 table_first :
@@ -107,7 +135,7 @@ reservations_go entry number there is key other (inl same) earlier bad =
     right_value Number (value_at Number entry) (whole number) there refl is other
     (subst (λ (k : Key). Misfits k (value_at k entry) other) (sym same) bad)
 reservations_go entry number there is key other (inr same) earlier bad =
-    let late : key_turn Reservations < 2 = subst (λ (k : Key). key_turn k < 2) (sym same) earlier in
+    let late : 2 < 2 = subst (λ (k : Key). key_turn k < 2) (sym same) earlier in
     absurd (omega (arith, late))
 
 pub reservations_first :
@@ -134,15 +162,17 @@ pub double_number_first :
     (before : List DriveEntry) (entry : Members) (number : ℕ) (file : List ℕ) → IsDriveTable entry number file
     → IsFirst (DriveTableBreaks before entry) (Double Number)
 double_number_first before entry number file is =
+    let small : 5 < 7 = omega arith in
     drive_first before entry (Double Number) (drive_alone_right entry number file is (Double Number))
-    (λ n there late has. absurd (omega (arith, late))) (omega arith)
+    (λ n there late has. let low : 5 < 5 = late in absurd (omega (arith, low))) small
 
 pub double_reservations_first :
     (before : List DriveEntry) (entry : Members) (number : ℕ) (file : List ℕ) → IsDriveTable entry number file
     → ¬ Contains (numbers_of before) number → IsFirst (DriveTableBreaks before entry) (Double Reservations)
 double_reservations_first before entry number file is new_number =
+    let small : 6 < 7 = omega arith in
     drive_first before entry (Double Reservations) (drive_alone_right entry number file is (Double Reservations))
-    (λ n there late has. new_number (rw (same_whole _ _ _ is.number_value there) has)) (omega arith)
+    (λ n there late has. new_number (rw (same_whole _ _ _ is.number_value there) has)) small
 
 -- the values of a cartridge's table that come before a turn
 values_go :
@@ -162,7 +192,7 @@ values_go entry n barcode file capacities small key other (inr (inl same)) earli
     capacities (subst (λ (k : Key). key_turn k < n) (sym same) earlier) other
     (subst (λ (k : Key). Misfits k (value_at k entry) other) (sym same) bad)
 values_go entry n barcode file capacities small key other (inr (inr same)) earlier bad =
-    let late : key_turn Home < n = subst (λ (k : Key). key_turn k < n) (sym same) earlier in
+    let late : 4 < n = subst (λ (k : Key). key_turn k < n) (sym same) earlier in
     absurd (omega (arith, late, small))
 
 values_first :
@@ -243,7 +273,7 @@ alone_first drives before entry rule here first other earlier (no_such_drive hom
     absurd (omega (arith, turn, earlier, alone_turn cartridge_keys entry rule here))
 
 -- a cartridge's table that is right by itself, and whose values are other ones up to the turn of a rule
-pub cartridge_first :
+cartridge_first :
     (drives : List DriveEntry) (before : List CartridgeEntry) (entry : Members) (b f c : List ℕ) (h : ℕ) (rule : Rule)
     → IsCartridgeTable entry b f c h → (5 < turn_of rule → Contains (barcodes_of before) b → ⊥)
     → (6 < turn_of rule → Meets (both_names f) (drive_files drives ++ both_files before) → ⊥)
@@ -252,19 +282,63 @@ pub cartridge_first :
 cartridge_first drives before entry b f c h rule is barcode file home small other earlier (cartridge_alone broken) =
     table_first cartridge_keys entry rule is.keys
     (λ key has late r bad. cartridge_fits entry b f c h is key has r bad) other earlier broken
-cartridge_first drives before entry b f c h rule is barcode file home small other earlier (double_barcode one told there has) =
+cartridge_first drives before entry b f c h rule is barcode file home small other earlier
+    (double_barcode one told there has) =
     let turn : turn_of other ≡ 5 = ap turn_of told in
     barcode (omega (arith, turn, earlier)) (rw (same_text _ _ _ is.barcode_value there) has)
-cartridge_first drives before entry b f c h rule is barcode file home small other earlier (double_file one told there has) =
+cartridge_first drives before entry b f c h rule is barcode file home small other earlier
+    (double_file one told there has) =
     let turn : turn_of other ≡ 6 = ap turn_of told in
     file (omega (arith, turn, earlier))
     (subst (λ (name : List ℕ). Meets (both_names name) (drive_files drives ++ both_files before))
     (same_text _ _ _ there is.file_value) has)
-cartridge_first drives before entry b f c h rule is barcode file home small other earlier (double_home one told there has) =
+cartridge_first drives before entry b f c h rule is barcode file home small other earlier
+    (double_home one told there has) =
     let turn : turn_of other ≡ 8 = ap turn_of told in
     home (omega (arith, turn, earlier)) (rw (same_whole _ _ _ is.home_value there) has)
-cartridge_first drives before entry b f c h rule is barcode file home small other earlier (no_such_drive one told there range none) =
+cartridge_first drives before entry b f c h rule is barcode file home small other earlier
+    (no_such_drive one told there range none) =
     let turn : turn_of other ≡ 9 = ap turn_of told in absurd (omega (arith, turn, earlier, small))
+
+pub double_barcode_first :
+    (drives : List DriveEntry) (before : List CartridgeEntry) (entry : Members) (b f c : List ℕ) (h : ℕ)
+    → IsCartridgeTable entry b f c h → IsFirst (CartridgeTableBreaks drives before entry) (Double Barcode)
+double_barcode_first drives before entry b f c h is =
+    let small : 5 < 10 = omega arith in
+    cartridge_first drives before entry b f c h (Double Barcode) is
+    (λ late has. let low : 5 < 5 = late in absurd (omega (arith, low)))
+    (λ late has. let low : 6 < 5 = late in absurd (omega (arith, low)))
+    (λ late has. let low : 8 < 5 = late in absurd (omega (arith, low))) small
+
+pub double_file_first :
+    (drives : List DriveEntry) (before : List CartridgeEntry) (entry : Members) (b f c : List ℕ) (h : ℕ)
+    → IsCartridgeTable entry b f c h → ¬ Contains (barcodes_of before) b
+    → IsFirst (CartridgeTableBreaks drives before entry) (Double File)
+double_file_first drives before entry b f c h is new_barcode =
+    let small : 6 < 10 = omega arith in
+    cartridge_first drives before entry b f c h (Double File) is (λ late has. new_barcode has)
+    (λ late has. let low : 6 < 6 = late in absurd (omega (arith, low)))
+    (λ late has. let low : 8 < 6 = late in absurd (omega (arith, low))) small
+
+pub double_home_first :
+    (drives : List DriveEntry) (before : List CartridgeEntry) (entry : Members) (b f c : List ℕ) (h : ℕ)
+    → IsCartridgeTable entry b f c h → ¬ Contains (barcodes_of before) b
+    → ¬ Meets (both_names f) (drive_files drives ++ both_files before)
+    → IsFirst (CartridgeTableBreaks drives before entry) (Double Home)
+double_home_first drives before entry b f c h is new_barcode new_files =
+    let small : 8 < 10 = omega arith in
+    cartridge_first drives before entry b f c h (Double Home) is (λ late has. new_barcode has)
+    (λ late has. new_files has) (λ late has. let low : 8 < 8 = late in absurd (omega (arith, low))) small
+
+pub no_such_drive_first :
+    (drives : List DriveEntry) (before : List CartridgeEntry) (entry : Members) (b f c : List ℕ) (h : ℕ)
+    → IsCartridgeTable entry b f c h → ¬ Contains (barcodes_of before) b
+    → ¬ Meets (both_names f) (drive_files drives ++ both_files before) → ¬ Contains (homes_of before) h
+    → IsFirst (CartridgeTableBreaks drives before entry) NoSuchDrive
+no_such_drive_first drives before entry b f c h is new_barcode new_files new_home =
+    let small : 9 < 10 = omega arith in
+    cartridge_first drives before entry b f c h NoSuchDrive is (λ late has. new_barcode has)
+    (λ late has. new_files has) (λ late has. new_home has) small
 
 -- the first fault of a table is that of its drives, or of its cartridges
 pub drives_first :

@@ -1,9 +1,10 @@
 use Rattle.std.proofs.Common.{◌≡◌, true, arith, refl, sym, ◌∙◌}
 use Rattle.toml.specs.View.{table_view}
 use Rattle.vtl_config.specs.Keys.{cartridge_keys, has_only}
-use Rattle.vtl_config.specs.Rules.{misfits}
+use Rattle.vtl_config.specs.Rules.{TableBreaks, misfits}
 use Rattle.vtl_config.specs.declared.keys.Key.TheVariants.{Barcode, File, Capacities, Home}
-use Rattle.vtl_config.proofs.FirstLemmas.{barcode_first, file_first, capacities_first, home_first}
+use Rattle.vtl_config.specs.declared.rules.Rule.TheVariants.{OtherKey}
+use Rattle.vtl_config.proofs.FirstLemmas.{first_of_all, barcode_first, file_first, capacities_first, home_first}
 use Rattle.vtl_config.proofs.cartridge_entries.values_in.Goals as goal
 
 pub returns-in-Err-clause-err : goal.returns-in-Err-clause-err
@@ -20,7 +21,8 @@ pub returns-in-Err-home_at-clause-err : goal.returns-in-Err-home_at-clause-err
 returns-in-Err-home_at-clause-err c = misfits Home (3, omega arith, refl) c.in-Err-home_at.ensures.err
 
 pub returns-then-not-has_only-clause-first : goal.returns-then-not-has_only-clause-first
-returns-then-not-has_only-clause-first c = λ other earlier. absurd (omega (arith, earlier))
+returns-then-not-has_only-clause-first c =
+    first_of_all (TableBreaks cartridge_keys (table_view c.args.entry.now)) OtherKey refl
 
 pub returns-in-Err-clause-first : goal.returns-in-Err-clause-first
 returns-in-Err-clause-first c =

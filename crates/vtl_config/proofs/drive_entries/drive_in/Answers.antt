@@ -3,9 +3,10 @@ use Rattle.toml.specs.View.{table_view}
 use Rattle.vtl_config.specs.Entries.{IsDriveTable}
 use Rattle.vtl_config.specs.Keys.{drive_keys, has_only}
 use Rattle.vtl_config.specs.Rules as rules_of
-use Rattle.vtl_config.specs.Rules.{misfits, drive_alone, double_number, double_reservations}
+use Rattle.vtl_config.specs.Rules.{DriveTableBreaks, misfits, drive_alone, double_number, double_reservations}
 use Rattle.vtl_config.specs.declared.keys.Key.TheVariants.{Number, Reservations}
-use Rattle.vtl_config.proofs.FirstLemmas.{number_first, reservations_first, double_number_first, double_reservations_first}
+use Rattle.vtl_config.specs.declared.rules.Rule.TheVariants.{OtherKey}
+use Rattle.vtl_config.proofs.FirstLemmas.{first_of_all, number_first, reservations_first, double_number_first, double_reservations_first}
 use Rattle.vtl_config.proofs.drive_entries.drive_in.Goals as goal
 
 pub returns-in-Err-clause-err : goal.returns-in-Err-clause-err
@@ -27,7 +28,7 @@ returns-then-has_drive_file-clause-err c =
 pub returns-then-not-has_only-clause-first : goal.returns-then-not-has_only-clause-first
 returns-then-not-has_only-clause-first c = (
   drive_alone (rules_of.other_key refl (sym c.has_only.ensures ∙ c.if-not-has_only.true)),
-  λ other earlier. absurd (omega (arith, earlier)),
+  first_of_all (DriveTableBreaks c.args.before.now (table_view c.args.entry.now)) OtherKey refl,
 )
 
 pub returns-in-Err-clause-first : goal.returns-in-Err-clause-first

@@ -8,7 +8,8 @@ use Rattle.vtl_config.proofs.reading.no_document.Goals as goal
 pub returns-clause-reason : goal.returns-clause-reason
 returns-clause-reason c =
     by_text c.stopped_at-found.result c.outside.ensures c.requires.utf8
-    (table_refused c.args.text.now c.args.error.now c.stopped_at-found.result c.requires.refused c.stopped_at-found.ensures)
+    (table_refused c.args.text.now c.args.error.now c.stopped_at-found.result c.requires.refused
+    c.stopped_at-found.ensures)
 
 pub returns-clause-first : goal.returns-clause-first
 returns-clause-first c =
