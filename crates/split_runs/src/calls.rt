@@ -1,7 +1,7 @@
 //! The calls of the two halves of a drive. Each is a step of a list of calls, of which the laws speak.
 ghost use Rattle.std.specs.Prelude.{[]};
 ghost use Rattle.drive_commands.specs.Execute.{asked};
-ghost use Rattle.split_bay.specs.Halves.{Parts};
+ghost use Rattle.split_bay.specs.Halves.{MakesRoom, Parts};
 ghost use Rattle.split_bay.specs.Rings.{AreEnds};
 ghost use Rattle.split_runs.specs.Calls.{KeepsHalves};
 ghost use Rattle.split_runs.specs.Steps.{IsAloneStep, IsBothStep, IsRoomStep, IsSettledStep, IsToldStep, IsTurnStep, halves_of};
@@ -83,7 +83,8 @@ pub fn make_more_room<D: Disk, R: Rings>(
     back: &mut Back<D, R>,
 ) -> Result<(), MediumError>
     requires { AreEnds front.old.sending back.old.number back.old.received }
-    ensures { IsRoomStep D.state front.old back.old front.new back.new }
+    ensures step { IsRoomStep D.state front.old back.old front.new back.new }
+    ensures made { MakesRoom D.state front.old back.old result front.new back.new }
 {
     let made = make_room(front, back);
     front.known();
