@@ -75,6 +75,7 @@ const MARKS_FAIL: &'static [Row<'static>] = &[
 const READ_FAILS: &'static [Row<'static>] = &[
     (1, TEST_UNIT_READY, NONE, POWERED_ON),
     (1, WRITE_5, b"hello", GOOD),
+    (1, WRITE_5, b"world", GOOD),
     (1, REWIND, NONE, GOOD),
     (1, READ_5, NONE, HELLO),
     (1, REWIND, NONE, GOOD),
