@@ -7,7 +7,7 @@ use crate::samples::{
 };
 use bay_moves::{Bay, Held, Parked};
 use scsi_sense::Status;
-use split_bay::{NewRing, Rings, join, make_room, part};
+use split_bay::{Front, NewRing, Rings, join, make_room, part};
 use std::alloc::Global;
 use std::marker::Brand;
 use std::process::Abort;
@@ -130,29 +130,34 @@ fn a_cartridge_is_closed_and_taken_back(rt: HostRuntime) -> Result<(), Fail> {
     Ok(())
 }
 
-// The hosts' half of a drive takes 256 blocks alone, so there is no room for more. All of them are stored.
-fn makes_room<R: Rings>(
-    rt: &impl Abort,
-    alloc: Global,
-    both: (DriveNo, Bay<Once>),
-    ring: NewRing,
-) -> Result<(), Fail>
+// A host sends 257 blocks to a half, which takes 256 of them alone.
+fn sends_blocks<R: Rings>(rt: &impl Abort, alloc: Global, front: &mut Front<Once, R>) {
+    let nexus = Nexus::new(1).expect(rt, "1");
+    for _ in 0..=256 {
+        let mut block = Bytes::from_slice(alloc, b"x").expect(rt, "memory");
+        let _ = front.execute(nexus, WRITE_1, &mut block);
+    }
+}
+
+// 256 blocks are stored, and the last one is read back.
+fn has_stored(rt: &impl Abort, bay: &mut Bay<Once>) {
+    let nexus = Nexus::new(1).expect(rt, "1");
+    assert_equal!(rt; (bay.turn(), bay.accepted()), (Turn::Idle, 256));
+    is_answer(rt, &bay.execute(nexus, BACK_1, b""), GOOD, b"", (0, 0));
+    is_answer(rt, &bay.execute(nexus, READ_1, b""), GOOD, b"x", (0, 0));
+}
+
+// There is no room for more than 256 blocks that wait. All of them are stored.
+fn makes_room<R: Rings>(rt: &impl Abort, alloc: Global, both: (DriveNo, Bay<Once>), ring: NewRing)
     requires { R.ring both.0 ≡ Some ring }
 {
-    let nexus = Nexus::new(1).expect(rt, "1");
-    let (front, back) = part(both.1, ring.into_ends::<R>(both.0));
-    let (mut front, mut back) = (front, back);
-    for _ in 0..=256 {
-        let _ = front.execute(nexus, WRITE_1, &mut Bytes::from_slice(alloc, b"x")?);
-    }
+    let (mut front, mut back) = part(both.1, ring.into_ends::<R>(both.0));
+    sends_blocks(rt, alloc, &mut front);
     assert!(rt; front.fits(&back));
     assert_equal!(rt; make_room(&mut front, &mut back), Err(MediumError::NoMemory));
     assert!(rt; front.fits(&back));
     let (mut bay, _ends) = join(front, back);
-    assert_equal!(rt; (bay.turn(), bay.accepted()), (Turn::Idle, 256));
-    is_answer(rt, &bay.execute(nexus, BACK_1, b""), GOOD, b"", (0, 0));
-    is_answer(rt, &bay.execute(nexus, READ_1, b""), GOOD, b"x", (0, 0));
-    Ok(())
+    has_stored(rt, &mut bay);
 }
 
 #[test]
@@ -160,5 +165,6 @@ fn what_waits_is_stored_where_no_room_is_made(rt: HostRuntime) -> Result<(), Fai
     let cartridge = cartridge(rt.alloc(), b"T00001L6", NEVER)?;
     let both = drive(rt.alloc(), 1, Some(cartridge))?;
     let ring = NewRing::new(rt.alloc())?;
-    makes_room::<Brand>(&rt, rt.alloc(), both, ring)
+    makes_room::<Brand>(&rt, rt.alloc(), both, ring);
+    Ok(())
 }
