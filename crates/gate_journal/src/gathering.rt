@@ -1,5 +1,5 @@
-//! Writing a frame, in the order of its calls of the disk. Short parts are gathered in one buffer; long ones are written
-//! from where they are.
+//! Writing a frame, in the order of its calls of the disk. Short parts are gathered in one buffer, and long ones are
+//! written from where they are.
 ghost use Rattle.std.specs.Prelude.{◌≡◌, ◌+◌, ◌<◌, ◌≤◌, ◌^◌, ◌++◌, ◌∷◌, [], ℕ, List, length, take, slice_index, IfOk, OnOk, vec_len, vec_capacity};
 ghost use Rattle.tape_disk.specs.Disk.{DiskState, Only, Passes};
 ghost use Rattle.tape_disk.specs.Moments.{LeavesOnly};

@@ -71,8 +71,8 @@ returns-in_err-sync-clause-any_moment g c = λ h.
     (c.write_at.ensures.writes h2) (c.write_at.ensures.time h2) is3 d4 _ (c.sync.ensures.syncs h3)
     (c.sync.ensures.time h3))
 
-pub write_at-2-requires : goal.write_at-2-requires
-write_at-2-requires g c = λ h.
+pub write_at-requires-2 : goal.write_at-2-requires
+write_at-requires-2 g c = λ h.
     let all = followed c.args.bytes.now.items (g.P.BodyParts.parts c.args.parts.now) in
     let tail = all ++ CLOSED ∷ [] in
     let d0 = g.D.Disk.state c.args.disk.now in
@@ -106,8 +106,11 @@ write_at-2-requires g c = λ h.
     made.0
     ∙ all_stored all c.add_parts.new.bytes.items c.deref.result.now (c.args.end + 1) c.in_ok-at.at d1 d2 d3 place
     c.in_ok-at.ensures.gathers held (c.in_ok-at.ensures.gathers.seen h1) (c.in_ok-write_at.ensures.writes h2).written in
-    omega (arith, still_inside tail c.args.end d0 (c.requires.gate h) (c.requires.sure h)
-    d1 (c.cut_behind.ensures.any_moment h) is1 d4 laid shorter holds)
+    omega (
+      arith,
+      still_inside tail c.args.end d0 (c.requires.gate h) (c.requires.sure h)
+          d1 (c.cut_behind.ensures.any_moment h) is1 d4 laid shorter holds,
+    )
 
 pub returns-in_err-write_at-2-clause-any_moment : goal.returns-in_err-write_at-2-clause-any_moment
 returns-in_err-write_at-2-clause-any_moment g c = λ h.
