@@ -71,8 +71,12 @@ returns-in_err-sync-clause-any_moment g c = λ h.
     (c.write_at.ensures.writes h2) (c.write_at.ensures.time h2) is3 d4 _ (c.sync.ensures.syncs h3)
     (c.sync.ensures.time h3))
 
-pub write_at-requires-2 : goal.write_at-2-requires
-write_at-requires-2 g c = λ h.
+pub write_at-requires-2 : goal.write_at-requires-2
+write_at-requires-2 g c = λ honest.
+    let h =
+    c.cut_behind.ensures.passes.was_honest
+    (c.add_parts.ensures.passes.was_honest
+    (c.write_at.ensures.passes.was_honest (c.sync.ensures.passes.was_honest honest))) in
     let all = followed c.args.bytes.now.items (g.P.BodyParts.parts c.args.parts.now) in
     let tail = all ++ CLOSED ∷ [] in
     let d0 = g.D.Disk.state c.args.disk.now in
