@@ -1,6 +1,5 @@
-//! The body of a frame, or its beginning, in the buffer that is written to the disk, and the parts of a body that stand
-//! elsewhere in memory while it is written.
-ghost use Rattle.std.specs.Prelude.{◌≡◌, ◌≤◌, ◌<◌, ◌+◌, ◌^◌, ℕ, List, [], ◌∷◌, ◌++◌, Some, None, IfSome, IfNone, length, take, drop, max, slice_index, slice_get, OnOk, OnErr, vec_len, vec_capacity};
+//! The body of a frame, or its beginning, in the buffer that is written to the disk.
+ghost use Rattle.std.specs.Prelude.{◌≡◌, ◌≤◌, ◌<◌, ◌+◌, ◌^◌, [], ◌∷◌, ◌++◌, length, take, drop, max, slice_index, OnOk, OnErr, vec_len, vec_capacity};
 ghost use Rattle.tape_disk.specs.Disk.{DiskState, Only, Passes};
 ghost use Rattle.tape_disk.specs.Moments.{LeavesOnly};
 ghost use Rattle.std.specs.Int.{to_be_bytes, w32};
@@ -11,13 +10,14 @@ ghost use Rattle.gate_journal.specs.Spelled.{body_taken};
 ghost use Rattle.gate_journal.specs.Inner.Writing.{BehindOrGated, opened, tail_of};
 ghost use Rattle.vtl_base.specs.declared.layout.TheConstants.{LENGTH_BYTES};
 
+use crate::body_parts::BodyParts;
 use crate::gathering::{extend, write_frame};
 use byteorder::{BigEndian, ByteOrder};
 use std::alloc::{AllocError, Global};
 use std::marker::Model;
 use tape_disk::Disk;
 use vtl_base::DevFault;
-use vtl_base::layout::{LENGTH_BYTES, RECORD_HEAD};
+use vtl_base::layout::LENGTH_BYTES;
 
 /// How many bytes stand around a body in its buffer: 4 for its length before it, and 1 for the next gate after it.
 pub(crate) const AROUND: usize = LENGTH_BYTES + 1;
@@ -187,50 +187,3 @@ fn put_size(bytes: &mut Vec<u8>, size: u32)
 }
 
 unsafe impl Send for Frame {}
-
-/// How many bytes the head of a part has.
-pub const PART_HEAD: usize = RECORD_HEAD;
-
-/// The last parts of a body, one after another. Each part is a head of ten bytes and the bytes after the head. Where
-/// the bytes after the head are 16,384 or more, `append_frame` writes them from where they are in memory, and does not
-/// copy them.
-pub trait BodyParts {
-    // The bytes of each part.
-    ghost parts: { Self → List (List ℕ) };
-
-    /// How many parts there are.
-    fn count(&self) -> usize
-        ensures { result ≡ length (parts self.now) };
-
-    /// How many bytes all parts have together.
-    fn size(&self) -> usize
-        ensures { result ≡ length (followed [] (parts self.now)) };
-
-    /// The head of part `number`, which is the part's first ten bytes, and the bytes after the head. Parts are counted
-    /// from 0. None where `number` is not less than `count()`.
-    fn part(&self, number: usize) -> Option<([u8; PART_HEAD], &[u8])>
-        ensures found { IfSome result (λ part. slice_get (parts self.now) number ≡ Some (part.0 ++ part.1.now)) }
-        ensures none { IfNone result (slice_get (parts self.now) number ≡ None) };
-}
-
-/// The parts of a body that is whole in its `Frame`: there are none.
-#[derive(Drop)]
-pub struct NoParts;
-
-impl BodyParts for NoParts {
-    ghost use Rattle.std.specs.Prelude.{[]};
-
-    ghost parts = { λ _. [] };
-
-    fn count(&self) -> usize {
-        0
-    }
-
-    fn size(&self) -> usize {
-        0
-    }
-
-    fn part(&self, _: usize) -> Option<([u8; PART_HEAD], &[u8])> {
-        None
-    }
-}

@@ -8,7 +8,7 @@ ghost use Rattle.gate_journal.specs.Followed.{KeepsRoom, followed};
 ghost use Rattle.gate_journal.specs.Side.{CLOSED};
 ghost use Rattle.gate_journal.specs.Inner.Writing.{BehindOrGated, CutFrom, Gathers, Touched, opened};
 
-use crate::frame::BodyParts;
+use crate::body_parts::BodyParts;
 use tape_disk::Disk;
 use vtl_base::DevFault;
 use vtl_base::layout::{CLOSED, OPEN};

@@ -4,6 +4,7 @@
 
 mod appending;
 pub mod behind;
+pub mod body_parts;
 pub mod decoders;
 mod decoding;
 mod device;
@@ -24,9 +25,10 @@ mod reading;
 mod spelling;
 
 pub use behind::frames_behind;
+pub use body_parts::{BodyParts, NoParts};
 pub use decoders::Decodes;
 pub use error::{JournalError, NotDecoded, OpenError, Refused};
-pub use frame::{BodyParts, Frame, NoParts};
+pub use frame::Frame;
 pub use gates::{Gates, last_gates};
 pub use header::{Header, SideKind};
 pub use heads::{Copied, ParsedHead, parse_head};
