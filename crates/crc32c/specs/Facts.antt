@@ -1,5 +1,5 @@
 -- Registers and sums have 32 bits.
-use Rattle.std.proofs.Common.{ℕ, zero, suc, ◌*◌, ◌/◌, ◌%◌, ◌^◌, ◌<◌, List, [], ◌∷◌, bit_xor, arith, lit<}
+use Rattle.std.proofs.Common.{◌≡◌, refl, ℕ, zero, suc, ◌*◌, ◌/◌, ◌%◌, ◌^◌, ◌<◌, List, [], ◌∷◌, bit_xor, arith, lit<}
 use Rattle.std.proofs.lemmas.Nat.{xor_lt}
 use Rattle.std.proofs.Math.Nat.{mod-lt}
 use Rattle.crc32c.specs.Crc.{AreBytes, ONES, POLYNOMIAL, crc32c, fed, step, steps}
@@ -26,3 +26,7 @@ fed_lt r (b ∷ bytes) lt all =
 
 pub crc32c_lt : (bytes : List ℕ) → AreBytes bytes → crc32c bytes < 2 ^ 32
 crc32c_lt bytes all = xor_lt 32 (fed ONES bytes) ONES (fed_lt ONES bytes (lit< tt) all) (lit< tt)
+
+pub sum_of_none : crc32c [] ≡ 0
+unfolding fed
+sum_of_none = refl
