@@ -19,7 +19,7 @@ use Rattle.change_records.specs.declared.records.Record.{Record}
 use Rattle.change_records.specs.declared.records.Record.TheVariants.{Put, Marks, Erase}
 use Rattle.change_records.specs.Records.{IsAtFront, IsRecord, change_in, change_with, record_length, record_of, size_of, spell_change, spell_head}
 use Rattle.change_records.specs.Readers.{IsHeadOf, head_item}
-use Rattle.sealed_records.specs.Sealed.{BeginsWithLaid, IsLaid, IsSealedFront, IsSum, Laid, block_of, fields_of, head_spelled, head_sum, item_with, laid_size, sealed_item, spell_laid, spell_sealed_head}
+use Rattle.sealed_records.specs.Sealed.{BeginsWithLaid, IsLaid, IsSealedFront, IsSum, Laid, block_of, fields_laid, head_spelled, head_sum, item_with, laid_size, sealed_item, spell_laid, spell_sealed_head}
 use Rattle.sealed_records.specs.Readers.{IsSealedHeadOf}
 
 pub size_is : (item : Record) → size_of item ≡ 10 + record_length item
@@ -42,7 +42,7 @@ block_long (Changes.Put part place block) = refl
 block_long (Changes.Marks part place count) = refl
 block_long (Changes.Erase part place) = refl
 
-pub fields_long : (laid : Laid) → length (fields_of laid) ≡ 14
+pub fields_long : (laid : Laid) → length (fields_laid laid) ≡ 14
 fields_long laid =
     omega (
       arith,
@@ -54,7 +54,7 @@ pub head_long : (seed place : ℕ) (laid : Laid) → length (spell_sealed_head s
 head_long seed place laid =
     omega (
       arith,
-      length-append (fields_of laid) (to_be_bytes w32 (head_sum seed place (fields_of laid))),
+      length-append (fields_laid laid) (to_be_bytes w32 (head_sum seed place (fields_laid laid))),
       fields_long laid,
     )
 
@@ -71,8 +71,11 @@ with_parts : (sum : ℕ) (plain : Option Record) (item : Record) → item_with s
     → (plain ≡ Some item) × ((block : List ℕ) → sum < 2 ^ 32 → IsSum (change_with item block) sum)
 with_parts sum None item is = absurd (cc)
 with_parts sum (Some (Put part at size)) item is =
-    let same : Put part at size ≡ item = cc in
-    (is, subst (λ (i : Record). (block : List ℕ) → sum < 2 ^ 32 → IsSum (change_with i block) sum) same (λ block lt. lt))
+    let same : Put part at size ≡ item = cc in (
+      is,
+      subst (λ (i : Record). (block : List ℕ) → sum < 2 ^ 32 → IsSum (change_with i block) sum) same
+          (λ block lt. lt),
+    )
 with_parts sum (Some (Marks part at count)) item is = elim (cases_Bool (sum == 0)) [
   | inl holds ↦
       let same : Some (Marks part at count) ≡ Some item =
@@ -195,7 +198,7 @@ module _ (seed place : ℕ) (a b c d e f g h i j k l m n o p q r : ℕ) where
       two : (ten ≡ head_spelled change) × (tail ≡ block_of change ++ drop (record_length item) tail)
       two = tail_parts item ten tail refl front
 
-      fields_are : fields_of laid ≡ fields
+      fields_are : fields_laid laid ≡ fields
       fields_are = λ z. sym two.0 z ++ sum_bytes z
 
       head_is : spell_sealed_head seed place laid ≡ head
@@ -223,7 +226,8 @@ module _ (seed place : ℕ) (a b c d e f g h i j k l m n o p q r : ℕ) where
 pub head_found : (seed place : ℕ) (head : List ℕ) → length head ≡ 18 → ((z : ℕ) → get_or head z 0 < 256)
     → (item : Record) → ((other : Record) → head_item (take 10 head) ≡ Some other → IsHeadOf other (take 10 head))
     → sealed_item seed place head ≡ Some item → IsSealedHeadOf seed place item head
-head_found seed place (a ∷ b ∷ c ∷ d ∷ e ∷ f ∷ g ∷ h ∷ i ∷ j ∷ k ∷ l ∷ m ∷ n ∷ o ∷ p ∷ q ∷ r ∷ []) long fits item plain is =
+head_found seed place (a ∷ b ∷ c ∷ d ∷ e ∷ f ∷ g ∷ h ∷ i ∷ j ∷ k ∷ l ∷ m ∷ n ∷ o ∷ p ∷ q ∷ r ∷ []) long fits item plain
+    is =
     front_here seed place a b c d e f g h i j k l m n o p q r fits item plain is
 head_found seed place xs long fits item plain is = absurd (omega (arith, long))
 
@@ -238,7 +242,7 @@ number_bytes (suc n) x =
     All-cons (λ b. b < 2 ^ 8) (byte_at n x) (bytes_high_first n x) (byte_lt n x) (number_bytes n x)
 
 -- every byte of the fields is one
-fields_bytes : (laid : Laid) → IsLaid laid → All (λ b. b < 2 ^ 8) (fields_of laid)
+fields_bytes : (laid : Laid) → IsLaid laid → All (λ b. b < 2 ^ 8) (fields_laid laid)
 fields_bytes laid ok =
     All-append (λ b. b < 2 ^ 8) (head_spelled laid.change) (to_be_bytes w32 laid.sum) (heads laid.change ok.change)
     (number_bytes 4 laid.sum)
@@ -256,10 +260,10 @@ fields_bytes laid ok =
     heads (Changes.Marks part at count) ok = spelled 2 part at count (omega arith) ok.0.0
     heads (Changes.Erase part at) ok = spelled 3 part at 0 (omega arith) ok.0
 
-own_fits : (seed place : ℕ) (laid : Laid) → IsLaid laid → head_sum seed place (fields_of laid) < 2 ^ 32
+own_fits : (seed place : ℕ) (laid : Laid) → IsLaid laid → head_sum seed place (fields_laid laid) < 2 ^ 32
 own_fits seed place laid ok =
-    crc32c_lt (to_be_bytes w64 seed ++ to_be_bytes w64 place ++ fields_of laid)
-    (All-append (λ b. b < 2 ^ 8) (to_be_bytes w64 seed ++ to_be_bytes w64 place) (fields_of laid)
+    crc32c_lt (to_be_bytes w64 seed ++ to_be_bytes w64 place ++ fields_laid laid)
+    (All-append (λ b. b < 2 ^ 8) (to_be_bytes w64 seed ++ to_be_bytes w64 place) (fields_laid laid)
     (All-append (λ b. b < 2 ^ 8) (to_be_bytes w64 seed) (to_be_bytes w64 place) (number_bytes 8 seed)
     (number_bytes 8 place)) (fields_bytes laid ok))
 
@@ -299,7 +303,7 @@ plain_again (Changes.Erase part place) ok = head_decoded 3 part place 0 ok.1 (om
 -- the head of a record gives the record
 module _ (seed place : ℕ) (laid : Laid) (ok : IsLaid laid) where
   abbrev its : List ℕ
-  its = fields_of laid
+  its = fields_laid laid
 
   abbrev its_sum : ℕ
   its_sum = head_sum seed place its

@@ -11,7 +11,7 @@ use Rattle.change_records.specs.Records.{record_length, record_of}
 use Rattle.sealed_records.specs.declared.reader.SealedError.{SealedError}
 use Rattle.sealed_records.specs.declared.reader.SealedError.TheVariants.{BadRecord, BadSum}
 use Rattle.sealed_records.specs.Sealed.{BeginsWithLaid, IsLaid, IsSealedFront, IsUnsealedAt, Laid, is_summed, laid_in, laid_size, sealed_item, spell_laid, spell_laids, sum_in}
-use Rattle.sealed_records.specs.Readers.{Finds, IsSealedHeadOf, Refuses, SealedState, Stands, refusal_of}
+use Rattle.sealed_records.specs.Readers.{FindsSealed, IsSealedHeadOf, Refuses, SealedState, StandsSealed, refusal_at}
 use Rattle.sealed_records.proofs.HeadLemmas.{begins_item, laid_long, none_short}
 
 pub take_of_take : (n : ℕ) (xs ys : List ℕ) → take n (take n xs ++ ys) ≡ take n (xs ++ ys)
@@ -43,7 +43,7 @@ spell_push seed place (first ∷ laids) laid =
     ∙ ap (λ (p : ℕ). one ++ (behind ++ spell_laid seed p laid)) e
     ∙ sym (append_assoc one behind (spell_laid seed (place + length (one ++ behind)) laid))
 
-pub stands_none : (seed place : ℕ) → Stands seed place [] [] 0 0 []
+pub stands_none : (seed place : ℕ) → StandsSealed seed place [] [] 0 0 []
 stands_none seed place = record {
   spelled = All-nil IsLaid;
   begins = refl;
@@ -54,7 +54,7 @@ stands_none seed place = record {
 }
 
 module _ (seed place : ℕ) (bytes : List ℕ) (laids : List Laid) (begin at : ℕ) (head : List ℕ)
-    (s : Stands seed place bytes laids begin at head) where
+    (s : StandsSealed seed place bytes laids begin at head) where
   abbrev rest : List ℕ
   rest = drop begin bytes
 
@@ -62,7 +62,8 @@ module _ (seed place : ℕ) (bytes : List ℕ) (laids : List Laid) (begin at : �
   rest_more more = drop-append-le begin bytes more s.within
 
   -- with more bytes
-  pub stands_more : (more : List ℕ) → Stands seed place (bytes ++ more) laids begin (at + length more) (take 18 (head ++ more))
+  pub stands_more : (more : List ℕ)
+      → StandsSealed seed place (bytes ++ more) laids begin (at + length more) (take 18 (head ++ more))
   stands_more more = record {
     spelled = s.spelled;
     begins =
@@ -98,17 +99,19 @@ module _ (seed place : ℕ) (bytes : List ℕ) (laids : List Laid) (begin at : �
 
   -- with more bytes after a whole head
   pub stands_over : (more : List ℕ) (to : ℕ) → length head ≡ 18 → to ≡ at + length more
-      → Stands seed place (bytes ++ more) laids begin to head
+      → StandsSealed seed place (bytes ++ more) laids begin to head
   stands_over more to whole is =
-      subst (λ (h : List ℕ). Stands seed place (bytes ++ more) laids begin to h) same_head
-      (subst (λ (n : ℕ). Stands seed place (bytes ++ more) laids begin n (take 18 (head ++ more))) (sym is) (stands_more more))
+      subst (λ (h : List ℕ). StandsSealed seed place (bytes ++ more) laids begin to h) same_head
+      (subst (λ (n : ℕ). StandsSealed seed place (bytes ++ more) laids begin n (take 18 (head ++ more))) (sym is)
+      (stands_more more))
     where
       same_head : take 18 (head ++ more) ≡ head
       same_head = take_at head more 18 whole
 
   -- with more bytes of a head
   pub stands_filled : (piece new : List ℕ) (count to : ℕ) → count ≡ min (18 - length head) (length piece)
-      → new ≡ head ++ take count piece → to ≡ at + count → Stands seed place (bytes ++ take count piece) laids begin to new
+      → new ≡ head ++ take count piece → to ≡ at + count
+      → StandsSealed seed place (bytes ++ take count piece) laids begin to new
   stands_filled piece new count to counted is at_is =
       let long : length (take count piece) ≡ count = length-take-le count piece (omega (arith, counted)) in
       let short : length (head ++ take count piece) ≤ 18 =
@@ -116,8 +119,9 @@ module _ (seed place : ℕ) (bytes : List ℕ) (laids : List Laid) (begin at : �
       let heads : take 18 (head ++ take count piece) ≡ new =
       take_all 18 (head ++ take count piece) short ∙ sym is in
       let places : at + length (take count piece) ≡ to = omega (arith, long, at_is) in
-      subst (λ (n : ℕ). Stands seed place (bytes ++ take count piece) laids begin n new) places
-      (subst (λ (h : List ℕ). Stands seed place (bytes ++ take count piece) laids begin (at + length (take count piece)) h) heads
+      subst (λ (n : ℕ). StandsSealed seed place (bytes ++ take count piece) laids begin n new) places
+      (subst (λ (h : List ℕ).
+      StandsSealed seed place (bytes ++ take count piece) laids begin (at + length (take count piece)) h) heads
       (stands_more (take count piece)))
 
   -- a record ends here
@@ -125,7 +129,8 @@ module _ (seed place : ℕ) (bytes : List ℕ) (laids : List Laid) (begin at : �
       (ends : length bytes - begin - 18 ≡ record_length item) where
     front : IsSealedFront seed (place + begin) item rest
     front =
-        subst (IsSealedFront seed (place + begin) item) (sym head_first) (head_of (drop 18 rest) (omega (arith, tail_long, ends)))
+        subst (IsSealedFront seed (place + begin) item) (sym head_first)
+        (head_of (drop 18 rest) (omega (arith, tail_long, ends)))
 
     abbrev laid : Laid
     laid = laid_in item rest
@@ -152,7 +157,7 @@ module _ (seed place : ℕ) (bytes : List ℕ) (laids : List Laid) (begin at : �
 
     -- the reader after that record
     pub after_it : (sum : ℕ) → sum ≡ sum_in head → (new : SealedState) → new.seed ≡ seed → new.place ≡ place
-        → new.head ≡ [] → new.left ≡ 0 → new.begin ≡ at → new.at ≡ at → Finds bytes laids item sum begin new
+        → new.head ≡ [] → new.left ≡ 0 → new.begin ≡ at → new.at ≡ at → FindsSealed bytes laids item sum begin new
     after_it sum sum_is new same_seed same_place no_head none begins_at is_at = record {
       begin_is =
           s.begin_is ∙ (λ i. length (spell_laids (sym same_seed i) (sym same_place i) laids));
@@ -162,8 +167,10 @@ module _ (seed place : ℕ) (bytes : List ℕ) (laids : List Laid) (begin at : �
           (subst (λ (p : ℕ). IsSealedFront seed (p + begin) item rest) (sym same_place) front);
       after = record {
         stands =
-            subst (λ (e : ℕ). Stands e new.place bytes (laids ++ laid ∷ []) new.begin new.at new.head) (sym same_seed)
-            (subst (λ (p : ℕ). Stands seed p bytes (laids ++ laid ∷ []) new.begin new.at new.head) (sym same_place)
+            subst (λ (e : ℕ). StandsSealed e new.place bytes (laids ++ laid ∷ []) new.begin new.at new.head)
+            (sym same_seed)
+            (subst (λ (p : ℕ). StandsSealed seed p bytes (laids ++ laid ∷ []) new.begin new.at new.head)
+            (sym same_place)
             (record {
               spelled = All-push IsLaid laids laid s.spelled front.valid;
               begins =
@@ -224,7 +231,7 @@ module _ (seed place : ℕ) (bytes : List ℕ) (laids : List Laid) (begin at : �
           let e : None ≡ Some (record_of w.0.change) = sym is ∙ found.0 in cc
 
 module _ (seed place : ℕ) (bytes : List ℕ) (laids : List Laid) (begin at : ℕ) (head : List ℕ)
-    (s : Stands seed place bytes laids begin at head) (bad : IsUnsealedAt seed place bytes begin) where
+    (s : StandsSealed seed place bytes laids begin at head) (bad : IsUnsealedAt seed place bytes begin) where
   abbrev there : List ℕ
   there = drop begin bytes
 
@@ -232,28 +239,32 @@ module _ (seed place : ℕ) (bytes : List ℕ) (laids : List Laid) (begin at : �
   as_error one other same is = subst (λ (e : SealedError). Refuses e seed place bytes) (sym same) is
 
   -- bytes that begin with no record are refused by what is there of the head
-  pub refuses : Refuses (refusal_of seed (place + begin) head begin) seed place bytes
+  pub refuses : Refuses (refusal_at seed (place + begin) head begin) seed place bytes
   refuses = elim (cases_lt (length head) 18) [
     | inl short ↦
-        as_error (BadRecord begin) (refusal_of seed (place + begin) head begin)
-            (cond-true (nat_lt (length head) 18) (BadRecord begin) (if is_summed seed (place + begin) head then BadRecord begin else BadSum begin) (lt-ltb (length head) 18 short))
-            (bad, λ w. omega (arith, w.0, short, ap length s.head_is, length-take 18 there))
+        as_error (BadRecord begin) (refusal_at seed (place + begin) head begin)
+        (cond-true (nat_lt (length head) 18) (BadRecord begin)
+        (if is_summed seed (place + begin) head then BadRecord begin else BadSum begin)
+        (lt-ltb (length head) 18 short))
+        (bad, λ w. omega (arith, w.0, short, ap length s.head_is, length-take 18 there))
     | inr long ↦ elim (cases_Bool (is_summed seed (place + begin) head)) [
       | inl sums ↦
-          as_error (BadRecord begin) (refusal_of seed (place + begin) head begin)
-              (whole long ∙ cond-true (is_summed seed (place + begin) head) (BadRecord begin) (BadSum begin) sums)
-              (bad, λ w. let e : true ≡ false = sym sums ∙ ap (is_summed seed (place + begin)) s.head_is ∙ w.1 in cc)
+          as_error (BadRecord begin) (refusal_at seed (place + begin) head begin)
+          (whole long ∙ cond-true (is_summed seed (place + begin) head) (BadRecord begin) (BadSum begin) sums)
+          (bad, λ w. let e : true ≡ false = sym sums ∙ ap (is_summed seed (place + begin)) s.head_is ∙ w.1 in cc)
       | inr fails ↦
-          as_error (BadSum begin) (refusal_of seed (place + begin) head begin)
-              (whole long ∙ cond-false (is_summed seed (place + begin) head) (BadRecord begin) (BadSum begin) fails)
-              (bad, (
-                omega (arith, long, ap length s.head_is, length-take 18 there),
-                sym (ap (is_summed seed (place + begin)) s.head_is) ∙ fails,
-              ))
+          as_error (BadSum begin) (refusal_at seed (place + begin) head begin)
+          (whole long ∙ cond-false (is_summed seed (place + begin) head) (BadRecord begin) (BadSum begin) fails) (
+            bad,
+            (
+              omega (arith, long, ap length s.head_is, length-take 18 there),
+              sym (ap (is_summed seed (place + begin)) s.head_is) ∙ fails,
+            ),
+          )
     ]
   ]
     where
-      whole : 18 ≤ length head → refusal_of seed (place + begin) head begin
+      whole : 18 ≤ length head → refusal_at seed (place + begin) head begin
           ≡ (if is_summed seed (place + begin) head then BadRecord begin else BadSum begin)
       whole long =
           cond-false (nat_lt (length head) 18) (BadRecord begin)
@@ -262,9 +273,9 @@ module _ (seed place : ℕ) (bytes : List ℕ) (laids : List Laid) (begin at : �
 
 -- a head that gives no record, whatever follows
 pub bad_for_ever : (seed place : ℕ) (bytes : List ℕ) (laids : List Laid) (begin at : ℕ) (head : List ℕ)
-    → Stands seed place bytes laids begin at head → length head ≡ 18
+    → StandsSealed seed place bytes laids begin at head → length head ≡ 18
     → sealed_item seed (place + begin) head ≡ None → (more : List ℕ)
-    → Refuses (refusal_of seed (place + begin) head begin) seed place (bytes ++ more)
+    → Refuses (refusal_at seed (place + begin) head begin) seed place (bytes ++ more)
 bad_for_ever seed place bytes laids begin at head s whole is more =
     let over = stands_over seed place bytes laids begin at head s more (at + length more) whole refl in
     refuses seed place (bytes ++ more) laids begin (at + length more) head over

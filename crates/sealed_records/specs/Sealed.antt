@@ -32,8 +32,8 @@ abbrev pub sealed : Change → Laid
 sealed change = laid_with change (crc32c (block_of change))
 
 -- the sum of the block is right (own)
-abbrev pub IsSound : Laid → Type 0
-IsSound laid = laid.sum ≡ crc32c (block_of laid.change)
+abbrev pub HasItsSum : Laid → Type 0
+HasItsSum laid = laid.sum ≡ crc32c (block_of laid.change)
 
 -- the sums that a head may have: any of a block, 0 where there is no block (own)
 abbrev pub IsSum : Change → ℕ → Type 0
@@ -53,8 +53,8 @@ head_spelled (Marks part at count) = spell_head MARKS part at count
 head_spelled (Erase part at) = spell_head ERASE part at 0
 
 -- the first fourteen bytes of a record: with the sum of the block behind the ten (own)
-abbrev pub fields_of : Laid → List ℕ
-fields_of laid = head_spelled laid.change ++ to_be_bytes w32 laid.sum
+abbrev pub fields_laid : Laid → List ℕ
+fields_laid laid = head_spelled laid.change ++ to_be_bytes w32 laid.sum
 
 -- the sum of a head: over the seed of its frame, its place in the file and its first fourteen bytes (own)
 abbrev pub head_sum : ℕ → ℕ → List ℕ → ℕ
@@ -62,7 +62,7 @@ head_sum seed place fields = crc32c (to_be_bytes w64 seed ++ to_be_bytes w64 pla
 
 -- a head of eighteen bytes (own)
 abbrev pub spell_sealed_head : ℕ → ℕ → Laid → List ℕ
-spell_sealed_head seed place laid = fields_of laid ++ to_be_bytes w32 (head_sum seed place (fields_of laid))
+spell_sealed_head seed place laid = fields_laid laid ++ to_be_bytes w32 (head_sum seed place (fields_laid laid))
 
 -- the bytes of a record: its head, and its block (own)
 abbrev pub spell_laid : ℕ → ℕ → Laid → List ℕ

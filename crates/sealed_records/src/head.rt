@@ -2,7 +2,7 @@
 ghost use Rattle.std.specs.Prelude.{◌≡◌, ◌≤◌, ◌-◌, ◌++◌, [], IfSome, length, min, take};
 ghost use Rattle.vtl_base.specs.declared.layout.TheConstants.{SEALED_HEAD};
 ghost use Rattle.sealed_records.specs.Sealed.{is_summed, item_with, sealed_item, sum_in};
-ghost use Rattle.sealed_records.specs.Readers.{IsSealedHeadOf, refusal_of};
+ghost use Rattle.sealed_records.specs.Readers.{IsSealedHeadOf, refusal_at};
 
 use crate::reader::SealedError;
 use crate::spelling::sum_at;
@@ -85,7 +85,7 @@ impl Head {
 
     // Why no record begins at byte `at` of a body, which is at that place, if none begins there.
     pub(crate) fn refusal(&self, seed: u64, place: u64, at: usize) -> SealedError
-        ensures { result ≡ refusal_of seed place self.now at }
+        ensures { result ≡ refusal_at seed place self.now at }
     {
         if self.len() < SEALED_HEAD {
             return SealedError::BadRecord { at };

@@ -2,7 +2,7 @@
 ghost use Rattle.std.specs.Prelude.{◌≡◌, ◌≤◌, ◌<◌, ◌+◌, ◌^◌, ◌++◌, [], ℕ, List, IfNone, length, take};
 ghost use Rattle.change_records.specs.Records.{record_length};
 ghost use Rattle.sealed_records.specs.Sealed.{Laid};
-ghost use Rattle.sealed_records.specs.Readers.{Ends, Feeds, IsAfter, PassesOver, taken_of};
+ghost use Rattle.sealed_records.specs.Readers.{EndsSealed, FeedsSealed, IsAfterSealed, PassesSealed, taken_by};
 
 use crate::head::Head;
 use change_records::Record;
@@ -47,7 +47,7 @@ impl Model for SealedReader {
     ghost invariant = { λ r. (r.begin ≤ r.at) × (r.place + r.at < 2 ^ 64) };
 }
 
-/// A whole record `item`, what its head gives as the sum of its block, and the byte `at` of the body at which it begins.
+/// A whole record `item`, what its head gives as the sum of its block, and the byte `at` of the body where it begins.
 #[derive(Clone, Copy, PartialEq, Eq, Debug)]
 pub struct Found {
     pub item: Record,
@@ -91,7 +91,7 @@ pub enum Fed {
 impl SealedReader {
     /// Makes a reader for a body at this place of the file, in a frame with this seed. No byte of it has come.
     pub fn new(seed: u64, place: u64) -> Self
-        ensures after { IsAfter [] [] result }
+        ensures after { IsAfterSealed [] [] result }
         ensures at { result.at ≡ 0 }
         ensures stands { (result.seed ≡ seed) × (result.place ≡ place) }
     {
@@ -117,10 +117,10 @@ impl SealedReader {
     /// Takes `piece`, the next piece of the body, but only up to the end of the head or the block that is under way.
     pub fn feed(&mut self, piece: &[u8]) -> Fed
         requires fits { self.old.place + self.old.at + length piece.now < 2 ^ 64 }
-        ensures feeds { (before : List ℕ) (laids : List Laid) → IsAfter before laids self.old →
-            Feeds result before piece.now laids self.new }
-        ensures at { self.new.at ≡ self.old.at + taken_of result (length piece.now) }
-        ensures within { taken_of result (length piece.now) ≤ length piece.now }
+        ensures feeds { (before : List ℕ) (laids : List Laid) → IsAfterSealed before laids self.old →
+            FeedsSealed result before piece.now laids self.new }
+        ensures at { self.new.at ≡ self.old.at + taken_by result (length piece.now) }
+        ensures within { taken_by result (length piece.now) ≤ length piece.now }
         ensures stays { (self.new.seed ≡ self.old.seed) × (self.new.place ≡ self.old.place) }
     {
         if self.left > 0 {
@@ -134,10 +134,10 @@ impl SealedReader {
     fn feed_block(&mut self, piece: &[u8]) -> Fed
         requires some { 1 ≤ self.old.left }
         requires fits { self.old.place + self.old.at + length piece.now < 2 ^ 64 }
-        ensures feeds { (before : List ℕ) (laids : List Laid) → IsAfter before laids self.old →
-            Feeds result before piece.now laids self.new }
-        ensures at { self.new.at ≡ self.old.at + taken_of result (length piece.now) }
-        ensures within { taken_of result (length piece.now) ≤ length piece.now }
+        ensures feeds { (before : List ℕ) (laids : List Laid) → IsAfterSealed before laids self.old →
+            FeedsSealed result before piece.now laids self.new }
+        ensures at { self.new.at ≡ self.old.at + taken_by result (length piece.now) }
+        ensures within { taken_by result (length piece.now) ≤ length piece.now }
         ensures stays { (self.new.seed ≡ self.old.seed) × (self.new.place ≡ self.old.place) }
     {
         let taken = piece.len().min(self.left as usize);
@@ -160,7 +160,7 @@ impl SealedReader {
         requires unseen { count ≤ self.old.left }
         requires fits { self.old.place + self.old.at + count < 2 ^ 64 }
         ensures passes { (before bytes : List ℕ) (laids : List Laid) → length bytes ≡ count →
-            IsAfter before laids self.old → PassesOver result (before ++ bytes) laids self.new }
+            IsAfterSealed before laids self.old → PassesSealed result (before ++ bytes) laids self.new }
         ensures at { self.new.at ≡ self.old.at + count }
         ensures stays { (self.new.seed ≡ self.old.seed) × (self.new.place ≡ self.old.place) }
         ensures none { IfNone result (count < self.old.left) }
@@ -185,10 +185,10 @@ impl SealedReader {
     fn feed_head(&mut self, piece: &[u8]) -> Fed
         requires none { self.old.left ≡ 0 }
         requires fits { self.old.place + self.old.at + length piece.now < 2 ^ 64 }
-        ensures feeds { (before : List ℕ) (laids : List Laid) → IsAfter before laids self.old →
-            Feeds result before piece.now laids self.new }
-        ensures at { self.new.at ≡ self.old.at + taken_of result (length piece.now) }
-        ensures within { taken_of result (length piece.now) ≤ length piece.now }
+        ensures feeds { (before : List ℕ) (laids : List Laid) → IsAfterSealed before laids self.old →
+            FeedsSealed result before piece.now laids self.new }
+        ensures at { self.new.at ≡ self.old.at + taken_by result (length piece.now) }
+        ensures within { taken_by result (length piece.now) ≤ length piece.now }
         ensures stays { (self.new.seed ≡ self.old.seed) × (self.new.place ≡ self.old.place) }
     {
         let place = self.place + self.begin as u64;
@@ -229,8 +229,8 @@ impl SealedReader {
     /// Ends the body. Returns Ok where it consists of whole records; else why none begins where the first begins that
     /// is bad or not whole.
     pub fn end(&self) -> Result<(), SealedError>
-        ensures { (bytes : List ℕ) (laids : List Laid) → IsAfter bytes laids self.now →
-            Ends result bytes laids self.now }
+        ensures { (bytes : List ℕ) (laids : List Laid) → IsAfterSealed bytes laids self.now →
+            EndsSealed result bytes laids self.now }
     {
         if self.head.len() == 0 {
             Ok(())

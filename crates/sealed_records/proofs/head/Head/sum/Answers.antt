@@ -7,5 +7,6 @@ pub returns : goal.returns
 returns c =
     λ long. c.read_u32.ensures
     ∙ ap sum_in
-    (sym (take_all c.self.inside.filled c.self.inside.bytes (omega (arith, c.if-self-lt-SEALED_HEAD.false, c.self.told)))
+    (sym (take_all c.self.inside.filled c.self.inside.bytes
+    (omega (arith, c.if-self-lt-SEALED_HEAD.false, c.self.told)))
     ∙ c.self.view_is)

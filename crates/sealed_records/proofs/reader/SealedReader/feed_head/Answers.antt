@@ -60,4 +60,5 @@ returns-clause-feeds c =
     (filled_whole before laids _ after c.args.piece.now c.fill-taken.result c.fill-taken.new.self none missing
     c.fill-taken.ensures.taken c.fill-taken.ensures.bytes c.in-Some.item c.in-Some.item _
     c.length_of-self-inside.result c.sum.result whole c.in-Some.ensures.front
-    (omega (arith, c.length_of-self-inside.ensures, c.if-self-gt0.false)) (omega (arith, c.if-self-gt0.false)) refl (c.sum.ensures whole)))
+    (omega (arith, c.length_of-self-inside.ensures, c.if-self-gt0.false)) (omega (arith, c.if-self-gt0.false)) refl
+    (c.sum.ensures whole)))
