@@ -2,7 +2,7 @@
 RT := $(shell command -v rt)
 
 .PHONY: demo vtl check wrong rows rows-wrong nomemory mutants faults explained hostile memory endings examples stops kills \
-	mended tools cluster iscsi hosts page bench gate fmt definitions words install manual need-rt
+	mended tools cluster iscsi hosts page bench gate fmt definitions words ways install manual need-rt
 .DEFAULT_GOAL := demo
 
 need-rt:
@@ -168,3 +168,6 @@ definitions:
 words:
 	python3 checks/words.py --selftest
 	python3 checks/words.py
+
+ways:
+	python3 checks/ways.py

@@ -1,3 +1,4 @@
+mod AddingLemmas
 mod AskedLemmas
 mod BehindLemmas
 mod Bodies

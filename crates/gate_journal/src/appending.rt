@@ -1,19 +1,23 @@
-//! Adding a body to an open side, as a frame.
-ghost use Rattle.std.specs.Prelude.{◌≡◌, ◌+◌, ◌<◌, ◌≤◌, ◌++◌, [], ◌∷◌, length, true, false, OnOk, IfErr, if◌then◌else◌, is_ok};
+//! Adding a body to an open side, as a frame; and the memory of later appends, an extent for each frame and one buffer
+//! for the longest.
+ghost use Rattle.std.specs.Prelude.{◌≡◌, ◌+◌, ◌<◌, ◌≤◌, ◌++◌, [], ◌∷◌, length, true, false, OnOk, OnErr, IfErr, if◌then◌else◌, is_ok, vec_len, vec_capacity};
 ghost use Rattle.tape_disk.specs.Disk.{Each, Keeps};
 ghost use Rattle.tape_disk.specs.Moments.{LeavesOnly};
 ghost use Rattle.gate_journal.specs.Side.{IsBody, StandsFor};
 ghost use Rattle.gate_journal.specs.Answers.{Appended, Broke, IsFault, MatchWrite, NoneFailed};
 ghost use Rattle.gate_journal.specs.Crash.{WithOrWithout};
 ghost use Rattle.gate_journal.specs.Cuts.{CutsFirst};
+ghost use Rattle.gate_journal.specs.Inner.Spare.{free, spare};
 ghost use Rattle.gate_journal.specs.State.{room_behind};
 ghost use Rattle.vtl_base.specs.declared.layout.TheConstants.{FRAME_HEAD};
+ghost use Rattle.vtl_base.specs.declared.limits.TheConstants.{MAX_BODY};
 
-use crate::room::make_room;
+use crate::frame::Frame;
 use crate::{Journal, JournalError, NoParts};
+use std::alloc::AllocError;
 use tape_disk::Disk;
 use vtl_base::layout::FRAME_HEAD;
-use vtl_base::limits::MAX_SIDE;
+use vtl_base::limits::{MAX_BODY, MAX_SIDE};
 
 impl<D: Disk> Journal<D> {
     /// Reserves memory for the next `frames` calls of `append`, which then allocate none: 16 bytes for the extent of
@@ -86,4 +90,25 @@ impl<D: Disk> Journal<D> {
             }
         }
     }
+}
+
+// Reserves memory for `frames` more frames: the extent of each, and a buffer for the longest. Where memory runs out, as
+// many frames as before are reserved.
+fn make_room(
+    extents: &mut Vec<(u64, u32)>,
+    buffer: &mut Frame,
+    frames: usize,
+) -> Result<(), AllocError>
+    requires { 0 < frames }
+    ensures same { extents.new.items ≡ extents.old.items }
+    ensures free { free extents.old ≤ free extents.new }
+    ensures grows { spare extents.old buffer.old ≤ spare extents.new buffer.new }
+    ensures ok { OnOk result ((frames ≤ spare extents.new buffer.new)
+        × (vec_len extents.new + frames ≤ vec_capacity extents.new)
+        × (MAX_BODY ≤ buffer.new.room) × (buffer.new.body ≡ [])) }
+    ensures err { OnErr result ((spare extents.old buffer.old < frames)
+        × (spare extents.new buffer.new ≡ spare extents.old buffer.old)) }
+{
+    extents.reserve(frames)?;
+    buffer.reserve(MAX_BODY as usize)
 }

@@ -11,8 +11,7 @@ ghost use Rattle.gate_journal.specs.Inner.Writing.{BehindOrGated, opened, tail_o
 ghost use Rattle.vtl_base.specs.declared.layout.TheConstants.{LENGTH_BYTES};
 
 use crate::body_parts::BodyParts;
-use crate::device::write_frame;
-use crate::gathering::extend;
+use crate::gathering::{extend, write_frame};
 use byteorder::{BigEndian, ByteOrder};
 use std::alloc::{AllocError, Global};
 use std::marker::Model;

@@ -1,15 +1,17 @@
-//! Writing the bytes after a gate. Short parts are gathered in one buffer; long ones are written from where they are.
-ghost use Rattle.std.specs.Prelude.{◌≡◌, ◌+◌, ◌<◌, ◌≤◌, ◌^◌, ◌++◌, ◌∷◌, [], ℕ, List, length, IfOk, OnOk, vec_len, vec_capacity};
-ghost use Rattle.tape_disk.specs.Disk.{DiskState, Only, Passes, overwritten};
+//! Writing a frame, in the order of its calls of the disk. Short parts are gathered in one buffer, and long ones are
+//! written from where they are.
+ghost use Rattle.std.specs.Prelude.{◌≡◌, ◌+◌, ◌<◌, ◌≤◌, ◌^◌, ◌++◌, ◌∷◌, [], ℕ, List, length, take, slice_index, IfOk, OnOk, vec_len, vec_capacity};
+ghost use Rattle.tape_disk.specs.Disk.{DiskState, Only, Passes};
 ghost use Rattle.tape_disk.specs.Moments.{LeavesOnly};
+ghost use Rattle.gate_journal.specs.Cuts.{CutsFirst};
 ghost use Rattle.gate_journal.specs.Followed.{KeepsRoom, followed};
 ghost use Rattle.gate_journal.specs.Side.{CLOSED};
-ghost use Rattle.gate_journal.specs.Inner.Writing.{Gathers, Touched};
+ghost use Rattle.gate_journal.specs.Inner.Writing.{BehindOrGated, CutFrom, Gathers, Touched, opened};
 
 use crate::body_parts::BodyParts;
 use tape_disk::Disk;
 use vtl_base::DevFault;
-use vtl_base::layout::CLOSED;
+use vtl_base::layout::{CLOSED, OPEN};
 
 // Where a part has at least this many bytes behind its head, they are written from where they are in memory; fewer are
 // copied (own).
@@ -89,30 +91,57 @@ fn add_parts<D: Disk, P: BodyParts>(
     Ok(at)
 }
 
-// Writes the gathered bytes, the parts behind them and a closed gate at place `from`, and syncs. At Ok a crash leaves
-// exactly what reads return.
-pub(crate) fn store_parts<D: Disk, P: BodyParts>(
-    bytes: &mut Vec<u8>,
+// Cuts the disk after its first `len` bytes where it is longer. Else nothing is called.
+fn cut_behind<D: Disk>(disk: &mut D, len: u64) -> Result<(), DevFault>
+    requires { (D.state disk.old).honest → len ≤ length (D.state disk.old).seen }
+    ensures passes { Passes (D.state disk.old) (D.state disk.new) result }
+    ensures untouched { (D.state disk.old).honest → length (D.state disk.old).seen ≡ len → disk.new ≡ disk.old }
+    ensures any_moment { (D.state disk.old).honest →
+        LeavesOnly (D.state disk.old) (D.state disk.new)
+        (CutFrom len (D.state disk.old).may_leave) }
+    ensures cut { (D.state disk.old).honest → OnOk result
+        ((D.state disk.new).seen ≡ take len (D.state disk.old).seen) }
+    ensures first { (D.state disk.old).honest → len < length (D.state disk.old).seen →
+        CutsFirst D.effect len disk.old }
+{
+    if disk.len() <= len {
+        return Ok(());
+    }
+    disk.cut(len)
+}
+
+// Removes what stands behind the gate at place `end`, writes the gathered bytes, the parts behind them and a closed
+// gate there, and then opens the gate at `end`. At Ok the disk ends with the closed gate.
+pub(crate) fn write_frame<D: Disk, P: BodyParts>(
     disk: &mut D,
-    from: u64,
+    end: u64,
+    bytes: &mut Vec<u8>,
     parts: &P,
 ) -> Result<(), DevFault>
     requires room { length (followed bytes.old.items (P.parts parts.now)) < vec_capacity bytes.old }
-    requires bound { from + length (followed bytes.old.items (P.parts parts.now)) + 1 < 2 ^ 64 }
-    requires place { (D.state disk.old).honest → from ≤ length (D.state disk.old).seen }
+    requires bound { end + 2 + length (followed bytes.old.items (P.parts parts.now)) < 2 ^ 64 }
+    requires gate { (D.state disk.old).honest → end < length (D.state disk.old).seen }
+    requires sure { (D.state disk.old).honest →
+        Only (D.state disk.old).seen (D.state disk.old).may_leave }
     ensures passes { Passes (D.state disk.old) (D.state disk.new) result }
-    ensures room { KeepsRoom (P.parts parts.now) (vec_capacity bytes.old) (vec_capacity bytes.new) }
     ensures any_moment { (D.state disk.old).honest →
         LeavesOnly (D.state disk.old) (D.state disk.new)
-        (Touched from (length (followed bytes.old.items (P.parts parts.now) ++ CLOSED ∷ []))
-        (D.state disk.old).may_leave) }
-    ensures stored { (D.state disk.old).honest → OnOk result
+        (BehindOrGated (take end (D.state disk.old).seen)
+        (slice_index (D.state disk.old).seen end)
+        (followed bytes.old.items (P.parts parts.now) ++ CLOSED ∷ [])) }
+    ensures opened { (D.state disk.old).honest → OnOk result
         (((D.state disk.new).seen
-        ≡ overwritten from (followed bytes.old.items (P.parts parts.now) ++ CLOSED ∷ []) (D.state disk.old).seen)
+        ≡ opened (take end (D.state disk.old).seen) (followed bytes.old.items (P.parts parts.now) ++ CLOSED ∷ []))
         × Only (D.state disk.new).seen (D.state disk.new).may_leave) }
+    ensures first { (D.state disk.old).honest → end + 1 < length (D.state disk.old).seen →
+        CutsFirst D.effect (end + 1) disk.old }
+    ensures room { KeepsRoom (P.parts parts.now) (vec_capacity bytes.old) (vec_capacity bytes.new) }
 {
-    let at = add_parts(bytes, disk, from, parts)?;
+    cut_behind(disk, end + 1)?;
+    let at = add_parts(bytes, disk, end + 1, parts)?;
     bytes.push_reserved(CLOSED);
     disk.write_at(at, bytes)?;
+    disk.sync()?;
+    disk.write_at(end, &[OPEN])?;
     disk.sync()
 }

@@ -22,7 +22,6 @@ mod opening;
 mod pieces;
 mod placing;
 mod reading;
-mod room;
 mod spelling;
 
 pub use behind::frames_behind;

@@ -1,5 +1,5 @@
 use Rattle.gate_journal.proofs.Writing.{after_cut, not_cut}
-use Rattle.gate_journal.proofs.device.cut_behind.Goals as goal
+use Rattle.gate_journal.proofs.gathering.cut_behind.Goals as goal
 
 pub returns-then-len-clause-any_moment : goal.returns-then-len-clause-any_moment
 returns-then-len-clause-any_moment g c = λ h.
