@@ -129,6 +129,7 @@ WORDS = {
     "PARAMETER LIST LENGTH": ["list_length", "short_list_length"],
     "reclaim of a cartridge": ["reclaimed_from", "LeavesVolume", "IsNotReclaimed", "Reclaims"],
     "reclaim, its passes": ["IsPreparedBeside", "IsPairedNow", "IsClosedNow", "TakesOver"],
+    "record with sums": ["spell_laid", "SpellsLaids", "IsUnsealedAt"],
     "record, spelling of a change": ["spell_all", "IsRecord", "IsBadAt"],
     "RELEASE, RESERVE, CLEAR": ["release", "reserve", "clear"],
     "READ BLOCK LIMITS": ["block_limits", "GivesData"],

@@ -14,13 +14,14 @@ import sys
 
 TOP = os.path.join(os.path.dirname(os.path.dirname(os.path.abspath(__file__))), "crates")
 LAYOUT = os.path.join(TOP, "vtl_base", "src", "layout.rt")
-FILES = """gate_journal cartridge_sides side_reclaim volume_reclaim file_disk change_records volume_copy cartridge
-tape_buffer split_bay aptpl_store check_lines vtl_files vtl_notes
+FILES = """gate_journal cartridge_sides side_reclaim volume_reclaim file_disk change_records sealed_records volume_copy
+cartridge tape_buffer split_bay aptpl_store check_lines vtl_files vtl_notes
 file_reasons/src/damages.rt file_reasons/specs/Damages.antt
 volume_core/src/changes.rt volume_core/specs/Medium.antt pr_core/specs/Keepers.antt""".split()
 MARKS = re.compile(r"VTLCART1|VTLRESV1|(?<![\w.])(0x[aA]5|165)(?!\w)")
 NUMBERS = re.compile(
-    r"(?<![\w-])(?<!(?<!\.)\.)(4|5|6|8|9|10|11|12|15|16|17|27|29|35|39|40|61|71|128|0x80|580|4_?194_?304)(?!\w|\.\d)")
+    r"(?<![\w-])(?<!(?<!\.)\.)"
+    r"(4|5|6|8|9|10|11|12|14|15|16|17|18|27|29|35|39|40|61|71|128|0x80|580|4_?194_?304)(?!\w|\.\d)")
 RECORDS = re.compile(
     r"head\[[26]\.\.|drop [26] head|kind == [123]\b|\b[123] => \w+_decoded|(spell_head |head\()[123]\b|: u8 = [0-3];")
 # What is no number of a file's layout: the width of a type or a number, a line feed, the digits of a drive's number, a

@@ -1,5 +1,6 @@
 //! The bytes of a record's head that were read.
-ghost use Rattle.std.specs.Prelude.{◌≡◌, ◌≤◌, ◌-◌, ◌++◌, [], IfSome, length, min, take};
+ghost use Rattle.std.specs.Prelude.{◌≡◌, ◌≤◌, ◌-◌, ◌++◌, [], ℕ, List, IfNone, IfSome, length, min, take};
+ghost use Rattle.change_records.specs.Records.{BeginsWithRecord};
 ghost use Rattle.change_records.specs.Readers.{IsHeadOf, head_item};
 ghost use Rattle.vtl_base.specs.declared.layout.TheConstants.{RECORD_HEAD};
 
@@ -71,11 +72,12 @@ impl Head {
     }
 }
 
-// The record with this head of ten bytes, if there is one.
-fn item_of(head: &[u8]) -> Option<Record>
+/// The record with this head of ten bytes, if there is one, however many bytes follow.
+pub fn item_of(head: &[u8]) -> Option<Record>
     requires { length head.now ≡ RECORD_HEAD }
     ensures item { result ≡ head_item head.now }
     ensures front { IfSome result (λ item. IsHeadOf item head.now) }
+    ensures none { IfNone result ((tail : List ℕ) → BeginsWithRecord (head.now ++ tail) → ⊥) }
 {
     head_decoded(head, MAX_BLOCK as usize)
 }

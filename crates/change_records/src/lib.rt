@@ -7,6 +7,7 @@ pub mod reader;
 pub mod records;
 pub mod spelling;
 
+pub use head::item_of;
 pub use reader::{Fed, Found, RecordReader};
 pub use records::{Record, RecordError};
 pub use spelling::{decode_changes, encode_change, spelled_parts};

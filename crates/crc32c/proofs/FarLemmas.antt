@@ -6,7 +6,7 @@ use Rattle.std.proofs.lemmas.Nat.{mod-pow-add, pow_below, pow_pos, xor_comm}
 use Rattle.std.specs.Int.Bits.{xor_assoc, xor_shifted}
 use Rattle.std.proofs.Math.Nat.{add-mul, mod-lt, mod-eq_of_lt, mod-one, mul_assoc, pow-succ'}
 use Rattle.crc32c.specs.Crc.{step, steps}
-use Rattle.crc32c.proofs.FactLemmas.{steps_lt}
+use Rattle.crc32c.specs.Facts.{steps_lt}
 use Rattle.crc32c.proofs.StepLemmas.{steps_more, steps_xor}
 use Rattle.crc32c.specs.declared.far_tables.TheConstants.{FAR_0, FAR_1, FAR_2, FAR_3}
 

@@ -1,7 +1,6 @@
 mod StepLemmas
 mod TableLemmas
 mod FedLemmas
-pub mod FactLemmas
 mod KnownLemmas
 mod FarLemmas
 mod PairLemmas

@@ -5,7 +5,7 @@ use Rattle.std.proofs.lemmas.Nat.{xor_comm}
 use Rattle.std.specs.Int.Bits.{xor_assoc, xor_block, xor_self, xor_zero_r}
 use Rattle.std.proofs.Math.Nat.{mod-lt, mul_assoc, pow-suc}
 use Rattle.crc32c.specs.Crc.{ONES, POLYNOMIAL, fed, step, steps}
-use Rattle.crc32c.proofs.FactLemmas.{fed_lt}
+use Rattle.crc32c.specs.Facts.{fed_lt}
 use Rattle.crc32c.specs.Remainder.{DIVISOR, IsRemainder, low_first, times}
 use Rattle.crc32c.proofs.FedLemmas.{fed_word}
 

@@ -1,3 +1,4 @@
 pub mod Crc
+pub mod Facts
 pub mod Known
 pub mod Remainder

@@ -1,7 +1,7 @@
 -- The layout of a file, in numbers.
 use Rattle.std.specs.Prelude.{◌≡◌, ◌+◌, ◌*◌, codes}
 use Rattle.vtl_base.specs.declared.limits.TheConstants.{MAX_PARTITIONS}
-use Rattle.vtl_base.specs.declared.layout.TheConstants.{OPEN, CLOSED, CARTRIDGE_MARK, STORE_MARK, SIDE_GATE, MARK_PLACE, LETTER_PLACE, PAIR_GATE, BEGUN_BYTES, NAME_PLACE, NAME_BYTES, START_BYTES, CAPACITY_BYTES, LONGEST_FRONT, COPY_BIT, EPOCH_BYTES, COPIED_BYTES, LENGTH_BYTES, FRAME_HEAD, RECORD_HEAD, BLOCK, MARKS, ERASE, RECORD_OBJECT, RECORD_NUMBER, FRAMED_HEAD, STATE_HEAD, REGISTRATION_BYTES, STATE_BYTES}
+use Rattle.vtl_base.specs.declared.layout.TheConstants.{OPEN, CLOSED, CARTRIDGE_MARK, STORE_MARK, SIDE_GATE, MARK_PLACE, LETTER_PLACE, PAIR_GATE, BEGUN_BYTES, NAME_PLACE, NAME_BYTES, START_BYTES, CAPACITY_BYTES, LONGEST_FRONT, COPY_BIT, EPOCH_BYTES, COPIED_BYTES, LENGTH_BYTES, FRAME_HEAD, RECORD_HEAD, BLOCK, MARKS, ERASE, RECORD_OBJECT, RECORD_NUMBER, SEALED_HEAD, HEAD_SUM, FRAMED_HEAD, STATE_HEAD, REGISTRATION_BYTES, STATE_BYTES}
 
 -- each number and mark of the layout of a file, written out (own)
 pub record LayoutInNumbers : Type 0 where
@@ -31,6 +31,8 @@ pub record LayoutInNumbers : Type 0 where
   pub erase : ERASE ≡ 3
   pub record_object : RECORD_OBJECT ≡ 2
   pub record_number : RECORD_NUMBER ≡ 6
+  pub sealed_head : SEALED_HEAD ≡ 18
+  pub head_sum : HEAD_SUM ≡ 14
   pub framed_head : FRAMED_HEAD ≡ 15
   pub state_head : STATE_HEAD ≡ 4
   pub registration_bytes : REGISTRATION_BYTES ≡ 9

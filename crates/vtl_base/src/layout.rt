@@ -78,6 +78,12 @@ pub const RECORD_OBJECT: usize = 2;
 /// The place of the number in a record: the length of a block, or how many filemarks there are.
 pub const RECORD_NUMBER: usize = 6;
 
+/// How many bytes the head of a record with sums has: that of a record, the sum of its block, and its own sum.
+pub const SEALED_HEAD: usize = 18;
+
+/// The place of the head's own sum in a record with sums. The sum of the block stands before it, at `RECORD_HEAD`.
+pub const HEAD_SUM: usize = 14;
+
 /// How many bytes a frame of one record has, not counting those of its block: the head of the frame, and that of the
 /// record.
 pub const FRAMED_HEAD: u64 = 15;
