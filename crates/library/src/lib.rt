@@ -23,6 +23,7 @@ pub use flushers::Gate;
 pub use inventories::{Element, Inventory};
 pub use ledgers::Parties;
 pub use libraries::Library;
+pub use opening::Unopened;
 pub use places::{BackPlace, FrontPlace, Mover, Operator, Seat};
 pub use ring_rows::RingRow;
 pub use sealed::Sealed;

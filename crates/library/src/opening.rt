@@ -24,32 +24,50 @@ use tape_disk::Disk;
 use vtl_base::limits::DRIVES;
 use vtl_base::{DriveNo, Nexus};
 
+/// The parts of a library that is not open yet.
+#[derive(Drop)]
+pub struct Unopened<'a, D: Disk> {
+    /// A place for each drive number, from 1 to 16, with the drive if there is one.
+    pub bays: Vec<Option<Bay<D>>>,
+    /// A ring for each of these drives.
+    pub rings: RingRow,
+    pub slots: Slots<Parked<D>>,
+    pub hosts: &'a [Nexus],
+    /// A blank ledger with a party for each drive, and one with a party for each host.
+    pub bay_ledger: Blank,
+    pub host_ledger: Blank,
+}
+
 impl<D: Disk + Drop, B: Parties + Rings, H: Parties> Library<D, B, H> {
-    /// Opens a library, and returns it with a seat for each host, in the order of `hosts`, and with the operator's
-    /// token. `bays` has a place for each drive number, from 1 to 16, with the drive if there is one; `rings` has a
-    /// ring for each drive. No drive has accepted a change yet, and no host occurs twice. The library may have no
-    /// drives, and no hosts. Both ledgers are blank: `bay_ledger` has a party for each drive, and `host_ledger` one for
-    /// each host. If memory runs out, slots and drives are returned, sealed.
+    /// Opens the library of these parts, and returns it with a seat for each host, in their order, and with the
+    /// operator's token. No drive has accepted a change yet, and no host occurs twice. The library may have no drives,
+    /// and no hosts. If memory runs out, slots and drives are returned, sealed.
     pub fn new(
         alloc: Global,
-        bays: Vec<Option<Bay<D>>>,
-        rings: RingRow,
-        slots: Slots<Parked<D>>,
-        hosts: &[Nexus],
-        bay_ledger: Blank,
-        host_ledger: Blank,
+        parts: Unopened<'_, D>,
     ) -> Result<(Library<D, B, H>, Vec<Seat<H>>, Operator<H>), Sealed<D>>
-        requires places { length bays.items ≡ DRIVES }
-        requires fresh { All (λ bay. AcceptedNone bay) bays.items }
-        requires rings { (which_are_there rings ≡ which_are_there bays.items) × AreRings B.ring rings }
-        requires hosts { IsDistinct nat_eq hosts.now }
-        requires bay_ledger { IsBlankOf bay_ledger B.name B.parts B.all × (B.all ≡ places_filled bays.items) }
-        requires host_ledger { IsBlankOf host_ledger H.name H.parts H.all × (H.all ≡ length hosts.now) }
-        ensures drives { IfOk result (λ opened. opened.0 ≡ which_are_there bays.items) }
-        ensures seats { IfOk result (λ opened. opened.1.items ≡ map new_seat hosts.now) }
+        requires places { length parts.bays.items ≡ DRIVES }
+        requires fresh { All (λ bay. AcceptedNone bay) parts.bays.items }
+        requires rings { (which_are_there parts.rings ≡ which_are_there parts.bays.items)
+            × AreRings B.ring parts.rings }
+        requires hosts { IsDistinct nat_eq parts.hosts.now }
+        requires bay_ledger { IsBlankOf parts.bay_ledger B.name B.parts B.all
+            × (B.all ≡ places_filled parts.bays.items) }
+        requires host_ledger { IsBlankOf parts.host_ledger H.name H.parts H.all × (H.all ≡ length parts.hosts.now) }
+        ensures drives { IfOk result (λ opened. opened.0 ≡ which_are_there parts.entry.bays.items) }
+        ensures seats { IfOk result (λ opened. opened.1.items ≡ map new_seat parts.entry.hosts.now) }
         ensures operator { IfOk result (λ opened. opened.2 ≡ 0) }
-        ensures back { IfErr result (λ back. back ≡ record { slots = slots; bays = bays.items }) }
+        ensures back { IfErr result
+            (λ back. back ≡ record { slots = parts.entry.slots; bays = parts.entry.bays.items }) }
     {
+        let Unopened {
+            bays,
+            rings,
+            slots,
+            hosts,
+            bay_ledger,
+            host_ledger,
+        } = parts;
         let Ok(shared) = Vec::with_capacity(alloc, DRIVES as usize) else {
             return Err(Sealed::from_parts(bays, slots));
         };

@@ -9,9 +9,7 @@ ghost use Rattle.library.specs.RingRows.{AreRings};
 use crate::acts::{Act, plays};
 use crate::samples::{First, Sample, TestDisk, make_sample};
 use crate::stages::{LATE, Stage};
-use bay_moves::{Bay, Parked};
-use element_slots::Slots;
-use library::{FinishError, Finished, Library, Parties, RingRow, Rings, Seat};
+use library::{FinishError, Finished, Library, Parties, RingRow, Rings, Seat, Unopened};
 use std::alloc::Global;
 use std::marker::Brand;
 use std::process::Abort;
@@ -25,7 +23,6 @@ use tape_buffer::Buffered;
 use tape_disk::Disk;
 use test_assertions::{assert_equal, assert_holds};
 use test_gates::{count_fresh, hosts};
-use vtl_base::Nexus;
 
 /// The acts of a library's hosts, and how the library ends.
 #[derive(Clone, Copy)]
@@ -81,23 +78,18 @@ fn spend_over<
 >(
     rt: &R,
     alloc: Global,
-    bays: Vec<Option<Bay<D>>>,
-    rings: RingRow,
-    slots: Slots<Parked<D>>,
-    hosts: &[Nexus],
-    bay_ledger: Blank,
-    host_ledger: Blank,
+    parts: Unopened<'_, D>,
     stage: &Stage,
     day: &Day,
 ) -> Result<Finished<D>, Fail>
-    requires places { length bays.items ≡ DRIVES }
-    requires fresh { All (λ bay. AcceptedNone bay) bays.items }
-    requires rings { (which_are_there rings ≡ which_are_there bays.items) × AreRings B.ring rings }
-    requires hosts { IsDistinct nat_eq hosts.now }
-    requires bay_ledger { IsBlankOf bay_ledger B.name B.parts B.all × (B.all ≡ places_filled bays.items) }
-    requires host_ledger { IsBlankOf host_ledger H.name H.parts H.all × (H.all ≡ length hosts.now) }
+    requires places { length parts.bays.items ≡ DRIVES }
+    requires fresh { All (λ bay. AcceptedNone bay) parts.bays.items }
+    requires rings { (which_are_there parts.rings ≡ which_are_there parts.bays.items) × AreRings B.ring parts.rings }
+    requires hosts { IsDistinct nat_eq parts.hosts.now }
+    requires bay_ledger { IsBlankOf parts.bay_ledger B.name B.parts B.all × (B.all ≡ places_filled parts.bays.items) }
+    requires host_ledger { IsBlankOf parts.host_ledger H.name H.parts H.all × (H.all ≡ length parts.hosts.now) }
 {
-    match Library::<D, B, H>::new(alloc, bays, rings, slots, hosts, bay_ledger, host_ledger) {
+    match Library::<D, B, H>::new(alloc, parts) {
         Ok((library, seats, operator)) => {
             let mut seats = seats;
             all_play(rt, alloc, &library, stage, day.hosts, seats.as_mut_slice());
@@ -128,12 +120,14 @@ pub fn spend<R: Threads + Wait + Abort + Clock + Sync>(
     let finished = spend_over::<TestDisk, Brand, Brand, R>(
         rt,
         alloc,
-        bays,
-        rings,
-        slots,
-        hosts.as_slice(),
-        Blank::new(drives),
-        Blank::new(hosts.len() as u64),
+        Unopened {
+            bays,
+            rings,
+            slots,
+            hosts: hosts.as_slice(),
+            bay_ledger: Blank::new(drives),
+            host_ledger: Blank::new(hosts.len() as u64),
+        },
         &stage,
         day,
     )?;

@@ -3,7 +3,7 @@
 use crate::days::{are_all_there, are_in_their_places, has_ended};
 use crate::samples::{First, NEVER, Sample, TestDisk, make_sample};
 use crate::stages::{ARMED, FREED, HELD, LATE, Stage, StageGate, Stands};
-use library::{Finished, Gate, RingRow};
+use library::{Finished, Gate, RingRow, Unopened};
 use library_scripts::{Ran, run_library};
 use std::alloc::Global;
 use std::marker::Brand;
@@ -36,17 +36,20 @@ fn runs<D: Disk + Drop + Send, R: Threads + Wait + Abort + Sync, G: Gate + Sync>
     let drives = count_fresh(bays.as_slice())?;
     let rings = RingRow::of_drives(alloc, bays.as_slice())?;
     let hosts = hosts(alloc, 64)?;
+    let parts = Unopened {
+        bays,
+        rings,
+        slots,
+        hosts: hosts.as_slice(),
+        bay_ledger: Blank::new(drives),
+        host_ledger: Blank::new(64),
+    };
     let mut reader = script.as_bytes();
     let mut text = Vec::new(alloc);
     let ran = run_library::<D, Brand, Brand, R, G, &'_ [u8], Vec<u8>>(
         rt,
         alloc,
-        bays,
-        rings,
-        slots,
-        hosts.as_slice(),
-        Blank::new(drives),
-        Blank::new(64),
+        parts,
         gate,
         &mut reader,
         &mut text,

@@ -8,10 +8,9 @@ ghost use Rattle.library.specs.Counts.{AcceptedNone, places_filled, which_are_th
 ghost use Rattle.library.specs.RingRows.{AreRings};
 
 use crate::frames::{bytes_of, loaded, row};
-use bay_moves::{Bay, Parked};
 use element_slots::Slots;
 use ledgers::Parties;
-use library::{Library, RingRow, Rings, Seat};
+use library::{Library, RingRow, Rings, Seat, Unopened};
 use std::alloc::Global;
 use std::marker::Brand;
 use std::process::Abort;
@@ -21,7 +20,6 @@ use std::test::Fail;
 use tape_disk::{Disk, MemDisk};
 use test_assertions::assert_equal;
 use test_gates::{count_fresh, hosts};
-use vtl_base::Nexus;
 use vtl_serve::{OneBay, OneHost, serve_bay, serve_host};
 use vtl_wire::WireFault;
 
@@ -123,22 +121,17 @@ fn serve_each<D: Disk + Drop, B: Parties + Rings, H: Parties, R: Wait + Abort>(
 fn serve_over<D: Disk + Drop, B: Parties + Rings, H: Parties, R: Wait + Abort>(
     rt: &R,
     alloc: Global,
-    bays: Vec<Option<Bay<D>>>,
-    rings: RingRow,
-    slots: Slots<Parked<D>>,
-    hosts: &[Nexus],
-    bay_ledger: Blank,
-    host_ledger: Blank,
+    parts: Unopened<'_, D>,
     served: Served<'_>,
 ) -> Result<(), Fail>
-    requires places { length bays.items ≡ DRIVES }
-    requires fresh { All (λ bay. AcceptedNone bay) bays.items }
-    requires rings { (which_are_there rings ≡ which_are_there bays.items) × AreRings B.ring rings }
-    requires hosts { IsDistinct nat_eq hosts.now }
-    requires bay_ledger { IsBlankOf bay_ledger B.name B.parts B.all × (B.all ≡ places_filled bays.items) }
-    requires host_ledger { IsBlankOf host_ledger H.name H.parts H.all × (H.all ≡ length hosts.now) }
+    requires places { length parts.bays.items ≡ DRIVES }
+    requires fresh { All (λ bay. AcceptedNone bay) parts.bays.items }
+    requires rings { (which_are_there parts.rings ≡ which_are_there parts.bays.items) × AreRings B.ring parts.rings }
+    requires hosts { IsDistinct nat_eq parts.hosts.now }
+    requires bay_ledger { IsBlankOf parts.bay_ledger B.name B.parts B.all × (B.all ≡ places_filled parts.bays.items) }
+    requires host_ledger { IsBlankOf parts.host_ledger H.name H.parts H.all × (H.all ≡ length parts.hosts.now) }
 {
-    match Library::<D, B, H>::new(alloc, bays, rings, slots, hosts, bay_ledger, host_ledger) {
+    match Library::<D, B, H>::new(alloc, parts) {
         Ok((library, seats, operator)) => {
             let seats = serve_each(rt, alloc, &library, seats, served)?;
             let finished = library.finish(rt, seats, operator);
@@ -162,12 +155,14 @@ fn serving_host<R: Wait + Abort>(rt: &R, alloc: Global, served: Served<'_>) -> R
     serve_over::<MemDisk, Brand, Brand, R>(
         rt,
         alloc,
-        bays,
-        rings,
-        Slots::new(alloc)?,
-        hosts.as_slice(),
-        Blank::new(drives),
-        Blank::new(hosts.len() as u64),
+        Unopened {
+            bays,
+            rings,
+            slots: Slots::new(alloc)?,
+            hosts: hosts.as_slice(),
+            bay_ledger: Blank::new(drives),
+            host_ledger: Blank::new(hosts.len() as u64),
+        },
         served,
     )
 }

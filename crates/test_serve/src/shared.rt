@@ -1,7 +1,7 @@
 //! A library that threads share, whose hosts are served over one pipe, over frames that were worked by hand.
 use crate::frames::{bytes_of, row};
 use element_slots::Slots;
-use library::{Gate, RingRow};
+use library::{Gate, RingRow, Unopened};
 use std::alloc::Global;
 use std::io::{Read, Write};
 use std::marker::{Brand, Send, Sync};
@@ -81,15 +81,18 @@ fn serving_to<R: Threads + Wait + Abort + Clock + Sync, G: Gate + Sync, I: Read,
     let drives = count_fresh(bays.as_slice())?;
     let rings = RingRow::of_drives(alloc, bays.as_slice())?;
     let hosts = hosts(alloc, 64)?;
+    let parts = Unopened {
+        bays,
+        rings,
+        slots: Slots::new(alloc)?,
+        hosts: hosts.as_slice(),
+        bay_ledger: Blank::new(drives),
+        host_ledger: Blank::new(64),
+    };
     let served = serve_library::<MemDisk, Brand, Brand, R, G, I, W>(
         rt,
         alloc,
-        bays,
-        rings,
-        Slots::new(alloc)?,
-        hosts.as_slice(),
-        Blank::new(drives),
-        Blank::new(64),
+        parts,
         labels(alloc)?,
         gate,
         reader,

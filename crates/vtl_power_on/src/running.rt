@@ -10,7 +10,7 @@ use crate::pace::Pace;
 use crate::sides::{FileSides, NewSides, Sides};
 use crate::starting::{NotStarted, Starting, built_in, start};
 use bay_moves::{Bay, Held};
-use library::{FinishError, Finished, RingRow, Sealed};
+use library::{FinishError, Finished, RingRow, Sealed, Unopened};
 use library_scripts::{Ran, run_library};
 use std::alloc::Global;
 use std::io::{Read, Write};
@@ -107,17 +107,21 @@ pub fn run_shared<D: Disk + Drop + Send, R: Threads + Wait + Clock + Sync, I: Re
     let Ok(rings) = RingRow::of_drives(alloc, bays.as_slice()) else {
         return not_begun(Sealed::from_parts(bays, slots));
     };
-    let drives = Blank::new(count_drives(bays.as_slice()));
-    let hosts = Blank::new(NEXUSES as u64);
-    let ran = run_library::<D, Brand, Brand, R, Pace<'_, R>, I, W>(
-        rt,
-        alloc,
+    let bay_ledger = Blank::new(count_drives(bays.as_slice()));
+    let host_ledger = Blank::new(NEXUSES as u64);
+    let hosts = every_host();
+    let parts = Unopened {
         bays,
         rings,
         slots,
-        &every_host(),
-        drives,
-        hosts,
+        hosts: &hosts,
+        bay_ledger,
+        host_ledger,
+    };
+    let ran = run_library::<D, Brand, Brand, R, Pace<'_, R>, I, W>(
+        rt,
+        alloc,
+        parts,
         &Pace { rt },
         reader,
         writer,

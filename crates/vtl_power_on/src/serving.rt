@@ -11,7 +11,7 @@ use crate::running::{Left, count_drives, every_host, not_begun};
 use crate::sides::{FileSides, NewSides, Sides};
 use crate::starting::{NotStarted, Starting, built_in, start};
 use bay_moves::Held;
-use library::{FinishError, Finished, RingRow, Sealed};
+use library::{FinishError, Finished, RingRow, Sealed, Unopened};
 use std::alloc::Global;
 use std::io::{Read, Write};
 use std::marker::Brand;
@@ -62,17 +62,21 @@ pub fn serve_shared<
     let Ok(rings) = RingRow::of_drives(alloc, bays.as_slice()) else {
         return not_begun(Sealed::from_parts(bays, slots));
     };
-    let drives = Blank::new(count_drives(bays.as_slice()));
-    let hosts = Blank::new(NEXUSES as u64);
-    let served = serve_library::<D, Brand, Brand, R, Pace<'_, R>, I, W>(
-        rt,
-        alloc,
+    let bay_ledger = Blank::new(count_drives(bays.as_slice()));
+    let host_ledger = Blank::new(NEXUSES as u64);
+    let hosts = every_host();
+    let parts = Unopened {
         bays,
         rings,
         slots,
-        &every_host(),
-        drives,
-        hosts,
+        hosts: &hosts,
+        bay_ledger,
+        host_ledger,
+    };
+    let served = serve_library::<D, Brand, Brand, R, Pace<'_, R>, I, W>(
+        rt,
+        alloc,
+        parts,
         labels,
         &Pace { rt },
         reader,

@@ -14,20 +14,16 @@ ghost use Rattle.vtl_serve.specs.Libraries.{ServesOpened, ServesShared, hosts_of
 use crate::desks::LibraryDesk;
 use crate::labels::Labels;
 use crate::one_host::OneHost;
-use bay_moves::{Bay, Parked};
-use element_slots::Slots;
 use ledgers::Parties;
-use library::{Finished, Gate, Library, Operator, RingRow, Rings, Sealed, Seat, beside_flushers};
+use library::{Finished, Gate, Library, Operator, Rings, Sealed, Seat, Unopened, beside_flushers};
 use std::alloc::Global;
 use std::io::{Read, Write};
 use std::marker::{Send, Sync};
 use std::mem;
 use std::sync::Wait;
-use std::sync::ledger::Blank;
 use std::thread::Threads;
 use std::time::Clock;
 use tape_disk::Disk;
-use vtl_base::Nexus;
 use vtl_base::limits::NEXUSES;
 use vtl_hosts::{Served, serve_hosts};
 use vtl_wire::WireFault;
@@ -39,6 +35,14 @@ pub struct ServedLibrary<D: Disk> {
     pub finished: Finished<D>,
     /// Ok where the input was served to its end; otherwise the fault that ended the serving.
     pub outcome: Result<(), WireFault>,
+}
+
+// The seats of all hosts, the operator, and where the cartridges are.
+#[derive(Drop)]
+struct Seated<H: Parties> {
+    seats: Vec<Seat<H>>,
+    operator: Operator<H>,
+    labels: Labels,
 }
 
 // The seats and the operator after the serving, and how the serving ended.
@@ -81,89 +85,8 @@ fn seats_in<'a, D: Disk + Drop, B: Parties + Rings, H: Parties, R>(
     seats
 }
 
-// Serves all hosts, and then closes the library, so that every flusher ends.
-fn serve_and_close<
-    'a,
-    D: Disk + Drop + Send,
-    B: Parties + Rings + Send + Sync,
-    H: Parties + Send + Sync,
-    R: Threads + Wait + Clock + Sync,
-    I: Read,
-    W: Write + Send,
->(
-    rt: &'a R,
-    alloc: Global,
-    library: &'a Library<D, B, H>,
-    desk: &mut LibraryDesk<'a, D, B, H, R>,
-    reader: &mut I,
-    writer: &mut W,
-    hosts: &mut Vec<OneHost<'a, D, B, H, R>>,
-) -> Result<Served<OneHost<'a, D, B, H, R>>, Vec<OneHost<'a, D, B, H, R>>>
-    requires { length hosts.old.items ≡ NEXUSES }
-    ensures serves { IfOk result (λ served. ServesHosts (AnswersHost D.state)
-        (λ desk request. is_served desk.drives request) (AnswersDesk D.state)
-        (λ desk request. TakesMemory request)
-        (record { hosts = hosts.old.items; desk = desk.old }) (I.remaining reader.old) (W.contents writer.old)
-        (record { hosts = served.servers.items; desk = desk.new }) (I.remaining reader.new) (W.contents writer.new)
-        served.outcome) }
-    ensures all { IfOk result (λ served. length served.servers.items ≡ NEXUSES) }
-    ensures back { IfErr result (λ back. (back.items ≡ hosts.old.items) × (desk.new ≡ desk.old)
-        × (reader.new ≡ reader.old) × (writer.new ≡ writer.old)) }
-{
-    let servers = mem::replace(hosts, Vec::new(alloc));
-    let served = serve_hosts(rt, alloc, servers, desk, reader, writer);
-    library.close(rt);
-    served
-}
-
-// Serves all hosts while each drive has a flusher beside them.
-fn serve_beside<
-    'a,
-    D: Disk + Drop + Send,
-    B: Parties + Rings + Send + Sync,
-    H: Parties + Send + Sync,
-    R: Threads + Wait + Clock + Sync,
-    G: Gate + Sync,
-    I: Read,
-    W: Write + Send,
->(
-    rt: &'a R,
-    alloc: Global,
-    library: &'a Library<D, B, H>,
-    gate: &G,
-    desk: &mut LibraryDesk<'a, D, B, H, R>,
-    reader: &mut I,
-    writer: &mut W,
-    hosts: &mut Vec<OneHost<'a, D, B, H, R>>,
-) -> Result<Served<OneHost<'a, D, B, H, R>>, Vec<OneHost<'a, D, B, H, R>>>
-    requires { length hosts.old.items ≡ NEXUSES }
-    ensures serves { IfOk result (λ served. ServesHosts (AnswersHost D.state)
-        (λ desk request. is_served desk.drives request) (AnswersDesk D.state)
-        (λ desk request. TakesMemory request)
-        (record { hosts = hosts.old.items; desk = desk.old }) (I.remaining reader.old) (W.contents writer.old)
-        (record { hosts = served.servers.items; desk = desk.new }) (I.remaining reader.new) (W.contents writer.new)
-        served.outcome) }
-    ensures all { IfOk result (λ served. length served.servers.items ≡ NEXUSES) }
-    ensures back { IfErr result (λ back. (back.items ≡ hosts.old.items) × (desk.new ≡ desk.old)
-        × (reader.new ≡ reader.old) × (writer.new ≡ writer.old)) }
-{
-    let mut work = || -> Result<Served<OneHost<'_, D, B, H, R>>, Vec<OneHost<'_, D, B, H, R>>>
-        requires { length hosts.now.items ≡ NEXUSES }
-        ensures serves { IfOk result (λ served. ServesHosts (AnswersHost D.state)
-            (λ desk request. is_served desk.drives request) (AnswersDesk D.state)
-            (λ desk request. TakesMemory request)
-            (record { hosts = hosts.entry.now.items; desk = desk.entry.now }) (I.remaining reader.entry.now)
-            (W.contents writer.entry.now) (record { hosts = served.servers.items; desk = desk.exit.now })
-            (I.remaining reader.exit.now) (W.contents writer.exit.now) served.outcome) }
-        ensures all { IfOk result (λ served. length served.servers.items ≡ NEXUSES) }
-        ensures back { IfErr result (λ back. (back.items ≡ hosts.entry.now.items)
-            × (desk.exit.now ≡ desk.entry.now) × (reader.exit.now ≡ reader.entry.now)
-            × (writer.exit.now ≡ writer.entry.now)) }
-    { serve_and_close(rt, alloc, library, desk, reader, writer, hosts) };
-    beside_flushers(rt, library, gate, 1, &mut work)
-}
-
-// Serves a library that was opened, for the hosts of these seats, and for the operator, who makes the moves.
+// Serves a library that was opened, for the hosts of these seats, and for the operator, who makes the moves, while each
+// drive has a flusher beside them; then closes it, so that every flusher ends.
 fn serve_opened<
     'a,
     D: Disk + Drop + Send,
@@ -177,27 +100,26 @@ fn serve_opened<
     rt: &'a R,
     alloc: Global,
     library: &'a Library<D, B, H>,
-    seats: Vec<Seat<H>>,
-    operator: Operator<H>,
-    labels: Labels,
+    seated: Seated<H>,
     gate: &G,
     reader: &mut I,
     writer: &mut W,
 ) -> ServedFor<H>
-    requires { length seats.items ≡ NEXUSES }
-    ensures serves { ServesOpened D.state library.now labels operator seats.items (I.remaining reader.old)
-        (W.contents writer.old) result.operator result.seats.items (I.remaining reader.new) (W.contents writer.new)
-        result.outcome }
+    requires { length seated.seats.items ≡ NEXUSES }
+    ensures serves { ServesOpened D.state library.now seated.labels seated.operator seated.seats.items
+        (I.remaining reader.old) (W.contents writer.old) result.operator result.seats.items (I.remaining reader.new)
+        (W.contents writer.new) result.outcome }
     ensures all { length result.seats.items ≡ NEXUSES }
 {
-    let Ok(room) = Vec::with_capacity(alloc, NEXUSES as usize) else {
-        return ServedFor {
-            seats,
-            operator,
-            outcome: Err(WireFault::NoMemory),
-        };
-    };
-    let Ok(back) = Vec::with_capacity(alloc, NEXUSES as usize) else {
+    let Seated {
+        seats,
+        operator,
+        labels,
+    } = seated;
+    let (Ok(room), Ok(back)) = (
+        Vec::with_capacity(alloc, NEXUSES as usize),
+        Vec::with_capacity(alloc, NEXUSES as usize),
+    ) else {
         return ServedFor {
             seats,
             operator,
@@ -206,9 +128,24 @@ fn serve_opened<
     };
     let mut hosts = hosts_of(rt, library, room, seats);
     let mut desk = LibraryDesk::new(rt, library, operator, labels);
-    match serve_beside(
-        rt, alloc, library, gate, &mut desk, reader, writer, &mut hosts,
-    ) {
+    let mut work = || -> Result<Served<OneHost<'_, D, B, H, R>>, Vec<OneHost<'_, D, B, H, R>>>
+        requires { length hosts.items ≡ NEXUSES }
+        ensures serves { IfOk result (λ served. ServesHosts (AnswersHost D.state)
+            (λ desk request. is_served desk.drives request) (AnswersDesk D.state)
+            (λ desk request. TakesMemory request)
+            (record { hosts = hosts.entry.items; desk = desk.entry }) (I.remaining reader.entry.now)
+            (W.contents writer.entry.now) (record { hosts = served.servers.items; desk = desk.exit })
+            (I.remaining reader.exit.now) (W.contents writer.exit.now) served.outcome) }
+        ensures all { IfOk result (λ served. length served.servers.items ≡ NEXUSES) }
+        ensures back { IfErr result (λ back. (back.items ≡ hosts.entry.items) × (desk.exit ≡ desk.entry)
+            × (reader.exit.now ≡ reader.entry.now) × (writer.exit.now ≡ writer.entry.now)) }
+    {
+        let servers = mem::replace(&mut hosts, Vec::new(alloc));
+        let served = serve_hosts(rt, alloc, servers, &mut desk, reader, writer);
+        library.close(rt);
+        served
+    };
+    match beside_flushers(rt, library, gate, 1, &mut work) {
         Ok(Served { servers, outcome }) => ServedFor {
             seats: seats_in(back, servers),
             operator: desk.into_operator(),
@@ -222,12 +159,11 @@ fn serve_opened<
     }
 }
 
-/// Opens a library, serves its hosts, which have the numbers 1 to 64, and ends it. `bays` has one entry for each drive
-/// number, from 1 to 16: the drive, or None where no drive has that number. `labels` says where the cartridges are. The
-/// requests of all hosts are read from `reader`, and all answers are written to `writer`. Each host's commands are
-/// carried out in a thread of its own. Beside these threads each drive has a flusher, which asks `gate` before each of
-/// its turns. At the end all threads are joined, and every buffer is written out. If memory runs out before the library
-/// is open, slots and drives are returned, sealed, and nothing is read or written.
+/// Opens the library of these parts, serves its hosts, which have the numbers 1 to 64, and ends it. `labels` says where
+/// the cartridges are. The requests of all hosts are read from `reader`, and all answers are written to `writer`. Each
+/// host's commands are carried out in a thread of its own. Beside these threads each drive has a flusher, which asks
+/// `gate` before each of its turns. At the end all threads are joined, and every buffer is written out. If memory runs
+/// out before the library is open, slots and drives are returned, sealed, and nothing is read or written.
 pub fn serve_library<
     D: Disk + Drop + Send,
     B: Parties + Rings + Send + Sync,
@@ -239,47 +175,37 @@ pub fn serve_library<
 >(
     rt: &R,
     alloc: Global,
-    bays: Vec<Option<Bay<D>>>,
-    rings: RingRow,
-    slots: Slots<Parked<D>>,
-    hosts: &[Nexus],
-    bay_ledger: Blank,
-    host_ledger: Blank,
+    parts: Unopened<'_, D>,
     labels: Labels,
     gate: &G,
     reader: &mut I,
     writer: &mut W,
 ) -> Result<ServedLibrary<D>, Sealed<D>>
-    requires places { length bays.items ≡ DRIVES }
-    requires fresh { All (λ bay. AcceptedNone bay) bays.items }
-    requires rings { (which_are_there rings ≡ which_are_there bays.items) × AreRings B.ring rings }
-    requires hosts { hosts.now ≡ range_with_len 1 NEXUSES }
-    requires bay_ledger { IsBlankOf bay_ledger B.name B.parts B.all × (B.all ≡ places_filled bays.items) }
-    requires host_ledger { IsBlankOf host_ledger H.name H.parts H.all × (H.all ≡ NEXUSES) }
-    ensures serves { IfOk result (λ served. ServesShared D.state bays.items labels hosts.now (I.remaining reader.old)
-        (W.contents writer.old) (I.remaining reader.new) (W.contents writer.new) served.outcome
+    requires places { length parts.bays.items ≡ DRIVES }
+    requires fresh { All (λ bay. AcceptedNone bay) parts.bays.items }
+    requires rings { (which_are_there parts.rings ≡ which_are_there parts.bays.items) × AreRings B.ring parts.rings }
+    requires hosts { parts.hosts.now ≡ range_with_len 1 NEXUSES }
+    requires bay_ledger { IsBlankOf parts.bay_ledger B.name B.parts B.all × (B.all ≡ places_filled parts.bays.items) }
+    requires host_ledger { IsBlankOf parts.host_ledger H.name H.parts H.all × (H.all ≡ NEXUSES) }
+    ensures serves { IfOk result (λ served. ServesShared D.state parts.entry.bays.items labels parts.entry.hosts.now
+        (I.remaining reader.old) (W.contents writer.old) (I.remaining reader.new) (W.contents writer.new) served.outcome
         served.finished.left.bays served.finished.counts served.finished.answered served.finished.moved) }
-    ensures ends { IfOk result (λ served. EndsShared D.state bays.items served.finished.left.bays
+    ensures ends { IfOk result (λ served. EndsShared D.state parts.entry.bays.items served.finished.left.bays
         served.finished.left.slots served.finished.counts) }
-    ensures back { IfErr result (λ back. (back ≡ record { slots = slots; bays = bays.items })
+    ensures back { IfErr result (λ back. (back ≡ record { slots = parts.entry.slots; bays = parts.entry.bays.items })
         × (reader.new ≡ reader.old) × (writer.new ≡ writer.old)) }
 {
-    let (library, seats, operator) = Library::<D, B, H>::new(
-        alloc,
-        bays,
-        rings,
-        slots,
-        hosts,
-        bay_ledger,
-        host_ledger,
-    )?;
+    let (library, seats, operator) = Library::<D, B, H>::new(alloc, parts)?;
+    let seated = Seated {
+        seats,
+        operator,
+        labels,
+    };
     let ServedFor {
         seats,
         operator,
         outcome,
-    } = serve_opened(
-        rt, alloc, &library, seats, operator, labels, gate, reader, writer,
-    );
+    } = serve_opened(rt, alloc, &library, seated, gate, reader, writer);
     Ok(ServedLibrary {
         finished: library.finish(rt, seats, operator),
         outcome,

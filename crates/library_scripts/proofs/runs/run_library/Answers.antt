@@ -10,11 +10,11 @@ use Rattle.library_scripts.proofs.RanLemmas.{reported_of}
 use Rattle.library_scripts.proofs.runs.run_library.Goals as goal
 
 pub new-requires-clause-hosts : goal.new-requires-clause-hosts
-new-requires-clause-hosts g c = hosts_differ c.args.hosts.now c.requires.hosts
+new-requires-clause-hosts g c = hosts_differ c.args.parts.hosts.now c.requires.hosts
 
 pub run_opened-seats-requires-clause-places : goal.run_opened-seats-requires-clause-places
 run_opened-seats-requires-clause-places g c κs within =
-    subst AreInPlace (sym c.in_ok-library.ensures.seats) (hosts_in_place c.args.hosts.now c.requires.hosts)
+    subst AreInPlace (sym c.in_ok-library.ensures.seats) (hosts_in_place c.args.parts.hosts.now c.requires.hosts)
 
 pub returns-clause-runs : goal.returns-clause-runs
 returns-clause-runs g c =
@@ -32,7 +32,7 @@ returns-clause-runs g c =
       runs =
           subst
           (λ (drives : List Bool). RunsScript (has_drive drives) (AnswersCrew state)
-          (record { drives = drives; seats = map new_seat c.args.hosts.now; moved = 0 }) left before
+          (record { drives = drives; seats = map new_seat c.args.parts.hosts.now; moved = 0 }) left before
           (record { drives = drives; seats = after; moved = moved }) now outcome)
           c.in_ok-library.ensures.drives
           (subst

@@ -7,10 +7,10 @@ use Rattle.vtl_power_on.proofs.running.run_shared.Goals as goal
 pub returns-in-Ok-ran : goal.returns-in-Ok-ran
 returns-in-Ok-ran g c =
     inl (ran_over g.D.Disk.state c.args.held c.in-Ok-ran.field-0.finished.left c.into_parts-bays.result.0.items
-    c.every_host.result (g.I.Read.remaining c.args.reader.now) (g.I.Read.remaining c.run_library-ran.new.reader)
+    c.every_host-hosts.result (g.I.Read.remaining c.args.reader.now) (g.I.Read.remaining c.run_library-ran.new.reader)
     (g.W.Write.contents c.args.writer.now) (g.W.Write.contents c.run_library-ran.new.writer)
     c.in-Ok-ran.field-0.outcome c.in-Ok-ran.field-0.finished.counts c.in-Ok-ran.field-0.finished.answered
-    c.in-Ok-ran.field-0.finished.moved c.outcome_of.result c.into_parts-bays.ensures.bays c.every_host.ensures
+    c.in-Ok-ran.field-0.finished.moved c.outcome_of.result c.into_parts-bays.ensures.bays c.every_host-hosts.ensures
     c.in-Ok-ran.ensures.runs c.in-Ok-ran.ensures.past c.in-Ok-ran.ensures.ends c.outcome_of.ensures)
 
 pub returns-in-Err : goal.returns-in-Err
@@ -43,5 +43,5 @@ run_library-ran-requires-clause-rings g c κs within =
 pub run_library-ran-requires-clause-bay_ledger : goal.run_library-ran-requires-clause-bay_ledger
 run_library-ran-requires-clause-bay_ledger g c κs within = (
   record { named = refl; cut = refl; one_each = refl },
-  c.new-drives.ensures ∙ c.count_drives.ensures ∙ ap places_filled c.as_slice-2.ensures.value,
+  c.new-bay_ledger.ensures ∙ c.count_drives.ensures ∙ ap places_filled c.as_slice-2.ensures.value,
 )

@@ -8,11 +8,11 @@ use Rattle.vtl_power_on.proofs.serving.serve_shared.Goals as goal
 pub returns-in-Ok-served : goal.returns-in-Ok-served
 returns-in-Ok-served g c =
     inl (served_over g.D.Disk.state c.args.held c.in-Ok-served.field-0.finished.left c.args.labels
-    c.into_parts-bays.result.0.items c.every_host.result
+    c.into_parts-bays.result.0.items c.every_host-hosts.result
     (g.I.Read.remaining c.args.reader.now) (g.I.Read.remaining c.serve_library-served.new.reader)
     (g.W.Write.contents c.args.writer.now) (g.W.Write.contents c.serve_library-served.new.writer)
     c.in-Ok-served.field-0.outcome c.in-Ok-served.field-0.finished.counts c.in-Ok-served.field-0.finished.answered
-    c.in-Ok-served.field-0.finished.moved c.served_outcome.result c.into_parts-bays.ensures.bays c.every_host.ensures
+    c.in-Ok-served.field-0.finished.moved c.served_outcome.result c.into_parts-bays.ensures.bays c.every_host-hosts.ensures
     c.in-Ok-served.ensures.serves c.in-Ok-served.ensures.ends c.served_outcome.ensures)
 
 pub returns-in-Err : goal.returns-in-Err
@@ -45,5 +45,5 @@ serve_library-served-requires-clause-rings g c κs within =
 pub serve_library-served-requires-clause-bay_ledger : goal.serve_library-served-requires-clause-bay_ledger
 serve_library-served-requires-clause-bay_ledger g c κs within = (
   record { named = refl; cut = refl; one_each = refl },
-  c.new-drives.ensures ∙ c.count_drives.ensures ∙ ap places_filled c.as_slice-2.ensures.value,
+  c.new-bay_ledger.ensures ∙ c.count_drives.ensures ∙ ap places_filled c.as_slice-2.ensures.value,
 )

@@ -2,16 +2,16 @@ use Rattle.library.specs.RingRows.{ring_at}
 use Rattle.vtl_power_on.proofs.serving.serve_shared.Given as goal
 
 abbrev pub ghosts-serve_library-B-Ledger : goal.ghosts-serve_library-B-Ledger
-ghosts-serve_library-B-Ledger g a = record { name = a.bay_ledger.name; parts = a.bay_ledger.parts }
+ghosts-serve_library-B-Ledger g a = record { name = a.parts.bay_ledger.name; parts = a.parts.bay_ledger.parts }
 
 abbrev pub ghosts-serve_library-B-Parties : goal.ghosts-serve_library-B-Parties
-ghosts-serve_library-B-Parties g a = record { all = a.bay_ledger.parts }
+ghosts-serve_library-B-Parties g a = record { all = a.parts.bay_ledger.parts }
 
 abbrev pub ghosts-serve_library-B-Rings : goal.ghosts-serve_library-B-Rings
-ghosts-serve_library-B-Rings g a = record { ring = ring_at a.rings }
+ghosts-serve_library-B-Rings g a = record { ring = ring_at a.parts.rings }
 
 abbrev pub ghosts-serve_library-H-Ledger : goal.ghosts-serve_library-H-Ledger
-ghosts-serve_library-H-Ledger g a = record { name = a.host_ledger.name; parts = a.host_ledger.parts }
+ghosts-serve_library-H-Ledger g a = record { name = a.parts.host_ledger.name; parts = a.parts.host_ledger.parts }
 
 abbrev pub ghosts-serve_library-H-Parties : goal.ghosts-serve_library-H-Parties
-ghosts-serve_library-H-Parties g a = record { all = a.host_ledger.parts }
+ghosts-serve_library-H-Parties g a = record { all = a.parts.host_ledger.parts }

@@ -7,7 +7,7 @@ use Rattle.vtl_serve.proofs.SharedLemmas.{hosts_differ, reported_of}
 use Rattle.vtl_serve.proofs.libraries.serve_library.Goals as goal
 
 pub new-requires-clause-hosts : goal.new-requires-clause-hosts
-new-requires-clause-hosts g c = hosts_differ c.args.hosts.now 64 c.requires.hosts
+new-requires-clause-hosts g c = hosts_differ c.args.parts.hosts.now 64 c.requires.hosts
 
 pub returns-clause-serves : goal.returns-clause-serves
 returns-clause-serves g c =
@@ -24,7 +24,7 @@ returns-clause-serves g c =
       moved = moved;
       serves =
           subst
-          (λ (drives : List Bool). ServesOpened state drives c.args.labels 0 (map new_seat c.args.hosts.now) left before
+          (λ (drives : List Bool). ServesOpened state drives c.args.labels 0 (map new_seat c.args.parts.hosts.now) left before
           moved after left' now outcome)
           c.in_ok-library.ensures.drives
           (subst
