@@ -139,7 +139,7 @@ WORDS = {
     "refusal": ["refusal_of", "denial_reply", "AppliesUnless"],
     "reply": ["reply_of", "reply_text"],
     "serve, over frames": ["ServesInput", "ServingEnds", "AnswersEach", "BayAnswers", "HostAnswers", "ServesHosts",
-                           "ServesShared", "ServesOrder"],
+                           "ServesShared", "UsesOrder"],
     "request of a front end": ["IsRequest", "SpellsRequests", "BeginsWithRequest"],
     "answer in words": ["answer_line", "line_text", "sense_line", "words_of"],
     "answer of a front end": ["IsAnswer", "FitsAnswer", "spell_answer", "SpellsAnswers", "BeginsWithAnswer"],

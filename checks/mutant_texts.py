@@ -107,14 +107,14 @@ EDITS = [
      "            return Err(fault);\n        }\n    }\n    end\n",
      ["a_creation_ends_where_a_line_is_not_out"]),
     ("a library to be served that is not switched on is reported as memory that ran out", "vtl_power_on",
-     "src/serving.rt",
-     "    let held = start(alloc, sides, starting, cartridges, drives);\n",
-     "    let held = start(alloc, sides, starting, cartridges, drives);\n"
-     "    if held.is_err() {\n        return Err(VtlFault::NoMemory);\n    }\n", ["rows/13-words/serve.row"]),
-    ("a library that is switched on is not served, and memory ran out", "vtl_power_on", "src/serving.rt",
-     "    let held = start(alloc, sides, starting, cartridges, drives);\n",
-     "    let held = start(alloc, sides, starting, cartridges, drives);\n"
-     "    if held.is_ok() {\n        return Err(VtlFault::NoMemory);\n    }\n", ["rows/13-words/serve.row"]),
+     "src/using.rt",
+     "    let hosts = every_host();\n",
+     "    if start.is_err() && matches!(work, Work::Frames(_)) {\n        return Err(VtlFault::NoMemory);\n    }\n"
+     "    let hosts = every_host();\n", ["rows/13-words/serve.row"]),
+    ("a library that is switched on is not served, and memory ran out", "vtl_power_on", "src/using.rt",
+     "    let hosts = every_host();\n",
+     "    if start.is_ok() && matches!(work, Work::Frames(_)) {\n        return Err(VtlFault::NoMemory);\n    }\n"
+     "    let hosts = every_host();\n", ["rows/13-words/serve.row"]),
     ("the line of a fault that is out is said not to be out", "vtl_faults", "src/endings.rt",
      "                is_reported: report(line, errors),",
      "                is_reported: report(line, errors) && false,", ["a_line_is_taken_in_parts"]),

@@ -2,8 +2,7 @@ mod BuiltInLemmas
 mod DistinctLemmas
 pub mod IdleLemmas
 mod NotStartedLemmas
-mod RunningLemmas
-mod ServingLemmas
 mod SidesLemmas
 mod StartingLemmas
+mod UsingLemmas
 mod WaitingLemmas

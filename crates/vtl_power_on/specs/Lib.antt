@@ -6,3 +6,4 @@ pub mod Serving
 pub mod Sides
 pub mod Starting
 pub mod Unfinished
+pub mod Using

@@ -1,9 +1,7 @@
 -- How a script is run over a library (own).
-use Rattle.std.specs.Prelude.{◌≡◌, ◌≢◌, ◌⊎◌, ℕ, Bool, true, false, List, Option, None, Some, Result, Ok, Err, Vec}
+use Rattle.std.specs.Prelude.{◌≡◌, ◌≢◌, ◌⊎◌, ℕ, List, Option, Result, Ok, Err}
 use Rattle.std.specs.Io.KnownBytes.{Keeps}
 use Rattle.std.specs.List.{All, range_with_len}
-use Rattle.std.specs.declared.alloc.Global.{Global}
-use Rattle.std.specs.declared.io.Error.{Error}
 use Rattle.vtl_base.specs.declared.limits.TheConstants.{NEXUSES}
 use Rattle.vtl_script.specs.Runs.{TakesWithin}
 use Rattle.vtl_script.specs.declared.faults.ScriptFault.{ScriptFault}
@@ -14,14 +12,9 @@ use Rattle.library.specs.Counts.{AcceptedNone}
 use Rattle.library.specs.Ends.{EndsShared}
 use Rattle.library_scripts.specs.Ran.{RunsShared}
 use Rattle.library.specs.declared.finishing.FinishError.{FinishError}
-use Rattle.vtl_config.specs.declared.entries.Config.{Config}
-use Rattle.vtl_files.specs.Configured.{ReadsConfig, ReadsToOpen}
-use Rattle.vtl_faults.specs.FromBelow.{IsFailure, fault_of}
+use Rattle.vtl_faults.specs.FromBelow.{fault_of}
 use Rattle.vtl_faults.specs.declared.faults.VtlFault.{VtlFault}
 use Rattle.vtl_faults.specs.declared.faults.VtlFault.TheVariants.{Device, NoMemory}
-use Rattle.vtl_power_on.specs.Sides.{SidesGiven, memory_state, new_sides, takes_any}
-use Rattle.vtl_power_on.specs.Starting.{IsBuiltIn, IsNotStarted, IsStart, IsStarted, built_in_barcode, built_in_capacities}
-use Rattle.vtl_power_on.specs.Unfinished.{NotStartedState}
 
 -- the program's outcome, by how its script ended and whether all was then written out: the first fault decides (own)
 abbrev pub outcome_of :
@@ -64,58 +57,3 @@ abbrev pub RunsHeld : {D : Type 0} → (D → DiskState) → (old : HeldState D)
 RunsHeld state old left left' before now new outcome =
     RunsStarted state old left left' before now new outcome
     ⊎ (outcome ≡ Err NoMemory) × (new ≡ old) × IsIdle left left' before now
-
--- a script was run over the library that was started, and it was returned as it was then; where none was started,
--- nothing was read or written (own)
-abbrev pub RunsFrom : {D : Type 0} → (D → DiskState) → (HeldState D → Type 0) → Result (HeldState D) VtlFault
-    → (left left' before now : Option (List ℕ)) → Result (Unit {0}) VtlFault → Type 0
-RunsFrom {D} state closes_all (Ok old) left left' before now outcome =
-    (new : HeldState D) × RunsHeld state old left left' before now new outcome × closes_all new
-RunsFrom state closes_all (Err fault) left left' before now outcome =
-    (outcome ≡ Err fault) × IsIdle left left' before now
-
--- a library is switched on, a script is run over it, every buffer is written out, and the library is returned; or it
--- is not switched on, and nothing is read or written (own)
-abbrev pub RunsOver : {D : Type 0} → (D → DiskState) → (closes_all Is : HeldState D → Type 0) → (VtlFault → Type 0)
-    → (left left' before now : Option (List ℕ)) → Result (Unit {0}) VtlFault → Type 0
-RunsOver {D} state closes_all Is IsNot left left' before now outcome =
-    (start : Result (HeldState D) VtlFault) × IsStart Is IsNot start
-    × RunsFrom state closes_all start left left' before now outcome
-
--- A script is run over the library of a configuration, over such sides. That homes or numbers are double is no reason
--- not to. Or memory runs out before anything is asked of the sides, and nothing is read or written (own).
-abbrev pub RunsConfig : {D : Type 0} → (D → DiskState) → SidesGiven D → (closes_all : HeldState D → Type 0)
-    → (gives_up : NotStartedState D → Type 0) → Config
-    → (left left' before now : Option (List ℕ)) → Result (Unit {0}) VtlFault → Type 0
-RunsConfig state sides closes_all gives_up config left left' before now outcome =
-    ((outcome ≡ Err NoMemory) × IsIdle left left' before now)
-    ⊎ RunsOver state closes_all
-    (IsStarted sides.gives_cartridge state sides.gives_store config.cartridges.items config.drives.items)
-    (λ fault. IsFailure fault × IsNotStarted state sides gives_up config.cartridges.items config.drives.items fault)
-    left left' before now outcome
-
--- a script is run over the library of the configuration that a file says, over such sides; where there is no
--- configuration, nothing is read or written (own)
-abbrev pub RunsNamed : {D : Type 0} → (D → DiskState) → SidesGiven D → (closes_all : HeldState D → Type 0)
-    → (gives_up : NotStartedState D → Type 0) → Result Config VtlFault
-    → (left left' before now : Option (List ℕ)) → Result (Unit {0}) VtlFault → Type 0
-RunsNamed state sides closes_all gives_up (Ok config) left left' before now outcome =
-    RunsConfig state sides closes_all gives_up config left left' before now outcome
-RunsNamed state sides closes_all gives_up (Err fault) left left' before now outcome =
-    (outcome ≡ Err fault) × IsIdle left left' before now
-
-module _ {D : Type 0} (state : D → DiskState) (reads : List ℕ → Result (Vec ℕ Global) Error → Type 0) where
-  -- what `vtl run` does: over the built-in configuration in memory; over that of a file, in memory where that is
-  -- asked for, and else over the sides of its files (own)
-  abbrev pub RunsOrder : SidesGiven D → (closes_all : HeldState D → Type 0)
-      → (gives_up : NotStartedState D → Type 0) → Bool → Option (List ℕ)
-      → (left left' before now : Option (List ℕ)) → Result (Unit {0}) VtlFault → Type 0
-  RunsOrder sides closes_all gives_up memory None left left' before now outcome =
-      RunsOver memory_state takes_any (IsBuiltIn memory_state built_in_barcode built_in_capacities)
-      (λ fault. fault ≡ NoMemory) left left' before now outcome
-  RunsOrder sides closes_all gives_up true (Some name) left left' before now outcome =
-      (config : Result Config VtlFault) × ReadsConfig reads name config
-      × RunsNamed memory_state new_sides takes_any takes_any config left left' before now outcome
-  RunsOrder sides closes_all gives_up false (Some name) left left' before now outcome =
-      (config : Result Config VtlFault) × ReadsToOpen reads name config
-      × RunsNamed state sides closes_all gives_up config left left' before now outcome

@@ -3,8 +3,9 @@
 #![tactic(auto)]
 
 pub mod labels;
+pub mod library_orders;
 pub mod pace;
-pub mod running;
-pub mod serving;
 pub mod sides;
 pub mod starting;
+pub mod using;
+pub mod works;

@@ -23,10 +23,11 @@ use Rattle.vtl_files.specs.Creating.{MakeAnswers, PrintsFiles, files_of, makes_o
 use Rattle.vtl_program.specs.Files.{FileAnswers}
 use Rattle.vtl_files.specs.Configured.{ReadsToOpen, ReadsConfig}
 use Rattle.vtl_faults.specs.Endings.{EndsProgram}
-use Rattle.vtl_power_on.specs.Running.{IsIdle, RunsOrder}
+use Rattle.vtl_power_on.specs.Running.{IsIdle}
 use Rattle.vtl_files.specs.Reclaims.{ReclaimsNamed}
-use Rattle.vtl_power_on.specs.Serving.{ServesOrder}
 use Rattle.vtl_power_on.specs.Sides.{file_sides}
+use Rattle.vtl_power_on.specs.Using.{UsesOrder}
+use Rattle.vtl_power_on.specs.declared.works.Purpose.TheVariants as purposes
 
 module _ {D : Type 0} (state : D → DiskState) where
   module _ (made : MakeAnswers D) where
@@ -82,15 +83,15 @@ module _ {D : Type 0} (state : D → DiskState) (effect : DiskCall → Result Un
   abbrev pub DoesOrder : Asked → (left left' before now : Option (List ℕ)) → Result Verdict VtlFault → Type 0
   DoesOrder (run memory config) left left' before now result =
       (outcome : Result (Unit {0}) VtlFault)
-      × RunsOrder state files.reads (file_sides state files.pairs files.opens files.opens_second files.returns_disk)
+      × UsesOrder state files.reads (file_sides state files.pairs files.opens files.opens_second files.returns_disk)
       files.closes_all files.gives_up
-      memory config left left' before now outcome
+      purposes.Run memory config left left' before now outcome
       × (result ≡ verdict_from outcome)
   DoesOrder (serve memory config) left left' before now result =
       (outcome : Result (Unit {0}) VtlFault)
-      × ServesOrder state files.reads (file_sides state files.pairs files.opens files.opens_second files.returns_disk)
+      × UsesOrder state files.reads (file_sides state files.pairs files.opens files.opens_second files.returns_disk)
       files.closes_all files.gives_up
-      memory config left left' before now outcome
+      purposes.Serve memory config left left' before now outcome
       × (result ≡ verdict_from outcome)
   DoesOrder (create config) left left' before now result =
       (outcome : Result (Unit {0}) VtlFault)

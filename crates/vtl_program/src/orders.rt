@@ -24,9 +24,9 @@ use vtl_files::files::{
 use vtl_files::reclaiming::reclaim_named;
 use vtl_files::side_checks::check_named;
 use vtl_files::writing::print_text;
-use vtl_power_on::running::run_order;
-use vtl_power_on::serving::serve_order;
+use vtl_power_on::library_orders::{LibraryOrder, use_library};
 use vtl_power_on::starting::NotStarted;
+use vtl_power_on::works::Purpose;
 use vtl_words::{Order, WordsError, read_words};
 
 // Makes the missing files of the configuration in the file `name`.
@@ -109,10 +109,20 @@ fn do_order<
 {
     match order {
         Order::Run { memory, config } => {
-            run_order::<D, F, R, I, W>(rt, alloc, files, memory, config, reader, writer)?
+            let order = LibraryOrder {
+                purpose: Purpose::Run,
+                memory,
+                config,
+            };
+            use_library::<D, F, R, I, W>(rt, alloc, files, order, reader, writer)?
         }
         Order::Serve { memory, config } => {
-            serve_order::<D, F, R, I, W>(rt, alloc, files, memory, config, reader, writer)?
+            let order = LibraryOrder {
+                purpose: Purpose::Serve,
+                memory,
+                config,
+            };
+            use_library::<D, F, R, I, W>(rt, alloc, files, order, reader, writer)?
         }
         Order::Create { config } => {
             create_order::<D, F, W>(alloc, files, config.as_str(), writer)?

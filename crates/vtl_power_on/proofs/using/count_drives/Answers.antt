@@ -2,9 +2,9 @@ use Rattle.std.proofs.Common.{◌∙◌, ap, sym, arith, List, Option, sum_by, t
 use Rattle.std.proofs.lemmas.List.{take_all}
 use Rattle.bay_moves.specs.Elements.{BayState}
 use Rattle.library.specs.Counts.{one_if_there}
-use Rattle.vtl_power_on.proofs.RunningLemmas.{counted_more}
-use Rattle.vtl_power_on.proofs.running.count_drives.Goals as goal
-use Rattle.vtl_power_on.proofs.running.count_drives.Goals.{then-is_some, else-is_some}
+use Rattle.vtl_power_on.proofs.UsingLemmas.{counted_more}
+use Rattle.vtl_power_on.proofs.using.count_drives.Goals as goal
+use Rattle.vtl_power_on.proofs.using.count_drives.Goals.{then-is_some, else-is_some}
 
 pub loop-bay-preserved : goal.loop-bay-preserved
 loop-bay-preserved g c =

@@ -1,6 +1,6 @@
 use Rattle.std.proofs.Common.{arith}
-use Rattle.vtl_power_on.proofs.RunningLemmas.{every_one}
-use Rattle.vtl_power_on.proofs.running.every_host.Goals as goal
+use Rattle.vtl_power_on.proofs.UsingLemmas.{every_one}
+use Rattle.vtl_power_on.proofs.using.every_host.Goals as goal
 
 pub returns : goal.returns
 returns c =

@@ -1,5 +1,5 @@
 use Rattle.std.proofs.Common.{◌≡◌, ◌+◌, ◌<◌, ℕ, get_or, length}
-use Rattle.vtl_power_on.proofs.running.every_host.Given as goal
+use Rattle.vtl_power_on.proofs.using.every_host.Given as goal
 
 -- the hosts so far have the numbers from 1 on
 abbrev pub invariant-loop-place : goal.invariant-loop-place
