@@ -17,14 +17,6 @@ static HELLO: &'static [u8; 23] = b"\x01\0\0\0\0\0\0\0\0\x05\x9a\x71\xbb\x4c\xea
 
 static MARKS: &'static [u8; 18] = b"\x02\0\0\0\0\x01\0\0\0\x01\0\0\0\0\x4d\xd6\x5e\x49";
 
-// Heads at place 84 that sum and are of no record: an erase and marks with the sum of a block, no marks, kind 4.
-static HEADS: &'static [&'static [u8; 18]] = &[
-    b"\x03\0\0\0\0\x01\0\0\0\0\0\0\0\x01\xd3\xab\xe7\xa0",
-    b"\x02\0\0\0\0\x01\0\0\0\x01\0\0\0\x01\xbf\xbd\xdd\x4a",
-    b"\x02\0\0\0\0\x01\0\0\0\0\0\0\0\0\x75\xc7\x31\xe5",
-    b"\x04\0\0\0\0\x01\0\0\0\x01\0\0\0\0\xb0\x29\xd7\x2c",
-];
-
 #[test]
 fn changes_are_spelled(rt: HostRuntime) -> Result<(), Fail> {
     let (part, at, block) = (0, 0, Bytes::from_slice(rt.alloc(), b"hello")?);
@@ -94,16 +86,6 @@ fn what_was_changed_is_found(rt: HostRuntime) -> Result<(), Fail> {
     for (heading, length, place) in [(HEADING, 23, 57), (HEADING, 22, 56), (HEADING + 1, 23, 56)] {
         let fed = SealedReader::new(frame_seed(heading, length), place).feed(HELLO);
         assert_equal!(rt; fed, bad; (heading, length, place));
-    }
-    Ok(())
-}
-
-#[test]
-fn a_head_of_no_record(rt: HostRuntime) -> Result<(), Fail> {
-    for head in HEADS {
-        let error = SealedError::BadRecord { at: 0 };
-        let fed = SealedReader::new(frame_seed(HEADING, 18), 84).feed(*head);
-        assert_equal!(rt; fed, Fed::Bad { error }; head);
     }
     Ok(())
 }
