@@ -128,6 +128,12 @@ EDITS = [
     ("drive 16 has no flusher", "library", "src/beside.rt",
      "    if !library.configured(drive) {\n", "    if !library.configured(drive) || number == 16 {\n",
      ["a_drive_answers_while_another_stands_in_its_turn"]),
+    ("each drive has two flushers", "library", "src/beside.rt",
+     "    let mut flushes = || library.flusher(rt, drive, gate);\n",
+     "    let mut once = || library.flusher(rt, drive, gate);\n"
+     "    let mut again = || library.flusher(rt, drive, gate);\n"
+     "    let mut flushes = || thread::join_mut(rt, &mut once, &mut again);\n",
+     ["a_drive_answers_while_another_stands_in_its_turn"]),
     ("the flushers of a served library end before its hosts are served", "vtl_serve", "src/libraries.rt",
      "        let served = serve_hosts(rt, alloc, servers, &mut desk, reader, writer);\n        library.close(rt);\n",
      "        library.close(rt);\n        let served = serve_hosts(rt, alloc, servers, &mut desk, reader, writer);\n",
