@@ -7,7 +7,7 @@ use Rattle.vtl_serve.proofs.libraries.serve_opened.Goals as goal
 
 pub returns-clause-serves : goal.returns-clause-serves
 returns-clause-serves g c =
-    let back = c.in-Err.ensures.met.back in
+    let back = c.in-Err.ensures.met.2 in
     inr (
       refl,
       c.seats_in-in-Err.ensures ∙ ap (λ (l : List OneHostState). seats_of l) back.0
