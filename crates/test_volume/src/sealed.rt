@@ -1,9 +1,12 @@
 //! Records with sums, of a cartridge whose bytes were computed bit by bit elsewhere: a block at place 56 of the file,
 //! and filemarks at place 84.
+ghost use Rattle.std.specs.Prelude.{◌<◌};
+
 use change_records::Record;
 use sealed_records::{
     Fed, Found, SealedError, SealedReader, block_sum, frame_seed, is_sound, sealed_parts,
 };
+use std::process::Abort;
 use std::test::Fail;
 use test_assertions::assert_equal;
 use volume_core::Change;
@@ -25,67 +28,62 @@ fn changes_are_spelled(rt: HostRuntime) -> Result<(), Fail> {
     assert_equal!(rt; (head.as_slice(), block), (&HELLO[..18], b"hello".as_slice()));
     let (at, count) = (1, 1);
     let marks = Change::Marks { part, at, count };
-    let (head, block) = sealed_parts(&marks, block_sum(&marks), frame_seed(HEADING, 18), 84);
-    assert_equal!(rt; (head.as_slice(), block.len()), (MARKS.as_slice(), 0));
+    let (head, block) = sealed_parts(&marks, 0, frame_seed(HEADING, 18), 84);
+    assert_equal!(rt; (head.as_slice(), block.len(), block_sum(&marks)), (MARKS.as_slice(), 0, 0));
     Ok(())
+}
+
+// The head comes in two pieces, and the block is fed or passed over.
+fn is_read_in_two(rt: &impl Abort, cut: usize)
+    requires { cut < 18 }
+{
+    let (part, at, length) = (0, 0, 5);
+    let item = Record::Put { part, at, length };
+    let (hello, sum, at, taken) = (HELLO.as_slice(), SUM, 0, 5);
+    let mut reader = SealedReader::new(frame_seed(HEADING, 23), 56);
+    assert_equal!(*rt; reader.feed(&hello[..cut]), Fed::More { taken: cut }; cut);
+    assert_equal!(*rt; reader.end().is_ok(), cut == 0; cut);
+    assert_equal!(*rt; reader.feed(&hello[cut..]), Fed::More { taken: 18 - cut }; cut);
+    assert_equal!(*rt; reader.end(), Err(SealedError::BadRecord { at: 0 }); cut);
+    if cut < 9 {
+        assert_equal!(*rt; reader.feed(&hello[18..]), Fed::Found { item, sum, at, taken }; cut);
+    } else if reader.unseen() == 5 {
+        assert_equal!(*rt; reader.pass(5), Some(Found { item, sum, at }); cut);
+    }
+    assert_equal!(*rt; reader.end(), Ok(()); cut);
 }
 
 #[test]
 fn wherever_it_is_cut(rt: HostRuntime) -> Result<(), Fail> {
-    let (sum, at, taken) = (SUM, 0, 5);
-    let (part, length) = (0, 5);
-    let item = Record::Put {
-        part,
-        at: 0,
-        length,
-    };
     for cut in 0..18 {
-        let mut reader = SealedReader::new(frame_seed(HEADING, 23), 56);
-        assert_equal!(rt; reader.feed(&HELLO[..cut]), Fed::More { taken: cut }; cut);
-        assert_equal!(rt; reader.end().is_ok(), cut == 0; cut);
-        assert_equal!(rt; reader.feed(&HELLO[cut..]), Fed::More { taken: 18 - cut }; cut);
-        assert_equal!(rt; reader.end(), Err(SealedError::BadRecord { at: 0 }); cut);
-        if cut < 9 {
-            let wanted = Fed::Found {
-                item,
-                sum,
-                at,
-                taken,
-            };
-            assert_equal!(rt; reader.feed(&HELLO[18..]), wanted; cut);
-        } else if reader.unseen() == 5 {
-            assert_equal!(rt; reader.pass(5), Some(Found { item, sum, at }); cut);
-        }
-        assert_equal!(rt; reader.end(), Ok(()); cut);
+        is_read_in_two(&rt, cut);
     }
     Ok(())
+}
+
+// What a reader finds in this body at that place, in a frame of that length.
+fn fed(body: &[u8; 23], heading: u32, length: u32, place: u32) -> Fed {
+    SealedReader::new(frame_seed(heading, length), place as u64).feed(body)
 }
 
 // Every byte is set to every other value. Then the record is read for another place, and in another frame.
 #[test]
 fn what_was_changed_is_found(rt: HostRuntime) -> Result<(), Fail> {
-    let bad = Fed::Bad {
-        error: SealedError::BadSum { at: 0 },
-    };
+    let error = SealedError::BadSum { at: 0 };
+    let (bad, block) = (Fed::Bad { error }, Fed::More { taken: 18 });
     for place in 0..23 {
         for value in 0..=255u8 {
             let mut bytes = *HELLO;
             bytes[place] = value;
             if value != HELLO[place] {
-                let fed = SealedReader::new(frame_seed(HEADING, 23), 56).feed(&bytes);
-                let wanted = if place < 18 {
-                    bad
-                } else {
-                    Fed::More { taken: 18 }
-                };
-                assert_equal!(rt; fed, wanted; (place, value));
+                let wanted = if place < 18 { bad } else { block };
+                assert_equal!(rt; fed(&bytes, HEADING, 23, 56), wanted; (place, value));
                 assert_equal!(rt; is_sound(&bytes[18..], SUM), place < 18; (place, value));
             }
         }
     }
     for (heading, length, place) in [(HEADING, 23, 57), (HEADING, 22, 56), (HEADING + 1, 23, 56)] {
-        let fed = SealedReader::new(frame_seed(heading, length), place).feed(HELLO);
-        assert_equal!(rt; fed, bad; (heading, length, place));
+        assert_equal!(rt; fed(HELLO, heading, length, place), bad; (heading, length, place));
     }
     Ok(())
 }
