@@ -128,6 +128,9 @@ EDITS = [
     ("drive 16 has no flusher", "library", "src/beside.rt",
      "    if !library.configured(drive) {\n", "    if !library.configured(drive) || number == 16 {\n",
      ["a_drive_answers_while_another_stands_in_its_turn"]),
+    ("a library is opened closed", "library", "src/opening.rt",
+     "closed: AtomicBool::new(false),", "closed: AtomicBool::new(true),",
+     ["a_flusher_stores_between_two_phases"]),
     ("each drive has two flushers", "library", "src/beside.rt",
      "    let mut flushes = || library.flusher(rt, drive, gate);\n",
      "    let mut once = || library.flusher(rt, drive, gate);\n"

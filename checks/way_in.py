@@ -13,8 +13,8 @@ import sys
 TOP = os.path.dirname(os.path.dirname(os.path.abspath(__file__)))
 # the functions before the library is switched on
 FIRST = [("vtl", "main", "main"), ("vtl_program", "explaining", "run_explained"), ("vtl_program", "orders", "run"),
-         ("vtl_program", "orders", "obey"), ("vtl_program", "orders", "do_order"),
-         ("vtl_power_on", "library_orders", "use_library"), ("vtl_power_on", "using", "with_library")]
+         ("vtl_program", "orders", "do_order"), ("vtl_power_on", "library_orders", "use_library"),
+         ("vtl_power_on", "using", "with_library")]
 # Each ends with the function that starts the flushers; that calls a closure, which stands in the function before it and
 # calls the one that reads the first line or frame.
 WAYS = {"run": [*FIRST, ("library_scripts", "runs", "run_library"), ("library_scripts", "runs", "run_opened"),
@@ -22,7 +22,7 @@ WAYS = {"run": [*FIRST, ("library_scripts", "runs", "run_library"), ("library_sc
         "serve": [*FIRST, ("vtl_serve", "libraries", "serve_library"), ("vtl_serve", "libraries", "serve_opened"),
                   ("library", "beside", "beside_flushers"), ("vtl_hosts", "turns", "serve_hosts")]}
 OF_LIBRARY = ("vtl_power_on", "library_scripts", "vtl_serve")
-FUNCTIONS, CALLS, PARAMETERS, TYPES = 6, 10, 7, 7
+FUNCTIONS, CALLS, PARAMETERS, TYPES = 6, 9, 7, 7
 
 
 def function(top, place):

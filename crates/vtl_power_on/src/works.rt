@@ -1,5 +1,5 @@
 //! What is done with a library: a script is run over it, or frames are served.
-ghost use Rattle.std.specs.Prelude.{◌≡◌, IfOk};
+ghost use Rattle.std.specs.Prelude.{◌≡◌, IfErr, IfOk};
 ghost use Rattle.vtl_power_on.specs.Running.{outcome_of};
 ghost use Rattle.vtl_power_on.specs.Serving.{built_in_labels, labels_of, served_outcome};
 ghost use Rattle.vtl_power_on.specs.Using.{work_of};
@@ -33,13 +33,14 @@ pub enum Work {
 }
 
 /// Returns the work of this purpose over a library of a configuration, in which each of these cartridges is at its
-/// home.
+/// home. The error is that memory ran out for the labels, which only a serving has.
 pub(crate) fn work_of(
     alloc: Global,
     purpose: Purpose,
     cartridges: &[CartridgeEntry],
 ) -> Result<Work, NoMemory>
-    ensures { IfOk result (λ work. work ≡ work_of purpose (labels_of cartridges.now)) }
+    ensures ok { IfOk result (λ work. work ≡ work_of purpose (labels_of cartridges.now)) }
+    ensures err { IfErr result (λ lacking. purpose ≡ Purpose.Serve) }
 {
     match purpose {
         Purpose::Run => Ok(Work::Script),
@@ -47,9 +48,10 @@ pub(crate) fn work_of(
     }
 }
 
-/// Returns the work of this purpose over the built-in library.
+/// Returns the work of this purpose over the built-in library. The error is that of `work_of`.
 pub(crate) fn built_in_work(alloc: Global, purpose: Purpose) -> Result<Work, NoMemory>
-    ensures { IfOk result (λ work. work ≡ work_of purpose built_in_labels) }
+    ensures ok { IfOk result (λ work. work ≡ work_of purpose built_in_labels) }
+    ensures err { IfErr result (λ lacking. purpose ≡ Purpose.Serve) }
 {
     match purpose {
         Purpose::Run => Ok(Work::Script),

@@ -1,8 +1,8 @@
 //! What the program does for the words of its command line.
-ghost use Rattle.vtl_words.specs.Orders.{asked_of, texts_of};
+ghost use Rattle.vtl_words.specs.Orders.{asked_of};
 ghost use Rattle.vtl_files.specs.Creating.{makes_of};
 ghost use Rattle.vtl_program.specs.Files.{answers_of};
-ghost use Rattle.vtl_program.specs.Orders.{AnswersWords, ChecksConfigOrder, CreatesOrder, DoesOrder, Obeys, ReclaimsOrder, RunsProgram, given_words};
+ghost use Rattle.vtl_program.specs.Orders.{AnswersWords, ChecksConfigOrder, CreatesOrder, DoesOrder, ReclaimsOrder, RunsProgram, given_words};
 
 use check_lines::reading::ReportsRead;
 use library::Sealed;
@@ -154,45 +154,9 @@ fn answer_words<W: Write>(error: WordsError, writer: &mut W) -> Result<Verdict, 
     }
 }
 
-/// Does what the words of a command line ask for, with these files. The first word is the program's name. Scripts and
-/// frames are read from `reader`; answers, reports and help are written to `writer`. Returns `Done` or `Refused`, or
-/// the fault that ended the order.
-pub fn obey<
-    D: Disk + Drop + Send,
-    F: TextFiles
-        + LookFiles
-        + ReadFiles<D>
-        + ReportsRead
-        + ChangeFiles<D>
-        + SecondFiles<D>
-        + TakesBack<Sealed<D>, NotStarted<D>>
-        + MakeFiles<D>,
-    R: Threads + Wait + Clock + Sync,
-    I: Read,
-    W: Write + Send,
->(
-    rt: &R,
-    alloc: Global,
-    files: &F,
-    words: &[String],
-    reader: &mut I,
-    writer: &mut W,
-) -> Result<Verdict, VtlFault>
-    ensures { Obeys D.state D.effect
-        (answers_of F.reads F.looks F.pairs F.opens_to_read F.closes F.opens F.returns_disk F.closes_all F.gives_up
-        F.opens_second F.closes_second F.makes F.leaves F.takes_away)
-        (texts_of words.now)
-        (I.remaining reader.old) (I.remaining reader.new)
-        (W.contents writer.old) (W.contents writer.new) result }
-{
-    match read_words(alloc, words) {
-        Ok(order) => do_order::<D, F, R, I, W>(rt, alloc, files, order, reader, writer),
-        Err(error) => answer_words(error, writer),
-    }
-}
-
-/// Runs the program with its files and its three streams: does what its words ask for, as `obey` does, and reports a
-/// fault by one line on `errors` and by its status. If the system provided no words, `words` is the fault that kept
+/// Runs the program with its files and its three streams: does what its words ask for, and reports a fault by one line
+/// on `errors` and by its status. The first word is the program's name. Scripts and frames are read from `reader`;
+/// answers, reports and help are written to `writer`. If the system provided no words, `words` is the fault that kept
 /// them from the program, and this fault is reported.
 pub fn run<
     D: Disk + Drop + Send,
@@ -226,7 +190,10 @@ pub fn run<
         (E.contents errors.old) (E.contents errors.new) result }
 {
     let outcome = match words {
-        Ok(words) => obey::<D, F, R, I, W>(rt, alloc, files, words.as_slice(), reader, writer),
+        Ok(words) => match read_words(alloc, words.as_slice()) {
+            Ok(order) => do_order::<D, F, R, I, W>(rt, alloc, files, order, reader, writer),
+            Err(error) => answer_words(error, writer),
+        },
         Err(fault) => Err(fault),
     };
     end(outcome, errors)

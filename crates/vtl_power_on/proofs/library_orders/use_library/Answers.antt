@@ -26,7 +26,7 @@ with_library-requires-after_bounds g c κs within =
 pub returns-in_default : goal.returns-in_default
 returns-in_default g c =
     rw c.in_default.is
-    (c.built_in.result, c.built_in.ensures, rw c.in_ok-work.ensures at c.with_library.ensures)
+    (c.built_in.result, c.built_in.ensures, rw c.in_ok-work.ensures.ok at c.with_library.ensures)
 
 -- in memory
 pub returns-in_err-config : goal.returns-in_err-config
@@ -57,7 +57,7 @@ returns-then-memory g c =
           takes_any c.start_config-start.result (g.I.Read.remaining c.args.reader.now)
           (g.I.Read.remaining c.with_library-then-memory.new.reader) (g.W.Write.contents c.args.writer.now)
           (g.W.Write.contents c.with_library-then-memory.new.writer) c.with_library-then-memory.result
-          (c.in_ok-work-2.ensures ∙ ap (λ (entries : List CartridgeEntry). work_of c.args.order.purpose
+          (c.in_ok-work-2.ensures.ok ∙ ap (λ (entries : List CartridgeEntry). work_of c.args.order.purpose
           (labels_of entries)) c.as_slice.ensures.value)
           c.start_config-start.ensures.ok c.start_config-start.ensures.err c.with_library-then-memory.ensures,
     )
@@ -94,7 +94,7 @@ returns g c =
           (g.I.Read.remaining c.args.reader.now) (g.I.Read.remaining c.with_library-else-memory.new.reader)
           (g.W.Write.contents c.args.writer.now) (g.W.Write.contents c.with_library-else-memory.new.writer)
           c.with_library-else-memory.result
-          (c.in_ok-work-3.ensures ∙ ap (λ (entries : List CartridgeEntry). work_of c.args.order.purpose
+          (c.in_ok-work-3.ensures.ok ∙ ap (λ (entries : List CartridgeEntry). work_of c.args.order.purpose
           (labels_of entries)) c.as_slice-else-memory.ensures.value)
           c.start_config-start-else-memory.ensures.ok c.start_config-start-else-memory.ensures.err
           c.with_library-else-memory.ensures,
