@@ -131,6 +131,12 @@ EDITS = [
     ("a library is opened closed", "library", "src/opening.rt",
      "closed: AtomicBool::new(false),", "closed: AtomicBool::new(true),",
      ["a_flusher_stores_between_two_phases"]),
+    ("a cartridge changes its slot as a library is opened", "library", "src/opening.rt",
+     "        let mut row = Row::of(bays);\n",
+     "        let mut row = Row::of(bays);\n        let mut slots = slots;\n"
+     "        if let Ok(cartridge) = slots.take(1001) {\n"
+     "            let _ = slots.place(1002, cartridge);\n        }\n",
+     ["a_cartridge_goes_round_both_drives"]),
     ("each drive has two flushers", "library", "src/beside.rt",
      "    let mut flushes = || library.flusher(rt, drive, gate);\n",
      "    let mut once = || library.flusher(rt, drive, gate);\n"
