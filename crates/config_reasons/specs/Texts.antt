@@ -1,5 +1,6 @@
 -- The words of a reason.
-use Rattle.std.specs.Prelude.{◌+◌, ◌-◌, ℕ, List, [], ◌++◌, Option, Some, None, String, string_bytes, codes, decimal}
+use Rattle.std.specs.Prelude.{◌+◌, ◌-◌, ℕ, true, false, List, [], ◌++◌, Option, Some, None, String, string_bytes, codes, decimal}
+use Rattle.std.specs.Fmt.{signed_decimal}
 use Rattle.std.specs.declared.alloc.Global.{Global}
 use Rattle.vtl_base.specs.declared.limits.TheConstants.{DRIVES, FIRST_SLOT, MAX_BARCODE, MAX_CAPACITY, MAX_PARTITIONS, MIN_CAPACITY, SLOTS}
 use Rattle.vtl_config.specs.Keys.{name_of}
@@ -10,15 +11,33 @@ use Rattle.vtl_config.specs.declared.rules.Place.TheVariants as places
 use Rattle.vtl_config.specs.declared.rules.Rule.{Rule}
 use Rattle.vtl_config.specs.declared.rules.Rule.TheVariants as rules
 use Rattle.explanations.specs.Lines.{line_of}
-use Rattle.config_reasons.specs.Seen.{among_text, seen_text}
-use Rattle.config_reasons.specs.declared.reasons.ConfigReason.{ConfigReason}
-use Rattle.config_reasons.specs.declared.reasons.Entry.{Entry}
-use Rattle.config_reasons.specs.declared.reasons.Found.{Found}
-use Rattle.config_reasons.specs.declared.reasons.Found.TheVariants as found
-use Rattle.config_reasons.specs.declared.seen.Outside.{Outside}
-use Rattle.config_reasons.specs.declared.seen.Seen.{Seen}
-use Rattle.config_reasons.specs.declared.seen.Seen.TheVariants as seen
-use Rattle.config_reasons.specs.declared.spots.Spot.{Spot}
+use Rattle.vtl_config.specs.declared.reasons.ConfigReason.{ConfigReason}
+use Rattle.vtl_config.specs.declared.reasons.Entry.{Entry}
+use Rattle.vtl_config.specs.declared.reasons.Findings.{Findings}
+use Rattle.vtl_config.specs.declared.reasons.Found.{Found}
+use Rattle.vtl_config.specs.declared.reasons.Found.TheVariants as found
+use Rattle.vtl_config.specs.declared.seen.Outside.{Outside}
+use Rattle.vtl_config.specs.declared.seen.Outside.TheVariants.{Number, NoNumber}
+use Rattle.vtl_config.specs.declared.seen.Seen.{Seen}
+use Rattle.vtl_config.specs.declared.seen.Seen.TheVariants as seen
+use Rattle.vtl_config.specs.declared.spots.Spot.{Spot}
+
+-- a value of a list that is no capacity, if there is one (own)
+abbrev pub among_text : Option Outside → List ℕ
+among_text None = []
+among_text (Some (Number number)) = codes ", one of which is " ++ signed_decimal number
+among_text (Some NoNumber) = codes ", one of which is no whole number"
+
+-- a value in words (own)
+abbrev pub seen_text : Seen → List ℕ
+seen_text (seen.Text text) = codes "'" ++ (string_bytes text ++ codes "'")
+seen_text (seen.Number number) = signed_decimal number
+seen_text seen.Fraction = codes "a number with a fraction"
+seen_text (seen.Boolean true) = codes "true"
+seen_text (seen.Boolean false) = codes "false"
+seen_text seen.Date = codes "a date or a time"
+seen_text (seen.List count outside) = codes "a list of " ++ decimal count
+seen_text seen.Table = codes "a table"
 
 -- the barcode of an entry, where it has one (own)
 abbrev pub barcode_text : Option (String Global) → List ℕ
@@ -79,9 +98,9 @@ found_place entry (found.NoText spot) = spot_text spot
 found_place entry (found.NoDocument spot message) = spot_text spot
 found_place entry _ = entry_text entry
 
--- where a reason stands, and then the file of this name, of which a line may show less (own)
-abbrev pub where_text : List ℕ → ConfigReason → List ℕ
-where_text file reason = codes "where: " ++ (found_place reason.entry reason.found ++ (codes ", in " ++ file))
+-- where this was found, and then the file of this name, of which a line may show less (own)
+abbrev pub where_text : List ℕ → Findings → List ℕ
+where_text file findings = codes "where: " ++ (found_place findings.entry findings.found ++ (codes ", in " ++ file))
 
 -- the values that a key may have; the limits are those that are checked (own)
 abbrev pub values_text : Key → List ℕ
@@ -131,24 +150,41 @@ allowed_by (rules.OutOfRange key) place other = codes "allowed: " ++ values_text
 allowed_by (rules.Double key) place other = codes "allowed: " ++ (double_text key ++ other_text key other)
 allowed_by rules.NoSuchDrive place other = codes "allowed: a slot, or a drive that has an entry"
 
--- what is allowed where a reason stands (own)
-abbrev pub allowed_text : ConfigReason → List ℕ
-allowed_text reason = allowed_by reason.rule reason.entry.place reason.other
+-- what is allowed where this was found (own)
+abbrev pub allowed_text : Rule → Findings → List ℕ
+allowed_text rule findings = allowed_by rule findings.entry.place findings.other
 
--- what to do about a rule (own)
-abbrev pub rule_fix : Rule → List ℕ
-rule_fix rules.NotUtf8 = codes "to do: save the file as UTF-8"
-rule_fix rules.NotToml = codes "to do: correct the text there, or on the lines before"
-rule_fix rules.NotATable = codes "to do: write the entry as [[cartridge]] or [[drive]], with its keys below"
-rule_fix rules.OtherKey = codes "to do: remove the key, or correct its name"
-rule_fix (rules.Missing key) = codes "to do: add the key to the entry"
-rule_fix (rules.OtherKind key) = codes "to do: change the value"
-rule_fix (rules.OutOfRange key) = codes "to do: change the value"
-rule_fix (rules.Double key) = codes "to do: change one of the two"
-rule_fix rules.NoSuchDrive = codes "to do: add an entry of that drive, or choose another home"
+-- what to do about a value of another kind: where a table stands for a list, its brackets are missing (own)
+abbrev pub brackets_fix : Rule → Found → List ℕ
+brackets_fix (rules.OtherKind key.Cartridge) (found.Value seen.Table) =
+    codes "to do: begin each entry with [[cartridge]], in two brackets"
+brackets_fix (rules.OtherKind key.Drive) (found.Value seen.Table) =
+    codes "to do: begin each entry with [[drive]], in two brackets"
+brackets_fix _ _ = codes "to do: change the value"
 
--- the lines that explain why the configuration of a file is refused: what, where, what is allowed, what to do (own)
+-- what to do about a rule, where this was found (own)
+abbrev pub rule_fix : Rule → Found → List ℕ
+rule_fix rules.NotUtf8 shown = codes "to do: save the file as UTF-8"
+rule_fix rules.NotToml shown = codes "to do: correct the text there, or on the lines before"
+rule_fix rules.NotATable shown = codes "to do: write the entry as [[cartridge]] or [[drive]], with its keys below"
+rule_fix rules.OtherKey shown = codes "to do: remove the key, or correct its name"
+rule_fix (rules.Missing key) shown = codes "to do: add the key to the entry"
+rule_fix (rules.OtherKind key) shown = brackets_fix (rules.OtherKind key) shown
+rule_fix (rules.OutOfRange key) shown = codes "to do: change the value"
+rule_fix (rules.Double key) shown = codes "to do: change one of the two"
+rule_fix rules.NoSuchDrive shown = codes "to do: add an entry of that drive, or choose another home"
+
+-- the lines of a rule that is broken, where this was found: what, where, what is allowed, what to do (own)
+abbrev pub finding_lines : List ℕ → Rule → Findings → List ℕ
+finding_lines file rule findings =
+    line_of (refused_text rule findings.found) ++ (line_of (where_text file findings)
+    ++ (line_of (allowed_text rule findings) ++ line_of (rule_fix rule findings.found)))
+
+-- the lines of what was found, if it is there (own)
+abbrev pub option_lines : List ℕ → Rule → Option Findings → List ℕ
+option_lines file rule None = []
+option_lines file rule (Some findings) = finding_lines file rule findings
+
+-- the lines that explain why the configuration of a file is refused; none where memory ran out for them (own)
 abbrev pub config_lines : List ℕ → ConfigReason → List ℕ
-config_lines file reason =
-    line_of (refused_text reason.rule reason.found) ++ (line_of (where_text file reason)
-    ++ (line_of (allowed_text reason) ++ line_of (rule_fix reason.rule)))
+config_lines file reason = option_lines file reason.rule reason.findings

@@ -1,14 +1,13 @@
 //! The words that say why a text is not a configuration.
 ghost use Rattle.std.specs.Prelude.{◌≡◌};
-ghost use Rattle.config_reasons.specs.Texts.{subject_of, missing_of, outside_in, kind_text, keys_text, double_text, has_text, rule_fix};
+ghost use Rattle.config_reasons.specs.Texts.{subject_of, missing_of, outside_in, kind_text, keys_text, double_text, has_text, brackets_fix, rule_fix};
 
-use crate::reasons::{ConfigReason, Entry, Found};
-use crate::seen::{Among, Outside, Seen};
+use crate::seen::{Among, SeenText};
 use std::fmt;
 use vtl_base::limits::{
     DRIVES, FIRST_SLOT, MAX_BARCODE, MAX_CAPACITY, MAX_PARTITIONS, MIN_CAPACITY, SLOTS,
 };
-use vtl_config::{Key, Place, Rule};
+use vtl_config::{Entry, Findings, Found, Key, Outside, Place, Rule, Seen};
 
 // An entry by its number in its list, and by its barcode.
 #[derive(Clone, Copy)]
@@ -92,17 +91,20 @@ fn kind_text(rule: Rule, seen: &Seen) -> &'static str
 
 // What is refused.
 #[derive(Clone, Copy)]
-pub(crate) struct RefusedText<'a>(pub(crate) &'a ConfigReason);
+pub(crate) struct RefusedText<'a> {
+    pub(crate) rule: Rule,
+    pub(crate) found: &'a Found,
+}
 
 impl<'a> fmt::Display for RefusedText<'a> {
     ghost use Rattle.std.specs.Prelude.{Some};
     ghost use Rattle.config_reasons.specs.Texts.{refused_text};
 
-    ghost output = { λ it. Some (refused_text it.0.now.rule it.0.now.found) };
+    ghost output = { λ it. Some (refused_text it.rule it.found.now) };
 
     fn fmt<W: fmt::Write>(&self, f: &mut fmt::Formatter<W>) -> fmt::Result {
-        let (subject, missing) = (subject_of(self.0.rule), missing_of(self.0.rule));
-        match &self.0.found {
+        let (subject, missing) = (subject_of(self.rule), missing_of(self.rule));
+        match self.found {
             Found::NoText(_) => write!(f, "refused: the text is not UTF-8"),
             Found::NoDocument { message, .. } => {
                 write!(f, "refused: the text is no TOML: {message}")
@@ -110,8 +112,9 @@ impl<'a> fmt::Display for RefusedText<'a> {
             Found::OtherKey(name) => write!(f, "refused: the key {name}"),
             Found::Nothing => write!(f, "refused: the key {missing} is missing"),
             Found::Value(seen) => {
-                let among = Among(outside_in(self.0.rule, seen));
-                let kind = kind_text(self.0.rule, seen);
+                let among = Among(outside_in(self.rule, seen));
+                let kind = kind_text(self.rule, seen);
+                let seen = SeenText(seen);
                 write!(f, "refused: {subject} is {seen}{among}{kind}")
             }
         }
@@ -122,19 +125,19 @@ impl<'a> fmt::Display for RefusedText<'a> {
 #[derive(Clone, Copy)]
 pub(crate) struct WhereText<'a> {
     pub(crate) file: &'a str,
-    pub(crate) reason: &'a ConfigReason,
+    pub(crate) findings: &'a Findings,
 }
 
 impl<'a> fmt::Display for WhereText<'a> {
     ghost use Rattle.std.specs.Prelude.{Some};
     ghost use Rattle.config_reasons.specs.Texts.{where_text};
 
-    ghost output = { λ it. Some (where_text it.file.now it.reason.now) };
+    ghost output = { λ it. Some (where_text it.file.now it.findings.now) };
 
     fn fmt<W: fmt::Write>(&self, f: &mut fmt::Formatter<W>) -> fmt::Result {
         let file = self.file;
-        let entry = EntryText(&self.reason.entry);
-        match &self.reason.found {
+        let entry = EntryText(&self.findings.entry);
+        match &self.findings.found {
             Found::NoText(spot) | Found::NoDocument { spot, .. } => {
                 let (line, column) = (spot.line, spot.column);
                 write!(f, "where: line {line}, column {column}, in {file}")
@@ -237,21 +240,24 @@ impl<'a> fmt::Display for OtherText<'a> {
 
 // What is allowed there.
 #[derive(Clone, Copy)]
-pub(crate) struct AllowedText<'a>(pub(crate) &'a ConfigReason);
+pub(crate) struct AllowedText<'a> {
+    pub(crate) rule: Rule,
+    pub(crate) findings: &'a Findings,
+}
 
 impl<'a> fmt::Display for AllowedText<'a> {
     ghost use Rattle.std.specs.Prelude.{Some};
     ghost use Rattle.config_reasons.specs.Texts.{allowed_text};
 
-    ghost output = { λ it. Some (allowed_text it.0.now) };
+    ghost output = { λ it. Some (allowed_text it.rule it.findings.now) };
 
     fn fmt<W: fmt::Write>(&self, f: &mut fmt::Formatter<W>) -> fmt::Result {
-        match self.0.rule {
+        match self.rule {
             Rule::NotUtf8 => write!(f, "allowed: UTF-8"),
             Rule::NotToml => write!(f, "allowed: TOML"),
             Rule::NotATable => write!(f, "allowed: a table"),
             Rule::OtherKey => {
-                let keys = keys_of(self.0.entry.place);
+                let keys = keys_of(self.findings.entry.place);
                 write!(f, "allowed: {keys}")
             }
             Rule::Missing(key) | Rule::OtherKind(key) | Rule::OutOfRange(key) => {
@@ -261,7 +267,7 @@ impl<'a> fmt::Display for AllowedText<'a> {
             Rule::Double(key) => {
                 let other = OtherText {
                     key,
-                    other: &self.0.other,
+                    other: &self.findings.other,
                 };
                 let values = double_text(key);
                 write!(f, "allowed: {values}{other}")
@@ -271,9 +277,22 @@ impl<'a> fmt::Display for AllowedText<'a> {
     }
 }
 
-// What to do about a rule.
-pub(crate) fn rule_fix(rule: Rule) -> &'static str
-    ensures { result.now ≡ rule_fix rule }
+// What to do about a value of another kind: where a table stands for a list, its brackets are missing.
+fn brackets_fix(rule: Rule, found: &Found) -> &'static str
+    ensures { result.now ≡ brackets_fix rule found.now }
+{
+    match (rule, found) {
+        (Rule::OtherKind(Key::Cartridge), Found::Value(Seen::Table)) =>
+            "to do: begin each entry with [[cartridge]], in two brackets",
+        (Rule::OtherKind(Key::Drive), Found::Value(Seen::Table)) =>
+            "to do: begin each entry with [[drive]], in two brackets",
+        _ => "to do: change the value",
+    }
+}
+
+// What to do about a rule, where this was found.
+pub(crate) fn rule_fix(rule: Rule, found: &Found) -> &'static str
+    ensures { result.now ≡ rule_fix rule found.now }
 {
     match rule {
         Rule::NotUtf8 => "to do: save the file as UTF-8",
@@ -282,7 +301,8 @@ pub(crate) fn rule_fix(rule: Rule) -> &'static str
             "to do: write the entry as [[cartridge]] or [[drive]], with its keys below",
         Rule::OtherKey => "to do: remove the key, or correct its name",
         Rule::Missing(_) => "to do: add the key to the entry",
-        Rule::OtherKind(_) | Rule::OutOfRange(_) => "to do: change the value",
+        Rule::OtherKind(_) => brackets_fix(rule, found),
+        Rule::OutOfRange(_) => "to do: change the value",
         Rule::Double(_) => "to do: change one of the two",
         Rule::NoSuchDrive => "to do: add an entry of that drive, or choose another home",
     }

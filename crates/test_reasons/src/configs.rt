@@ -1,5 +1,5 @@
 //! Configurations that are refused, and the lines that say why, each written by hand from FORMATS.md (docs).
-use config_reasons::reason_of;
+use config_reasons::add_reason;
 use explanations::Explanation;
 use std::alloc::{AllocError, Global};
 use std::process::Abort;
@@ -10,10 +10,8 @@ use vtl_config::{ConfigError, read_config};
 // The lines for a text in the file `a.toml`.
 fn lines_of(alloc: Global, text: &[u8]) -> Result<Explanation, AllocError> {
     let mut lines = Explanation::new(alloc);
-    if let Err(ConfigError::Refused { place, rule }) = read_config(alloc, text) {
-        if let Some(reason) = reason_of(alloc, text, place, rule) {
-            reason.add_to(alloc, "a.toml", &mut lines)?;
-        }
+    if let Err(ConfigError::Refused(reason)) = read_config(alloc, text) {
+        add_reason(alloc, "a.toml", &reason, &mut lines)?;
     }
     Ok(lines)
 }
@@ -175,7 +173,6 @@ const NO_BARCODE: &[u8] =
 
 static WRONG_VALUES: &'static [Row<'static>] = &[
     (b"drive = 1", "drive is 1", TOP, DRIVES),
-    (b"cartridge = {}", "cartridge is a table", TOP, CARTRIDGES),
     (NO_BARCODE, "barcode is 't1'", ENTRY, BARCODES),
 ];
 
@@ -209,6 +206,13 @@ fn values_that_are_refused(rt: HostRuntime) -> Result<(), Fail> {
     let alloc = rt.alloc();
     for &(text, refused, place, allowed) in WRONG_VALUES {
         has(&rt, alloc, text, (refused, place, allowed, CHANGE))?;
+    }
+    for (name, allowed) in [("drive", DRIVES), ("cartridge", CARTRIDGES)] {
+        let text = format!(in alloc; "[{name}]\n")?;
+        let refused = format!(in alloc; "{name} is a table")?;
+        let to_do = format!(in alloc; "begin each entry with [[{name}]], in two brackets")?;
+        let reason = (refused.as_str(), TOP, allowed, to_do.as_str());
+        has(&rt, alloc, text.as_str().as_bytes(), reason)?;
     }
     for &(text, refused, place) in ENTRIES {
         let to_do = "write the entry as [[cartridge]] or [[drive]], with its keys below";

@@ -4,12 +4,10 @@ use Rattle.std.proofs.lemmas.Grind.{flat_map-append}
 use Rattle.std.proofs.lemmas.List.{map-append}
 use Rattle.std.proofs.lemmas.List.Elements.{All-push, Contains-push_cases}
 use Rattle.std.specs.List.{Contains}
-use Rattle.std.specs.Prelude.{IsUtf8}
 use Rattle.toml.specs.Data.{Data, string, integer, float, boolean, datetime, array, table, Members}
-use Rattle.toml.specs.Parse.{parse_document}
 use Rattle.toml.specs.View.{view}
 use Rattle.toml.specs.declared.value.Value.{Value}
-use Rattle.vtl_config.specs.Configs.{EntriesAt, AreDrives, AreCartridges, IsAtHome, BrokenAt, at_drive, at_cartridge, its_document, RefusesText}
+use Rattle.vtl_config.specs.Configs.{EntriesAt, AreDrives, AreCartridges, IsAtHome, BrokenAt, at_drive, at_cartridge}
 use Rattle.vtl_config.specs.Entries.{address_of, numbers_of, drive_files, barcodes_of, both_files, homes_of, IsDrive, IsCartridge, AreDistinct}
 use Rattle.vtl_config.specs.FileNames.{second_name, both_names}
 use Rattle.vtl_config.specs.Rules.{EntryBreaks}
@@ -17,8 +15,8 @@ use Rattle.vtl_config.specs.Inner.Found.{FitsDrive, FitsDriveTable, FitsCartridg
 use Rattle.vtl_config.specs.declared.entries.CartridgeEntry.{CartridgeEntry}
 use Rattle.vtl_config.specs.declared.entries.DriveEntry.{DriveEntry}
 use Rattle.vtl_config.specs.declared.keys.Key.TheVariants.{Cartridge, Drive}
-use Rattle.vtl_config.specs.declared.rules.ConfigError.{ConfigError}
-use Rattle.vtl_config.specs.declared.rules.ConfigError.TheVariants.{Refused, NoMemory}
+use Rattle.vtl_config.specs.declared.rules.TableError.{TableError}
+use Rattle.vtl_config.specs.declared.rules.TableError.TheVariants.{Refused, NoMemory}
 use Rattle.vtl_config.specs.declared.rules.Place.{Place}
 use Rattle.vtl_config.specs.declared.rules.Rule.{Rule}
 use Rattle.vtl_config.proofs.DoubleLemmas.{second_differs}
@@ -139,22 +137,15 @@ cartridges_push drives entries cartridges value cartridge are fits named =
 
 -- why a table is refused for its drives, and for its cartridges
 pub drives_refused :
-    (root : Members) (entries : List Data) (error : ConfigError) → EntriesAt Drive root entries
+    (root : Members) (entries : List Data) (error : TableError) → EntriesAt Drive root entries
     → DrivesRefused entries error → TableRefused root error
 drives_refused root entries (Refused place rule) there why = at_drive entries there why
 drives_refused root entries NoMemory there why = tt
 
 pub cartridges_refused :
-    (root : Members) (entries more : List Data) (drives : List DriveEntry) (error : ConfigError)
+    (root : Members) (entries more : List Data) (drives : List DriveEntry) (error : TableError)
     → EntriesAt Drive root entries → AreDrives entries drives → EntriesAt Cartridge root more
     → CartridgesRefused drives more error → TableRefused root error
 cartridges_refused root entries more drives (Refused place rule) there are here why =
     at_cartridge entries more drives there are here why
 cartridges_refused root entries more drives NoMemory there are here why = tt
-
--- why a text is refused, where its table is
-pub text_refused :
-    (text : List ℕ) (root : Members) (error : ConfigError) → IsUtf8 text → parse_document text ≡ Some root
-    → TableRefused root error → RefusesText text error
-text_refused text root (Refused place rule) utf8 parsed why = its_document root utf8 parsed why
-text_refused text root NoMemory utf8 parsed why = utf8

@@ -18,7 +18,7 @@ use Rattle.vtl_config.specs.declared.keys.Key.TheVariants.{Barcode, File, Capaci
 use Rattle.vtl_config.specs.declared.rules.Rule.{Rule}
 use Rattle.vtl_config.proofs.CapacityLemmas.{items_all-items_of, count_items-items_of}
 
-right_value :
+pub right_value :
     (key : Key) (found : Option Data) (value : Data) → found ≡ Some value
     → is_of_kind (kind_of_key key) value ≡ true → IsWithin key value → (rule : Rule) → Misfits key found rule → ⊥
 right_value key found value there kind within rule (missing told none) =
@@ -30,7 +30,7 @@ right_value key found value there kind within rule (other_kind other told here w
 right_value key found value there kind within rule (out_of_range other told here right outside) =
     outside (subst (λ (v : Data). IsWithin key v) (same_Some _ _ (sym there ∙ here)) within)
 
-drive_key_go :
+pub drive_key_go :
     (key : Key) (k : ℕ) → k < 2 → get_or drive_keys k key ≡ key → (Number ≡ key) ⊎ (Reservations ≡ key)
 drive_key_go key zero below here = inl here
 drive_key_go key (suc zero) below here = inr here
@@ -49,11 +49,11 @@ drive_fits entry number file is key has rule misfit = elim (drive_key_go key has
       (subst (λ (k : Key). Misfits k (value_at k entry) rule) (sym same) misfit)
 ]
 
-all_whole : (capacities : List ℕ) → items_all is_integer (items_of (map whole capacities)) ≡ true
+pub all_whole : (capacities : List ℕ) → items_all is_integer (items_of (map whole capacities)) ≡ true
 all_whole [] = refl
 all_whole (c ∷ cs) = all_whole cs
 
-held : (capacities : List ℕ) → AreCapacities capacities → hold_capacities (items_of (map whole capacities)) ≡ true
+pub held : (capacities : List ℕ) → AreCapacities capacities → hold_capacities (items_of (map whole capacities)) ≡ true
 held capacities are =
     let count : count_items (items_of (map whole capacities)) ≡ length capacities =
     count_items-items_of (map whole capacities) ∙ length-map capacities whole in
@@ -66,7 +66,7 @@ held capacities are =
     ∙ (list_all-map is_capacity_value whole capacities ∙ list_all-from_AllPass is_capacity capacities are.each) in
     and_from _ _ (and_from _ _ some few) each
 
-cartridge_key_go :
+pub cartridge_key_go :
     (key : Key) (k : ℕ) → k < 4 → get_or cartridge_keys k key ≡ key
     → ((Barcode ≡ key) ⊎ (File ≡ key)) ⊎ ((Capacities ≡ key) ⊎ (Home ≡ key))
 cartridge_key_go key zero below here = inl (inl here)

@@ -7,3 +7,7 @@ mod EntryLemmas
 mod SameLemmas
 mod FitLemmas
 mod BreakLemmas
+mod SeenLemmas
+mod OutsideLemmas
+mod ReasonLemmas
+mod FirstLemmas

@@ -97,5 +97,5 @@ pub data TextBreaks (text : List ℕ) (place : Place) (rule : Rule) : Type 0 whe
 
 -- why a text gives no configuration; memory may run out at any that is UTF-8, whatever it says (own)
 abbrev pub RefusesText : List ℕ → ConfigError → Type 0
-RefusesText text (Refused place rule) = TextBreaks text place rule
+RefusesText text (Refused reason) = TextBreaks text reason.place reason.rule
 RefusesText text NoMemory = IsUtf8 text

@@ -4,6 +4,12 @@ pub mod Capacities
 pub mod FileNames
 pub mod Entries
 pub mod Rules
+pub mod Spots
+pub mod Seen
+pub mod Places
+pub mod Earlier
 pub mod Configs
+pub mod First
+pub mod Reasons
 pub mod Laws
 pub mod Inner

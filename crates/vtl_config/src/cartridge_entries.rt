@@ -3,25 +3,24 @@ ghost use Rattle.std.specs.Prelude.{◌≡◌, IfOk, IfErr, MatchBool, map};
 ghost use Rattle.std.specs.List.{Contains};
 ghost use Rattle.toml.specs.View.{view, table_view};
 ghost use Rattle.vtl_config.specs.Entries.{address_of, numbers_of, drive_files, AreDistinct, IsCartridgeTable};
+ghost use Rattle.vtl_config.specs.First.{IsFirst, CartridgeTableFirst};
 ghost use Rattle.vtl_config.specs.Keys.{cartridge_keys};
 ghost use Rattle.vtl_config.specs.Rules.{TableBreaks, CartridgeTableBreaks, EntryBreaks};
 ghost use Rattle.vtl_config.specs.Values.{IsDriveNumber};
 ghost use Rattle.vtl_config.specs.Configs.{AreCartridges, IsAtHome};
-ghost use Rattle.vtl_config.specs.Inner.Found.{FitsCartridgeTable, FitsCartridge, CartridgesRefused};
+ghost use Rattle.vtl_config.specs.Inner.Found.{FitsCartridgeTable, FitsCartridge, CartridgesRefused, CartridgesFirst};
 
 use crate::capacities::{Capacities, capacities_at};
 use crate::double_files::{meets_cartridge_files, meets_drive_files, meets_second_files};
 use crate::doubles::{has_barcode, has_home, has_number};
 use crate::entries::{Address, CartridgeEntry, DriveEntry};
 use crate::file_names::{FileName, second_file};
-use crate::keys::{Key, has_only};
-use crate::rules::{ConfigError, Place, Rule};
+use crate::keys::{CARTRIDGE_KEYS, Key, has_only};
+use crate::rules::{Place, Rule, TableError};
 use crate::values::{barcode_at, home_at, text_at};
 use std::alloc::Global;
 use toml::{Table, Value};
 use vtl_base::Barcode;
-
-const KEYS: [Key; 4] = [Key::Barcode, Key::File, Key::Capacities, Key::Home];
 
 #[derive(Drop)]
 struct FoundCartridge<'a> {
@@ -45,8 +44,9 @@ fn values_in(entry: &Table) -> Result<FoundCartridge<'_>, Rule>
     ensures ok { IfOk result (λ found.
         IsCartridgeTable (table_view entry.now) found.barcode found.file.now found.capacities (address_of found.home)) }
     ensures err { IfErr result (TableBreaks cartridge_keys (table_view entry.now)) }
+    ensures first { IfErr result (IsFirst (TableBreaks cartridge_keys (table_view entry.now))) }
 {
-    if !has_only(entry, &KEYS) {
+    if !has_only(entry, &CARTRIDGE_KEYS) {
         return Err(Rule::OtherKey);
     }
     let barcode = match barcode_at(entry) {
@@ -81,6 +81,7 @@ fn cartridge_in<'a>(
     ensures ok { IfOk result (λ found. FitsCartridgeTable drives.now before.now (table_view entry.now)
         found.barcode found.file.now found.capacities (address_of found.home)) }
     ensures err { IfErr result (CartridgeTableBreaks drives.now before.now (table_view entry.now)) }
+    ensures first { IfErr result (CartridgeTableFirst drives.now before.now (table_view entry.now)) }
 {
     let found = match values_in(entry) {
         Ok(found) => found,
@@ -115,6 +116,7 @@ fn found_cartridge<'a>(
     ensures ok { IfOk result (λ found. FitsCartridge drives.now before.now (view value.now)
         found.barcode found.file.now found.capacities (address_of found.home)) }
     ensures err { IfErr result (EntryBreaks (CartridgeTableBreaks drives.now before.now) (view value.now)) }
+    ensures first { IfErr result (EntryBreaks (CartridgeTableFirst drives.now before.now) (view value.now)) }
 {
     match value.as_table() {
         Some(entry) => cartridge_in(drives, before, entry),
@@ -127,17 +129,18 @@ pub(crate) fn read_cartridges(
     alloc: Global,
     drives: &[DriveEntry],
     entries: &[Value],
-) -> Result<Vec<CartridgeEntry>, ConfigError>
+) -> Result<Vec<CartridgeEntry>, TableError>
     requires { AreDistinct (drive_files drives.now) }
     ensures ok { IfOk result (λ cartridges. AreCartridges drives.now (map view entries.now) cartridges.items) }
     ensures err { IfErr result (CartridgesRefused drives.now (map view entries.now)) }
+    ensures first { IfErr result (CartridgesFirst drives.now (map view entries.now)) }
 {
     let mut cartridges = Vec::new(alloc);
     for (place, value) in entries.iter().enumerate() {
         let found = match found_cartridge(drives, cartridges.as_slice(), value) {
             Ok(found) => found,
             Err(rule) => {
-                return Err(ConfigError::Refused {
+                return Err(TableError::Refused {
                     place: Place::Cartridge(place + 1),
                     rule,
                 });

@@ -19,7 +19,7 @@ fn is_second_of(name: &str, file: &str) -> bool
 }
 
 // Whether the name is that of one of the two files of the cartridge whose first file has the name `file`.
-fn is_of_both(name: &str, file: &str) -> bool
+pub(crate) fn is_of_both(name: &str, file: &str) -> bool
     ensures { result ≡ is_of_both file.now name.now }
 {
     name == file || is_second_of(name, file)

@@ -1,6 +1,7 @@
 //! The keys of a configuration.
-ghost use Rattle.std.specs.Prelude.{◌≡◌};
-ghost use Rattle.vtl_config.specs.Keys.{name_of, is_one_of, has_only};
+ghost use Rattle.std.specs.Prelude.{◌≡◌, IfSome, false};
+ghost use Rattle.std.specs.List.{Contains};
+ghost use Rattle.vtl_config.specs.Keys.{name_of, keys_of, is_one_of, has_only};
 ghost use Rattle.toml.specs.View.{table_view};
 
 use toml::Table;
@@ -25,6 +26,15 @@ pub enum Key {
     /// Of a drive: the name of the file that keeps its reservations.
     Reservations,
 }
+
+// The keys at the top.
+pub(crate) const TOP_KEYS: [Key; 2] = [Key::Cartridge, Key::Drive];
+
+// The keys of a drive's table.
+pub(crate) const DRIVE_KEYS: [Key; 2] = [Key::Number, Key::Reservations];
+
+// The keys of a cartridge's table.
+pub(crate) const CARTRIDGE_KEYS: [Key; 4] = [Key::Barcode, Key::File, Key::Capacities, Key::Home];
 
 impl Key {
     /// The name of the key, as a configuration spells it.
@@ -60,4 +70,17 @@ pub(crate) fn has_only(table: &Table, keys: &[Key]) -> bool
         }
     }
     true
+}
+
+// The first key of the table that is none of these; None where each is one.
+pub(crate) fn other_key<'a>(table: &'a Table, keys: &[Key]) -> Option<&'a str>
+    ensures { IfSome result (λ name. Contains (keys_of (table_view table.now)) name.now
+        × (is_one_of keys.now name.now ≡ false)) }
+{
+    for name in table.keys() {
+        if !is_one_of(keys, name.as_str()) {
+            return Some(name.as_str());
+        }
+    }
+    None
 }

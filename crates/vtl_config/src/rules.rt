@@ -1,5 +1,6 @@
 //! Why a configuration is refused.
 use crate::keys::Key;
+use crate::reasons::ConfigReason;
 use std::alloc::{AllocError, AllocFailed};
 use thiserror::Error;
 
@@ -40,34 +41,43 @@ pub enum Rule {
 }
 
 /// Why `read_config` returned no configuration.
-#[derive(Clone, Copy, PartialEq, Eq, Debug, Error)]
+#[derive(Debug, Drop, Error)]
 pub enum ConfigError {
-    /// The text breaks `rule` at `place`.
-    #[error("{place:?}: {rule:?}")]
-    Refused { place: Place, rule: Rule },
+    /// The text breaks a rule. The reason is of the first that it breaks.
+    #[error("{0:?}")]
+    Refused(ConfigReason),
     /// Memory ran out.
     #[error("out of memory")]
     NoMemory,
 }
 
-impl From<AllocError> for ConfigError {
+// Why the table of a text is no configuration.
+#[derive(Clone, Copy, Debug)]
+pub(crate) enum TableError {
+    // The table breaks `rule` at `place`.
+    Refused { place: Place, rule: Rule },
+    // Memory ran out.
+    NoMemory,
+}
+
+impl From<AllocError> for TableError {
     ghost use Rattle.std.specs.Prelude.{◌≡◌};
-    ghost use Rattle.vtl_config.specs.declared.rules.ConfigError.TheVariants.{NoMemory};
+    ghost use Rattle.vtl_config.specs.declared.rules.TableError.TheVariants.{NoMemory};
 
     ghost from_gives = { λ _ e. e ≡ NoMemory };
 
     fn from(_: AllocError) -> Self {
-        ConfigError::NoMemory
+        TableError::NoMemory
     }
 }
 
-impl<T: Drop> From<AllocFailed<T>> for ConfigError {
+impl<T: Drop> From<AllocFailed<T>> for TableError {
     ghost use Rattle.std.specs.Prelude.{◌≡◌};
-    ghost use Rattle.vtl_config.specs.declared.rules.ConfigError.TheVariants.{NoMemory};
+    ghost use Rattle.vtl_config.specs.declared.rules.TableError.TheVariants.{NoMemory};
 
     ghost from_gives = { λ _ e. e ≡ NoMemory };
 
     fn from(_: AllocFailed<T>) -> Self {
-        ConfigError::NoMemory
+        TableError::NoMemory
     }
 }

@@ -8,7 +8,7 @@ ghost use Rattle.vtl_program.specs.Orders.{given_words};
 use crate::nul_names::{add_each_nul, add_nul};
 use crate::orders::run;
 use check_lines::reading::ReportsRead;
-use config_reasons::reason_of;
+use config_reasons::add_reason;
 use explanations::Explanation;
 use library::Sealed;
 use std::alloc::{AllocError, Global};
@@ -148,10 +148,9 @@ fn add_config(
     };
     let text = config.text.as_slice();
     match read_config(alloc, text) {
-        Err(ConfigError::Refused { place, rule }) => match reason_of(alloc, text, place, rule) {
-            Some(reason) => reason.add_to(alloc, config.file.as_str(), lines),
-            None => Ok(()),
-        },
+        Err(ConfigError::Refused(reason)) => {
+            add_reason(alloc, config.file.as_str(), &reason, lines)
+        }
         Err(ConfigError::NoMemory) => Ok(()),
         Ok(config) => match doubt {
             Doubt::Barcode(barcode) => add_barcode(alloc, barcode, &config, lines),

@@ -1,6 +1,7 @@
 use Rattle.std.proofs.Common.{sym}
 use Rattle.std.proofs.lemmas.Result.{IfErr-weaker}
 use Rattle.toml.specs.View.{view, table_view}
+use Rattle.vtl_config.specs.First.{CartridgeTableFirst}
 use Rattle.vtl_config.specs.Rules.{CartridgeTableBreaks, EntryBreaks, its_table}
 use Rattle.vtl_config.proofs.ValueLemmas.{table_value}
 use Rattle.vtl_config.proofs.cartridge_entries.found_cartridge.Goals as goal
@@ -12,3 +13,11 @@ returns-in-Some-clause-err c =
     (EntryBreaks (CartridgeTableBreaks c.args.drives.now c.args.before.now) (view c.args.value.now))
     (λ rule breaks. its_table (table_view c.in-Some.entry.now) (table_value _ _ (sym c.in-Some.ensures)) breaks)
     c.cartridge_in.ensures.err
+
+pub returns-in-Some-clause-first : goal.returns-in-Some-clause-first
+returns-in-Some-clause-first c =
+    IfErr-weaker c.cartridge_in.result
+    (CartridgeTableFirst c.args.drives.now c.args.before.now (table_view c.in-Some.entry.now))
+    (EntryBreaks (CartridgeTableFirst c.args.drives.now c.args.before.now) (view c.args.value.now))
+    (λ rule breaks. its_table (table_view c.in-Some.entry.now) (table_value _ _ (sym c.in-Some.ensures)) breaks)
+    c.cartridge_in.ensures.first

@@ -5,6 +5,7 @@ use Rattle.toml.specs.declared.value.Value.{Value}
 use Rattle.vtl_config.specs.Configs.{AreCartridges}
 use Rattle.vtl_config.specs.Entries.{address_of, drive_files}
 use Rattle.vtl_config.specs.FileNames.{second_name}
+use Rattle.vtl_config.specs.First.{CartridgeTableFirst}
 use Rattle.vtl_config.specs.Inner.Found.{FitsCartridge}
 use Rattle.vtl_config.specs.Rules.{CartridgeTableBreaks}
 use Rattle.vtl_config.specs.declared.rules.Place.TheVariants.{Cartridge}
@@ -49,3 +50,10 @@ loop-place-preserved c =
 pub returns-clause-ok : goal.returns-clause-ok
 returns-clause-ok c =
     rw (take_all c.loop-place.place c.args.entries.now (omega arith)) at c.loop-place.invariant
+
+pub returns-in-Err-clause-first : goal.returns-in-Err-clause-first
+returns-in-Err-clause-first c =
+    broken_here (AreCartridges c.args.drives.now) (CartridgeTableFirst c.args.drives.now) Cartridge
+    c.args.entries.now c.loop-place.place c.index-entries-place.result c.loop-place.cartridges.items c.in-Err.rule
+    c.loop-place-test.true c.index-entries-place.is c.loop-place.invariant
+    (rw (← c.as_slice.ensures.value) c.in-Err.ensures.first)

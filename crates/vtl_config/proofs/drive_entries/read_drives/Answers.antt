@@ -3,6 +3,7 @@ use Rattle.std.proofs.lemmas.List.{take_all}
 use Rattle.toml.specs.View.{view}
 use Rattle.toml.specs.declared.value.Value.{Value}
 use Rattle.vtl_config.specs.Configs.{AreDrives}
+use Rattle.vtl_config.specs.First.{DriveTableFirst}
 use Rattle.vtl_config.specs.Inner.Found.{FitsDrive}
 use Rattle.vtl_config.specs.Rules.{DriveTableBreaks}
 use Rattle.vtl_config.specs.declared.rules.Place.TheVariants.{Drive}
@@ -37,3 +38,9 @@ loop-place-preserved c =
 pub returns-clause-ok : goal.returns-clause-ok
 returns-clause-ok c =
     rw (take_all c.loop-place.place c.args.entries.now (omega arith)) at c.loop-place.invariant
+
+pub returns-in-Err-clause-first : goal.returns-in-Err-clause-first
+returns-in-Err-clause-first c =
+    broken_here AreDrives DriveTableFirst Drive c.args.entries.now c.loop-place.place c.index-entries-place.result
+    c.loop-place.drives.items c.in-Err.rule c.loop-place-test.true c.index-entries-place.is c.loop-place.invariant
+    (rw (← c.as_slice.ensures.value) c.in-Err.ensures.first)

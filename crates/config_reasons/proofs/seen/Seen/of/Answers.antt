@@ -1,8 +1,0 @@
-use Rattle.toml.specs.View.{view}
-use Rattle.config_reasons.proofs.SeenLemmas.{seen_text}
-use Rattle.config_reasons.proofs.seen.Seen.of.Goals as goal
-
-pub returns-in_ok-from_str-in-Some : goal.returns-in_ok-from_str-in-Some
-returns-in_ok-from_str-in-Some c =
-    seen_text (view c.args.value.now) c.in-Some.text.now c.in_ok-from_str-in-Some.field-0 c.in-Some.ensures
-    c.in_ok-from_str-in-Some.ensures.ok

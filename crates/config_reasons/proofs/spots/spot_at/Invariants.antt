@@ -1,6 +1,0 @@
-use Rattle.std.proofs.Common.{◌≡◌}
-use Rattle.config_reasons.specs.Spots.{spot_at}
-use Rattle.config_reasons.proofs.spots.spot_at.Given as goal
-
-abbrev pub invariant-loop-place : goal.invariant-loop-place
-invariant-loop-place l = l.spot ≡ spot_at l.text l.place
