@@ -1,7 +1,8 @@
 #!/usr/bin/env python3
 """Counts the way into a library: the calls from `main` to the first line of a script and to the first frame, and the
-functions of that way that are for a library alone, with their parameters and type parameters. It verifies its table: each
-function stands in its file and calls the next one. It ends with 1 where the table is wrong or a figure is above its bound.
+functions of that way that are for a library alone, with their parameters and type parameters. It verifies its table:
+each function stands in its file and calls the next one. It ends with 1 where the table is wrong or a figure is above
+its bound.
 
 way_in.py [FOLDER]          the repository in which this script stands, or another one
 """

@@ -176,6 +176,8 @@ struct Stepping<'a, R> {
     steps: &'a [(usize, u32, u32)],
     rest: &'a [u8],
     left: usize,
+    // How many turns had begun before the first request.
+    begun: u32,
 }
 
 impl<R: Wait + Clock> Read for Stepping<'_, R> {
@@ -184,6 +186,9 @@ impl<R: Wait + Clock> Read for Stepping<'_, R> {
             if let [(length, turns, answers), steps @ ..] = self.steps {
                 self.signs.wait(self.rt, *turns, *answers);
                 thread::sleep(self.rt, Duration::from_millis(20));
+                if self.begun == 0 {
+                    self.begun = self.signs.turns.load(Ordering::SeqCst);
+                }
                 self.left = *length;
                 self.steps = steps;
             }
@@ -257,12 +262,14 @@ fn a_drive_answers_while_another_stands_in_its_turn(rt: HostRuntime) -> Result<(
         steps: STEPS,
         rest: input.as_slice(),
         left: 0,
+        begun: 0,
     };
     let mut writer = Counting(&signs, Vec::new(rt.alloc()));
     let mut counts = [Some(0); 16];
     counts[0] = Some(1);
     let end = serving_to(&rt, rt.alloc(), counts, &gate, &mut reader, &mut writer)?;
     assert_equal!(rt; end, Ok(()));
+    assert_equal!(rt; reader.begun, 16);
     assert_equal!(rt; writer.1.as_slice(), output.as_slice());
     Ok(())
 }

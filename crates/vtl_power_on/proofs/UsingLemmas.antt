@@ -141,6 +141,13 @@ module _ {D : Type 0} (state : D → DiskState) (sides : SidesGiven D) (gives_up
   not_started (Faults.Script line) text says why = absurd why
   not_started (Faults.Frame number) text says why = absurd why
 
+  pub if_not_started : (start : Result (HeldState D) VtlFault) (text : List ℕ) → Says text config
+      → IfErr start (IsNotStarted state sides gives_up config.cartridges.items config.drives.items)
+      → IfErr start (λ fault. (fault ≡ Faults.NoMemory)
+      ⊎ (IsFailure fault × IsNotStarted state sides gives_up config.cartridges.items config.drives.items fault))
+  if_not_started (Ok held) text says why = tt
+  if_not_started (Err fault) text says why = inr (not_started fault text says why)
+
   -- the work of a purpose was done over the library of a configuration
   pub used_config : (purpose : Purpose) (work : Work) (closes_all : HeldState D → Type 0)
       (start : Result (HeldState D) VtlFault) (left left' before now : Option (List ℕ))
@@ -157,6 +164,6 @@ module _ {D : Type 0} (state : D → DiskState) (sides : SidesGiven D) (gives_up
     subst (λ (w : Work). UsesFrom w state closes_all (Ok held) left left' before now outcome) same used,
   )
   used_config purpose work closes_all (Err fault) left left' before now outcome same is (inl none) used =
-      inl (used.0 ∙ ap (λ (f : VtlFault). Err f) none, used.1)
+      inl (subst (λ (f : VtlFault). outcome ≡ Err f) none used.0, used.1)
   used_config purpose work closes_all (Err fault) left left' before now outcome same is (inr why) used =
       inr (Err fault, why, used)

@@ -24,8 +24,8 @@ returns-clause-serves g c =
       moved = moved;
       serves =
           subst
-          (λ (drives : List Bool). ServesOpened state drives c.args.labels 0 (map new_seat c.args.parts.hosts.now) left before
-          moved after left' now outcome)
+          (λ (drives : List Bool). ServesOpened state drives c.args.labels 0 (map new_seat c.args.parts.hosts.now) left
+          before moved after left' now outcome)
           c.in_ok-library.ensures.drives
           (subst
           (λ (seats : List SeatState). ServesOpened state c.in_ok-library.library c.args.labels 0 seats left before

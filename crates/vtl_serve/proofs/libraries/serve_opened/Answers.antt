@@ -7,12 +7,12 @@ use Rattle.vtl_serve.proofs.libraries.serve_opened.Goals as goal
 
 pub returns-clause-serves : goal.returns-clause-serves
 returns-clause-serves g c =
-    let back = c.in-Err.ensures.back in
+    let back = c.in-Err.ensures.met.back in
     inr (
       refl,
       c.seats_in-in-Err.ensures ∙ ap (λ (l : List OneHostState). seats_of l) back.0
           ∙ ap (λ (l : List OneHostState). seats_of l) c.hosts_of-hosts.ensures
-          ∙ seats_back c.args.library.now c.args.seats.items,
+          ∙ seats_back c.args.library.now c.args.seated.seats.items,
       c.into_operator-in-Err.ensures ∙ ap (λ (d : DeskState). d.moved) back.1
           ∙ ap (λ (d : DeskState). d.moved) c.new-desk.ensures,
       ap g.I.Read.remaining back.2,
