@@ -1,11 +1,11 @@
 #!/usr/bin/env python3
-"""Writes DEFINITIONS.md: the definitions in crates/*/specs, limits, layout and laws, each by the comment over it; and
-crates/README.md: the crates by their kinds (crate_list.py).
+"""Writes docs/DEFINITIONS.md, which the repository does not keep: the definitions in crates/*/specs, limits, layout and
+laws, each by the comment over it; and crates/README.md: the crates by their kinds (crate_list.py).
 
 definitions.py           writes the files
-definitions.py --check   says where a file differs, where two definitions share a name, where one has no comment, and
-                         which lines of .rt, .antt, .md, .py and .c files are over 120 columns or left of a merge; ends
-                         with 1 where there is any of these
+definitions.py --check   says where the page of crates differs, where two definitions share a name, where one has no
+                         comment, and which lines of .rt, .antt, .md, .py and .c files are over 120 columns or left of a
+                         merge; ends with 1 where there is any of these
 definitions.py --unreached   lists definitions that no public contract or law seems to reach, by their names
 """
 import difflib
@@ -244,6 +244,10 @@ def unreached():
                     yield f"{below_crates(path)}: {name}"
 
 
+# what is made and kept in the repository; the indexes are only made
+KEPT = [os.path.join("crates", "README.md")]
+
+
 def pages():
     """Each page that is made, by its path, and the faults that were met on the way."""
     (index, faults), (crate_page, others) = whole(), crate_list.text()
@@ -254,8 +258,8 @@ def pages():
 def check():
     made, faults = pages()
     differs = []
-    for path, text in made.items():
-        has = read(TOP, path) if os.path.isfile(os.path.join(TOP, path)) else ""
+    for path in KEPT:
+        text, has = made[path], read(TOP, path)
         found = list(difflib.unified_diff(has.splitlines(), text.splitlines(), path, "as it is made", n=0, lineterm=""))
         faults += [f"{path} is not what checks/definitions.py makes: run it"] if found else []
         differs += found

@@ -1,9 +1,6 @@
 #!/usr/bin/env python3
-"""Writes EDITS.md: each edit of crates/*/must-fail and crates/*/wrong.edits, under the function that it changes.
-
-edits.py           writes the file
-edits.py --check   says where the file differs; ends with 1 where it does
-"""
+"""Writes docs/EDITS.md: each edit of crates/*/must-fail and crates/*/wrong.edits, under the function that it changes.
+It takes no words."""
 import os
 import re
 import sys
@@ -88,15 +85,9 @@ def whole():
 
 
 def main(words):
-    path = os.path.join(DOCS, "EDITS.md")
-    if words == ["--check"]:
-        is_same = os.path.isfile(path) and read(path) == whole()
-        print("edits: docs/EDITS.md is as it is made" if is_same else
-              "docs/EDITS.md is not what checks/edits.py makes: run it")
-        return 0 if is_same else 1
     if words:
         sys.exit(__doc__)
-    with open(path, "w", encoding="utf-8") as file:
+    with open(os.path.join(DOCS, "EDITS.md"), "w", encoding="utf-8") as file:
         file.write(whole())
     return 0
 

@@ -5,8 +5,9 @@ layout.py             names each other place with one; ends with 1 where there i
 layout.py --selftest  puts each back where its name stands, in a copy of the text; ends with 1 where one is not found
 
 Looked at are src/ and the definitions in specs/: for the mark of a side and the byte of an open gate those of all
-crates but tests; for the other numbers those of the crates that write or read files. Lemmas in specs/ compute with
-numbers, and are passed over. 0 to 3 stand everywhere: they are found only where a record is spelled or read.
+crates but tests; for the other numbers, and the limits of a million and more, those of the crates that write or read
+files. Lemmas in specs/ compute with numbers, and are passed over. 0 to 3 stand everywhere: they are found only where a
+record is spelled or read.
 """
 import os
 import re
@@ -14,6 +15,7 @@ import sys
 
 TOP = os.path.join(os.path.dirname(os.path.dirname(os.path.abspath(__file__))), "crates")
 LAYOUT = os.path.join(TOP, "vtl_base", "src", "layout.rt")
+LIMITS = os.path.join(TOP, "vtl_base", "src", "limits.rt")
 FILES = """gate_journal cartridge_sides side_reclaim volume_reclaim file_disk change_records sealed_records volume_copy
 cartridge tape_buffer split_bay aptpl_store check_lines vtl_files vtl_notes
 file_reasons/src/damages.rt file_reasons/specs/Damages.antt
@@ -21,7 +23,8 @@ volume_core/src/changes.rt volume_core/specs/Medium.antt pr_core/specs/Keepers.a
 MARKS = re.compile(r"VTLCART1|VTLRESV1|(?<![\w.])(0x[aA]5|165)(?!\w)")
 NUMBERS = re.compile(
     r"(?<![\w-])(?<!(?<!\.)\.)"
-    r"(4|5|6|8|9|10|11|12|14|15|16|17|18|27|29|35|39|40|61|71|128|0x80|580|4_?194_?304)(?!\w|\.\d)")
+    r"(4|5|6|8|9|10|11|12|14|15|16|17|18|27|29|35|39|40|61|71|128|0x80|580|4_?194_?304"
+    r"|1_?048_?576|8_?388_?608|16_?000_?000|1_?099_?511_?627_?776)(?!\w|\.\d)")
 RECORDS = re.compile(
     r"head\[[26]\.\.|drop [26] head|kind == [123]\b|\b[123] => \w+_decoded|(spell_head |head\()[123]\b|: u8 = [0-3];")
 # What is no number of a file's layout: the width of a type or a number, a line feed, the digits of a drive's number, a
@@ -82,11 +85,14 @@ def found(path, text):
 
 
 def selftest():
-    with open(LAYOUT, encoding="utf-8") as file:
-        constants = re.findall(r"pub const (\w+): [^=]+ = ([^;]+);", file.read())
+    constants = []
+    for place in (LAYOUT, LIMITS):
+        with open(place, encoding="utf-8") as file:
+            pairs = re.findall(r"pub const (\w+): [^=]+ = ([^;]+);", file.read())
+        constants += [it for it in pairs if place == LAYOUT or "_" in it[1] and NUMBERS.fullmatch(it[1])]
     missed, tried = [], 0
     whole = list(texts())
-    for name, value in constants + [("COPY_BODY", "4_194_304")]:
+    for name, value in constants:
         if name in ("CLOSED", "SIDE_GATE", "MARK_PLACE") or not re.fullmatch(r'[\w"*]+', value):
             continue
         seen = 0

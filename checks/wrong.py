@@ -91,7 +91,7 @@ def false_claims(rows, edits):
             if not any((crate, name) in edits for crate in named):
                 yield f"docs/CLAIMS.md names {name}, which is no edit of a crate of its row"
         if len(edits_of(row)) > 1:
-            yield f"docs/CLAIMS.md names {edits_of(row)[1][1]} beside another edit: docs/EDITS.md has them all"
+            yield f"docs/CLAIMS.md names {edits_of(row)[1][1]} beside another edit: make definitions lists them all"
         for name in names_in(tests):
             if name not in texts and not re.search(rf"#\[test\]\n(?:#.*\n)*fn {name}\b", every):
                 yield f"docs/CLAIMS.md names {name}, which is no test"

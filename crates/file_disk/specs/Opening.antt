@@ -1,6 +1,6 @@
 -- How an earlier process has to leave a file.
 use Rattle.std.specs.Prelude.{◌≡◌, ◌≢◌, ◌⊎◌, ℕ, ◌<◌, ◌≤◌, ◌+◌, ◌++◌, List, length}
-use Rattle.vtl_base.specs.declared.layout.TheConstants.{BEGUN_BYTES, FRAME_HEAD}
+use Rattle.vtl_base.specs.declared.layout.TheConstants.{BEGUN_BYTES, LENGTH_BYTES}
 use Rattle.vtl_base.specs.declared.limits.TheConstants.{MAX_BODY}
 use Rattle.gate_journal.specs.Gates.{last_gate}
 use Rattle.gate_journal.specs.Side.{Front, OPEN, StandsFor, spell, start}
@@ -9,7 +9,7 @@ use Rattle.file_disk.specs.RawFile.{ReachesAll}
 
 -- how many bytes an append writes behind the end gate, at most: a length, the longest body and a gate (own)
 abbrev pub MOST_BEHIND : ℕ
-MOST_BEHIND = MAX_BODY + FRAME_HEAD
+MOST_BEHIND = LENGTH_BYTES + MAX_BODY + 1
 
 -- the place is one of those behind the end gate that an append may write, since it cuts the disk there first (own)
 abbrev pub IsBehindEnd : (end place : ℕ) → Type 0

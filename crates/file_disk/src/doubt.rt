@@ -14,7 +14,7 @@ use crate::looked::Looked;
 use crate::raw::{CallFailed, RawFile};
 use crate::written::{Span, Written};
 use gate_journal::{Gates, last_gates};
-use vtl_base::layout::{BEGUN_BYTES, FRAME_HEAD};
+use vtl_base::layout::{BEGUN_BYTES, LENGTH_BYTES};
 use vtl_base::limits::MAX_BODY;
 
 /// What is known of the places of a file that the next sync may pass over.
@@ -30,7 +30,7 @@ pub(crate) enum Doubt {
 }
 
 // How many bytes an append writes behind the end gate, at most: a length, the longest body and a gate.
-const MOST_BEHIND: u64 = MAX_BODY as u64 + FRAME_HEAD;
+const MOST_BEHIND: u64 = LENGTH_BYTES as u64 + MAX_BODY as u64 + 1;
 
 // What a sync may pass over in a side of `bytes` bytes that begins so and has these gates: the last open gate, what an
 // append may have written behind the end gate, and in a cartridge's side its first ten bytes. None where the gates do

@@ -15,7 +15,7 @@ use vtl_base::layout::{CLOSED, OPEN};
 
 // Where a part has at least this many bytes behind its head, they are written from where they are in memory; fewer are
 // copied (own).
-const LONG: usize = 16_384;
+pub(crate) const LONG: usize = 16_384;
 
 // Appends bytes for which there is room. It takes no memory.
 pub(crate) fn extend(bytes: &mut Vec<u8>, more: &[u8])

@@ -3,6 +3,7 @@ ghost use Rattle.std.specs.Prelude.{◌≡◌, ◌↔◌, ℕ, List, Some};
 ghost use Rattle.gate_journal.specs.Side.{Front, StandsFor, IsNotOurs, IsDamagedAt, IsDecided};
 ghost use Rattle.gate_journal.specs.SideOn.{side_on};
 ghost use Rattle.gate_journal.specs.declared.frame.TheConstants.{AROUND};
+ghost use Rattle.gate_journal.specs.declared.gathering.TheConstants.{LONG};
 ghost use Rattle.gate_journal.specs.declared.pieces.TheConstants.{JUMP_BYTES, PIECE_BYTES};
 
 /// Each image (bytes that a crash may leave on a disk) stands for a side, is not a side of this library, or is damaged
@@ -32,10 +33,12 @@ pub fn the_side_on_an_image()
         (side_on image ≡ Some (f, bs)) ↔ StandsFor f bs image }
 {}
 
-/// The values of this crate's constants for lengths. In all 5 bytes stand around a body. The longest piece of a body
-/// has 65,536 bytes, and the longest piece after bytes that were passed over has 4,096.
+/// The values of this crate's constants for lengths. In all 5 bytes stand around a body. A part of 16,384 bytes behind
+/// its head is long. The longest piece of a body has 65,536 bytes, and the longest piece after bytes that were passed
+/// over has 4,096.
 pub fn the_lengths()
     ensures around { AROUND ≡ 5 }
+    ensures long { LONG ≡ 16384 }
     ensures piece { PIECE_BYTES ≡ 65536 }
     ensures jump { JUMP_BYTES ≡ 4096 }
 {}

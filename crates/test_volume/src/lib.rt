@@ -1,4 +1,4 @@
-//! The tests of volume_core, crc32c, change_records and object_index.
+//! The tests of volume_core, crc32c, change_records, sealed_records and object_index.
 #![tactic(auto)]
 
 #[cfg(test)]
@@ -11,6 +11,8 @@ mod lists;
 mod media;
 #[cfg(test)]
 mod records;
+#[cfg(test)]
+mod sealed;
 #[cfg(test)]
 mod searches;
 #[cfg(test)]

@@ -99,8 +99,9 @@ fn close<L, S: TakesBack<L, N>, N>(
 /// Then every buffer is written out, however the work ended, and the library is returned to `sides`
 /// (`TakesBack::close_all`). The result is the fault of the script or of the frames, if there is one, or else `Device`
 /// if a buffer could not be written out. If memory runs out before the first line or frame is read, nothing is read or
-/// written, the result is `NoMemory`, and the library is returned as it was. If `start` is an error, nothing is read or
-/// written, and that error is returned. No drive may have accepted a change since it was switched on.
+/// written, and the result is `NoMemory`; a library that was not open yet is returned as it was. If `start` is an error,
+/// nothing is read or written, and that error is returned. No drive may have accepted a change since it was switched
+/// on.
 pub fn with_library<
     D: Disk + Drop + Send,
     S: TakesBack<Sealed<D>, NotStarted<D>>,

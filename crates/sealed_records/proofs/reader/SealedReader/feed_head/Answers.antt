@@ -30,7 +30,7 @@ returns-in_default-clause-feeds c =
     omega (arith, c.if-len-eq-SEALED_HEAD.false, c.len.ensures.len, c.len.ensures.bound) in
     let whole : length c.fill-taken.new.self ≡ 18 =
     omega (arith, c.if-len-lt-SEALED_HEAD.false, c.len-2.ensures.len, c.len-2.ensures.bound) in
-    rw c.refusal-error.ensures
+    rw c.refusal-error-in_default.ensures
     (filled_bad before laids _ after c.args.piece.now c.fill-taken.result c.fill-taken.new.self none missing
     c.fill-taken.ensures.taken c.fill-taken.ensures.bytes _ whole
     (sym (c.item.ensures.item whole) ∙ c.in_default.is) refl))
@@ -59,6 +59,6 @@ returns-clause-feeds c =
     rw c.new-self-inside.ensures
     (filled_whole before laids _ after c.args.piece.now c.fill-taken.result c.fill-taken.new.self none missing
     c.fill-taken.ensures.taken c.fill-taken.ensures.bytes c.in-Some.item c.in-Some.item _
-    c.length_of-self-inside.result c.sum.result whole c.in-Some.ensures.front
+    c.length_of-self-inside.result c.sum-sum.result whole c.in-Some.ensures.front
     (omega (arith, c.length_of-self-inside.ensures, c.if-self-gt0.false)) (omega (arith, c.if-self-gt0.false)) refl
-    (c.sum.ensures whole)))
+    (c.sum-sum.ensures whole)))

@@ -15,5 +15,5 @@ returns-clause-passes c =
     let none : c.self.inside.left - c.args.count ≡ 0 = omega (arith, c.if-self-gt0.false) in
     rw (← c.self.view_is) (λ before bytes laids long after.
     rw (none, c.new-self-inside.ensures)
-    (ended before laids _ after bytes (c.self.inside.at + c.args.count) c.sum.result some
-    (omega (arith, long, unseen, c.if-self-gt0.false)) (omega (arith, long)) c.sum.ensures))
+    (ended before laids _ after bytes (c.self.inside.at + c.args.count) c.sum-sum.result some
+    (omega (arith, long, unseen, c.if-self-gt0.false)) (omega (arith, long)) c.sum-sum.ensures))
