@@ -16,7 +16,7 @@ TOP = os.path.join(os.path.dirname(os.path.dirname(os.path.abspath(__file__))), 
 LAYOUT = os.path.join(TOP, "vtl_base", "src", "layout.rt")
 FILES = """gate_journal cartridge_sides side_reclaim volume_reclaim file_disk change_records sealed_records volume_copy
 cartridge tape_buffer split_bay aptpl_store check_lines vtl_files vtl_notes
-file_reasons/src/damages.rt file_reasons/specs/Damages.antt
+explanations/src/damages.rt explanations/specs/Damages.antt
 volume_core/src/changes.rt volume_core/specs/Medium.antt pr_core/specs/Keepers.antt""".split()
 MARKS = re.compile(r"VTLCART1|VTLRESV1|(?<![\w.])(0x[aA]5|165)(?!\w)")
 NUMBERS = re.compile(

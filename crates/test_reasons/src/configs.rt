@@ -1,6 +1,5 @@
 //! Configurations that are refused, and the lines that say why, each written by hand from FORMATS.md (docs).
-use config_reasons::add_reason;
-use explanations::Explanation;
+use explanations::{Explanation, add_config};
 use std::alloc::{AllocError, Global};
 use std::process::Abort;
 use std::test::Fail;
@@ -11,7 +10,7 @@ use vtl_config::{ConfigError, read_config};
 fn lines_of(alloc: Global, text: &[u8]) -> Result<Explanation, AllocError> {
     let mut lines = Explanation::new(alloc);
     if let Err(ConfigError::Refused(reason)) = read_config(alloc, text) {
-        add_reason(alloc, "a.toml", &reason, &mut lines)?;
+        add_config(alloc, "a.toml", &reason, &mut lines)?;
     }
     Ok(lines)
 }

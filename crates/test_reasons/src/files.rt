@@ -1,13 +1,12 @@
 //! Calls for files and streams that failed, and the lines that say why; and lines of a damage. All written by hand.
-use explanations::Explanation;
-use file_reasons::Answer::{
+use explanations::Answer::{
     BadName, Denied, Ended, Exists, InUse, LongScript, Missing, NoReader, NoRoom, NotAFile, Other,
     ReadOnly, TooLarge, TookNone,
 };
-use file_reasons::FileCall::{
+use explanations::FileCall::{
     Cut, Lock, Look, Make, Open, Read, ReadAt, Sync, SyncFolder, Write, WriteAt,
 };
-use file_reasons::{Answer, FileCall, FileReason, Found, MemoryReason, Source};
+use explanations::{Answer, Explanation, FileCall, FileReason, Found, MemoryReason, Source};
 use std::alloc::{AllocError, Global};
 use std::io;
 use std::test::Fail;
@@ -33,7 +32,7 @@ fn name_of(call: FileCall) -> &'static str {
 // The words of an answer.
 fn words_of(answer: Answer) -> &'static str {
     match answer {
-        Missing => "there is no such file or folder",
+        Missing => "there is no such file or folder; names are from the working directory",
         BadName => "the name is too long, a part of it is not a folder, or its links form a loop",
         InUse => "the file is in use by another process, or open under another name",
         NotAFile => "what has this name is no regular file",
@@ -68,10 +67,16 @@ const SHORTER: &str = "find what made the file shorter while it was open";
 
 const LONG: &str = "raise the limit on the length of files";
 
+const LOST: &str =
+    "correct the name or put the file back; what vtl create makes is new and holds nothing";
+
 const FOLDER: &str = "let this user write in the folder in which the file is to be";
 
 // A call for a file, the answer, and what to do.
 static FIXES: &'static [(FileCall, Answer, &'static str)] = &[
+    (Make, Missing, "correct the name, or make the folder in which the file is to be"),
+    (Read, Missing, "correct the name"),
+    (Open, Missing, LOST),
     (Look, BadName, "correct the name"),
     (Open, InUse, IN_USE),
     (Make, NotAFile, "name a regular file"),
@@ -155,10 +160,14 @@ static NUMBERS: &'static [(i32, Answer)] = &[
 ];
 
 #[test]
-fn the_answer_of_each_error(rt: HostRuntime) {
+fn the_answer_of_each_error(rt: HostRuntime) -> Result<(), Fail> {
     for &(number, wanted) in NUMBERS {
         assert_equal!(rt; Answer::of_error(&io::Error::from_raw_os_error(number)), wanted; number);
     }
+    // where memory runs out for the system's own words
+    let number = format!(in rt.alloc(); "{}", Other(Some(5)))?;
+    assert_equal!(rt; number.as_str(), "the system reported error 5");
+    Ok(())
 }
 
 #[test]

@@ -1,4 +1,4 @@
-//! The tests of explanations, config_reasons, file_reasons, script_reasons, frame_reasons and answer_notes.
+//! The tests of explanations, script_reasons, frame_reasons and answer_notes.
 #![tactic(auto)]
 
 #[cfg(test)]

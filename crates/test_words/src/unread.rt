@@ -3,6 +3,7 @@ use std::env::{Env, FillError};
 use std::test::Fail;
 use test_assertions::{assert_equal, assert_holds};
 use vtl_words::UnreadWord;
+use explanations::explain_unread;
 
 // A system that gives these words.
 #[derive(Clone, Copy)]
@@ -84,7 +85,7 @@ fn a_word_that_is_no_utf_8_is_named(rt: HostRuntime) -> Result<(), Fail> {
         )?;
         let mut errors = Vec::new(alloc);
         if let Some(word) = UnreadWord::find(&Given { words }, alloc) {
-            word.explain(alloc, &mut errors);
+            explain_unread(alloc, &word, &mut errors);
         }
         assert_equal!(rt; errors.as_slice(), wanted.as_str().as_bytes(); refused);
     }

@@ -1,9 +1,9 @@
 //! Words that no row shows: long names, and why words are refused. The expected values were worked out by hand.
-use explanations::Explanation;
+use explanations::{Explanation, add_words};
 use std::alloc::{AllocError, Global};
 use std::test::Fail;
 use test_assertions::{assert_equal, assert_holds};
-use vtl_words::{Order, WordsError, WordsReason, read_words};
+use vtl_words::{Order, WordsError, read_words};
 
 // The words of a line, which are parted by single spaces. The first is the program's name.
 fn words_of(alloc: Global, line: &str) -> Result<Vec<String>, AllocError> {
@@ -81,8 +81,10 @@ fn refused_words_are_named(rt: HostRuntime) -> Result<(), Fail> {
     let alloc = rt.alloc();
     for &(line, refused, usage) in REFUSED {
         let mut lines = Explanation::new(alloc);
-        if let Some(reason) = WordsReason::of(alloc, words_of(alloc, line)?.as_slice()) {
-            reason.add_to(alloc, &mut lines)?;
+        if let Err(WordsError::Refused(Some(reason))) =
+            read_words(alloc, words_of(alloc, line)?.as_slice())
+        {
+            add_words(alloc, &reason, &mut lines)?;
         }
         let wanted = format!(in alloc;
             "refused: {refused}\nUsage: {usage}\nFor more information, try '--help'.\n"
@@ -115,7 +117,7 @@ static OTHERS: &'static [&'static str] = &[
 fn other_words_are_refused(rt: HostRuntime) -> Result<(), Fail> {
     for &line in OTHERS {
         let answer = read_words(rt.alloc(), words_of(rt.alloc(), line)?.as_slice());
-        assert_holds!(rt; matches!(answer, Err(WordsError::Refused)); line);
+        assert_holds!(rt; matches!(answer, Err(WordsError::Refused(Some(_)))); line);
     }
     Ok(())
 }

@@ -3,6 +3,7 @@
 #![tactic(auto)]
 
 use answer_notes::{AnswerWriter, Answers};
+use explanations::explain_unread;
 use std::env;
 use std::io::{self, BufReader, ErrorKind};
 use std::process::ExitCode;
@@ -89,7 +90,7 @@ fn main(rt: HostRuntime) -> ExitCode {
     );
     if ended.is_reported {
         if let Some(word) = &unread {
-            word.explain(rt.alloc(), &mut errors);
+            explain_unread(rt.alloc(), word, &mut errors);
         }
     }
     ExitCode::from(ended.status)

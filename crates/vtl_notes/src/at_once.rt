@@ -1,7 +1,6 @@
 //! Lines on standard error that are written at once, when something is found.
-use explanations::Explanation;
+use explanations::{Answer, Explanation, FileCall};
 use file_disk::{FailedCall, SystemCall};
-use file_reasons::{Answer, FileCall};
 use std::alloc::{AllocError, Global};
 use std::io::Write;
 

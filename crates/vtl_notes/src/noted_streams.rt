@@ -1,5 +1,5 @@
 //! A writer that notes why a write failed.
-use file_reasons::Answer;
+use explanations::Answer;
 use std::io::{self, ErrorKind, Write};
 use std::sync::Mutex;
 

@@ -3,7 +3,7 @@ ghost use Rattle.std.specs.Prelude.{◌≡◌};
 
 use crate::notes::Notes;
 use answer_notes::Answers;
-use file_reasons::{Answer, FileCall, Source};
+use explanations::{Answer, FileCall, Source};
 use script_reasons::{Drives, LineReason};
 use std::alloc::Global;
 use std::io::{self, ErrorKind, Read};

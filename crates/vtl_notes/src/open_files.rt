@@ -1,7 +1,6 @@
 //! Notes of the files that were opened, and of their calls that failed, for an explanation. Threads share these notes.
-use explanations::Explanation;
+use explanations::{Explanation, FileReason, MemoryReason};
 use file_disk::FailedCall;
-use file_reasons::{FileReason, MemoryReason};
 use std::alloc::{AllocError, Global};
 use std::sync::Mutex;
 use std::sync::atomic::{AtomicBool, AtomicU64, Ordering};

@@ -1,7 +1,6 @@
 //! Notes what looks at the names of a cartridge's files found, for an explanation of a refused second file.
-use explanations::Explanation;
+use explanations::{Explanation, PairFault, PairReason};
 use file_disk::{FileError, FileLook};
-use file_reasons::{PairFault, PairReason};
 use std::alloc::{AllocError, Global};
 use std::cell::Cell;
 use tape_disk::Disk;

@@ -1,6 +1,5 @@
 //! Lines of an explanation that are written at once, while files are opened.
-use explanations::Explanation;
-use file_reasons::{PairFault, PairReason};
+use explanations::{Explanation, PairFault, PairReason};
 use std::alloc::{AllocError, Global};
 use std::io::Write;
 use vtl_notes::notes::Notes;

@@ -8,8 +8,7 @@ ghost use Rattle.vtl_program.specs.Orders.{given_words};
 use crate::nul_names::{add_each_nul, add_nul};
 use crate::orders::run;
 use check_lines::reading::ReportsRead;
-use config_reasons::add_reason;
-use explanations::Explanation;
+use explanations::{Explanation, add_config, add_words};
 use library::Sealed;
 use std::alloc::{AllocError, Global};
 use std::io::{Read, Write};
@@ -27,7 +26,7 @@ use vtl_files::files::{
 use vtl_notes::notes::Notes;
 use vtl_power_on::starting::NotStarted;
 use vtl_script::write_text;
-use vtl_words::{Order, WordsReason, asks_to_explain, read_words};
+use vtl_words::{Order, WordsError, WordsReason, asks_to_explain, read_words};
 
 /// Whether the words of the command line ask for an explanation. False where `words` is a fault.
 pub fn asks(words: &Result<Vec<String>, VtlFault>) -> bool
@@ -79,7 +78,7 @@ enum Doubt {
     Checks,
 }
 
-// Where the explanation of an order is looked for, besides the notes.
+// Where the explanation is looked for, besides the notes, of what these words ask for, or for which they are refused.
 fn doubt_in(alloc: Global, words: &[String]) -> Doubt {
     match read_words(alloc, words) {
         Ok(order) => match order {
@@ -98,20 +97,17 @@ fn doubt_in(alloc: Global, words: &[String]) -> Doubt {
             Order::CheckAll { config: _config } => Doubt::Checks,
             _other => Doubt::Nothing,
         },
+        Err(WordsError::Refused(Some(reason))) => Doubt::Words(reason),
         Err(_error) => Doubt::Nothing,
     }
 }
 
 // Where an explanation is looked for, besides the notes, if one is asked for.
 fn doubt_of(alloc: Global, asked: bool, words: &Result<Vec<String>, VtlFault>) -> Doubt {
-    let words = match words {
-        Ok(words) if asked => words.as_slice(),
-        _ => return Doubt::Nothing,
-    };
-    if let Some(reason) = WordsReason::of(alloc, words) {
-        return Doubt::Words(reason);
+    match words {
+        Ok(words) if asked => doubt_in(alloc, words.as_slice()),
+        _ => Doubt::Nothing,
     }
-    doubt_in(alloc, words)
 }
 
 // Adds the lines of a barcode that a configuration does not have.
@@ -137,7 +133,7 @@ fn add_barcode(
 }
 
 // Adds the lines of a refused configuration, or of a barcode that it does not have.
-fn add_config(
+fn add_text_of_config(
     alloc: Global,
     notes: &Notes,
     doubt: &Doubt,
@@ -149,7 +145,7 @@ fn add_config(
     let text = config.text.as_slice();
     match read_config(alloc, text) {
         Err(ConfigError::Refused(reason)) => {
-            add_reason(alloc, config.file.as_str(), &reason, lines)
+            add_config(alloc, config.file.as_str(), &reason, lines)
         }
         Err(ConfigError::NoMemory) => Ok(()),
         Ok(config) => match doubt {
@@ -167,7 +163,7 @@ fn add_text(
     doubt: &Doubt,
     lines: &mut Explanation,
 ) -> Result<(), AllocError> {
-    add_config(alloc, notes, doubt, lines)?;
+    add_text_of_config(alloc, notes, doubt, lines)?;
     if let Some(reason) = notes.refused() {
         reason.add_to(alloc, lines)?;
     }
@@ -244,7 +240,7 @@ fn lines_for(
     }
     match status {
         1 => match doubt {
-            Doubt::Words(reason) => reason.add_to(alloc, &mut lines)?,
+            Doubt::Words(reason) => add_words(alloc, reason, &mut lines)?,
             _ => add_text(alloc, notes, doubt, &mut lines)?,
         },
         2 => add_failed(alloc, notes, doubt, &mut lines)?,

@@ -149,7 +149,7 @@ fn answer_words<W: Write>(error: WordsError, writer: &mut W) -> Result<Verdict, 
             print_text(writer, text.as_bytes())?;
             Ok(Verdict::Done)
         }
-        WordsError::Refused => Err(VtlFault::Words),
+        WordsError::Refused(_reason) => Err(VtlFault::Words),
         WordsError::NoMemory => Err(VtlFault::NoMemory),
     }
 }

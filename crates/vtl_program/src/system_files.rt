@@ -5,7 +5,7 @@ use crate::at_once::{say_no_second, say_unlocked};
 use crate::looking::report_side;
 use check_lines::reading::ReportsRead;
 use file_disk::{FileDisk, FileError, FileLook};
-use file_reasons::FileCall;
+use explanations::FileCall;
 use library::Sealed;
 use std::{fs, io};
 use tape_disk::Disk;

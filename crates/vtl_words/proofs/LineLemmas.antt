@@ -46,8 +46,8 @@ pub reported_refused :
 reported_refused words kind (Help text) (inl help) (inl memory) = cc
 reported_refused words kind (Help text) (inr version) (inl memory) = cc
 reported_refused words kind (Help text) request (inr among) = (kind, request, among)
-reported_refused words kind Refused stands_for (inl memory) = absurd (stands_for.1 memory)
-reported_refused words kind Refused stands_for (inr among) = inl (kind, stands_for.0, among)
+reported_refused words kind (Refused reason) stands_for (inl memory) = absurd (stands_for.1 memory)
+reported_refused words kind (Refused reason) stands_for (inr among) = inl (kind, stands_for.0, among)
 reported_refused words kind NoMemory stands_for has = tt
 
 -- words without a fault whose matches ask for nothing are refused
@@ -55,7 +55,7 @@ pub nothing_refused :
     (words : List (List ℕ)) (asked : Option Asked) (error : WordsError) → fault_of vtl_command words ≡ []
     → asked ≡ order_from (subcommand_of vtl_command words) → AsksNothing asked error → RefusesWords words error
 nothing_refused words asked (Help text) faultless same nothing = absurd nothing
-nothing_refused words asked Refused faultless same nothing =
+nothing_refused words asked (Refused reason) faultless same nothing =
     inr (faultless, subst (λ (found : Option Asked). IsNoOrder found) same nothing)
 nothing_refused words asked NoMemory faultless same nothing = tt
 
@@ -67,12 +67,3 @@ no_barcode None None wrong = tt
 no_barcode None (Some text) wrong = tt
 no_barcode (Some file) None wrong = tt
 no_barcode (Some file) (Some text) wrong = wrong
-
--- and so they are where a reason is found
-pub reason_refused :
-    {R : Type 0} (words : List (List ℕ)) (asked : Option Asked) (reason : Option R) → fault_of vtl_command words ≡ []
-    → asked ≡ order_from (subcommand_of vtl_command words) → IfSome reason (λ _. IsNoOrder asked)
-    → IfSome reason (λ _. AreRefused words)
-reason_refused words asked None faultless same none = tt
-reason_refused words asked (Some found) faultless same none =
-    inr (faultless, subst (λ (order : Option Asked). IsNoOrder order) same none)

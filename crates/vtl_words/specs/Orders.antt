@@ -108,5 +108,5 @@ AreRefused words =
 -- why words give no order; memory may run out at any (own)
 abbrev pub RefusesWords : List (List ℕ) → WordsError → Type 0
 RefusesWords words (Help text) = AskForText words
-RefusesWords words Refused = AreRefused words
+RefusesWords words (Refused reason) = AreRefused words
 RefusesWords words NoMemory = ⊤

@@ -1,4 +1,5 @@
 //! What command words ask for.
+use crate::refusals::WordsReason;
 use std::alloc::{AllocError, AllocFailed};
 use thiserror::Error;
 use vtl_base::Barcode;
@@ -45,9 +46,10 @@ pub enum WordsError {
     /// The words ask for help or for the version. This is the text to be printed.
     #[error("{0}")]
     Help(String),
-    /// The words are refused: by the parser, or because the word given as a barcode is not a barcode.
+    /// The words are refused: by the parser, or because what they ask for has not its form. None if memory ran out for
+    /// the reason.
     #[error("command line refused")]
-    Refused,
+    Refused(Option<WordsReason>),
     /// Memory ran out.
     #[error("out of memory")]
     NoMemory,

@@ -8,17 +8,18 @@ ghost use Rattle.clap.specs.Walk.{first_of, rows_of};
 ghost use Rattle.vtl_base.specs.Barcode.{IsBarcode};
 ghost use Rattle.vtl_words.specs.Commands.{vtl_command};
 ghost use Rattle.vtl_words.specs.Orders.{asked_of, asked_by, order_from, is_set, texts_of, Asks, RefusesWords};
-ghost use Rattle.vtl_words.specs.Inner.ParserErrors.{IsReportedAs, AsksFor, AsksNothing};
+ghost use Rattle.vtl_words.specs.Inner.ParserErrors.{IsReportedAs, AsksFor, AsksNothing, IsOfCheck, IsOfBarcode, IsOfReclaim};
 
 use crate::commands::vtl_command;
 use crate::orders::{Order, WordsError};
+use crate::refusals::{WordsReason, parser_reason};
 use clap::ArgMatches;
 use clap::error::ErrorKind;
 use std::alloc::Global;
 use vtl_base::{Barcode, NoMemory};
 
-// The error of this crate for an error of the parser.
-fn parser_error(alloc: Global, error: &clap::Error) -> WordsError
+// The error of this crate for an error of the parser, which was given these words.
+fn parser_error(alloc: Global, words: &[String], error: &clap::Error) -> WordsError
     ensures { IsReportedAs (kind_of error.now) result }
 {
     match error.kind() {
@@ -27,11 +28,11 @@ fn parser_error(alloc: Global, error: &clap::Error) -> WordsError
             Ok(text) => WordsError::Help(text),
             Err(_) => WordsError::NoMemory,
         },
-        _ => WordsError::Refused,
+        _ => WordsError::Refused(parser_reason(alloc, words, error)),
     }
 }
 
-pub(crate) fn parsed<'a>(alloc: Global, words: &'a [String]) -> Result<ArgMatches<'a>, WordsError>
+fn parsed<'a>(alloc: Global, words: &'a [String]) -> Result<ArgMatches<'a>, WordsError>
     ensures no_fault { IfOk result (λ _. fault_of vtl_command (texts_of words.now) ≡ []) }
     ensures ok { IfOk result (λ m. subcommand_rows_of m ≡ subcommand_of vtl_command (texts_of words.now)) }
     ensures err { IfErr result (RefusesWords (texts_of words.now)) }
@@ -42,11 +43,11 @@ pub(crate) fn parsed<'a>(alloc: Global, words: &'a [String]) -> Result<ArgMatche
     };
     match command.try_get_matches_from(words) {
         Ok(matches) => Ok(matches),
-        Err(error) => Err(parser_error(alloc, &error)),
+        Err(error) => Err(parser_error(alloc, words, &error)),
     }
 }
 
-pub(crate) fn value_of<'a>(matches: &ArgMatches<'a>, id: &str) -> Option<&'a str>
+fn value_of<'a>(matches: &ArgMatches<'a>, id: &str) -> Option<&'a str>
     ensures { option_map (λ value. value.now) result ≡ first_of id.now (rows_of (found_of matches.now)) }
 {
     matches.get_str(id)
@@ -114,7 +115,7 @@ fn create_order(alloc: Global, matches: &ArgMatches<'_>) -> Result<Order, WordsE
     match copied(alloc, value_of(matches, "config")) {
         Ok(value) => match value {
             Some(config) => Ok(Order::Create { config }),
-            None => Err(WordsError::Refused),
+            None => Err(WordsError::Refused(None)),
         },
         Err(_) => Err(WordsError::NoMemory),
     }
@@ -123,6 +124,9 @@ fn create_order(alloc: Global, matches: &ArgMatches<'_>) -> Result<Order, WordsE
 fn check_order(alloc: Global, matches: &ArgMatches<'_>) -> Result<Order, WordsError>
     ensures ok { IfOk result (AsksFor (asked_by (codes "check") (rows_of (found_of matches.now)))) }
     ensures err { IfErr result (AsksNothing (asked_by (codes "check") (rows_of (found_of matches.now)))) }
+    ensures reason { IfErr result (IsOfCheck
+        (first_of (codes "file") (rows_of (found_of matches.now)))
+        (first_of (codes "config") (rows_of (found_of matches.now)))) }
 {
     let blocks = is_set(value_of(matches, "data"));
     let file = match copied(alloc, value_of(matches, "file")) {
@@ -136,11 +140,11 @@ fn check_order(alloc: Global, matches: &ArgMatches<'_>) -> Result<Order, WordsEr
     match file {
         Some(file) => match config {
             None => Ok(Order::Check { file, blocks }),
-            Some(_config) => Err(WordsError::Refused),
+            Some(_config) => Err(WordsError::Refused(Some(WordsReason::TwoFiles))),
         },
         None => match config {
             Some(config) => Ok(Order::CheckAll { config }),
-            None => Err(WordsError::Refused),
+            None => Err(WordsError::Refused(Some(WordsReason::NoFile))),
         },
     }
 }
@@ -157,18 +161,30 @@ fn barcode_in(matches: &ArgMatches<'_>) -> Option<Barcode>
     }
 }
 
+// The word that is given as a barcode, as a reason; None where there is none, and where memory runs out.
+fn barcode_reason(alloc: Global, matches: &ArgMatches<'_>) -> Option<WordsReason>
+    ensures { IfSome result (IsOfBarcode (first_of (codes "barcode") (rows_of (found_of matches.now)))) }
+{
+    let word = value_of(matches, "barcode")?;
+    match String::from_str(alloc, word) {
+        Ok(copy) => Some(WordsReason::Barcode(copy)),
+        Err(_) => None,
+    }
+}
+
 fn reclaim_order(alloc: Global, matches: &ArgMatches<'_>) -> Result<Order, WordsError>
     ensures ok { IfOk result (AsksFor (asked_by (codes "reclaim") (rows_of (found_of matches.now)))) }
     ensures err { IfErr result (AsksNothing (asked_by (codes "reclaim") (rows_of (found_of matches.now)))) }
+    ensures reason { IfErr result (IsOfReclaim (first_of (codes "barcode") (rows_of (found_of matches.now)))) }
 {
     let barcode = match barcode_in(matches) {
         Some(barcode) => barcode,
-        None => return Err(WordsError::Refused),
+        None => return Err(WordsError::Refused(barcode_reason(alloc, matches))),
     };
     match copied(alloc, value_of(matches, "config")) {
         Ok(value) => match value {
             Some(config) => Ok(Order::Reclaim { config, barcode }),
-            None => Err(WordsError::Refused),
+            None => Err(WordsError::Refused(None)),
         },
         Err(_) => Err(WordsError::NoMemory),
     }
@@ -193,21 +209,22 @@ fn order_by(alloc: Global, word: &str, matches: &ArgMatches<'_>) -> Result<Order
     if word == "reclaim" {
         return reclaim_order(alloc, matches);
     }
-    Err(WordsError::Refused)
+    Err(WordsError::Refused(None))
 }
 
-pub(crate) fn order_in(alloc: Global, matches: &ArgMatches<'_>) -> Result<Order, WordsError>
+fn order_in(alloc: Global, matches: &ArgMatches<'_>) -> Result<Order, WordsError>
     ensures ok { IfOk result (AsksFor (order_from (subcommand_rows_of matches.now))) }
     ensures err { IfErr result (AsksNothing (order_from (subcommand_rows_of matches.now))) }
 {
     match matches.subcommand() {
         Some(found) => order_by(alloc, found.0, found.1),
-        None => Err(WordsError::Refused),
+        None => Err(WordsError::Refused(None)),
     }
 }
 
 /// Returns the order that the words of a command line give. The first word is the program's name. Errors: `Help` where
-/// the words ask for help or for the version, `Refused` where the words are refused, `NoMemory` where memory runs out.
+/// the words ask for help or for the version, `Refused` where the words are refused, with the reason, `NoMemory` where
+/// memory runs out.
 pub fn read_words(alloc: Global, words: &[String]) -> Result<Order, WordsError>
     ensures ok { IfOk result (λ order. Asks (texts_of words.now) (asked_of order)) }
     ensures err { IfErr result (RefusesWords (texts_of words.now)) }

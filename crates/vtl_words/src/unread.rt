@@ -1,9 +1,7 @@
 //! Finds a word of the command line that is not UTF-8. Where there is one, the program gets no words at all.
 use crate::refusals::usage_of;
-use explanations::Explanation;
 use std::alloc::{AllocError, Global};
 use std::env::{Env, FillError};
-use std::io::Write;
 
 // The bytes of a word that is looked at, at most.
 const WORD_BYTES: usize = 4_096;
@@ -94,27 +92,5 @@ impl UnreadWord {
             word,
             usage: usage_of(alloc, words.as_slice())?,
         })
-    }
-
-    /// Adds three lines to `lines`: which word is refused, the usage of the command, and what to do. If memory runs
-    /// out, only the first few of these lines, or none, are added.
-    pub fn add_to(&self, alloc: Global, lines: &mut Explanation) -> Result<(), AllocError> {
-        let (place, word) = (self.place, &self.word);
-        let refused = format!(in alloc; "refused: word {place}, {word}, is not UTF-8")?;
-        lines.add(alloc, refused.as_str())?;
-        lines.add(alloc, self.usage.as_str())?;
-        lines.add(
-            alloc,
-            "to do: write the word in UTF-8, and rename the file that it names",
-        )
-    }
-
-    /// Writes the lines of `add_to` to `errors`. If memory runs out, nothing is written; if a write fails, only a
-    /// beginning of the lines may be written.
-    pub fn explain<E: Write>(&self, alloc: Global, errors: &mut E) {
-        let mut lines = Explanation::new(alloc);
-        if self.add_to(alloc, &mut lines).is_ok() {
-            let _ = errors.write_all(lines.as_str().as_bytes());
-        }
     }
 }

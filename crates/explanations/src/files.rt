@@ -1,12 +1,13 @@
 //! Why a call for a file or a stream failed.
-ghost use Rattle.std.specs.Prelude.{◌≡◌, ◌++◌, true, IfOk, IfSome, OnOk, string_bytes};
-ghost use Rattle.file_reasons.specs.Answers.{answer_of_call, answer_of_file, may_have_words};
-ghost use Rattle.file_reasons.specs.Reasons.{answered, call_name, call_of, call_of_error, file_lines, source_text};
-ghost use Rattle.file_reasons.specs.declared.reasons.Source.TheVariants as Sources;
+ghost use Rattle.std.specs.Prelude.{◌≡◌, true, IfSome};
+ghost use Rattle.explanations.specs.Answers.{answer_of_call, answer_of_file, may_have_words};
+ghost use Rattle.explanations.specs.Calls.{call_of, call_of_error};
+ghost use Rattle.explanations.specs.declared.files.Source.TheVariants as Sources;
 
 use crate::answers::Answer;
 use crate::fixes::fix_of;
-use explanations::Explanation;
+use crate::explanation::Explanation;
+use crate::sizes::Size;
 use file_disk::{FailedCall, FileError, SystemCall};
 use std::alloc::{AllocError, Global};
 use std::fmt;
@@ -40,9 +41,7 @@ pub enum FileCall {
 
 impl FileCall {
     /// The words for the call in a line of an explanation.
-    pub fn name(self) -> &'static str
-        ensures { result.now ≡ call_name self }
-    {
+    pub fn name(self) -> &'static str {
         match self {
             FileCall::Read => "read",
             FileCall::Write => "write",
@@ -99,11 +98,6 @@ pub enum Source {
 }
 
 impl fmt::Display for Source {
-    ghost use Rattle.std.specs.Prelude.{Some};
-    ghost use Rattle.file_reasons.specs.Reasons.{source_text};
-
-    ghost output = { λ source. Some (source_text source) };
-
     fn fmt<W: fmt::Write>(&self, f: &mut fmt::Formatter<W>) -> fmt::Result {
         match self {
             Source::File(name) => write!(f, "the file {name}"),
@@ -145,7 +139,7 @@ impl FileReason {
 
     /// The reason for `failed`, a call of the system that failed for the open file named `file`.
     pub fn of_call(alloc: Global, file: String, failed: FailedCall) -> FileReason
-        ensures source { source_text result.source ≡ source_text (Sources.File file) }
+        ensures source { result.source ≡ Sources.File file }
         ensures call { result.call ≡ call_of failed.call }
         ensures answer { result.answer ≡ answer_of_call failed }
         ensures words { IfSome result.words (λ words. may_have_words result.answer ≡ true) }
@@ -158,7 +152,7 @@ impl FileReason {
     /// reason names the call that decided: `Lock` for `InUse`, the failed call of the system for `Device`, and `call`
     /// for any other error.
     pub fn of_file(alloc: Global, file: String, call: FileCall, error: FileError) -> FileReason
-        ensures source { source_text result.source ≡ source_text (Sources.File file) }
+        ensures source { result.source ≡ Sources.File file }
         ensures call { result.call ≡ call_of_error call error }
         ensures answer { result.answer ≡ answer_of_file error }
         ensures words { IfSome result.words (λ words. may_have_words result.answer ≡ true) }
@@ -168,9 +162,7 @@ impl FileReason {
     }
 
     // The line of the answer, in the system's own words where there are any.
-    fn answered(&self, alloc: Global) -> Result<String, AllocError>
-        ensures { IfOk result (λ text. string_bytes text ≡ answered self.now) }
-    {
+    fn answered(&self, alloc: Global) -> Result<String, AllocError> {
         let answer = self.answer;
         match &self.words {
             Some(words) => format!(in alloc; "answer: {words}"),
@@ -180,14 +172,42 @@ impl FileReason {
 
     /// Adds three lines to `lines`: which call failed and for what, how it was answered, and what to do. If memory runs
     /// out, an error is returned, and only some of these lines, from the first one on, or none may have been added.
-    pub fn add_to(&self, alloc: Global, lines: &mut Explanation) -> Result<(), AllocError>
-        ensures { OnOk result (lines.new ≡ lines.old ++ file_lines self.now) }
-    {
+    pub fn add_to(&self, alloc: Global, lines: &mut Explanation) -> Result<(), AllocError> {
         let (call, source) = (self.call.name(), &self.source);
         let failed = format!(in alloc; "failed: {call}, of {source}")?;
-        let answered = self.answered(alloc)?;
         lines.add(alloc, failed.as_str())?;
+        let answered = self.answered(alloc)?;
         lines.add(alloc, answered.as_str())?;
         lines.add(alloc, fix_of(self.call, self.answer))
+    }
+}
+
+/// What the program was doing when memory ran out.
+#[derive(Debug, Drop)]
+pub enum MemoryReason {
+    /// The program opened or read the file of this name, or worked with bytes that it had read from this file.
+    File(String),
+    /// The program read the script or carried it out, and had read this many bytes of the script.
+    Script(u64),
+}
+
+impl MemoryReason {
+    /// Adds two lines to `lines`: what memory was needed for, and what to do. If memory runs out, an error is returned,
+    /// and only the first line, or none, may have been added.
+    pub fn add_to(&self, alloc: Global, lines: &mut Explanation) -> Result<(), AllocError> {
+        let wanted = match self {
+            MemoryReason::File(name) => {
+                format!(in alloc; "memory ran out: as it was opened or read, the file {name}")?
+            }
+            MemoryReason::Script(bytes) => {
+                let bytes = Size(*bytes);
+                format!(in alloc; "memory ran out: as the script was read, behind {bytes} of it")?
+            }
+        };
+        lines.add(alloc, wanted.as_str())?;
+        lines.add(
+            alloc,
+            "to do: give the program more memory; a loaded cartridge takes 24 bytes for each block",
+        )
     }
 }

@@ -1,14 +1,9 @@
 //! What to do about a call that failed.
-ghost use Rattle.std.specs.Prelude.{◌≡◌};
-ghost use Rattle.file_reasons.specs.Fixes.{missing_fix, denied_fix, other_fix, fix_of};
-
 use crate::answers::Answer;
-use crate::reasons::FileCall;
+use crate::files::FileCall;
 
 // What to do where there is no such file or folder. A call that makes a file needs the folder.
-fn missing_fix(call: FileCall) -> &'static str
-    ensures { result.now ≡ missing_fix call }
-{
+fn missing_fix(call: FileCall) -> &'static str {
     match call {
         FileCall::Make => "to do: correct the name, or make the folder in which the file is to be",
         FileCall::Read => "to do: correct the name",
@@ -19,9 +14,7 @@ fn missing_fix(call: FileCall) -> &'static str
 
 // What to do where the system does not allow the call. A call that makes a file writes in the folder, and a call that
 // reads all bytes of a file only reads the file.
-fn denied_fix(call: FileCall) -> &'static str
-    ensures { result.now ≡ denied_fix call }
-{
+fn denied_fix(call: FileCall) -> &'static str {
     match call {
         FileCall::Make => "to do: let this user write in the folder in which the file is to be",
         FileCall::Read => "to do: let this user read the file",
@@ -32,9 +25,7 @@ fn denied_fix(call: FileCall) -> &'static str
 // What to do about another error of the system. Number 9 is that of a stream which is not open (EBADF), 24 that of a
 // process which has as many files open as it may (EMFILE). A file is open while it is used, so for a file 9 is as any
 // other number.
-fn other_fix(call: FileCall, number: Option<i32>) -> &'static str
-    ensures { result.now ≡ other_fix call number }
-{
+fn other_fix(call: FileCall, number: Option<i32>) -> &'static str {
     match (call, number) {
         (FileCall::Read | FileCall::Write, Some(9)) =>
             "to do: start the program with this stream open",
@@ -44,9 +35,7 @@ fn other_fix(call: FileCall, number: Option<i32>) -> &'static str
 }
 
 // What to do about a call that had this answer.
-pub(crate) fn fix_of(call: FileCall, answer: Answer) -> &'static str
-    ensures { result.now ≡ fix_of call answer }
-{
+pub(crate) fn fix_of(call: FileCall, answer: Answer) -> &'static str {
     match answer {
         Answer::Missing => missing_fix(call),
         Answer::BadName => "to do: correct the name",

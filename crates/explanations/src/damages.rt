@@ -1,9 +1,9 @@
 //! What stands in a file at the place where `check` finds a damage or a bad record.
-ghost use Rattle.std.specs.Prelude.{◌≡◌, ◌++◌, OnOk};
-ghost use Rattle.file_reasons.specs.Damages.{allowed_line, damage_lines, frame_found, place_lines};
+ghost use Rattle.std.specs.Prelude.{◌≡◌};
+ghost use Rattle.explanations.specs.Damages.{frame_found};
 
+use crate::explanation::Explanation;
 use crate::sizes::Size;
-use explanations::Explanation;
 use std::alloc::{AllocError, Global};
 use std::fmt;
 use vtl_base::layout::{FRAME_HEAD, OPEN};
@@ -54,40 +54,25 @@ impl Found {
 }
 
 // What may stand at a place where `found` stands.
-#[derive(Clone, Copy)]
-struct MayStand {
-    found: Found,
-}
-
-impl fmt::Display for MayStand {
-    ghost use Rattle.std.specs.Prelude.{Some};
-    ghost use Rattle.file_reasons.specs.Damages.{may_stand};
-
-    ghost output = { λ may. Some (may_stand may.found) };
-
-    fn fmt<W: fmt::Write>(&self, f: &mut fmt::Formatter<W>) -> fmt::Result {
-        match self.found {
-            Found::NoGate => write!(f, "a gate"),
-            Found::Closed => write!(f, "an open gate, since the copy has more frames"),
-            Found::NoLength | Found::BadLength(_) => write!(
-                f,
-                "an open gate, and a length of 1 to {MAX_BODY} bytes behind it"
-            ),
-            Found::CutOff { .. } => write!(
-                f,
-                "as many bytes as the length says, and a gate behind them"
-            ),
-            Found::Whole(_) => write!(f, "records that can stand behind those before them"),
+fn allowed_of(alloc: Global, found: Found) -> Result<String, AllocError> {
+    match found {
+        Found::NoGate => format!(in alloc; "allowed: a gate"),
+        Found::Closed => {
+            format!(in alloc; "allowed: an open gate, since the copy has more frames")
+        }
+        Found::NoLength | Found::BadLength(_) => format!(in alloc;
+            "allowed: an open gate, and a length of 1 to {MAX_BODY} bytes behind it"
+        ),
+        Found::CutOff { .. } => format!(in alloc;
+            "allowed: as many bytes as the length says, and a gate behind them"
+        ),
+        Found::Whole(_) => {
+            format!(in alloc; "allowed: records that can stand behind those before them")
         }
     }
 }
 
 impl fmt::Display for Found {
-    ghost use Rattle.std.specs.Prelude.{Some};
-    ghost use Rattle.file_reasons.specs.Damages.{found_text};
-
-    ghost output = { λ found. Some (found_text found) };
-
     fn fmt<W: fmt::Write>(&self, f: &mut fmt::Formatter<W>) -> fmt::Result {
         match self {
             Found::NoGate => write!(f, "the end of the file"),
@@ -124,46 +109,17 @@ pub struct DamageReason {
     pub found: Found,
 }
 
-impl fmt::Display for DamageReason {
-    ghost use Rattle.std.specs.Prelude.{Some};
-    ghost use Rattle.file_reasons.specs.Damages.{damage_place};
-
-    ghost output = { λ reason. Some (damage_place reason) };
-
-    fn fmt<W: fmt::Write>(&self, f: &mut fmt::Formatter<W>) -> fmt::Result {
-        let (place, file) = (self.place, &self.file);
-        write!(f, "byte {place} of the file {file}")
-    }
-}
-
 impl DamageReason {
-    // Adds what stands there, and where.
-    fn add_place(&self, alloc: Global, lines: &mut Explanation) -> Result<(), AllocError>
-        ensures { OnOk result (lines.new ≡ lines.old ++ place_lines self.now) }
-    {
-        let (found, reason) = (self.found, self);
-        let refused = format!(in alloc; "refused: {found}")?;
-        let stands = format!(in alloc; "where: {reason}")?;
-        lines.add(alloc, refused.as_str())?;
-        lines.add(alloc, stands.as_str())
-    }
-
-    // Adds what may stand there.
-    fn add_allowed(&self, alloc: Global, lines: &mut Explanation) -> Result<(), AllocError>
-        ensures { OnOk result (lines.new ≡ lines.old ++ allowed_line self.now) }
-    {
-        let may = MayStand { found: self.found };
-        let allowed = format!(in alloc; "allowed: {may}")?;
-        lines.add(alloc, allowed.as_str())
-    }
-
     /// Adds four lines to `lines`: what was found, where, what is allowed there, and what to do. If memory runs out, an
     /// error is returned, and only some of these lines, from the first one on, or none may have been added.
-    pub fn add_to(&self, alloc: Global, lines: &mut Explanation) -> Result<(), AllocError>
-        ensures { OnOk result (lines.new ≡ lines.old ++ damage_lines self.now) }
-    {
-        self.add_place(alloc, lines)?;
-        self.add_allowed(alloc, lines)?;
+    pub fn add_to(&self, alloc: Global, lines: &mut Explanation) -> Result<(), AllocError> {
+        let (found, place, file) = (self.found, self.place, &self.file);
+        let refused = format!(in alloc; "refused: {found}")?;
+        lines.add(alloc, refused.as_str())?;
+        let stands = format!(in alloc; "where: byte {place} of the file {file}")?;
+        lines.add(alloc, stands.as_str())?;
+        let allowed = allowed_of(alloc, found)?;
+        lines.add(alloc, allowed.as_str())?;
         lines.add(
             alloc,
             "to do: put the file back from where it was saved, a cartridge's with its second one",

@@ -1,7 +1,7 @@
 //! What the system answered to a call that failed.
 ghost use Rattle.std.specs.Prelude.{◌≡◌, true, IfSome};
 ghost use Rattle.std.specs.IoError.{error_kind, raw_os_error};
-ghost use Rattle.file_reasons.specs.Answers.{answer_of_call, answer_of_kind, answer_of_file, may_have_words};
+ghost use Rattle.explanations.specs.Answers.{answer_of_call, answer_of_kind, answer_of_file, may_have_words};
 
 use file_disk::{FailedCall, FileError};
 use std::alloc::Global;
@@ -108,14 +108,12 @@ impl Answer {
 }
 
 impl fmt::Display for Answer {
-    ghost use Rattle.std.specs.Prelude.{Some};
-    ghost use Rattle.file_reasons.specs.Answers.{answer_text};
-
-    ghost output = { λ answer. Some (answer_text answer) };
-
     fn fmt<W: fmt::Write>(&self, f: &mut fmt::Formatter<W>) -> fmt::Result {
         match self {
-            Answer::Missing => write!(f, "there is no such file or folder"),
+            Answer::Missing => write!(
+                f,
+                "there is no such file or folder; names are from the working directory"
+            ),
             Answer::BadName => write!(
                 f,
                 "the name is too long, a part of it is not a folder, or its links form a loop"

@@ -6,11 +6,6 @@ use std::fmt;
 pub(crate) struct Size(pub(crate) u64);
 
 impl fmt::Display for Size {
-    ghost use Rattle.std.specs.Prelude.{Some};
-    ghost use Rattle.file_reasons.specs.Sizes.{bytes_in_words};
-
-    ghost output = { λ it. Some (bytes_in_words it.0) };
-
     fn fmt<W: fmt::Write>(&self, f: &mut fmt::Formatter<W>) -> fmt::Result {
         let bytes = self.0;
         if bytes == 1 {
