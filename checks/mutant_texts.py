@@ -257,7 +257,8 @@ EDITS = [
      "to do: begin each entry with [[drive]], in two", "to do: begin each entry with [[cartridge]], in two",
      ["values_that_are_refused", "rows/12-configurations/explained.row"]),
     ("the earlier entry of a double is not named", "explanations", "src/allowed.rt",
-     'format!(in alloc; "{values}; {entry} {has}")', 'format!(in alloc; "{values}; {has}")', ["values_that_are_double"]),
+     'format!(in alloc; "{values}; {entry} {has}")', 'format!(in alloc; "{values}; {has}")',
+     ["values_that_are_double"]),
     ("lines and columns are exchanged", "explanations", "src/configs.rt",
      "(spot.line, spot.column)", "(spot.column, spot.line)", ["what_is_no_document"]),
     ("a value of any list is no capacity", "explanations", "src/configs.rt",
@@ -278,5 +279,6 @@ EDITS = [
      "the second file {file}, which is a link", "the second file {file}, which has 0 bytes",
      ["rows/16-reclaiming/a-second-file-that-is-a-link.row"]),
     ("the words that a check may have are not said", "explanations", "src/orders.rt",
-     '    lines.add(alloc, "allowed: one of FILE and --config FILE")?;\n', "", ["rows/13-words/check-of-one-thing.row"]),
+     '    lines.add(alloc, "allowed: one of FILE and --config FILE")?;\n', "",
+     ["rows/13-words/check-of-one-thing.row"]),
 ]

@@ -1,5 +1,5 @@
 -- The command line is one whose matches are known.
-use Rattle.std.proofs.Common.{◌≡◌, ◌⊎◌, inl, inr, ℕ, true, List, [], Option, Some, None, IfSome, option_map, Box, refl, subst}
+use Rattle.std.proofs.Common.{◌≡◌, ◌⊎◌, inl, inr, ℕ, true, List, [], Option, Some, None, IfSome, String, string_bytes, option_map, Box, refl, subst}
 use Rattle.std.proofs.lemmas.Option.{same_Some}
 use Rattle.std.specs.Box.{box_value}
 use Rattle.clap.specs.Faults.{fault_of, is_simple_and_free}
@@ -14,10 +14,11 @@ use Rattle.clap.specs.declared.error.kind.ErrorKind.{ErrorKind}
 use Rattle.clap.specs.declared.error.kind.ErrorKind.TheVariants.{OutOfMemory}
 use Rattle.vtl_base.specs.Barcode.{IsBarcode}
 use Rattle.vtl_words.specs.Commands.{vtl_command}
-use Rattle.vtl_words.specs.Inner.ParserErrors.{IsReportedAs, AsksNothing}
-use Rattle.vtl_words.specs.Orders.{Asked, reclaim_by, IsNoOrder, order_from, AreRefused, RefusesWords}
+use Rattle.vtl_words.specs.Inner.ParserErrors.{IsReportedAs, AsksNothing, IsOfBarcode, IsOfReclaim}
+use Rattle.vtl_words.specs.Orders.{Asked, reclaim_by, IsNoOrder, order_from, RefusesWords}
 use Rattle.vtl_words.specs.declared.orders.WordsError.{WordsError}
 use Rattle.vtl_words.specs.declared.orders.WordsError.TheVariants.{Help, Refused, NoMemory}
+use Rattle.vtl_words.specs.declared.refusals.WordsReason.{WordsReason}
 
 pub line_is_simple : is_simple vtl_command ≡ true
 unfolding clap_on_literals
@@ -67,3 +68,13 @@ no_barcode None None wrong = tt
 no_barcode None (Some text) wrong = tt
 no_barcode (Some file) None wrong = tt
 no_barcode (Some file) (Some text) wrong = wrong
+
+-- a word that is refused as a barcode is none
+pub barcode_refused :
+    (given : Option (List ℕ)) (reason : Option WordsReason) → IfSome reason (IsOfBarcode given)
+    → IfSome given (λ text. ¬ IsBarcode text) → IsOfReclaim given (Refused reason)
+barcode_refused given None here wrong = tt
+barcode_refused given (Some reason) here wrong =
+    let is_none : ¬ IsBarcode (string_bytes here.0) =
+    subst (λ (text : Option (List ℕ)). IfSome text (λ word. ¬ IsBarcode word)) here.1.1 wrong in
+    (here.0, here.1.0, here.1.1, is_none)
