@@ -5,8 +5,8 @@ ghost use Rattle.explanations.specs.Calls.{call_of, call_of_error};
 ghost use Rattle.explanations.specs.declared.files.Source.TheVariants as Sources;
 
 use crate::answers::Answer;
-use crate::fixes::fix_of;
 use crate::explanation::Explanation;
+use crate::fixes::fix_of;
 use crate::sizes::Size;
 use file_disk::{FailedCall, FileError, SystemCall};
 use std::alloc::{AllocError, Global};

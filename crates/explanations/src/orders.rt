@@ -50,11 +50,7 @@ pub fn add_words(
     match reason {
         WordsReason::Parser(text) => add_parser(alloc, text.as_str(), lines),
         WordsReason::Barcode(word) => add_barcode(alloc, word.as_str(), lines),
-        WordsReason::TwoFiles => add_check(
-            alloc,
-            "refused: FILE together with --config",
-            lines,
-        ),
+        WordsReason::TwoFiles => add_check(alloc, "refused: FILE together with --config", lines),
         WordsReason::NoFile => add_check(alloc, "refused: check without a file", lines),
     }
 }

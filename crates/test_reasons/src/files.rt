@@ -74,7 +74,11 @@ const FOLDER: &str = "let this user write in the folder in which the file is to 
 
 // A call for a file, the answer, and what to do.
 static FIXES: &'static [(FileCall, Answer, &'static str)] = &[
-    (Make, Missing, "correct the name, or make the folder in which the file is to be"),
+    (
+        Make,
+        Missing,
+        "correct the name, or make the folder in which the file is to be",
+    ),
     (Read, Missing, "correct the name"),
     (Open, Missing, LOST),
     (Look, BadName, "correct the name"),

@@ -1,9 +1,9 @@
 //! Words of which one is not UTF-8, and the lines that say so, written by hand from FORMATS.md (docs).
+use explanations::explain_unread;
 use std::env::{Env, FillError};
 use std::test::Fail;
 use test_assertions::{assert_equal, assert_holds};
 use vtl_words::UnreadWord;
-use explanations::explain_unread;
 
 // A system that gives these words.
 #[derive(Clone, Copy)]

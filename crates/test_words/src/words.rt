@@ -81,9 +81,10 @@ fn refused_words_are_named(rt: HostRuntime) -> Result<(), Fail> {
     let alloc = rt.alloc();
     for &(line, refused, usage) in REFUSED {
         let mut lines = Explanation::new(alloc);
-        if let Err(WordsError::Refused(Some(reason))) =
-            read_words(alloc, words_of(alloc, line)?.as_slice())
-        {
+        if let Err(WordsError::Refused(Some(reason))) = read_words(
+            alloc,
+            words_of(alloc, line)?.as_slice(),
+        ) {
             add_words(alloc, &reason, &mut lines)?;
         }
         let wanted = format!(in alloc;

@@ -64,9 +64,7 @@ fn shares_cartridge_file(here: &Table, there: &Table) -> bool
     ensures { IsTrue result → SharesCartridgeFile (table_view here.now) (table_view there.now) }
 {
     match (text_of(here, Key::File), text_of(there, Key::File)) {
-        (Some(file), Some(other)) => {
-            is_either(file, other) || is_either(other, file)
-        }
+        (Some(file), Some(other)) => { is_either(file, other) || is_either(other, file) }
         _ => false,
     }
 }
@@ -107,12 +105,7 @@ fn drive_before(root: &Table, key: Key, here: &Table, before: usize) -> Option<P
 
 // The first cartridge entry that has the same value of the key as `here`, among the first `before` of them. None where
 // none of these has it.
-fn cartridge_before(
-    root: &Table,
-    key: Key,
-    here: &Table,
-    before: usize,
-) -> Option<Place>
+fn cartridge_before(root: &Table, key: Key, here: &Table, before: usize) -> Option<Place>
     ensures other { IfSome result (IsOther key (table_view root.now) (table_view here.now)) }
     ensures earlier { IfSome result (IsCartridgeBefore before) }
 {

@@ -86,12 +86,7 @@ fn other_in(alloc: Global, root: &Table, place: Place, rule: Rule) -> Option<Ent
 
 // What is found in the table of a text where it breaks a rule; None where memory runs out, or where nothing stands at
 // the place that may break the rule.
-pub(crate) fn findings_in(
-    alloc: Global,
-    root: &Table,
-    place: Place,
-    rule: Rule,
-) -> Option<Findings>
+pub(crate) fn findings_in(alloc: Global, root: &Table, place: Place, rule: Rule) -> Option<Findings>
     ensures { IfSome result (AreFindings place rule (table_view root.now)) }
 {
     let found = found_in(alloc, root, place, rule)?;
