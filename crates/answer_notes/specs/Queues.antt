@@ -45,7 +45,7 @@ with_parsed number (Move from to) lines =
     with_move (record { line = number; host = 0; counted = Bytes }) lines
 with_parsed number PhaseEnd lines = with_end lines
 with_parsed number Nothing lines = lines
-with_parsed number Refused lines = lines
+with_parsed number (Refused fault) lines = lines
 
 -- the line of the answer that comes next was taken (own)
 pub record IsNext (before now : Lines) (asked : Asked) : Type 0 where

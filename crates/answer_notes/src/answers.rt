@@ -1,15 +1,14 @@
 //! Which line of a script each answer belongs to, and what the answer means.
 ghost use Rattle.std.specs.Prelude.{◌≡◌, IfSome, OnOk};
-ghost use Rattle.vtl_script.specs.Lines.{line_fields, parse_fields};
-ghost use Rattle.script_reasons.specs.Drives.{has};
+ghost use Rattle.vtl_script.specs.Lines.{any_drive, parse_line};
 ghost use Rattle.answer_notes.specs.Causes.{counted_of, IsCause, IsMeaning};
 ghost use Rattle.answer_notes.specs.Queues.{with_parsed};
 
+use crate::all_drives::AllDrives;
 use crate::queues::{Asked, Queue};
 use crate::senses::sense_of;
 use answer_meanings::answer_lines::Cause;
 use answer_meanings::{AnswerLine, Counted, SenseText};
-use script_reasons::Drives;
 use std::alloc::{AllocError, Global};
 use std::sync::Mutex;
 use vtl_script::lines::{ParsedLine, parse};
@@ -50,15 +49,13 @@ fn cause_of(answer: &[u8], counted: Counted) -> Option<Cause>
 // Adds a line that was read, with its number, to the queue.
 fn note_line(
     alloc: Global,
-    drives: &Drives,
     queue: &mut Queue,
     number: u64,
     line: &[u8],
 ) -> Result<(), AllocError>
-    ensures { OnOk result (queue.new ≡
-        with_parsed number (parse_fields (has drives.now) (line_fields line.now)) queue.old) }
+    ensures { OnOk result (queue.new ≡ with_parsed number (parse_line any_drive line.now) queue.old) }
 {
-    match parse(alloc, drives, line) {
+    match parse(alloc, &AllDrives, line) {
         Ok(ParsedLine::Command(command)) => queue.add(Asked {
             line: number,
             host: command.host.number(),
@@ -70,7 +67,7 @@ fn note_line(
             counted: Counted::Bytes,
         }),
         Ok(ParsedLine::PhaseEnd) => queue.end_phase(),
-        Ok(ParsedLine::Nothing) | Ok(ParsedLine::Refused) => Ok(()),
+        Ok(ParsedLine::Nothing) | Ok(ParsedLine::Refused(_)) => Ok(()),
         Err(_) => Err(AllocError),
     }
 }
@@ -81,7 +78,6 @@ fn note_line(
 #[derive(Drop)]
 pub struct Answers {
     alloc: Global,
-    drives: Drives,
     is_on: bool,
     queue: Mutex<Option<Queue>>,
 }
@@ -91,7 +87,6 @@ impl Answers {
     pub fn new(alloc: Global, is_on: bool) -> Self {
         Answers {
             alloc,
-            drives: Drives::all(),
             is_on,
             queue: Mutex::new(if is_on { Some(Queue::new(alloc)) } else { None }),
         }
@@ -118,7 +113,7 @@ impl Answers {
     /// Adds `line`, which is line `number` of the script, if it is to be answered or ends a phase.
     pub fn add(&self, number: u64, line: &[u8]) {
         if let Some(mut queue) = self.taken() {
-            if note_line(self.alloc, &self.drives, &mut queue, number, line).is_ok() {
+            if note_line(self.alloc, &mut queue, number, line).is_ok() {
                 self.put(queue);
             }
         }

@@ -1,6 +1,7 @@
 //! Finds out what the answers of a script mean, while they are written.
 #![tactic(auto)]
 
+mod all_drives;
 pub mod answers;
 mod queues;
 pub mod senses;

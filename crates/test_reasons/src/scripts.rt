@@ -1,28 +1,47 @@
 //! Lines of scripts that are refused, and the lines that say why, written by hand from FORMATS.md (docs).
 use explanations::Explanation;
-use script_reasons::{Drives, LineReason};
+use script_reasons::add_line;
+use scsi_sense::Reply;
 use std::alloc::{AllocError, Global};
 use std::process::Abort;
 use std::test::Fail;
 use test_assertions::assert_equal;
-use vtl_base::DriveNo;
+use vtl_base::{DriveNo, NoMemory};
+use vtl_script::lines::{ParsedLine, parse};
+use vtl_script::{Item, LineReason, Runner};
 
-// Drives 1 and 2.
-fn two_drives() -> Drives {
-    let mut drives = Drives::none();
-    for number in [1, 2] {
-        if let Some(drive) = DriveNo::new(number) {
-            drives = drives.with(drive);
-        }
+// A library with drives 1 and 2, which runs nothing.
+struct TwoDrives;
+
+impl Runner for TwoDrives {
+    ghost use Rattle.std.specs.Prelude.{◌==◌, ◌||◌};
+
+    ghost is_configured = { λ _ number. number == 1 || number == 2 };
+
+    ghost answers = { λ old items replies new. Unit {0} };
+
+    ghost is_ready = { λ drives. Unit {0} };
+
+    ghost answers_none = { λ runner. tt };
+
+    ghost answers_empty = { λ runner. tt };
+
+    ghost answers_on = { λ old mid new first rest replies others one other. tt };
+
+    fn configured(&self, drive: DriveNo) -> bool {
+        drive.number() == 1 || drive.number() == 2
     }
-    drives
+
+    fn run(&mut self, alloc: Global, _: &mut Item) -> Result<Vec<Reply>, NoMemory> {
+        Ok(Vec::new(alloc))
+    }
 }
 
 // The lines for this line 17 of a script.
 fn lines_of(alloc: Global, line: &[u8]) -> Result<Explanation, AllocError> {
     let mut lines = Explanation::new(alloc);
-    if let Some(reason) = LineReason::of(alloc, two_drives(), 17, line) {
-        reason.add_to(alloc, &mut lines)?;
+    if let Ok(ParsedLine::Refused(fault)) = parse(alloc, &TwoDrives, line) {
+        add_line(alloc, &LineReason { line: 17, fault }, &mut lines)?;
     }
     Ok(lines)
 }
@@ -78,6 +97,15 @@ static COMMANDS: &'static [Row] = &[
     (b"1 \x7f 00", DELETE, 3, DRIVES),
     // what is not UTF-8
     (b"\xff\xfe1", "HOST is no text", 1, HOSTS),
+    // of two that are wrong the first, and the last of all what is too many
+    (b"65 17 000", "HOST is 65", 1, HOSTS),
+    (b"65", "HOST is 65", 1, HOSTS),
+    (b"1 17", "DRIVE is 17", 3, DRIVES),
+    (b"1 1 000 zz 00", ODD, 5, HEX),
+    (b"1 1 00 zz 00", "no hexadecimal digits, zz", 8, HEX),
+    (b"1 1 00 00 00", "a field too many, 00", 11, LINE),
+    // the first byte that is no digit, where their number is odd too
+    (b"1 1 0g0", "no hexadecimal digits, g0", 6, HEX),
     (b"1 \xe9 0", "DRIVE is no text", 3, DRIVES),
     (b"1 1 \xe9", "no hexadecimal digits, no text", 5, HEX),
     (b"1 1 00 a\xe90", "no hexadecimal digits, no text", 9, HEX),
@@ -87,6 +115,9 @@ static MOVES: &'static [Row] = &[
     (b"move", "an element address is missing", 5, MOVE),
     (b"move one 1", "an element address is one", 6, MOVE),
     (b"move 1 100000", "an element address is 100000", 8, MOVE),
+    (b"move one", "an element address is missing", 9, MOVE),
+    (b"move one two 3", "an element address is one", 6, MOVE),
+    (b"move 1 two 3", "an element address is two", 8, MOVE),
     (b"move 1 2 3", "a field too many, 3", 10, LINE),
     (b"move \xe9 1", "an element address is no text", 6, MOVE),
     (b"move 1 2 \xe9", "a field too many, no text", 10, LINE),

@@ -1,12 +1,11 @@
 //! Readers and writers that fail, or are interrupted, at each call in turn.
-use crate::outcomes::{DONE, Outcome, READ_FAULT, WRITE_FAULT, answered};
+use crate::outcomes::{DONE, End, Outcome, READ_FAULT, WRITE_FAULT, answered};
 use crate::wires::Plan;
 use std::alloc::Global;
 use std::io::ErrorKind;
 use std::io::ErrorKind::{Interrupted, Other, TimedOut, WouldBlock};
 use std::process::Abort;
 use test_assertions::{assert_equal, assert_holds};
-use vtl_script::ScriptFault;
 
 const TWO_PHASES: &[u8] = b"1 1 000000000000\n--\n2 1 000000000000\n";
 
@@ -16,7 +15,7 @@ const ANSWERS: &[u8] = b"GOOD 0101000000000000\nGOOD 0201000000000000\n";
 static FAULTS: &'static [ErrorKind] = &[Other, WouldBlock, TimedOut];
 
 // So many bytes of the answers are out, and the script ends so.
-fn ends(rt: &impl Abort, found: &Outcome, count: usize, end: Result<(), ScriptFault>, call: u32) {
+fn ends(rt: &impl Abort, found: &Outcome, count: usize, end: End, call: u32) {
     assert_equal!(rt; found.end, end; call);
     assert_equal!(rt; found.text.as_slice(), &ANSWERS[..count.min(ANSWERS.len())]; call);
     assert_holds!(rt; !found.read_early; call);

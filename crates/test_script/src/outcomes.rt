@@ -4,23 +4,45 @@ use crate::wires::{Plan, Wire, WireReader, WireWriter};
 use std::alloc::{AllocError, Global};
 use vtl_script::{ScriptFault, run_script};
 
-pub const DONE: Result<(), ScriptFault> = Ok(());
+/// How a script ends. Of a line that is refused it is the number.
+#[derive(Clone, Copy, PartialEq, Eq, Debug)]
+pub enum End {
+    Done,
+    Bad(u64),
+    ReadFault,
+    WriteFault,
+    NoMemory,
+}
 
-pub const READ_FAULT: Result<(), ScriptFault> = Err(ScriptFault::ReadFault);
+impl End {
+    pub fn of(end: Result<(), ScriptFault>) -> Self {
+        match end {
+            Ok(()) => End::Done,
+            Err(ScriptFault::BadLine { reason }) => End::Bad(reason.line),
+            Err(ScriptFault::ReadFault) => End::ReadFault,
+            Err(ScriptFault::WriteFault) => End::WriteFault,
+            Err(ScriptFault::NoMemory) => End::NoMemory,
+        }
+    }
+}
 
-pub const WRITE_FAULT: Result<(), ScriptFault> = Err(ScriptFault::WriteFault);
+pub const DONE: End = End::Done;
+
+pub const READ_FAULT: End = End::ReadFault;
+
+pub const WRITE_FAULT: End = End::WriteFault;
 
 /// Line 1 is refused.
-pub const BAD_1: Result<(), ScriptFault> = Err(ScriptFault::BadLine { line: 1 });
+pub const BAD_1: End = End::Bad(1);
 
-pub const BAD_3: Result<(), ScriptFault> = Err(ScriptFault::BadLine { line: 3 });
+pub const BAD_3: End = End::Bad(3);
 
 /// What a script writes, how it ends, whether a read came while replies were not flushed, and how many reads
 /// and items there were.
 #[derive(Drop)]
 pub struct Outcome {
     pub text: Vec<u8>,
-    pub end: Result<(), ScriptFault>,
+    pub end: End,
     pub read_early: bool,
     pub reads: u32,
     pub items: u32,
@@ -35,7 +57,7 @@ pub fn answered(alloc: Global, script: &[u8], plan: Plan) -> Outcome {
     let end = run_script(alloc, &mut echo, &mut reader, &mut writer);
     Outcome {
         text: writer.into_text(),
-        end,
+        end: End::of(end),
         read_early: wire.read_early(),
         reads: reader.calls(),
         items: echo.items(),

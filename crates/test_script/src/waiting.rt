@@ -1,10 +1,9 @@
 //! How far a script is read before it is run or refused.
-use crate::outcomes::{BAD_1, BAD_3, READ_FAULT, answered, joined};
+use crate::outcomes::{BAD_1, BAD_3, End, READ_FAULT, answered, joined};
 use crate::wires::Plan;
 use std::io::ErrorKind;
 use std::test::Fail;
 use test_assertions::assert_equal;
-use vtl_script::ScriptFault;
 
 const ONE: &str = "GOOD 010100\n";
 

@@ -1,5 +1,5 @@
 -- How the program ends (own).
-use Rattle.std.specs.Prelude.{◌≡◌, ℕ, Bool, true, false, List, Option, Result, Ok, Err}
+use Rattle.std.specs.Prelude.{◌≡◌, ℕ, Bool, true, false, List, Option, Some, None, Result, Ok, Err}
 use Rattle.std.specs.Io.KnownBytes.{Appends, Keeps}
 use Rattle.vtl_faults.specs.declared.faults.Verdict.{Verdict}
 use Rattle.vtl_faults.specs.declared.faults.Verdict.TheVariants.{Done, Refused}
@@ -20,9 +20,9 @@ Reports fault before now true = Appends before now (whole_line fault)
 Reports fault before now false = AppendsPart before now (whole_line fault)
 
 -- the status and the line on standard error: none where nothing failed, and else the line of the fault, or a beginning
--- of it, where it could not be written (own)
+-- of it, where it could not be written; the fault is kept (own)
 abbrev pub EndsProgram : Result Verdict VtlFault → Option (List ℕ) → Option (List ℕ) → Ended → Type 0
 EndsProgram (Ok verdict) before now ended =
-    (ended ≡ record { status = verdict_status verdict; is_reported = true }) × Keeps before now
+    (ended ≡ record { status = verdict_status verdict; is_reported = true; fault = None }) × Keeps before now
 EndsProgram (Err fault) before now ended =
-    (ended.status ≡ status_of fault) × Reports fault before now ended.is_reported
+    (ended.status ≡ status_of fault) × Reports fault before now ended.is_reported × (ended.fault ≡ Some fault)

@@ -7,7 +7,7 @@ use Rattle.vtl_faults.specs.declared.faults.VtlFault.TheVariants.{Words, Config,
 abbrev pub status_of : VtlFault → ℕ
 status_of Words = 1
 status_of Config = 1
-status_of (Script line) = 1
+status_of (Script reason) = 1
 status_of (Frame number) = 1
 status_of Device = 2
 status_of NoMemory = 3
@@ -16,7 +16,7 @@ status_of NoMemory = 3
 abbrev pub fault_text : VtlFault → List ℕ
 fault_text Words = codes "vtl: command line refused"
 fault_text Config = codes "vtl: configuration refused"
-fault_text (Script line) = codes "vtl: script line " ++ decimal line ++ codes " refused"
+fault_text (Script reason) = codes "vtl: script line " ++ decimal reason.line ++ codes " refused"
 fault_text (Frame number) = codes "vtl: frame " ++ decimal number ++ codes " refused"
 fault_text Device = codes "vtl: device fault"
 fault_text NoMemory = codes "vtl: out of memory"

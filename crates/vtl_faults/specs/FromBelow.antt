@@ -12,7 +12,7 @@ use Rattle.vtl_faults.specs.declared.faults.VtlFault.TheVariants.{Words, Config,
 
 -- the program's fault for a script's fault (own)
 abbrev pub fault_of : ScriptFault → VtlFault
-fault_of (script.BadLine line) = Script line
+fault_of (script.BadLine reason) = Script reason
 fault_of script.ReadFault = Device
 fault_of script.WriteFault = Device
 fault_of script.NoMemory = NoMemory
@@ -40,5 +40,5 @@ IsFailure Device = Unit {0}
 IsFailure NoMemory = Unit {0}
 IsFailure Words = ⊥
 IsFailure Config = ⊥
-IsFailure (Script line) = ⊥
+IsFailure (Script reason) = ⊥
 IsFailure (Frame number) = ⊥

@@ -26,7 +26,10 @@ impl fmt::Display for FaultLine {
         match self.fault {
             VtlFault::Words => write!(f, "vtl: command line refused"),
             VtlFault::Config => write!(f, "vtl: configuration refused"),
-            VtlFault::Script { line } => write!(f, "vtl: script line {line} refused"),
+            VtlFault::Script { reason } => {
+                let line = reason.line;
+                write!(f, "vtl: script line {line} refused")
+            }
             VtlFault::Frame { frame } => write!(f, "vtl: frame {frame} refused"),
             VtlFault::Device => write!(f, "vtl: device fault"),
             VtlFault::NoMemory => write!(f, "vtl: out of memory"),
@@ -48,7 +51,7 @@ pub fn fault_line(fault: &VtlFault) -> (u8, FaultLine)
     (status, FaultLine { fault: *fault })
 }
 
-/// How the program ends: its exit status, and whether the line that reports its fault, if there is one, was written.
+/// How the program ends: its exit status, its fault, if there is one, and whether the line that reports this was written.
 #[derive(Clone, Copy, PartialEq, Eq, Debug)]
 pub struct Ended {
     /// The exit status: 0 to 3.
@@ -56,6 +59,8 @@ pub struct Ended {
     /// True where there is no fault, or the fault's line was written whole; false where the line could not be written
     /// whole.
     pub is_reported: bool,
+    /// The fault that was reported; None where there is none.
+    pub fault: Option<VtlFault>,
 }
 
 // Writes the line of a fault. Returns true where all of it was written; if a write fails, a beginning of it may be.
@@ -84,12 +89,14 @@ pub fn end<E: Write>(outcome: Result<Verdict, VtlFault>, errors: &mut E) -> Ende
                 Verdict::Refused => 1,
             },
             is_reported: true,
+            fault: None,
         },
         Err(fault) => {
             let (status, line) = fault_line(&fault);
             Ended {
                 status,
                 is_reported: report(line, errors),
+                fault: Some(fault),
             }
         }
     }

@@ -3,7 +3,7 @@ ghost use Rattle.std.specs.Prelude.{◌≡◌};
 
 use std::io::{self, ErrorKind};
 use vtl_base::NoMemory;
-use vtl_script::ScriptFault;
+use vtl_script::{LineReason, ScriptFault};
 use vtl_wire::WireFault;
 
 /// A fault of the program: why the program did not do what it was asked for. The exit status is then not 0.
@@ -13,8 +13,8 @@ pub enum VtlFault {
     Words,
     /// The configuration is refused.
     Config,
-    /// A line of the script is refused. Lines are counted from 1 on.
-    Script { line: u64 },
+    /// A line of the script is refused, for this reason.
+    Script { reason: LineReason },
     /// A frame of the input is refused. Frames are counted from 1 on.
     Frame { frame: u64 },
     /// A device, a file or a stream failed. This includes a file that is missing or in use, and one that should hold a
@@ -32,7 +32,7 @@ impl From<ScriptFault> for VtlFault {
 
     fn from(fault: ScriptFault) -> Self {
         match fault {
-            ScriptFault::BadLine { line } => VtlFault::Script { line },
+            ScriptFault::BadLine { reason } => VtlFault::Script { reason },
             ScriptFault::ReadFault | ScriptFault::WriteFault => VtlFault::Device,
             ScriptFault::NoMemory => VtlFault::NoMemory,
         }

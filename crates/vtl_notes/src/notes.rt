@@ -7,7 +7,6 @@ use explanations::Explanation;
 use file_disk::{FileError, FileLook};
 use file_reasons::{Answer, FileCall, FileReason, MemoryReason, Source, StoreReason};
 use frame_reasons::{FrameNotes, FrameReason};
-use script_reasons::LineReason;
 use std::alloc::{AllocError, Global};
 use std::cell::Cell;
 use std::io;
@@ -21,8 +20,8 @@ pub struct ConfigText {
     pub text: Vec<u8>,
 }
 
-/// Notes of what calls for files and streams were answered, and of lines and frames that were refused. A note is left
-/// out if memory runs out for it.
+/// Notes of what calls for files and streams were answered, and of frames that were refused. A note is left out if memory
+/// runs out for it.
 #[derive(Drop)]
 pub struct Notes {
     is_on: bool,
@@ -32,7 +31,6 @@ pub struct Notes {
     // The files that were not opened or made, from the first one on.
     refused_files: Cell<Option<Vec<FileReason>>>,
     is_refused: Cell<bool>,
-    refused: Cell<Option<LineReason>>,
     frames: Cell<FrameNotes>,
     returned: Cell<Option<String>>,
     script: Cell<Option<u64>>,
@@ -54,7 +52,6 @@ impl Notes {
             failed: Cell::new(None),
             refused_files: Cell::new(None),
             is_refused: Cell::new(false),
-            refused: Cell::new(None),
             frames: Cell::new(FrameNotes::new()),
             returned: Cell::new(None),
             script: Cell::new(None),
@@ -229,16 +226,6 @@ impl Notes {
     /// Puts back the text of a configuration that was taken out.
     pub fn keep(&self, config: ConfigText) {
         self.config.set(Some(config));
-    }
-
-    /// Notes why a line of the script is refused.
-    pub fn refuse(&self, reason: LineReason) {
-        self.refused.set(Some(reason));
-    }
-
-    /// Takes out why a line of the script is refused; None where no refused line is noted.
-    pub fn refused(&self) -> Option<LineReason> {
-        self.refused.take()
     }
 
     /// Notes the next bytes of frames that were read.

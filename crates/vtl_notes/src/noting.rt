@@ -4,31 +4,9 @@ ghost use Rattle.std.specs.Prelude.{◌≡◌};
 use crate::notes::Notes;
 use answer_notes::Answers;
 use file_reasons::{Answer, FileCall, Source};
-use script_reasons::{Drives, LineReason};
 use std::alloc::Global;
 use std::io::{self, ErrorKind, Read};
-use vtl_base::DriveNo;
 use vtl_base::limits::{LINE_BYTES, SCRIPT_BYTES};
-use vtl_config::read_config;
-
-// The one drive of the built-in configuration.
-fn built_in() -> Drives {
-    match DriveNo::new(1) {
-        Some(drive) => Drives::none().with(drive),
-        None => Drives::none(),
-    }
-}
-
-// The drives of the configuration that a text spells; none where the text is refused or memory runs out.
-fn drives_in(alloc: Global, text: &[u8]) -> Drives {
-    let mut drives = Drives::none();
-    if let Ok(config) = read_config(alloc, text) {
-        for drive in config.drives.as_slice() {
-            drives = drives.with(drive.number);
-        }
-    }
-    drives
-}
 
 // The line, without a carriage return at its end.
 fn without_return(line: &[u8]) -> &[u8] {
@@ -39,16 +17,14 @@ fn without_return(line: &[u8]) -> &[u8] {
 }
 
 /// A reader that passes each call on to the reader below it, and notes why a read failed. If the answers to a script
-/// are explained, it also notes each line of the script before the first refused one, why that one is refused, and how
-/// many bytes were read. Otherwise it notes the frames that were read. Once memory runs out for a line, no further line
-/// is noted.
+/// are explained, it also notes each line of the script, and how many bytes were read. Otherwise it notes the frames that
+/// were read. Once memory runs out for a line, or a line is too long, no further line is noted.
 #[derive(Drop)]
 pub struct NotingReader<'a, I> {
     below: I,
     alloc: Global,
     notes: &'a Notes,
     answers: &'a Answers,
-    drives: Option<Drives>,
     line: Vec<u8>,
     lines: u64,
     bytes: u64,
@@ -64,7 +40,6 @@ impl<'a, I> NotingReader<'a, I> {
             alloc,
             notes,
             answers,
-            drives: None,
             line: Vec::new(alloc),
             lines: 0,
             bytes: 0,
@@ -72,57 +47,23 @@ impl<'a, I> NotingReader<'a, I> {
         }
     }
 
-    // The drives that are configured.
-    fn drives(&mut self) -> Drives
-        ensures { self.new.below ≡ self.old.below }
-    {
-        if let Some(drives) = self.drives {
-            return drives;
-        }
-        let drives = match self.notes.config() {
-            Some(config) => {
-                let drives = drives_in(self.alloc, config.text.as_slice());
-                self.notes.keep(config);
-                drives
-            }
-            None => built_in(),
-        };
-        self.drives = Some(drives);
-        drives
-    }
-
-    // Ends a line: at the end of the script, if `is_last`, and else at a line feed. Notes why the line is refused, or
-    // adds it to those that are to be answered.
+    // Ends a line: at the end of the script, if `is_last`, and else at a line feed. Adds it to those that are to be
+    // answered.
     fn end_line(&mut self, is_last: bool)
         ensures { self.new.below ≡ self.old.below }
     {
-        let drives = self.drives();
         self.lines = self.lines.saturating_add(1);
         let line = self.line.as_slice();
         let line = if is_last { line } else { without_return(line) };
-        match LineReason::of(self.alloc, drives, self.lines, line) {
-            Some(reason) => {
-                self.notes.refuse(reason);
-                self.is_over = true;
-            }
-            None => self.answers.add(self.lines, line),
-        }
+        self.answers.add(self.lines, line);
         self.line.clear();
     }
 
-    // Adds a byte to the line.
+    // Adds a byte to the line. A line past the limit is refused, and ends the script.
     fn add(&mut self, byte: u8)
         ensures { self.new.below ≡ self.old.below }
     {
-        if self.line.push(byte).is_err() {
-            self.is_over = true;
-        }
-        if self.line.len() > LINE_BYTES {
-            let drives = self.drives();
-            self.notes
-                .refuse(LineReason::too_long(drives, self.lines.saturating_add(1)));
-            self.is_over = true;
-        }
+        self.is_over = self.line.len() >= LINE_BYTES || self.line.push(byte).is_err();
     }
 
     fn fail(&self, answer: Answer) {

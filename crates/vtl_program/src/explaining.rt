@@ -11,6 +11,7 @@ use check_lines::reading::ReportsRead;
 use config_reasons::reason_of;
 use explanations::Explanation;
 use library::Sealed;
+use script_reasons::add_line;
 use std::alloc::{AllocError, Global};
 use std::io::{Read, Write};
 use std::sync::Wait;
@@ -164,13 +165,14 @@ fn add_config(
 // were checked or were to be reclaimed: there is one of the four at most.
 fn add_text(
     alloc: Global,
+    fault: &Option<VtlFault>,
     notes: &Notes,
     doubt: &Doubt,
     lines: &mut Explanation,
 ) -> Result<(), AllocError> {
     add_config(alloc, notes, doubt, lines)?;
-    if let Some(reason) = notes.refused() {
-        reason.add_to(alloc, lines)?;
+    if let Some(VtlFault::Script { reason }) = fault {
+        add_line(alloc, reason, lines)?;
     }
     match doubt {
         Doubt::Frames => add_frame(alloc, notes, lines),
@@ -232,10 +234,10 @@ fn add_checked(alloc: Global, notes: &Notes, lines: &mut Explanation) -> Result<
     added
 }
 
-// The lines that explain why the program ends with this status.
+// The lines that explain why the program ends so.
 fn lines_for(
     alloc: Global,
-    status: u8,
+    ended: &Ended,
     doubt: &Doubt,
     notes: &Notes,
 ) -> Result<Explanation, AllocError> {
@@ -243,10 +245,10 @@ fn lines_for(
     if let Doubt::Checks = doubt {
         add_checked(alloc, notes, &mut lines)?;
     }
-    match status {
+    match ended.status {
         1 => match doubt {
             Doubt::Words(reason) => reason.add_to(alloc, &mut lines)?,
-            _ => add_text(alloc, notes, doubt, &mut lines)?,
+            _ => add_text(alloc, &ended.fault, notes, doubt, &mut lines)?,
         },
         2 => add_failed(alloc, notes, doubt, &mut lines)?,
         3 => notes.add_memory(alloc, &mut lines)?,
@@ -255,12 +257,12 @@ fn lines_for(
     Ok(lines)
 }
 
-// Writes the lines for a status, if they are asked for. If memory runs out, nothing is written; if a write fails, a
+// Writes the lines for how the program ends, if they are asked for. If memory runs out, nothing is written; if a write fails, a
 // beginning of them may be.
 fn explain<E: Write>(
     asked: bool,
     alloc: Global,
-    status: u8,
+    ended: &Ended,
     doubt: &Doubt,
     notes: &Notes,
     errors: &mut E,
@@ -270,7 +272,7 @@ fn explain<E: Write>(
     if !asked {
         return;
     }
-    let lines = match lines_for(alloc, status, doubt, notes) {
+    let lines = match lines_for(alloc, ended, doubt, notes) {
         Ok(lines) => lines,
         Err(_) => return,
     };
@@ -324,6 +326,6 @@ pub fn run_explained<
     let doubt = doubt_of(alloc, asked, &words);
     let ended = run::<D, F, R, I, W, E>(rt, alloc, files, words, reader, writer, errors);
     let wanted = is_wanted(asked, ended.is_reported);
-    explain(wanted, alloc, ended.status, &doubt, notes, errors);
+    explain(wanted, alloc, &ended, &doubt, notes, errors);
     ended
 }

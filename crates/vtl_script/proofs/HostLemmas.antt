@@ -1,11 +1,14 @@
 -- The hosts and drives of commands.
-use Rattle.std.proofs.Common.{◌≡◌, ℕ, Bool, true, false, List, [], ◌∷◌, Option, Some, None, refl, sym, ap, ◌∙◌, nat_lt, filter, filter_map, flat_map, ◌==◌, ◌&&◌, nat_le, if◌then◌else◌, cond, slice_index, codes, bytes_eq}
+use Rattle.std.proofs.Common.{◌≡◌, ℕ, Bool, true, false, List, [], ◌∷◌, length, Option, Some, None, Result, Ok, Err, refl, sym, ap, ◌∙◌, nat_lt, filter, filter_map, flat_map, ◌==◌, ◌&&◌, nat_le, if◌then◌else◌, cond, slice_index, codes, bytes_eq}
 use Rattle.std.specs.List.{list_all, range_with_len}
 use Rattle.std.proofs.lemmas.List.Folds.{list_all-append}
 use Rattle.vtl_script.specs.declared.lines.Line.{Line}
 use Rattle.vtl_script.specs.declared.lines.ParsedLine.{ParsedLine}
 use Rattle.vtl_script.specs.declared.lines.ParsedLine.TheVariants.{Nothing, PhaseEnd, Refused}
-use Rattle.vtl_script.specs.Lines.{only_if, host_of, drive_of, bytes_of, decimal_of, parsed_command, command_in, data_of, parse_command, parsed_move, parse_move, parse_order, parse_fields, line_fields}
+use Rattle.vtl_script.specs.declared.reasons.LineFault.{LineFault}
+use Rattle.vtl_script.specs.declared.reasons.LineRule.TheVariants.{Host}
+use Rattle.vtl_script.specs.Reasons.{too_long}
+use Rattle.vtl_script.specs.Lines.{Field, only_if, host_of, drive_of, decimal_of, refused_field, good_or, address_in, host_in, drive_rule, drive_at, block_at, data_at, command_of, parse_command, move_of, parse_move, parse_end, parse_order, parse_fields, parse_line, line_fields}
 use Rattle.vtl_script.specs.Parsed.{parsed_line, line_in}
 use Rattle.vtl_script.specs.Items.{has_host, by_host}
 
@@ -26,23 +29,20 @@ AllPass p is_configured =
     → drive_of is_configured to ≡ Some drive
     → p (record { host = host; drive = drive; cdb = cdb; sent = sent }) ≡ true
 
-pass_command : (p : Line → Bool) (o d : Option ℕ) (c s : Option (List ℕ))
-    → ((host drive : ℕ) (cdb sent : List ℕ) → o ≡ Some host → d ≡ Some drive
+pass_command : (p : Line → Bool) (o d : Result ℕ LineFault) (c s : Result (List ℕ) LineFault)
+    → ((host drive : ℕ) (cdb sent : List ℕ) → o ≡ Ok host → d ≡ Ok drive
     → p (record { host = host; drive = drive; cdb = cdb; sent = sent }) ≡ true)
-    → list_all p (filter_map line_in (parsed_command o d c s ∷ [])) ≡ true
-pass_command p (Some host) (Some drive) (Some cdb) (Some sent) is = rw (is host drive cdb sent refl refl) refl
-pass_command p None d c s is = refl
-pass_command p (Some host) None c s is = refl
-pass_command p (Some host) (Some drive) None s is = refl
-pass_command p (Some host) (Some drive) (Some cdb) None is = refl
+    → list_all p (filter_map line_in (command_of o d c s ∷ [])) ≡ true
+pass_command p (Ok host) (Ok drive) (Ok cdb) (Ok sent) is = rw (is host drive cdb sent refl refl) refl
+pass_command p (Err fault) d c s is = refl
+pass_command p (Ok host) (Err fault) c s is = refl
+pass_command p (Ok host) (Ok drive) (Err fault) s is = refl
+pass_command p (Ok host) (Ok drive) (Ok cdb) (Err fault) is = refl
 
-pass_fields : (p : Line → Bool) (is_configured : ℕ → Bool) → AllPass p is_configured
-    → (host drive cdb : List ℕ) (o : Option (List ℕ))
-    → list_all p (filter_map line_in (command_in is_configured host drive cdb o ∷ [])) ≡ true
-pass_fields p is_configured all host drive cdb None = refl
-pass_fields p is_configured all host drive cdb (Some sent) =
-    pass_command p (host_of host) (drive_of is_configured drive) (bytes_of cdb) (bytes_of sent)
-    (λ h n c s is_host is_drive. all host drive h n c s is_host is_drive)
+-- a value that is good
+good_is : {A : Type 0} (fault : LineFault) (o : Option A) (value : A) → good_or fault o ≡ Ok value → o ≡ Some value
+good_is fault None value is = absurd (cc)
+good_is fault (Some other) value is = let same : other ≡ value = cc in ap Some same
 
 pass_if : (p : Line → Bool) (b : Bool) (first second : ParsedLine) → list_all p (filter_map line_in (first ∷ [])) ≡ true
     → list_all p (filter_map line_in (second ∷ [])) ≡ true
@@ -51,37 +51,50 @@ pass_if p true first second h k = h
 pass_if p false first second h k = k
 
 pass_with : (p : Line → Bool) (is_configured : ℕ → Bool) → AllPass p is_configured
-    → (first : List ℕ) (rest : List (List ℕ))
-    → list_all p (filter_map line_in (parse_command is_configured first rest ∷ [])) ≡ true
-pass_with p is_configured all first [] = pass_if p (bytes_eq first (codes "--")) PhaseEnd Refused refl refl
-pass_with p is_configured all first (drive ∷ []) = refl
-pass_with p is_configured all first (drive ∷ cdb ∷ rest) = pass_fields p is_configured all first drive cdb
-    (data_of rest)
+    → (end : ℕ) (first : Field) (rest : List Field)
+    → list_all p (filter_map line_in (parse_command is_configured end first rest ∷ [])) ≡ true
+pass_with p is_configured all end first [] =
+    pass_command p (host_in first) (drive_at is_configured end []) (block_at end []) (data_at [])
+    (λ host drive cdb sent is_host is_drive. absurd (cc))
+pass_with p is_configured all end first (to ∷ rest) =
+    pass_command p (host_in first) (drive_at is_configured end (to ∷ rest)) (block_at end (to ∷ rest))
+    (data_at (to ∷ rest))
+    (λ host drive cdb sent is_host is_drive.
+    all first.bytes to.bytes host drive cdb sent (good_is (refused_field Host first) (host_of first.bytes) host is_host)
+    (good_is (refused_field (drive_rule is_configured to.bytes) to) (drive_of is_configured to.bytes) drive is_drive))
 
-pass_moved : (p : Line → Bool) (from to : Option ℕ) → list_all p (filter_map line_in (parsed_move from to ∷ [])) ≡ true
-pass_moved p (Some from) (Some to) = refl
-pass_moved p (Some from) None = refl
-pass_moved p None to = refl
+pass_moved : (p : Line → Bool) (from to : Result ℕ LineFault) (rest : List Field)
+    → list_all p (filter_map line_in (move_of from to rest ∷ [])) ≡ true
+pass_moved p (Ok from) (Ok to) [] = refl
+pass_moved p (Ok from) (Ok to) (other ∷ rest) = refl
+pass_moved p (Ok from) (Err fault) rest = refl
+pass_moved p (Err fault) to rest = refl
 
-pass_move : (p : Line → Bool) (fields : List (List ℕ)) → list_all p (filter_map line_in (parse_move fields ∷ [])) ≡ true
-pass_move p [] = refl
-pass_move p (from ∷ []) = refl
-pass_move p (from ∷ to ∷ []) = pass_moved p (decimal_of from) (decimal_of to)
-pass_move p (from ∷ to ∷ other ∷ fields) = refl
+pass_move : (p : Line → Bool) (end : ℕ) (fields : List Field)
+    → list_all p (filter_map line_in (parse_move end fields ∷ [])) ≡ true
+pass_move p end [] = refl
+pass_move p end (from ∷ []) = refl
+pass_move p end (from ∷ to ∷ rest) = pass_moved p (address_in from) (address_in to) rest
 
-pass_by : (p : Line → Bool) (is_configured : ℕ → Bool) → AllPass p is_configured → (fields : List (List ℕ))
-    → list_all p (filter_map line_in (parse_fields is_configured fields ∷ [])) ≡ true
-pass_by p is_configured all [] = refl
-pass_by p is_configured all (first ∷ rest) =
-    pass_if p (slice_index first 0 == 35) Nothing (parse_order is_configured first rest) refl
-    (pass_if p (bytes_eq first (codes "move")) (parse_move rest) (parse_command is_configured first rest)
-    (pass_move p rest) (pass_with p is_configured all first rest))
+pass_end : (p : Line → Bool) (fields : List Field) → list_all p (filter_map line_in (parse_end fields ∷ [])) ≡ true
+pass_end p [] = refl
+pass_end p (other ∷ rest) = refl
+
+pass_by : (p : Line → Bool) (is_configured : ℕ → Bool) → AllPass p is_configured → (end : ℕ) (fields : List Field)
+    → list_all p (filter_map line_in (parse_fields is_configured end fields ∷ [])) ≡ true
+pass_by p is_configured all end [] = refl
+pass_by p is_configured all end (first ∷ rest) =
+    pass_if p (slice_index first.bytes 0 == 35) Nothing (parse_order is_configured end first rest) refl
+    (pass_if p (bytes_eq first.bytes (codes "--")) (parse_end rest) (if bytes_eq first.bytes (codes "move")
+    then parse_move end rest else parse_command is_configured end first rest) (pass_end p rest)
+    (pass_if p (bytes_eq first.bytes (codes "move")) (parse_move end rest) (parse_command is_configured end first rest)
+    (pass_move p end rest) (pass_with p is_configured all end first rest)))
 
 pass_line : (p : Line → Bool) (is_configured : ℕ → Bool) → AllPass p is_configured → (count : ℕ) (line : List ℕ)
     → list_all p (filter_map line_in (parsed_line is_configured count line ∷ [])) ≡ true
 pass_line p is_configured all count line =
-    pass_if p (nat_lt 2200000 count) Refused (parse_fields is_configured (line_fields line)) refl
-    (pass_by p is_configured all (line_fields line))
+    pass_if p (nat_lt 2200000 count) (Refused too_long) (parse_line is_configured line) refl
+    (pass_by p is_configured all (length line) (line_fields line))
 
 -- the host of a command is one
 pub hosts_of : (is_configured : ℕ → Bool) (count : ℕ) (line : List ℕ) (parsed : ParsedLine)

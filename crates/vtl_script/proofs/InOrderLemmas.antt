@@ -70,7 +70,7 @@ in_order host least most front (Move from to ∷ parsed_list) good all =
     ap (λ (xs : List Line). xs ++ commands_to_run (items_after [] parsed_list))
     (by_one_host host front (record { least = least; most = most; all = both.0 }))
     ∙ ap (λ (xs : List Line). front ++ xs) (in_order host least most [] parsed_list good both.1)
-in_order host least most front (Refused ∷ parsed_list) good all = absurd (cc)
+in_order host least most front (Refused fault ∷ parsed_list) good all = absurd (cc)
 in_order host least most front (Nothing ∷ parsed_list) good all = in_order host least most front parsed_list good all
 in_order host least most front (Command line ∷ parsed_list) good all =
     let same = append_assoc front (line ∷ []) (filter_map line_in parsed_list) in
@@ -100,7 +100,7 @@ phases_after front (Nothing ∷ parsed_list) none = phases_after front parsed_li
 phases_after front (PhaseEnd ∷ parsed_list) none = phases_after [] parsed_list none
 phases_after front (Command line ∷ parsed_list) none = phases_after (front ++ line ∷ []) parsed_list none
 phases_after front (Move from to ∷ parsed_list) none = absurd (cc)
-phases_after front (Refused ∷ parsed_list) none = refl
+phases_after front (Refused fault ∷ parsed_list) none = refl
 
 pub no_move_is_run : NoMoveIsRun
 no_move_is_run parsed_list none = phases_after [] parsed_list none

@@ -5,16 +5,18 @@ use Rattle.std.proofs.KnownBytes.{Appends-nil}
 use Rattle.scsi_sense.specs.declared.replies.Reply.{Reply}
 use Rattle.vtl_script.specs.declared.items.Item.{Item}
 use Rattle.vtl_script.specs.declared.items.Item.TheVariants.{Phase}
+use Rattle.vtl_script.specs.declared.reasons.LineReason.{LineReason}
+use Rattle.vtl_script.specs.declared.lines.ParsedLine.TheVariants.{Refused}
 use Rattle.vtl_script.specs.declared.faults.ScriptFault.{ScriptFault}
 use Rattle.vtl_script.specs.declared.faults.ScriptFault.TheVariants.{BadLine, ReadFault, WriteFault, NoMemory}
-use Rattle.vtl_script.specs.Parsed.{parsed_lines, refused_line}
+use Rattle.vtl_script.specs.Parsed.{parsed_lines, refused_line, first_fault}
 use Rattle.vtl_script.specs.Items.{items_to_run}
 use Rattle.vtl_script.specs.Text.{text_of}
 use Rattle.vtl_script.specs.Inner.Reading.{LineReading}
 use Rattle.vtl_script.specs.Inner.ReadItem.{rest_of, AreEmpty, ReadsLines, RefusesItem}
 use Rattle.vtl_script.specs.Inner.RunItem.{AnswersItems, AnswersFirst, FinishesScript, GoesOn, RunsNext}
 use Rattle.vtl_script.proofs.LineLemmas.{at_end}
-use Rattle.vtl_script.proofs.RefusedLemmas.{none_refused, first_refused}
+use Rattle.vtl_script.proofs.RefusedLemmas.{none_refused, first_refused, fault_behind}
 use Rattle.vtl_script.proofs.BehindLemmas.{known_on, known_rest, in_script}
 use Rattle.vtl_script.proofs.RunLemmas.{stops_sooner}
 
@@ -49,10 +51,10 @@ module _ {P : Type 0} (is_configured : ℕ → Bool) (answers : P → List Item 
   }
 
   -- a line of an item is refused
-  pub finish_refused : (reading : LineReading) (old : P) (left left' before : Option (List ℕ)) (number : ℕ)
-      → RefusesItem is_configured left reading left' number
-      → FinishesScript is_configured answers reading old left before old before (Err (BadLine number))
-  finish_refused reading old left left' before number refuses =
+  pub finish_refused : (reading : LineReading) (old : P) (left left' before : Option (List ℕ)) (reason : LineReason)
+      → RefusesItem is_configured left reading left' reason
+      → FinishesScript is_configured answers reading old left before old before (Err (BadLine reason))
+  finish_refused reading old left left' before reason refuses =
       let says = ap (parsed_lines is_configured) (sym (append_assoc reading.unread refuses.read (rest_of left')))
       ∙ refuses.says in
       record {
@@ -66,7 +68,12 @@ module _ {P : Type 0} (is_configured : ℕ → Bool) (answers : P → List Item 
           length refuses.parsed_list + 1,
           omega (arith, refuses.number_is),
           (
-            ap refused_line says ∙ first_refused refuses.parsed_list refuses.behind refuses.accepted,
+            record {
+              line = ap refused_line says
+                  ∙ first_refused refuses.parsed_list refuses.behind reason.fault refuses.accepted;
+              fault = ap first_fault says
+                  ∙ fault_behind refuses.parsed_list (Refused reason.fault ∷ refuses.behind) refuses.accepted;
+            },
             sym
                 (ap items_to_run says ∙ refuses.not_run),
             (refl, Appends-nil before),
@@ -77,10 +84,10 @@ module _ {P : Type 0} (is_configured : ℕ → Bool) (answers : P → List Item 
   -- an item was not read, or a line of it is refused
   pub read_failed : (reading : LineReading) (old : P) (left left' before : Option (List ℕ)) (fault : ScriptFault)
       → (fault ≡ WriteFault → ⊥)
-      → ((number : ℕ) → fault ≡ BadLine number → RefusesItem is_configured left reading left' number)
+      → ((reason : LineReason) → fault ≡ BadLine reason → RefusesItem is_configured left reading left' reason)
       → FinishesScript is_configured answers reading old left before old before (Err fault)
-  read_failed reading old left left' before (BadLine number) other refuses = finish_refused reading old left left'
-      before number (refuses number refl)
+  read_failed reading old left left' before (BadLine reason) other refuses = finish_refused reading old left left'
+      before reason (refuses reason refl)
   read_failed reading old left left' before ReadFault other refuses = finish_unread reading old left before
   read_failed reading old left left' before WriteFault other refuses = absurd (other refl)
   read_failed reading old left left' before NoMemory other refuses = finish_short reading old left before
@@ -91,7 +98,7 @@ module _ {P : Type 0} (is_configured : ℕ → Bool) (answers : P → List Item 
       → ReadsLines is_configured left reading left' reading' is_last items
       → AnswersFirst answers old items before new now fault
       → FinishesScript is_configured answers reading old left before new now (Err fault)
-  finish_first reading reading' old left left' before new now is_last items (BadLine number) reads ran = absurd
+  finish_first reading reading' old left left' before new now is_last items (BadLine reason) reads ran = absurd
       ran.stops
   finish_first reading reading' old left left' before new now is_last items ReadFault reads ran = absurd ran.stops
   finish_first reading reading' old left left' before new now is_last items WriteFault reads ran =

@@ -1,5 +1,6 @@
 mod BehindLemmas
 mod DueLemmas
+mod FieldLemmas
 mod HostLemmas
 mod InOrderLemmas
 mod ItemLemmas

@@ -10,6 +10,8 @@ use Rattle.vtl_script.specs.declared.phases.NextLine.{NextLine}
 use Rattle.vtl_script.specs.Parsed.{without_return, parsed_line, parsed_parts, parsed_lines, line_in}
 use Rattle.vtl_script.specs.Items.{has_host}
 use Rattle.vtl_script.specs.Inner.ReadItem.{rest_of, ReportsRefused, ParsesFirst, ReadsLine, RefusesLine}
+use Rattle.vtl_script.specs.declared.reasons.LineReason.{LineReason}
+use Rattle.vtl_script.specs.Reasons.{too_long}
 use Rattle.vtl_script.specs.declared.faults.ScriptFault.{ScriptFault}
 use Rattle.vtl_script.specs.declared.faults.ScriptFault.TheVariants.{BadLine}
 use Rattle.vtl_script.specs.Inner.Reading.{LineReading, Comes, work_left}
@@ -48,7 +50,7 @@ pub says_last : (is_configured : ℕ → Bool) (text : List ℕ) → position (�
 says_last is_configured text none = ap (parsed_parts is_configured) (split_whole (λ byte. byte == 10) text none)
 
 long_first : (is_configured : ℕ → Bool) (line : List ℕ) (parts : List (List ℕ)) → 2200000 < length line
-    → (behind : List ParsedLine) × (parsed_parts is_configured (line ∷ parts) ≡ Refused ∷ behind)
+    → (behind : List ParsedLine) × (parsed_parts is_configured (line ∷ parts) ≡ Refused too_long ∷ behind)
 long_first is_configured line [] long = let t : nat_lt 2200000 (length line) ≡ true = grind (arith, nat_tests) in
     ([], rw t refl)
 long_first is_configured line (next ∷ parts) long = let t : nat_lt 2200000 (length line) ≡ true = grind
@@ -57,7 +59,7 @@ long_first is_configured line (next ∷ parts) long = let t : nat_lt 2200000 (le
 -- a line that is too long, whatever follows
 pub says_long : (is_configured : ℕ → Bool) (text more : List ℕ) → position (λ byte. byte == 10) text ≡ None
     → 2200000 < length text → (behind : List ParsedLine)
-    × (parsed_lines is_configured (text ++ more) ≡ Refused ∷ behind)
+    × (parsed_lines is_configured (text ++ more) ≡ Refused too_long ∷ behind)
 says_long is_configured text more none long =
     let is_end : ℕ → Bool = λ byte. byte == 10 in
     let first = first_of_split is_end more in
@@ -119,26 +121,27 @@ pub refuses : (is_configured : ℕ → Bool) (left left' : Option (List ℕ)) (o
     (parsed : ParsedLine)
     (is_last : Bool) (number : ℕ) (result : Result NextLine ScriptFault) → Comes left old left' mid
     → ParsesFirst is_configured is_last mid.unread (parsed ∷ []) new.unread left' → number ≡ old.lines + 1
-    → ReportsRefused parsed is_last number result → (told : ℕ) → result ≡ Err (BadLine told)
+    → ReportsRefused parsed is_last number result → (told : LineReason) → result ≡ Err (BadLine told)
     → RefusesLine is_configured left old left' told
 refuses is_configured left left' old mid new parsed is_last number (Ok next) comes says counted accepts told is =
     absurd (cc)
 refuses is_configured left left' old mid new parsed is_last number (Err fault) comes says counted accepts told is =
     let all = whole is_configured is_last mid.unread (parsed ∷ []) new.unread left' says in
-    let number_reported : told ≡ number = cc in
-    record {
+    let reported : told ≡ record { line = number; fault = accepts.0 } = cc in
+    rw reported (record {
       read = comes.read;
       taken = comes.taken;
-      number_is = number_reported ∙ counted;
+      number_is = counted;
       behind = all.0;
-      says = rw (← comes.unread, ← accepts.1) all.1;
-    }
+      says = rw (← comes.unread, ← accepts.2) all.1;
+    })
 
 -- a line that does not end within its limit
-pub refuses_long : (is_configured : ℕ → Bool) (left left' : Option (List ℕ)) (old mid : LineReading) (told : ℕ)
+pub refuses_long : (is_configured : ℕ → Bool) (left left' : Option (List ℕ)) (old mid : LineReading) (number : ℕ)
     → Comes left old left' mid → position (λ byte. byte == 10) mid.unread ≡ None → 2200000 < length mid.unread
-    → told ≡ old.lines + 1 → RefusesLine is_configured left old left' told
-refuses_long is_configured left left' old mid told comes none long counted =
+    → number ≡ old.lines + 1
+    → RefusesLine is_configured left old left' (record { line = number; fault = too_long })
+refuses_long is_configured left left' old mid number comes none long counted =
     let all = says_long is_configured mid.unread (rest_of left') none long in
     record {
       read = comes.read;

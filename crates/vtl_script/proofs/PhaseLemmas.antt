@@ -6,6 +6,7 @@ use Rattle.std.specs.List.{list_any, list_all}
 use Rattle.std.specs.Io.KnownBytes.{Consumes}
 use Rattle.vtl_script.specs.declared.lines.Line.{Line}
 use Rattle.vtl_script.specs.declared.lines.ParsedLine.{ParsedLine}
+use Rattle.vtl_script.specs.declared.reasons.LineReason.{LineReason}
 use Rattle.vtl_script.specs.declared.lines.ParsedLine.TheVariants.{Nothing, PhaseEnd, Command, Move, Refused}
 use Rattle.vtl_script.specs.declared.phases.NextLine.{NextLine}
 use Rattle.vtl_script.specs.declared.phases.PhaseLines.{PhaseLines}
@@ -79,7 +80,7 @@ line_on Nothing lines lines' more good inside is =
 line_on (Command line) lines lines' more good inside is = ap (λ (xs : List Line). items_after xs more) (sym is)
 line_on PhaseEnd lines lines' more good inside is = absurd (cc)
 line_on (Move from to) lines lines' more good inside is = absurd (cc)
-line_on Refused lines lines' more good inside is = absurd (cc)
+line_on (Refused fault) lines lines' more good inside is = absurd (cc)
 
 pub gathers_on : (is_configured : ℕ → Bool) (a b c : Option (List ℕ)) (old mid new : LineReading)
     (lines lines' : List Line) (next : NextLine) → IsGathered is_configured a old b mid lines
@@ -162,7 +163,7 @@ phase_ends (Command line) true parsed_list lines lines' to_run good ends is =
     ([], to_run (Command line ∷ []) ∙ ap (λ (xs : List Line). Phase (by_host xs) ∷ []) (sym is), inl refl)
 phase_ends Nothing false parsed_list lines lines' to_run good ends is = absurd (cc)
 phase_ends (Command line) false parsed_list lines lines' to_run good ends is = absurd (cc)
-phase_ends Refused is_last parsed_list lines lines' to_run good ends is = absurd (cc)
+phase_ends (Refused fault) is_last parsed_list lines lines' to_run good ends is = absurd (cc)
 
 -- a move names any two addresses
 moves_run : (is_configured : ℕ → Bool) (parsed : ParsedLine) → IfSome (move_in parsed) (IsRunnable is_configured)
@@ -170,7 +171,7 @@ moves_run is_configured Nothing = tt
 moves_run is_configured PhaseEnd = tt
 moves_run is_configured (Command line) = tt
 moves_run is_configured (Move from to) = tt
-moves_run is_configured Refused = tt
+moves_run is_configured (Refused fault) = tt
 
 pub phase_read : (is_configured : ℕ → Bool) (a b c : Option (List ℕ)) (old mid new : LineReading) (lines : List Line)
     (next : NextLine) (phase : PhaseLines) → IsGathered is_configured a old b mid lines
@@ -202,9 +203,9 @@ phase_read is_configured a b c old mid new lines next phase so tells ends same_l
     }
 
 pub phase_refused : (is_configured : ℕ → Bool) (a b c : Option (List ℕ)) (old mid : LineReading) (lines : List Line)
-    (number : ℕ) → IsGathered is_configured a old b mid lines → RefusesLine is_configured b mid c number
-    → RefusesItem is_configured a old c number
-phase_refused is_configured a b c old mid lines number so refuses =
+    (reason : LineReason) → IsGathered is_configured a old b mid lines → RefusesLine is_configured b mid c reason
+    → RefusesItem is_configured a old c reason
+phase_refused is_configured a b c old mid lines reason so refuses =
     record {
       read = so.read ++ refuses.read;
       taken = consumes_on a b c so.read refuses.read so.taken refuses.taken;
@@ -218,7 +219,7 @@ phase_refused is_configured a b c old mid lines number so refuses =
           ∙ ap (λ (text : List ℕ). so.parsed_list ++ parsed_lines is_configured text)
           (sym (append_assoc mid.unread refuses.read (rest_of c)))
           ∙ ap (λ (xs : List ParsedLine). so.parsed_list ++ xs) refuses.says;
-      not_run = so.to_run (Refused ∷ refuses.behind);
+      not_run = so.to_run (Refused reason.fault ∷ refuses.behind);
     }
 
 -- what the lines of some items take is within the limit of bytes

@@ -4,8 +4,9 @@ use Rattle.std.proofs.lemmas.Bool.Decides.{nat_tests}
 use Rattle.std.proofs.lemmas.List.{append-nil, length-append}
 use Rattle.std.specs.List.{list_any, position_or_len}
 use Rattle.vtl_script.specs.declared.lines.ParsedLine.{ParsedLine}
-use Rattle.vtl_script.specs.declared.lines.ParsedLine.TheVariants.{Refused}
-use Rattle.vtl_script.specs.Parsed.{is_refused, refused_line}
+use Rattle.vtl_script.specs.declared.lines.ParsedLine.TheVariants.{Nothing, PhaseEnd, Command, Move, Refused}
+use Rattle.vtl_script.specs.declared.reasons.LineFault.{LineFault}
+use Rattle.vtl_script.specs.Parsed.{is_refused, refused_line, first_fault}
 
 -- the first place behind elements none of which passes
 behind_with : (p : ParsedLine → Bool) (x : ParsedLine) (xs ys : List ParsedLine) (b : Bool) → p x ≡ b
@@ -60,8 +61,26 @@ pub none_refused : (parsed_list : List ParsedLine) → list_any is_refused parse
     → refused_line parsed_list ≡ None
 none_refused parsed_list none = ap refused_line (sym (append-nil parsed_list)) ∙ none_behind parsed_list [] none refl
 
-pub first_refused : (parsed_list behind : List ParsedLine) → list_any is_refused parsed_list ≡ false
-    → refused_line (parsed_list ++ Refused ∷ behind) ≡ Some (length parsed_list + 1)
-first_refused parsed_list behind none =
-    let first : nat_lt 0 (length (Refused ∷ behind)) ≡ true = grind (arith, nat_tests) in
-    refused_behind parsed_list (Refused ∷ behind) 1 none (rw first refl)
+pub first_refused : (parsed_list behind : List ParsedLine) (fault : LineFault) → list_any is_refused parsed_list ≡ false
+    → refused_line (parsed_list ++ Refused fault ∷ behind) ≡ Some (length parsed_list + 1)
+first_refused parsed_list behind fault none =
+    let first : nat_lt 0 (length (Refused fault ∷ behind)) ≡ true = grind (arith, nat_tests) in
+    refused_behind parsed_list (Refused fault ∷ behind) 1 none (rw first refl)
+
+-- the fault behind lines of which none is refused
+fault_with : (parsed : ParsedLine) (front parsed_list : List ParsedLine) (b : Bool) → is_refused parsed ≡ b
+    → (b || list_any is_refused front) ≡ false
+    → (list_any is_refused front ≡ false → first_fault (front ++ parsed_list) ≡ first_fault parsed_list)
+    → first_fault (parsed ∷ (front ++ parsed_list)) ≡ first_fault parsed_list
+fault_with Nothing front parsed_list false is none rest = rest none
+fault_with PhaseEnd front parsed_list false is none rest = rest none
+fault_with (Command line) front parsed_list false is none rest = rest none
+fault_with (Move from to) front parsed_list false is none rest = rest none
+fault_with (Refused fault) front parsed_list false is none rest = absurd (cc)
+fault_with parsed front parsed_list true is none rest = absurd (cc)
+
+pub fault_behind : (front parsed_list : List ParsedLine) → list_any is_refused front ≡ false
+    → first_fault (front ++ parsed_list) ≡ first_fault parsed_list
+fault_behind [] parsed_list none = refl
+fault_behind (parsed ∷ front) parsed_list none =
+    fault_with parsed front parsed_list (is_refused parsed) refl none (fault_behind front parsed_list)

@@ -42,7 +42,7 @@ pub stops_sooner : {P : Type 0} (answers : P → List Item → List Reply → P 
     (text : List ℕ) (mid : P) (before : Option (List ℕ)) (new : P) (now : Option (List ℕ)) (fault : ScriptFault)
     → StopsIn answers behind text mid before new now fault
     → StopsIn answers (behind ++ more) text mid before new now fault
-stops_sooner answers behind more text mid before new now (BadLine number) stops = absurd stops
+stops_sooner answers behind more text mid before new now (BadLine reason) stops = absurd stops
 stops_sooner answers behind more text mid before new now ReadFault stops = absurd stops
 stops_sooner answers behind more text mid before new now WriteFault stops = part_sooner answers behind more text mid
     before new now stops
@@ -54,7 +54,7 @@ stops_behind : {P : Type 0} (answers : P → List Item → List Reply → P → 
     (front text : List ℕ) (mid : P) (before during : Option (List ℕ)) (new : P) (now : Option (List ℕ))
     (fault : ScriptFault) → Appends before during front → StopsIn answers behind text mid during new now fault
     → StopsIn answers behind (front ++ text) mid before new now fault
-stops_behind answers behind front text mid before during new now (BadLine number) one stops = absurd stops
+stops_behind answers behind front text mid before during new now (BadLine reason) one stops = absurd stops
 stops_behind answers behind front text mid before during new now ReadFault one stops = absurd stops
 stops_behind answers behind front text mid before during new now WriteFault one stops = writes_part_behind answers
     behind front text mid before during new now one stops

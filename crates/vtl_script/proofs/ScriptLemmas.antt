@@ -18,7 +18,7 @@ use Rattle.vtl_script.specs.Runs.{ScriptEnds, RunsScript, RunsPart, Stops}
 use Rattle.vtl_script.specs.Inner.RunItem.{EndsFrom, FinishesScript, GoesOn}
 use Rattle.vtl_script.proofs.ReadingLemmas.{consumes_on, consumes_none}
 use Rattle.vtl_script.proofs.PhaseLemmas.{texts}
-use Rattle.vtl_script.proofs.RefusedLemmas.{refused_behind, none_behind}
+use Rattle.vtl_script.proofs.RefusedLemmas.{refused_behind, none_behind, fault_behind}
 use Rattle.vtl_script.proofs.BehindLemmas.{known_on, text_of-append, items_behind, first_behind, writes_part_behind, runs_part_behind}
 
 module _ {P : Type 0} (is_configured : ℕ → Bool) (answers : P → List Item → List Reply → P → Type 0)
@@ -100,11 +100,14 @@ module _ {P : Type 0} (is_configured : ℕ → Bool) (answers : P → List Item 
         (ends.3.0, Appends-trans before during now (text_of one.replies) text one.written ends.3.1),
       )
   ends_behind reading mid old between new a b before during now one size parsed_list items text middle
-      (Err (BadLine number)) ends = (
+      (Err (BadLine reason)) ends = (
         length one.parsed_list + ends.0,
         omega (arith, one.lines, ends.1),
         (
-          refused_behind one.parsed_list parsed_list ends.0 one.accepted ends.2.0,
+          record {
+            line = refused_behind one.parsed_list parsed_list ends.0 one.accepted ends.2.0.line;
+            fault = fault_behind one.parsed_list parsed_list one.accepted ∙ ends.2.0.fault;
+          },
           items_behind one.parsed_list
               parsed_list one.items items (one.to_run parsed_list) ends.2.1,
           (ends.2.2.0, Appends-trans before during now (text_of one.replies) text one.written ends.2.2.1),
@@ -156,8 +159,8 @@ module _ {P : Type 0} (is_configured : ℕ → Bool) (answers : P → List Item 
       → ScriptEnds answers size parsed_list items text mid before new now result
   ends_whole size parsed_list items text mid before new now (Ok done) ends =
       (omega (arith, ends.0), ends.1, ends.2, ends.3)
-  ends_whole size parsed_list items text mid before new now (Err (BadLine number)) ends = let is : number ≡ ends.0 =
-      omega (arith, ends.1) in rw is ends.2
+  ends_whole size parsed_list items text mid before new now (Err (BadLine reason)) ends = let is : reason.line ≡ ends.0 =
+      omega (arith, ends.1) in rw (← is) at ends.2
   ends_whole size parsed_list items text mid before new now (Err ReadFault) ends = ends
   ends_whole size parsed_list items text mid before new now (Err WriteFault) ends = ends
   ends_whole size parsed_list items text mid before new now (Err NoMemory) ends = ends

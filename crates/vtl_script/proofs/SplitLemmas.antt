@@ -11,7 +11,6 @@ use Rattle.std.specs.List.{prefix_len}
 use Rattle.std.proofs.Common.{get_or}
 use Rattle.std.proofs.lemmas.List.Sums.{position_or_len_is}
 use Rattle.memchr.specs.Find.{IsFirstByte, is_byte}
-use Rattle.vtl_script.specs.Lines.{is_some_byte}
 
 -- a place that is found
 pub record IsFound (p : ℕ → Bool) (xs : List ℕ) (i : ℕ) : Type 0 where
@@ -46,11 +45,6 @@ whole p (x ∷ xs) h = whole-cons p x xs (p x) refl (whole p xs) h
 -- where there is one part
 pub split_whole : (p : ℕ → Bool) (xs : List ℕ) → position p xs ≡ None → slice_split p xs ≡ xs ∷ []
 split_whole p xs none = whole p xs (missed p xs none)
-
--- a part of no byte at the end is no field
-pub no_last_field : (text : List ℕ) → filter is_some_byte (text ∷ []) ≡ filter is_some_byte (text ∷ [] ∷ [])
-no_last_field [] = refl
-no_last_field (x ∷ xs) = grind (arith, nat_tests)
 
 -- where there is none in front, the first is behind
 behind : (p : ℕ → Bool) (xs : List ℕ) (s : ℕ) → s ≤ length xs → position p (take s xs) ≡ None

@@ -26,7 +26,7 @@ items_after lines (Command line ∷ parsed_list) = items_after (lines ++ line �
 items_after lines (PhaseEnd ∷ parsed_list) = Phase (by_host lines) ∷ items_after [] parsed_list
 items_after lines (Move from to ∷ parsed_list) =
     Phase (by_host lines) ∷ item.Move from to ∷ items_after [] parsed_list
-items_after lines (Refused ∷ parsed_list) = []
+items_after lines (Refused fault ∷ parsed_list) = []
 
 -- the items of a script that are run, one after another (own)
 abbrev pub items_to_run : List ParsedLine → List Item

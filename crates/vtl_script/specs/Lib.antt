@@ -4,5 +4,6 @@ pub mod Inner
 pub mod Items
 pub mod Lines
 pub mod Parsed
+pub mod Reasons
 pub mod Runs
 pub mod Text

@@ -1,19 +1,51 @@
 -- One line of a script, and what it says (own).
-use Rattle.std.specs.Prelude.{ℕ, ◌+◌, ◌-◌, ◌*◌, ◌==◌, ◌&&◌, nat_lt, nat_le, Bool, if◌then◌else◌, List, [], ◌∷◌, length, slice_index, filter, fold, codes, bytes_eq, Option, Some, None}
+use Rattle.std.specs.Prelude.{ℕ, ◌+◌, ◌-◌, ◌*◌, ◌==◌, ◌&&◌, nat_lt, nat_le, Bool, true, not, if◌then◌else◌, List, [], ◌∷◌, length, drop, position, slice_index, filter, fold, codes, bytes_eq, Option, Some, None, is_some, Result, Ok, Err}
 use Rattle.std.specs.List.{slice_split, list_all}
-use Rattle.std.specs.Char.{is_ascii_digit}
+use Rattle.std.specs.Char.{is_ascii_digit, is_ascii_hexdigit}
 use Rattle.std.specs.Result.{result_ok}
 use Rattle.hex.specs.Hex.{decode_of}
+use Rattle.vtl_script.specs.declared.fields.Part.{Part}
 use Rattle.vtl_script.specs.declared.lines.ParsedLine.{ParsedLine}
 use Rattle.vtl_script.specs.declared.lines.ParsedLine.TheVariants.{Nothing, PhaseEnd, Command, Move, Refused}
+use Rattle.vtl_script.specs.declared.reasons.LineFault.{LineFault}
+use Rattle.vtl_script.specs.declared.reasons.LineRule.{LineRule}
+use Rattle.vtl_script.specs.declared.reasons.LineRule.TheVariants.{Host, Drive, NotConfigured, Odd, NoHex, Missing, TooMany, Address, NoAddress}
+use Rattle.vtl_script.specs.Reasons.{drives_of, found_of, missing}
+
+-- a part of a line: where it begins, counted from 0, and its bytes (own)
+pub record Field : Type 0 where
+  pub from : ℕ
+  pub bytes : List ℕ
+
+-- a part of a line, as a clause sees it (own)
+abbrev pub field_of : Part → Field
+field_of part = record { from = part.from; bytes = part.bytes.now }
 
 -- whether a part of a line has a byte (own)
-abbrev pub is_some_byte : List ℕ → Bool
-is_some_byte part = nat_lt 0 (length part)
+abbrev pub has_bytes : Field → Bool
+has_bytes field = nat_lt 0 (length field.bytes)
 
--- the fields of a line: its parts between spaces, except for those of no byte (own)
-abbrev pub line_fields : List ℕ → List (List ℕ)
-line_fields line = filter is_some_byte (slice_split (λ byte. byte == 32) line)
+-- parts of a line, with one space between two, of which the first begins at this place (own)
+abbrev pub placed : ℕ → List (List ℕ) → List Field
+placed from [] = []
+placed from (part ∷ parts) = record { from = from; bytes = part } ∷ placed (from + length part + 1) parts
+
+-- the fields of a text that begins at this place: its parts between spaces, except for those of no byte (own)
+abbrev pub fields_from : ℕ → List ℕ → List Field
+fields_from from text = filter has_bytes (placed from (slice_split (λ byte. byte == 32) text))
+
+-- the fields of a line (own)
+abbrev pub line_fields : List ℕ → List Field
+line_fields line = fields_from 0 line
+
+-- a field breaks a rule (own)
+abbrev pub refused_field : LineRule → Field → LineFault
+refused_field rule field = record { from = field.from; rule = rule; found = found_of field.bytes }
+
+-- a value, or else what is wrong (own)
+abbrev pub good_or : {A : Type 0} → LineFault → Option A → Result A LineFault
+good_or fault None = Err fault
+good_or fault (Some value) = Ok value
 
 -- the number that decimal digits spell (own)
 abbrev pub number_of : List ℕ → ℕ
@@ -41,49 +73,116 @@ drive_of is_configured field =
 abbrev pub bytes_of : List ℕ → Option (List ℕ)
 bytes_of field = result_ok (decode_of field)
 
--- a command, where all its fields are good (own)
-abbrev pub parsed_command : Option ℕ → Option ℕ → Option (List ℕ) → Option (List ℕ) → ParsedLine
-parsed_command (Some host) (Some drive) (Some cdb) (Some sent) =
-    Command (record { host = host; drive = drive; cdb = cdb; sent = sent })
-parsed_command host drive cdb sent = Refused
+-- an element address (own)
+abbrev pub address_in : Field → Result ℕ LineFault
+address_in field = good_or (refused_field Address field) (decimal_of field.bytes)
+
+-- the host of a command (own)
+abbrev pub host_in : Field → Result ℕ LineFault
+host_in field = good_or (refused_field Host field) (host_of field.bytes)
+
+-- every drive that there may be (own)
+abbrev pub any_drive : ℕ → Bool
+any_drive number = true
+
+-- the rule that is broken where a field is no drive that is configured: it is no drive, or another one (own)
+abbrev pub drive_rule : (ℕ → Bool) → List ℕ → LineRule
+drive_rule is_configured field =
+    if is_some (drive_of any_drive field) then NotConfigured (drives_of is_configured)
+    else Drive (drives_of is_configured)
+
+-- the drive of a command (own)
+abbrev pub drive_in : (ℕ → Bool) → Field → Result ℕ LineFault
+drive_in is_configured field =
+    good_or (refused_field (drive_rule is_configured field.bytes) field) (drive_of is_configured field.bytes)
+
+-- a field has another byte than hex digits at this place: what begins there is wrong; or an odd number of them (own)
+abbrev pub hex_fault_at : Field → Option ℕ → LineFault
+hex_fault_at field (Some place) =
+    refused_field NoHex (record { from = field.from + place; bytes = drop place field.bytes })
+hex_fault_at field None = refused_field Odd field
+
+-- what is wrong with a field that spells no bytes (own)
+abbrev pub hex_fault : Field → LineFault
+hex_fault field = hex_fault_at field (position (λ byte. not (is_ascii_hexdigit byte)) field.bytes)
+
+-- the bytes of a field (own)
+abbrev pub bytes_in : Field → Result (List ℕ) LineFault
+bytes_in field = good_or (hex_fault field) (bytes_of field.bytes)
+
+-- the drive of a command, in the fields behind its host (own)
+abbrev pub drive_at : (ℕ → Bool) → ℕ → List Field → Result ℕ LineFault
+drive_at is_configured end [] = Err (missing Missing end)
+drive_at is_configured end (drive ∷ rest) = drive_in is_configured drive
+
+-- the block of a command, in the fields behind its host (own)
+abbrev pub block_at : ℕ → List Field → Result (List ℕ) LineFault
+block_at end [] = Err (missing Missing end)
+block_at end (drive ∷ []) = Err (missing Missing end)
+block_at end (drive ∷ block ∷ rest) = bytes_in block
+
+-- a field stands behind the last that there may be (own)
+abbrev pub too_many : {A : Type 0} → Result A LineFault → Field → Result A LineFault
+too_many (Err fault) other = Err fault
+too_many (Ok value) other = Err (refused_field TooMany other)
 
 -- the data of a command: no field, or one (own)
-abbrev pub data_of : List (List ℕ) → Option (List ℕ)
-data_of [] = Some []
-data_of (field ∷ []) = Some field
-data_of (field ∷ other ∷ fields) = None
+abbrev pub data_in : List Field → Result (List ℕ) LineFault
+data_in [] = Ok []
+data_in (data_field ∷ []) = bytes_in data_field
+data_in (data_field ∷ other ∷ rest) = too_many (bytes_in data_field) other
 
--- HOST DRIVE CDB [DATA] (own)
-abbrev pub command_in : (ℕ → Bool) → List ℕ → List ℕ → List ℕ → Option (List ℕ) → ParsedLine
-command_in is_configured host drive cdb None = Refused
-command_in is_configured host drive cdb (Some sent) =
-    parsed_command (host_of host) (drive_of is_configured drive) (bytes_of cdb) (bytes_of sent)
+-- the data of a command, in the fields behind its host (own)
+abbrev pub data_at : List Field → Result (List ℕ) LineFault
+data_at [] = Ok []
+data_at (drive ∷ []) = Ok []
+data_at (drive ∷ block ∷ rest) = data_in rest
 
--- what the fields of a line say, the first of them apart: `--`, or a command (own)
-abbrev pub parse_command : (ℕ → Bool) → List ℕ → List (List ℕ) → ParsedLine
-parse_command is_configured first [] = if bytes_eq first (codes "--") then PhaseEnd else Refused
-parse_command is_configured first (drive ∷ []) = Refused
-parse_command is_configured first (drive ∷ cdb ∷ rest) = command_in is_configured first drive cdb (data_of rest)
+-- a command, where all that it has is good, and else what of it is wrong first (own)
+abbrev pub command_of : (host drive : Result ℕ LineFault) (cdb sent : Result (List ℕ) LineFault) → ParsedLine
+command_of (Err fault) drive cdb sent = Refused fault
+command_of (Ok host) (Err fault) cdb sent = Refused fault
+command_of (Ok host) (Ok drive) (Err fault) sent = Refused fault
+command_of (Ok host) (Ok drive) (Ok cdb) (Err fault) = Refused fault
+command_of (Ok host) (Ok drive) (Ok cdb) (Ok sent) =
+    Command (record { host = host; drive = drive; cdb = cdb; sent = sent })
 
--- a move, where both element addresses are decimal numbers (own)
-abbrev pub parsed_move : Option ℕ → Option ℕ → ParsedLine
-parsed_move (Some from) (Some to) = Move from to
-parsed_move from to = Refused
+-- HOST DRIVE CDB [DATA], the first field apart (own)
+abbrev pub parse_command : (ℕ → Bool) → ℕ → Field → List Field → ParsedLine
+parse_command is_configured end first rest =
+    command_of (host_in first) (drive_at is_configured end rest) (block_at end rest) (data_at rest)
+
+-- a move between two addresses, with nothing behind them, and else what is wrong first (own)
+abbrev pub move_of : (from to : Result ℕ LineFault) → List Field → ParsedLine
+move_of (Err fault) to rest = Refused fault
+move_of (Ok from) (Err fault) rest = Refused fault
+move_of (Ok from) (Ok to) [] = Move from to
+move_of (Ok from) (Ok to) (other ∷ rest) = Refused (refused_field TooMany other)
 
 -- what the fields behind `move` say: FROM TO (own)
-abbrev pub parse_move : List (List ℕ) → ParsedLine
-parse_move [] = Refused
-parse_move (from ∷ []) = Refused
-parse_move (from ∷ to ∷ []) = parsed_move (decimal_of from) (decimal_of to)
-parse_move (from ∷ to ∷ other ∷ fields) = Refused
+abbrev pub parse_move : ℕ → List Field → ParsedLine
+parse_move end [] = Refused (missing NoAddress end)
+parse_move end (from ∷ []) = Refused (missing NoAddress end)
+parse_move end (from ∷ to ∷ rest) = move_of (address_in from) (address_in to) rest
 
--- what the fields of a line say that is no remark, the first of them apart: `move` and two addresses, or other (own)
-abbrev pub parse_order : (ℕ → Bool) → List ℕ → List (List ℕ) → ParsedLine
-parse_order is_configured first rest =
-    if bytes_eq first (codes "move") then parse_move rest else parse_command is_configured first rest
+-- what a line says whose first field is `--`, with nothing behind it (own)
+abbrev pub parse_end : List Field → ParsedLine
+parse_end [] = PhaseEnd
+parse_end (other ∷ rest) = Refused (refused_field TooMany other)
+
+-- what the fields of a line of this many bytes say that is no remark, the first apart: `--`, `move`, or a command (own)
+abbrev pub parse_order : (ℕ → Bool) → ℕ → Field → List Field → ParsedLine
+parse_order is_configured end first rest =
+    if bytes_eq first.bytes (codes "--") then parse_end rest
+    else (if bytes_eq first.bytes (codes "move") then parse_move end rest
+    else parse_command is_configured end first rest)
 
 -- what the fields of a line say: nothing where there is none, or where the first begins with `#` (own)
-abbrev pub parse_fields : (ℕ → Bool) → List (List ℕ) → ParsedLine
-parse_fields is_configured [] = Nothing
-parse_fields is_configured (first ∷ rest) =
-    if slice_index first 0 == 35 then Nothing else parse_order is_configured first rest
+abbrev pub parse_fields : (ℕ → Bool) → ℕ → List Field → ParsedLine
+parse_fields is_configured end [] = Nothing
+parse_fields is_configured end (first ∷ rest) =
+    if slice_index first.bytes 0 == 35 then Nothing else parse_order is_configured end first rest
+
+-- what a line says (own)
+abbrev pub parse_line : (ℕ → Bool) → List ℕ → ParsedLine
+parse_line is_configured line = parse_fields is_configured (length line) (line_fields line)

@@ -1,11 +1,14 @@
 -- The lines of a script, parsed, and the first that is refused (own).
-use Rattle.std.specs.Prelude.{ℕ, ◌+◌, ◌-◌, ◌==◌, ◌&&◌, nat_lt, Bool, true, false, if◌then◌else◌, List, [], ◌∷◌, length, take, slice_index, position, Option, Some, None, option_map}
+use Rattle.std.specs.Prelude.{◌≡◌, ℕ, ◌+◌, ◌-◌, ◌==◌, ◌&&◌, nat_lt, Bool, true, false, if◌then◌else◌, List, [], ◌∷◌, length, take, slice_index, position, Option, Some, None, option_map}
 use Rattle.std.specs.List.{slice_split}
 use Rattle.vtl_base.specs.declared.limits.TheConstants.{LINE_BYTES}
 use Rattle.vtl_script.specs.declared.lines.Line.{Line}
 use Rattle.vtl_script.specs.declared.lines.ParsedLine.{ParsedLine}
 use Rattle.vtl_script.specs.declared.lines.ParsedLine.TheVariants.{PhaseEnd, Command, Move, Refused}
-use Rattle.vtl_script.specs.Lines.{line_fields, parse_fields}
+use Rattle.vtl_script.specs.declared.reasons.LineFault.{LineFault}
+use Rattle.vtl_script.specs.declared.reasons.LineReason.{LineReason}
+use Rattle.vtl_script.specs.Lines.{parse_line}
+use Rattle.vtl_script.specs.Reasons.{too_long}
 
 -- a line without the carriage return at its end (own)
 abbrev pub without_return : List ℕ → List ℕ
@@ -15,7 +18,7 @@ without_return line =
 -- a line, parsed, given how many bytes it has before its line feed, and those that count (own)
 abbrev pub parsed_line : (ℕ → Bool) → ℕ → List ℕ → ParsedLine
 parsed_line is_configured count line =
-    if nat_lt LINE_BYTES count then Refused else parse_fields is_configured (line_fields line)
+    if nat_lt LINE_BYTES count then Refused too_long else parse_line is_configured line
 
 -- the lines whose bytes these are, parsed, the last of which lacks a line feed (own)
 abbrev pub parsed_parts : (ℕ → Bool) → List (List ℕ) → List ParsedLine
@@ -31,7 +34,7 @@ parsed_lines is_configured text = parsed_parts is_configured (slice_split (λ by
 
 -- whether a line is refused (own)
 abbrev pub is_refused : ParsedLine → Bool
-is_refused Refused = true
+is_refused (Refused fault) = true
 is_refused other = false
 
 -- whether a line ends a phase: `--` and a move do (own)
@@ -53,3 +56,14 @@ is_move other = false
 -- the number of the first line that is refused, from 1 on (own)
 abbrev pub refused_line : List ParsedLine → Option ℕ
 refused_line parsed_list = option_map (λ place. place + 1) (position is_refused parsed_list)
+
+-- what is wrong with the first line that is refused (own)
+abbrev pub first_fault : List ParsedLine → Option LineFault
+first_fault [] = None
+first_fault (Refused fault ∷ parsed_list) = Some fault
+first_fault (other ∷ parsed_list) = first_fault parsed_list
+
+-- the first line that is refused has this number, and this is wrong with it (own)
+pub record IsFirstRefused (parsed_list : List ParsedLine) (reason : LineReason) : Type 0 where
+  pub line : refused_line parsed_list ≡ Some reason.line
+  pub fault : first_fault parsed_list ≡ Some reason.fault

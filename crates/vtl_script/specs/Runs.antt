@@ -9,7 +9,7 @@ use Rattle.vtl_script.specs.declared.items.Item.TheVariants.{Phase, Move}
 use Rattle.vtl_script.specs.declared.lines.ParsedLine.{ParsedLine}
 use Rattle.vtl_script.specs.declared.faults.ScriptFault.{ScriptFault}
 use Rattle.vtl_script.specs.declared.faults.ScriptFault.TheVariants.{BadLine, ReadFault, WriteFault, NoMemory}
-use Rattle.vtl_script.specs.Parsed.{parsed_lines, refused_line}
+use Rattle.vtl_script.specs.Parsed.{parsed_lines, refused_line, IsFirstRefused}
 use Rattle.vtl_script.specs.Items.{items_to_run}
 use Rattle.vtl_script.specs.Text.{text_of}
 
@@ -61,9 +61,9 @@ abbrev pub ScriptEnds : {P : Type 0} → (P → List Item → List Reply → P �
 ScriptEnds answers size parsed_list items text mid before new now (Ok done) =
     (size ≤ SCRIPT_BYTES) × (refused_line parsed_list ≡ None) × (items ≡ items_to_run parsed_list)
     × Stops text mid before new now
--- they are all before the item of the first line that is refused, and this is its number
-ScriptEnds answers size parsed_list items text mid before new now (Err (BadLine number)) =
-    (refused_line parsed_list ≡ Some number) × (items ≡ items_to_run parsed_list) × Stops text mid before new now
+-- they are all before the item of the first line that is refused, and this is its number, and what is wrong with it
+ScriptEnds answers size parsed_list items text mid before new now (Err (BadLine reason)) =
+    IsFirstRefused parsed_list reason × (items ≡ items_to_run parsed_list) × Stops text mid before new now
 -- they are the first of the items
 ScriptEnds answers size parsed_list items text mid before new now (Err ReadFault) =
     (behind : List Item) × (items_to_run parsed_list ≡ items ++ behind) × Stops text mid before new now

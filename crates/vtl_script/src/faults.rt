@@ -1,4 +1,5 @@
 //! Why a script is not run to its end.
+use crate::reasons::LineReason;
 use std::alloc::{AllocError, AllocFailed};
 use thiserror::Error;
 use vtl_base::NoMemory;
@@ -6,10 +7,10 @@ use vtl_base::NoMemory;
 /// Why a script is not run to its end.
 #[derive(Clone, Copy, PartialEq, Eq, Debug, Error)]
 pub enum ScriptFault {
-    /// The line with this number, counted from 1, is refused: it has none of the forms of a line, it has more than
-    /// 2,200,000 bytes, or its drive is not configured.
-    #[error("line {line} refused")]
-    BadLine { line: u64 },
+    /// A line is refused, for this reason: it has none of the forms of a line, it has more than 2,200,000 bytes, or its
+    /// drive is not configured.
+    #[error("line {line} refused", line = .reason.line)]
+    BadLine { reason: LineReason },
     /// A read failed, or the script exceeds its limit of bytes or of reads.
     #[error("read fault")]
     ReadFault,

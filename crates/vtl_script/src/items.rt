@@ -1,6 +1,7 @@
 //! The items of a script: phases and moves. Each is one step of a run.
 ghost use Rattle.std.specs.Prelude.{◌≡◌, ◌≢◌, ℕ, true, IfOk, IfErr, Err};
 ghost use Rattle.vtl_script.specs.Runs.{TakesWithin};
+ghost use Rattle.vtl_script.specs.declared.reasons.LineReason.{LineReason};
 ghost use Rattle.vtl_script.specs.Inner.ReadItem.{ReadsItems, RefusesItem, shows_phase};
 
 use crate::faults::ScriptFault;
@@ -81,9 +82,9 @@ pub fn read_items<P: Runner, R: Read>(
 ) -> Result<NextItems, ScriptFault>
     ensures ok { IfOk result (ReadsItems (P.is_configured runner.now)
         (R.remaining reader.old) line_reader.old (R.remaining reader.new) line_reader.new) }
-    ensures refused { (number : ℕ) → result ≡ Err (ScriptFault.BadLine number) →
+    ensures refused { (reason : LineReason) → result ≡ Err (ScriptFault.BadLine reason) →
         RefusesItem (P.is_configured runner.now)
-        (R.remaining reader.old) line_reader.old (R.remaining reader.new) number }
+        (R.remaining reader.old) line_reader.old (R.remaining reader.new) reason }
     ensures fault { IfErr result (λ fault. fault ≢ ScriptFault.WriteFault) }
     ensures past { IfErr result (λ fault. fault ≢ ScriptFault.ReadFault →
         TakesWithin (R.remaining reader.old) line_reader.old.bytes (R.remaining reader.new)) }

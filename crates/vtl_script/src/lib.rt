@@ -3,6 +3,8 @@
 
 mod answer_texts;
 pub mod faults;
+mod field_values;
+mod fields;
 mod hosts;
 mod interruptions;
 pub mod items;
@@ -11,6 +13,7 @@ pub mod line_readers;
 pub mod lines;
 mod phases;
 mod read_buffers;
+pub mod reasons;
 pub mod runners;
 pub mod script_limits;
 pub mod scripts;
@@ -20,6 +23,7 @@ mod texts;
 pub use faults::ScriptFault;
 pub use items::{Commands, Item};
 pub use lines::Line;
+pub use reasons::{Drives, LineFault, LineReason, LineRule};
 pub use runners::Runner;
 pub use scripts::run_script;
 pub use texts::write_text;

@@ -3,12 +3,14 @@ ghost use Rattle.std.specs.Prelude.{◌≡◌, ◌≢◌, ◌++◌, ◌∷◌, [
 ghost use Rattle.vtl_script.specs.Parsed.{without_return, parsed_line, is_phase_end, line_in};
 ghost use Rattle.vtl_script.specs.Runs.{TakesWithin};
 ghost use Rattle.vtl_script.specs.Inner.Reading.{shows_end};
+ghost use Rattle.vtl_script.specs.declared.reasons.LineReason.{LineReason};
 ghost use Rattle.vtl_script.specs.Inner.ReadItem.{ReportsRefused, ReadsLine, ReadsPhase, RefusesLine, RefusesItem, move_in, shows_phase};
 
 use crate::faults::ScriptFault;
 use crate::items::Item;
 use crate::line_readers::{Found, LineReader};
 use crate::lines::{Line, ParsedLine, parse};
+use crate::reasons::{LineFault, LineReason};
 use crate::runners::Runner;
 use std::alloc::Global;
 use std::io::Read;
@@ -52,18 +54,20 @@ fn parsed_line<P: Runner>(
         parsed ≡ parsed_line (P.is_configured runner.now) count line.now) }
 {
     if count > LINE_BYTES {
-        return Ok(ParsedLine::Refused);
+        return Ok(ParsedLine::Refused(LineFault::too_long()));
     }
     parse(alloc, runner, line)
 }
 
-// What the next line says. Where that line is refused, its number `line` is returned as an error, which ends the
-// reading.
+// What the next line says. Where that line is refused, its number `line` and what is wrong are returned as an error,
+// which ends the reading.
 fn accepted(parsed: ParsedLine, is_last: bool, line: u64) -> Result<NextLine, ScriptFault>
     ensures { ReportsRefused parsed is_last line result }
 {
     match parsed {
-        ParsedLine::Refused => Err(ScriptFault::BadLine { line }),
+        ParsedLine::Refused(fault) => Err(ScriptFault::BadLine {
+            reason: LineReason { line, fault },
+        }),
         parsed => Ok(NextLine { parsed, is_last }),
     }
 }
@@ -77,9 +81,9 @@ fn read_line<P: Runner, R: Read>(
 ) -> Result<NextLine, ScriptFault>
     ensures ok { IfOk result (ReadsLine (P.is_configured runner.now)
         (R.remaining reader.old) line_reader.old (R.remaining reader.new) line_reader.new) }
-    ensures refused { (number : ℕ) → result ≡ Err (ScriptFault.BadLine number) →
+    ensures refused { (reason : LineReason) → result ≡ Err (ScriptFault.BadLine reason) →
         RefusesLine (P.is_configured runner.now)
-        (R.remaining reader.old) line_reader.old (R.remaining reader.new) number }
+        (R.remaining reader.old) line_reader.old (R.remaining reader.new) reason }
     ensures fault { IfErr result (λ fault. fault ≢ ScriptFault.WriteFault) }
     ensures past { IfErr result (λ fault. fault ≢ ScriptFault.ReadFault →
         TakesWithin (R.remaining reader.old) line_reader.old.bytes (R.remaining reader.new)) }
@@ -107,7 +111,12 @@ fn read_line<P: Runner, R: Read>(
             let parsed = parsed_line(alloc, runner, line.len(), line)?;
             accepted(parsed, true, number)
         }
-        Found::TooLong => Err(ScriptFault::BadLine { line: number }),
+        Found::TooLong => Err(ScriptFault::BadLine {
+            reason: LineReason {
+                line: number,
+                fault: LineFault::too_long(),
+            },
+        }),
     }
 }
 
@@ -120,8 +129,10 @@ fn move_in(parsed: &ParsedLine) -> Option<Item>
             from: *from,
             to: *to,
         }),
-        ParsedLine::Nothing | ParsedLine::PhaseEnd | ParsedLine::Command(_) | ParsedLine::Refused =>
-            None,
+        ParsedLine::Nothing
+        | ParsedLine::PhaseEnd
+        | ParsedLine::Command(_)
+        | ParsedLine::Refused(_) => None,
     }
 }
 
@@ -138,7 +149,7 @@ fn gather(lines: &mut Vec<Line>, parsed: ParsedLine) -> Result<bool, ScriptFault
             Ok(false)
         }
         ParsedLine::PhaseEnd | ParsedLine::Move { .. } => Ok(true),
-        ParsedLine::Nothing | ParsedLine::Refused => Ok(false),
+        ParsedLine::Nothing | ParsedLine::Refused(_) => Ok(false),
     }
 }
 
@@ -153,9 +164,9 @@ pub fn read_phase<P: Runner, R: Read>(
 ) -> Result<PhaseLines, ScriptFault>
     ensures ok { IfOk result (ReadsPhase (P.is_configured runner.now)
         (R.remaining reader.old) line_reader.old (R.remaining reader.new) line_reader.new) }
-    ensures refused { (number : ℕ) → result ≡ Err (ScriptFault.BadLine number) →
+    ensures refused { (reason : LineReason) → result ≡ Err (ScriptFault.BadLine reason) →
         RefusesItem (P.is_configured runner.now)
-        (R.remaining reader.old) line_reader.old (R.remaining reader.new) number }
+        (R.remaining reader.old) line_reader.old (R.remaining reader.new) reason }
     ensures fault { IfErr result (λ fault. fault ≢ ScriptFault.WriteFault) }
     ensures past { IfErr result (λ fault. fault ≢ ScriptFault.ReadFault →
         TakesWithin (R.remaining reader.old) line_reader.old.bytes (R.remaining reader.new)) }

@@ -7,16 +7,13 @@ use vtl_faults::endings::{Ended, end};
 use vtl_faults::faults::VtlFault;
 use vtl_faults::faults::VtlFault::{Config, Device, Frame, NoMemory, Script, Words};
 use vtl_files::writing::print_text;
+use vtl_script::{LineFault, LineReason};
 
 const INTERRUPTED: Option<ErrorKind> = Some(ErrorKind::Interrupted);
 
 const MEMORY: &[u8] = b"vtl: out of memory\n";
 
 const LONGEST: &[u8] = b"vtl: script line 18446744073709551615 refused\n";
-
-const LAST: VtlFault = Script { line: u64::MAX };
-
-const LINE: VtlFault = Script { line: 12 };
 
 const TWELFTH: VtlFault = Frame { frame: 12 };
 
@@ -27,15 +24,21 @@ type Taken<'a> = (VtlFault, usize, Errors<'a>, u8, &'a [u8], bool);
 static LINES: &'static [Taken<'static>] = &[
     (Words, ALL, &[], 1, b"vtl: command line refused\n", true),
     (Config, ALL, &[], 1, b"vtl: configuration refused\n", true),
-    (LINE, ALL, &[], 1, b"vtl: script line 12 refused\n", true),
-    (LAST, 64, &[], 1, LONGEST, true),
     (TWELFTH, ALL, &[], 1, b"vtl: frame 12 refused\n", true),
     (Device, ALL, &[], 2, b"vtl: device fault\n", true),
     (NoMemory, 4, &[], 3, MEMORY, true),
     (NoMemory, 4, &[None, INTERRUPTED], 3, MEMORY, true),
     (NoMemory, 4, &[None, BAD], 3, b"vtl:", false),
     (NoMemory, 0, &[], 3, b"", false),
-    (LINE, ALL, &[BAD], 1, b"", false),
+];
+
+// The same of a line of a script that is refused, by its number.
+type TakenLine<'a> = (u64, usize, Errors<'a>, &'a [u8], bool);
+
+static SCRIPT_LINES: &'static [TakenLine<'static>] = &[
+    (12, ALL, &[], b"vtl: script line 12 refused\n", true),
+    (u64::MAX, 64, &[], LONGEST, true),
+    (12, ALL, &[BAD], b"", false),
 ];
 
 // The line of a fault is written to this writer, and the program ends so.
@@ -44,6 +47,7 @@ fn is_taken(rt: &impl Abort, writer: &mut PartWriter, taken: &Taken, at: usize) 
     let ended = Ended {
         status,
         is_reported,
+        fault: Some(fault),
     };
     assert_equal!(rt; end(Err(fault), writer), ended; at);
     assert_equal!(rt; writer.text(), text; at);
@@ -54,6 +58,13 @@ fn a_line_is_taken_in_parts(rt: HostRuntime) {
     for (at, taken) in LINES.iter().enumerate() {
         let mut writer = PartWriter::new(rt.alloc(), taken.1, taken.2);
         is_taken(&rt, &mut writer, taken, at);
+    }
+    for (at, &(line, most, errors, text, is_reported)) in SCRIPT_LINES.iter().enumerate() {
+        let fault = LineFault::too_long();
+        let reason = LineReason { line, fault };
+        let mut writer = PartWriter::new(rt.alloc(), most, errors);
+        let taken = (Script { reason }, most, errors, 1, text, is_reported);
+        is_taken(&rt, &mut writer, &taken, at);
     }
 }
 

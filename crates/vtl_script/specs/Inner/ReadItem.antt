@@ -11,6 +11,8 @@ use Rattle.vtl_script.specs.declared.items.Item.{Item}
 use Rattle.vtl_script.specs.declared.items.Item.TheVariants.{Phase}
 use Rattle.vtl_script.specs.declared.items.Item.TheVariants as item
 use Rattle.vtl_script.specs.declared.items.NextItems.{NextItems}
+use Rattle.vtl_script.specs.declared.reasons.LineFault.{LineFault}
+use Rattle.vtl_script.specs.declared.reasons.LineReason.{LineReason}
 use Rattle.vtl_script.specs.declared.faults.ScriptFault.{ScriptFault}
 use Rattle.vtl_script.specs.declared.faults.ScriptFault.TheVariants.{BadLine}
 use Rattle.vtl_script.specs.Parsed.{parsed_line, parsed_lines, without_return, is_phase_end, is_refused, line_in}
@@ -21,11 +23,12 @@ use Rattle.vtl_script.specs.Inner.Reading.{LineReading, work_left}
 abbrev pub rest_of : Option (List ℕ) → List ℕ
 rest_of left = unwrap_or left []
 
--- where a line is refused, its number is returned (own)
+-- where a line is refused, its number is returned, and what is wrong with it (own)
 abbrev pub ReportsRefused : ParsedLine → Bool → ℕ → Result NextLine ScriptFault → Type 0
 ReportsRefused parsed is_last number (Ok next) =
     (next ≡ record { parsed = parsed; is_last = is_last }) × (is_refused parsed ≡ false)
-ReportsRefused parsed is_last number (Err fault) = (fault ≡ BadLine number) × (parsed ≡ Refused)
+ReportsRefused parsed is_last number (Err fault) =
+    (wrong : LineFault) × (fault ≡ BadLine (record { line = number; fault = wrong })) × (parsed ≡ Refused wrong)
 
 -- whether one of these lines, the last of which lacks its line feed, ends a phase or is refused (own)
 abbrev pub has_end : (ℕ → Bool) → List (List ℕ) → Bool
@@ -63,14 +66,14 @@ pub record ReadsLine (is_configured : ℕ → Bool) (left : Option (List ℕ)) (
   pub lines : next.is_last ≡ false → new.lines ≡ old.lines + 1
   pub less : next.is_last ≡ false → work_left new < work_left old
 
--- the line of this number was read, and is refused (own)
+-- the line of this number was read, and is refused, with this fault (own)
 pub record RefusesLine (is_configured : ℕ → Bool) (left : Option (List ℕ)) (old : LineReading)
-    (left' : Option (List ℕ)) (number : ℕ) : Type 0 where
+    (left' : Option (List ℕ)) (reason : LineReason) : Type 0 where
   pub read : List ℕ
   pub taken : Consumes left left' read
-  pub number_is : number ≡ old.lines + 1
+  pub number_is : reason.line ≡ old.lines + 1
   pub behind : List ParsedLine
-  pub says : parsed_lines is_configured ((old.unread ++ read) ++ rest_of left') ≡ Refused ∷ behind
+  pub says : parsed_lines is_configured ((old.unread ++ read) ++ rest_of left') ≡ Refused reason.fault ∷ behind
 
 -- the move that a line asks for (own)
 abbrev pub move_in : ParsedLine → Option Item
@@ -123,14 +126,15 @@ pub record ReadsItems (is_configured : ℕ → Bool) (left : Option (List ℕ)) 
   pub runnable : IsRunnable is_configured next.phase
   pub moves : IfSome next.moved (IsRunnable is_configured)
 
--- an item was read up to the line of this number, which is refused (own)
+-- an item was read up to the line of this number, which is refused, with this fault (own)
 pub record RefusesItem (is_configured : ℕ → Bool) (left : Option (List ℕ)) (old : LineReading)
-    (left' : Option (List ℕ)) (number : ℕ) : Type 0 where
+    (left' : Option (List ℕ)) (reason : LineReason) : Type 0 where
   pub read : List ℕ
   pub taken : Consumes left left' read
   pub parsed_list : List ParsedLine
   pub accepted : list_any is_refused parsed_list ≡ false
-  pub number_is : number ≡ old.lines + length parsed_list + 1
+  pub number_is : reason.line ≡ old.lines + length parsed_list + 1
   pub behind : List ParsedLine
-  pub says : parsed_lines is_configured ((old.unread ++ read) ++ rest_of left') ≡ parsed_list ++ Refused ∷ behind
-  pub not_run : items_to_run (parsed_list ++ Refused ∷ behind) ≡ []
+  pub says :
+      parsed_lines is_configured ((old.unread ++ read) ++ rest_of left') ≡ parsed_list ++ Refused reason.fault ∷ behind
+  pub not_run : items_to_run (parsed_list ++ Refused reason.fault ∷ behind) ≡ []

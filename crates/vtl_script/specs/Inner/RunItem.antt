@@ -19,9 +19,9 @@ abbrev pub EndsFrom : {P : Type 0} → (P → List Item → List Reply → P →
     → List Item → List ℕ → P → Option (List ℕ) → P → Option (List ℕ) → Result (Unit {0}) ScriptFault → Type 0
 EndsFrom answers reading size parsed_list items text mid before new now (Ok done) =
     ScriptEnds answers (reading.bytes + size) parsed_list items text mid before new now (Ok done)
-EndsFrom answers reading size parsed_list items text mid before new now (Err (BadLine number)) =
-    (place : ℕ) × (number ≡ reading.lines + place)
-    × ScriptEnds answers size parsed_list items text mid before new now (Err (BadLine place))
+EndsFrom answers reading size parsed_list items text mid before new now (Err (BadLine reason)) =
+    (place : ℕ) × (reason.line ≡ reading.lines + place)
+    × ScriptEnds answers size parsed_list items text mid before new now (Err (BadLine (record reason { line = place })))
 EndsFrom answers reading size parsed_list items text mid before new now (Err ReadFault) =
     ScriptEnds answers size parsed_list items text mid before new now (Err ReadFault)
 EndsFrom answers reading size parsed_list items text mid before new now (Err WriteFault) =
@@ -76,7 +76,7 @@ pub record AnswersItems {P : Type 0}
 -- where memory ran out it was run in part (own)
 abbrev pub StopsIn : {P : Type 0} → (P → List Item → List Reply → P → Type 0) → List Item → List ℕ → P
     → Option (List ℕ) → P → Option (List ℕ) → ScriptFault → Type 0
-StopsIn answers behind text mid before new now (BadLine number) = ⊥
+StopsIn answers behind text mid before new now (BadLine reason) = ⊥
 StopsIn answers behind text mid before new now ReadFault = ⊥
 StopsIn answers behind text mid before new now WriteFault = WritesPart answers behind text mid before new now
 StopsIn answers behind text mid before new now NoMemory = RunsPart answers behind text mid before new now

@@ -1,6 +1,7 @@
 use Rattle.std.proofs.Common.{◌≡◌, ◌+◌, take, false, true, length, ap, sym, ◌∙◌, refl, arith, ℕ}
 use Rattle.vtl_script.specs.Parsed.{parsed_line, without_return}
 use Rattle.vtl_script.specs.Inner.Reading.{LineReading}
+use Rattle.vtl_script.specs.Reasons.{too_long}
 use Rattle.vtl_script.proofs.LineLemmas.{line_says, says_last, tells, refuses, refuses_long, work_same}
 use Rattle.std.proofs.lemmas.Result.{err_from_is_err_and}
 use Rattle.vtl_script.proofs.ReadingLemmas.{past_of, past_anyway, takes_comes}
@@ -80,11 +81,10 @@ returns-in_ok-parsed-in-Last-clause-refused g c =
 pub returns-in-TooLong-clause-refused : goal.returns-in-TooLong-clause-refused
 returns-in-TooLong-clause-refused g c told is =
     let ends = rw c.in-TooLong.is at c.in_ok-count.ensures.found in
-    let number : c.lines-number.result + 1 ≡ told = cc in
-    let counted : told ≡ c.args.line_reader.now.lines + 1 = sym number
-    ∙ ap (λ (n : ℕ). n + 1) c.lines-number.ensures.lines in
-    refuses_long (g.P.Runner.is_configured c.args.runner.now) _ _ c.args.line_reader.now c.find.new.self told
-    c.in_ok-count.ensures.comes ends.0 ends.1 counted
+    let told_is : record { line = c.lines-number.result + 1; fault = too_long } ≡ told = cc in
+    rw (← told_is) (refuses_long (g.P.Runner.is_configured c.args.runner.now) _ _ c.args.line_reader.now
+    c.find.new.self (c.lines-number.result + 1) c.in_ok-count.ensures.comes ends.0 ends.1
+    (ap (λ (n : ℕ). n + 1) c.lines-number.ensures.lines))
 
 pub returns-in_err-count-clause-past : goal.returns-in_err-count-clause-past
 returns-in_err-count-clause-past g c =

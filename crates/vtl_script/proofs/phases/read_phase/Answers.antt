@@ -13,11 +13,11 @@ loop-lines-init g c =
     (rw c.new-lines.ensures.items (gathered_none _ _ c.args.line_reader.now), λ shows. (shows, refl))
 
 pub returns-in_err-parsed-clause-refused : goal.returns-in_err-parsed-clause-refused
-returns-in_err-parsed-clause-refused g c number is =
+returns-in_err-parsed-clause-refused g c reason is =
     let exit = err_from_is_err_and c.from_residual.result c.from_residual.ensures.1 in
-    let fault = sym exit.2 ∙ err_same c.from_residual.result exit.0 (BadLine number) exit.1 is in
-    phase_refused _ _ _ _ c.args.line_reader.now c.loop-lines.line_reader c.loop-lines.lines.items number
-    c.loop-lines.invariant.0 (c.read_line.ensures.refused number (c.in_err-parsed.was ∙ ap Err fault))
+    let fault = sym exit.2 ∙ err_same c.from_residual.result exit.0 (BadLine reason) exit.1 is in
+    phase_refused _ _ _ _ c.args.line_reader.now c.loop-lines.line_reader c.loop-lines.lines.items reason
+    c.loop-lines.invariant.0 (c.read_line.ensures.refused reason (c.in_err-parsed.was ∙ ap Err fault))
 
 pub returns-then-is_end-clause-ok : goal.returns-then-is_end-clause-ok
 returns-then-is_end-clause-ok g c =

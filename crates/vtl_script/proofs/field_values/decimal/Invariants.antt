@@ -2,7 +2,7 @@ use Rattle.std.proofs.Common.{◌≡◌, ◌<◌, ◌^◌, take, true}
 use Rattle.std.specs.List.{list_all}
 use Rattle.std.specs.Char.{is_ascii_digit}
 use Rattle.vtl_script.specs.Lines.{number_of}
-use Rattle.script_reasons.proofs.wrong_fields.number_in.Given as goal
+use Rattle.vtl_script.proofs.field_values.decimal.Given as goal
 
 -- the number of the digits so far
 abbrev pub invariant-loop-digit : goal.invariant-loop-digit

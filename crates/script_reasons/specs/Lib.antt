@@ -1,3 +1,0 @@
-pub mod Drives
-pub mod Reasons
-pub mod Texts
