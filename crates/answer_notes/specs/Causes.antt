@@ -1,13 +1,12 @@
 -- What an answer that is not GOOD reports.
-use Rattle.std.specs.Prelude.{◌≡◌, ◌≢◌, ℕ, ◌==◌, List, take, drop, codes, slice_index_or, if◌then◌else◌, Ok}
+use Rattle.std.specs.Prelude.{◌≡◌, ℕ, ◌==◌, List, take, drop, codes, slice_index_or, if◌then◌else◌, Ok}
 use Rattle.hex.specs.Hex.{decode_of}
-use Rattle.scsi_sense.specs.SenseData.{key_number, sense_bytes}
-use Rattle.scsi_sense.specs.declared.sense_data.SenseKey.{SenseKey}
-use Rattle.answer_meanings.specs.declared.answer_lines.AnswerLine.{AnswerLine}
-use Rattle.answer_meanings.specs.declared.answer_lines.Cause.{Cause}
-use Rattle.answer_meanings.specs.declared.answer_lines.Cause.TheVariants.{Check, Conflict}
-use Rattle.answer_meanings.specs.declared.sense_texts.Counted.{Counted}
-use Rattle.answer_meanings.specs.declared.sense_texts.Counted.TheVariants.{Bytes, Blocks, Filemarks}
+use Rattle.scsi_sense.specs.SenseData.{sense_bytes}
+use Rattle.answer_notes.specs.declared.answer_lines.AnswerLine.{AnswerLine}
+use Rattle.answer_notes.specs.declared.answer_lines.Cause.{Cause}
+use Rattle.answer_notes.specs.declared.answer_lines.Cause.TheVariants.{Check, Conflict}
+use Rattle.answer_notes.specs.declared.sense_texts.Counted.{Counted}
+use Rattle.answer_notes.specs.declared.sense_texts.Counted.TheVariants.{Bytes, Blocks, Filemarks}
 
 -- what INFORMATION counts in the answer to a command block: filemarks for WRITE FILEMARKS and for SPACE over filemarks,
 -- blocks for other SPACE, else bytes (SSC-4)
@@ -17,10 +16,6 @@ counted_of block =
     else if slice_index_or block 0 0 == 0x11 then
     (if slice_index_or block 1 0 == 0x01 then Filemarks else Blocks)
     else Bytes
-
--- drives and moves have no sense key of this number
-abbrev pub IsNoKey : ℕ → Type 0
-IsNoKey number = (key : SenseKey) → key_number key ≢ number
 
 -- the text of an answer reports this: the conflict, or the sense data whose 18 bytes stand in it as 36 digits (own)
 abbrev pub IsCause : List ℕ → Counted → Cause → Type 0

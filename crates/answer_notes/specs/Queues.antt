@@ -1,7 +1,7 @@
 -- The lines of a script whose answers are to come.
 use Rattle.std.specs.Prelude.{◌≡◌, ℕ, ◌==◌, List, [], ◌∷◌, ◌++◌, filter, flat_map}
 use Rattle.std.specs.List.{range_with_len}
-use Rattle.answer_meanings.specs.declared.sense_texts.Counted.TheVariants.{Bytes}
+use Rattle.answer_notes.specs.declared.sense_texts.Counted.TheVariants.{Bytes}
 use Rattle.vtl_script.specs.declared.lines.ParsedLine.{ParsedLine}
 use Rattle.vtl_script.specs.declared.lines.ParsedLine.TheVariants.{Nothing, PhaseEnd, Command, Move, Refused}
 use Rattle.answer_notes.specs.Causes.{counted_of}

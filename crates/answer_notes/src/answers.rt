@@ -5,13 +5,13 @@ ghost use Rattle.answer_notes.specs.Causes.{counted_of, IsCause, IsMeaning};
 ghost use Rattle.answer_notes.specs.Queues.{with_parsed};
 
 use crate::all_drives::AllDrives;
+use crate::answer_lines::{AnswerLine, Cause};
 use crate::queues::{Asked, Queue};
-use crate::senses::sense_of;
-use answer_meanings::answer_lines::Cause;
-use answer_meanings::{AnswerLine, Counted, SenseText};
+use crate::sense_texts::{Counted, SenseText};
 use std::alloc::{AllocError, Global};
 use std::sync::Mutex;
 use vtl_script::lines::{ParsedLine, parse};
+use vtl_wire::read_sense;
 
 // The digits of sense data in an answer.
 const DIGITS: usize = 36;
@@ -39,7 +39,7 @@ fn cause_of(answer: &[u8], counted: Counted) -> Option<Cause>
     let mut bytes = [0; 18];
     match hex::decode_to_slice(digits, &mut bytes) {
         Ok(()) => Some(Cause::Check(SenseText {
-            sense: sense_of(&bytes)?,
+            sense: read_sense(&bytes)?,
             counted,
         })),
         Err(_) => None,

@@ -2,11 +2,14 @@
 #![tactic(auto)]
 
 mod all_drives;
+pub mod answer_lines;
 pub mod answers;
 mod queues;
-pub mod senses;
+pub mod sense_texts;
+mod words;
 pub mod writers;
 
+pub use answer_lines::AnswerLine;
 pub use answers::Answers;
-pub use senses::sense_of;
+pub use sense_texts::{Counted, SenseText};
 pub use writers::AnswerWriter;

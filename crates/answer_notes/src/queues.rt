@@ -2,7 +2,7 @@
 ghost use Rattle.std.specs.Prelude.{◌≡◌, ◌≤◌, ◌++◌, length, OnOk, OnErr, MatchOption};
 ghost use Rattle.answer_notes.specs.Queues.{lines_of_host, asked_in_turn, no_lines, with_line, with_end, with_move, IsNext, IsNone};
 
-use answer_meanings::Counted;
+use crate::sense_texts::Counted;
 use std::alloc::{AllocError, Global};
 use std::marker::Model;
 

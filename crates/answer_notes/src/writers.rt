@@ -2,8 +2,8 @@
 ghost use Rattle.std.specs.Prelude.{◌≡◌, min, take};
 ghost use Rattle.answer_notes.specs.Meanings.{WritesMeaning, ExplainsAnswer};
 
+use crate::answer_lines::AnswerLine;
 use crate::answers::Answers;
-use answer_meanings::AnswerLine;
 use std::alloc::Global;
 use std::io::{self, Write};
 use vtl_script::write_text;
@@ -41,7 +41,7 @@ impl<'a, W, E> AnswerWriter<'a, W, E> {
 
 // Writes what an answer means. If memory runs out, nothing is written; if a write fails, a beginning of it may be.
 fn write_meaning<E: Write>(alloc: Global, line: &AnswerLine, errors: &mut E)
-    ensures { WritesMeaning line.now (E.contents errors.old) (E.contents errors.new) }
+    ensures { WritesMeaning (E.contents errors.old) (E.contents errors.new) }
 {
     let text = match format!(in alloc; "{line}\n") {
         Ok(text) => text,

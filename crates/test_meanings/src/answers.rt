@@ -1,20 +1,12 @@
 //! Answers, and the line that says what each means.
-use answer_meanings::{AnswerLine, Counted};
+use answer_notes::answer_lines::Cause;
+use answer_notes::{AnswerLine, Counted, SenseText};
 use scsi_attention::Attention;
-use scsi_sense::{Reply, Sense, SenseKey};
-use std::alloc::{AllocError, Global};
+use scsi_sense::{Sense, SenseKey};
+use std::alloc::Global;
 use std::process::Abort;
 use std::test::Fail;
-use test_assertions::assert_equal;
-use vtl_base::Bytes;
-
-// The line of a reply, or no text.
-fn line_of(alloc: Global, reply: &Reply, counted: Counted) -> Result<String, AllocError> {
-    match AnswerLine::of(7, reply, counted) {
-        Some(text) => format!(in alloc; "{text}"),
-        None => Ok(String::new(alloc)),
-    }
-}
+use test_assertions::{assert_equal, assert_holds};
 
 // The line of these sense data, of a command that counts so.
 fn means(
@@ -24,7 +16,9 @@ fn means(
     counted: Counted,
     wanted: &str,
 ) -> Result<(), Fail> {
-    let line = line_of(alloc, &Reply::check(sense, Bytes::new(alloc)), counted)?;
+    let cause = Cause::Check(SenseText { sense, counted });
+    let meaning = AnswerLine { line: 7, cause };
+    let line = format!(in alloc; "{meaning}")?;
     let wanted = format!(in alloc; "line 7: {wanted}")?;
     assert_equal!(*rt; line.as_str(), wanted.as_str());
     Ok(())
@@ -147,14 +141,36 @@ fn each_fault_in_words(rt: HostRuntime) -> Result<(), Fail> {
     each_means(&rt, rt.alloc(), senses.as_slice(), FAULTS)
 }
 
-// A conflict has its line, and GOOD has none.
 #[test]
 fn a_conflict_in_words(rt: HostRuntime) -> Result<(), Fail> {
-    let alloc = rt.alloc();
-    let conflict = line_of(alloc, &Reply::conflict(alloc), Counted::Bytes)?;
-    let wanted = "line 7: a reservation of another host stops this command (CONFLICT)";
-    assert_equal!(rt; conflict.as_str(), wanted);
-    let good = line_of(alloc, &Reply::good(Bytes::new(alloc)), Counted::Bytes)?;
-    assert_equal!(rt; good.as_str(), "");
+    let cause = Cause::Conflict;
+    let conflict = AnswerLine { line: 7, cause };
+    let line = format!(in rt.alloc(); "{conflict}")?;
+    let wanted = "line 7: a reservation of another host stops this command; \
+        REGISTER, then CLEAR or PREEMPT ends it (CONFLICT)";
+    assert_equal!(rt; line.as_str(), wanted);
+    Ok(())
+}
+
+// The line with the most words, of the last line that a script may have, with the largest number.
+#[test]
+fn the_longest_line_fits(rt: HostRuntime) -> Result<(), Fail> {
+    let senses = [
+        (Sense::medium_failed(), Counted::Bytes),
+        (Sense::volume_overflow(Some(u32::MAX)), Counted::Filemarks),
+        (Sense::beginning(u32::MAX), Counted::Filemarks),
+        (Sense::incorrect_length(0x8000_0000), Counted::Bytes),
+        (Sense::deferred_write_error(), Counted::Bytes),
+        (Sense::invalid_field(), Counted::Bytes),
+    ];
+    for (sense, counted) in senses {
+        let cause = Cause::Check(SenseText { sense, counted });
+        let meaning = AnswerLine {
+            line: 2_147_483_649,
+            cause,
+        };
+        let line = format!(in rt.alloc(); "{meaning}")?;
+        assert_holds!(rt; line.len() <= 120; sense);
+    }
     Ok(())
 }

@@ -1,4 +1,4 @@
-//! The tests of answer_meanings: each answer, and the line that was written for it by hand.
+//! The tests of the words of answer_notes: each answer, and the line that was written for it by hand.
 #![tactic(auto)]
 
 #[cfg(test)]

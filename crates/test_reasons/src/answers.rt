@@ -1,10 +1,11 @@
 //! Answers of a script, and what is written of those that are not GOOD, written by hand.
-use answer_notes::{AnswerWriter, Answers, sense_of};
+use answer_notes::{AnswerWriter, Answers};
 use scsi_sense::Sense;
 use std::alloc::Global;
 use std::io::{self, Write};
 use std::test::Fail;
 use test_assertions::assert_equal;
+use vtl_wire::read_sense;
 
 // A script's lines, from 1 on: two hosts, `--`, a move.
 static SCRIPT: &'static [&'static [u8]] = &[
@@ -30,7 +31,7 @@ const ANSWERS: &str = "GOOD\n\
 
 const MEANINGS: &str = "\
     line 4: a filemark was reached, 2 filemarks of the count were left (FILEMARK, 00/01)\n\
-    line 2: a reservation of another host stops this command (CONFLICT)\n\
+    line 2: a reservation of another host stops this command; REGISTER, then CLEAR or PREEMPT ends it (CONFLICT)\n\
     line 5: there is no room, and nothing changed, 3 filemarks of the count were left (EOM, 00/02)\n\
     line 8: the source of the move holds no cartridge (3B/0E)\n\
     line 9: the block has another length than the read, it is 5 bytes shorter (ILI, 00/00)\n";
@@ -147,12 +148,12 @@ fn sense_data_of_their_bytes(rt: HostRuntime) {
         Sense::end_of_data(None),
         Sense::volume_overflow(Some(1)),
     ] {
-        assert_equal!(rt; sense_of(&sense.bytes()), Some(sense));
+        assert_equal!(rt; read_sense(&sense.bytes()), Some(sense));
     }
     let mut bytes = Sense::no_sense().bytes();
     bytes[1] = 1;
-    assert_equal!(rt; sense_of(&bytes), None);
+    assert_equal!(rt; read_sense(&bytes), None);
     bytes[1] = 0;
     bytes[2] = 0x0f;
-    assert_equal!(rt; sense_of(&bytes), None);
+    assert_equal!(rt; read_sense(&bytes), None);
 }

@@ -17,7 +17,7 @@ const PHASE_AND_MOVE: &[u8] = b"1 1 00\nmove 1001 1\n";
 const BAD_MOVE: &[u8] = b"1 1 00\n--\nmove 1\n2 1 00\n";
 
 // A script, the most bytes of a read, the read that fails, the text that is out then, and how it ends.
-type Row<'a> = (&'a [u8], usize, u32, &'a [&'a str], Result<(), ScriptFault>);
+type Row<'a> = (&'a [u8], usize, u32, &'a [&'a str], End);
 
 const NO_ANSWER: &[&str] = &[];
 

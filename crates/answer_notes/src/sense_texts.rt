@@ -1,8 +1,5 @@
 //! Sense data in words.
-ghost use Rattle.std.specs.Prelude.{◌≡◌, if◌then◌else◌, []};
-ghost use Rattle.answer_meanings.specs.SenseTexts.{words_in};
-
-use crate::conditions::Condition;
+use crate::words::words_of;
 use scsi_sense::Sense;
 use std::fmt;
 
@@ -19,12 +16,6 @@ pub enum Counted {
 struct Hex(u8);
 
 impl fmt::Display for Hex {
-    ghost use Rattle.std.specs.Prelude.{Some};
-    ghost use Rattle.answer_meanings.specs.SenseTexts.{hex};
-
-    ghost output = { λ byte. Some (hex byte.0) };
-
-    #[tactic(auto, using(crate::proofs::TextLemmas::hex_printed))]
     fn fmt<W: fmt::Write>(&self, f: &mut fmt::Formatter<W>) -> fmt::Result {
         let byte = self.0;
         write!(f, "{byte:02X}")
@@ -36,11 +27,6 @@ impl fmt::Display for Hex {
 struct Size(u32);
 
 impl fmt::Display for Size {
-    ghost use Rattle.std.specs.Prelude.{Some};
-    ghost use Rattle.answer_meanings.specs.SenseTexts.{size};
-
-    ghost output = { λ bytes. Some (size bytes.0) };
-
     fn fmt<W: fmt::Write>(&self, f: &mut fmt::Formatter<W>) -> fmt::Result {
         match self.0 {
             1 => write!(f, "1 byte"),
@@ -57,11 +43,6 @@ struct Left {
 }
 
 impl fmt::Display for Left {
-    ghost use Rattle.std.specs.Prelude.{Some};
-    ghost use Rattle.answer_meanings.specs.SenseTexts.{left};
-
-    ghost output = { λ it. Some (left it.number it.counted) };
-
     fn fmt<W: fmt::Write>(&self, f: &mut fmt::Formatter<W>) -> fmt::Result {
         let number = self.number;
         match self.counted {
@@ -84,11 +65,6 @@ struct Rest {
 }
 
 impl fmt::Display for Rest {
-    ghost use Rattle.std.specs.Prelude.{Some};
-    ghost use Rattle.answer_meanings.specs.SenseTexts.{rest};
-
-    ghost output = { λ it. Some (rest it.information it.incorrect_length it.counted) };
-
     fn fmt<W: fmt::Write>(&self, f: &mut fmt::Formatter<W>) -> fmt::Result {
         match self.information {
             None | Some(0) => Ok(()),
@@ -114,19 +90,8 @@ impl fmt::Display for Rest {
 
 // The text where `is_so` is true, else an empty one.
 fn text_if(is_so: bool, text: &'static str) -> &'static str
-    ensures { result.now ≡ if is_so then text.now else [] }
 {
     if is_so { text } else { "" }
-}
-
-// The words of the condition that sense data report, or words for sense data that report none.
-fn words_in(sense: &Sense) -> &'static str
-    ensures { result.now ≡ words_in sense.now }
-{
-    match Condition::of(sense) {
-        Some(condition) => condition.words(),
-        None => "sense data of another kind",
-    }
 }
 
 /// Sense data in one line of plain English, with no line feed. It allocates no memory.
@@ -137,15 +102,10 @@ pub struct SenseText {
 }
 
 impl fmt::Display for SenseText {
-    ghost use Rattle.std.specs.Prelude.{Some};
-    ghost use Rattle.answer_meanings.specs.SenseTexts.{sense_line};
-
-    ghost output = { λ it. Some (sense_line it.sense it.counted) };
-
     fn fmt<W: fmt::Write>(&self, f: &mut fmt::Formatter<W>) -> fmt::Result {
         let sense = self.sense;
         let before = text_if(sense.deferred, "after an earlier command: ");
-        let words = words_in(&sense);
+        let words = words_of(&sense);
         let rest = Rest {
             information: sense.information,
             incorrect_length: sense.incorrect_length,
