@@ -141,7 +141,7 @@ WORDS = {
     "serve, over frames": ["ServesInput", "ServingEnds", "AnswersEach", "BayAnswers", "HostAnswers", "ServesHosts",
                            "ServesShared", "UsesOrder"],
     "request of a front end": ["IsRequest", "SpellsRequests", "BeginsWithRequest"],
-    "answer in words": ["answer_line", "line_text", "sense_line", "words_of"],
+    "answer in words": ["IsMeaning", "IsCause"],
     "answer of a front end": ["IsAnswer", "FitsAnswer", "spell_answer", "SpellsAnswers", "BeginsWithAnswer"],
     "report a condition": ["condition_due", "condition_sense", "denied"],
     "REQUEST SENSE": ["RequestSenseWork", "sense_due", "once_reported"],

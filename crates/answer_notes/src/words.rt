@@ -131,7 +131,7 @@ fn words_in(rows: &[(Sense, &'static str)], sense: &Sense) -> Option<&'static st
     None
 }
 
-/// The words of sense data: by ILI, or else by sense key, code and qualifier. They do not include what INFORMATION says.
+/// The words of sense data: by ILI, or else by sense key, code and qualifier. What INFORMATION says is not among them.
 pub fn words_of(sense: &Sense) -> &'static str {
     if sense.incorrect_length {
         return "the block has another length than the read";

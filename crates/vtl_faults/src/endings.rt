@@ -51,7 +51,8 @@ pub fn fault_line(fault: &VtlFault) -> (u8, FaultLine)
     (status, FaultLine { fault: *fault })
 }
 
-/// How the program ends: its exit status, its fault, if there is one, and whether the line that reports this was written.
+/// How the program ends: its exit status, its fault, if there is one, and whether the line that reports that was
+/// written.
 #[derive(Clone, Copy, PartialEq, Eq, Debug)]
 pub struct Ended {
     /// The exit status: 0 to 3.

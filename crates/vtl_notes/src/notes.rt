@@ -20,8 +20,8 @@ pub struct ConfigText {
     pub text: Vec<u8>,
 }
 
-/// Notes of what calls for files and streams were answered, and of frames that were refused. A note is left out if memory
-/// runs out for it.
+/// Notes of what calls for files and streams were answered, and of frames that were refused. A note is left out if
+/// memory runs out for it.
 #[derive(Drop)]
 pub struct Notes {
     is_on: bool,

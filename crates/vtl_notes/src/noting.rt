@@ -17,8 +17,8 @@ fn without_return(line: &[u8]) -> &[u8] {
 }
 
 /// A reader that passes each call on to the reader below it, and notes why a read failed. If the answers to a script
-/// are explained, it also notes each line of the script, and how many bytes were read. Otherwise it notes the frames that
-/// were read. Once memory runs out for a line, or a line is too long, no further line is noted.
+/// are explained, it also notes each line of the script, and how many bytes were read. Otherwise it notes the frames
+/// that were read. Once memory runs out for a line, or a line is too long, no further line is noted.
 #[derive(Drop)]
 pub struct NotingReader<'a, I> {
     below: I,

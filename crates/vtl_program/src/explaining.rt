@@ -257,8 +257,8 @@ fn lines_for(
     Ok(lines)
 }
 
-// Writes the lines for how the program ends, if they are asked for. If memory runs out, nothing is written; if a write fails, a
-// beginning of them may be.
+// Writes the lines for how the program ends, if they are asked for. If memory runs out, nothing is written; if a write
+// fails, a beginning of them may be.
 fn explain<E: Write>(
     asked: bool,
     alloc: Global,

@@ -8,6 +8,7 @@ mod LineLemmas
 mod PartLemmas
 mod PhaseLemmas
 mod ReadingLemmas
+mod ReasonLemmas
 mod RefusedLemmas
 mod RunLemmas
 mod ScriptLemmas

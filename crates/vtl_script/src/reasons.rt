@@ -106,10 +106,14 @@ pub struct FoundText {
 }
 
 // Whether bytes are UTF-8.
+#[tactic(auto, using(crate::proofs::ReasonLemmas::is_text, crate::proofs::ReasonLemmas::not_text))]
 fn is_text(bytes: &[u8]) -> bool
     ensures { result ≡ is_utf8 bytes.now }
 {
-    std::str::from_utf8(bytes).is_ok()
+    match std::str::from_utf8(bytes) {
+        Ok(_) => true,
+        Err(_) => false,
+    }
 }
 
 impl FoundText {

@@ -9,7 +9,7 @@ returns-in-Some-clause-fields c =
     let place = c.in-Some.place in
     let short : length (drop (place + 1) text) ≤ length text - (place + 1) = omega (arith, length-drop (place + 1) text) in
     rw (take_all (length text - (place + 1)) (drop (place + 1) text) short)
-    (cut_at c.args.end text place c.args.requires.within (sym c.place_of.ensures.place ∙ c.in-Some.is))
+    (cut_at c.args.end text place c.requires.within (sym c.place_of.ensures.place ∙ c.in-Some.is))
 
 pub returns-in-None-clause-fields : goal.returns-in-None-clause-fields
 returns-in-None-clause-fields c =
