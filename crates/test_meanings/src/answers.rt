@@ -8,7 +8,16 @@ use std::process::Abort;
 use std::test::Fail;
 use test_assertions::{assert_equal, assert_holds};
 
-// The line of these sense data, of a command that counts so.
+// The columns that a line about line 7 has at most: one about line 9,999,999,999 has 120 then. No script is so long.
+const COLUMNS: usize = 111;
+
+// The line that says why the answer to line 7 is not GOOD.
+fn line_of(alloc: Global, cause: Cause) -> Result<String, Fail> {
+    let meaning = AnswerLine { line: 7, cause };
+    Ok(format!(in alloc; "{meaning}")?)
+}
+
+// These sense data, of a command that counts so, have this line.
 fn means(
     rt: &impl Abort,
     alloc: Global,
@@ -16,11 +25,10 @@ fn means(
     counted: Counted,
     wanted: &str,
 ) -> Result<(), Fail> {
-    let cause = Cause::Check(SenseText { sense, counted });
-    let meaning = AnswerLine { line: 7, cause };
-    let line = format!(in alloc; "{meaning}")?;
+    let line = line_of(alloc, Cause::Check(SenseText { sense, counted }))?;
     let wanted = format!(in alloc; "line 7: {wanted}")?;
     assert_equal!(*rt; line.as_str(), wanted.as_str());
+    assert_holds!(*rt; line.len() <= COLUMNS; sense);
     Ok(())
 }
 
@@ -42,6 +50,7 @@ fn each_means(
 static OF_A_TAPE: &'static [&'static str] = &[
     "a filemark was reached, 1 block of the count was left (FILEMARK, 00/01)",
     "the end of data was reached (00/05)",
+    "the end of data was reached, 2 filemarks of the count were left (00/05)",
     "the beginning of the partition was reached, 3 blocks of the count were left (EOM, 00/04)",
     "the block has another length than the read, it is 1 byte longer (ILI, 00/00)",
     "all was written, and the partition is nearly full (EOM, 00/02)",
@@ -55,6 +64,7 @@ fn each_condition_of_a_tape_in_words(rt: HostRuntime) -> Result<(), Fail> {
     let senses = [
         (Sense::filemark_detected(1), Counted::Blocks),
         (Sense::end_of_data(None), Counted::Blocks),
+        (Sense::end_of_data(Some(2)), Counted::Filemarks),
         (Sense::beginning(3), Counted::Blocks),
         (Sense::incorrect_length(0xffff_ffff), Counted::Bytes),
         (Sense::early_warning(), Counted::Bytes),
@@ -105,6 +115,7 @@ fn each_refusal_in_words(rt: HostRuntime) -> Result<(), Fail> {
 // condition.
 static FAULTS: &'static [&'static str] = &[
     "the medium has failed until it is loaded anew, or the reservation store until a restart (44/00)",
+    "the medium has failed until it is loaded anew, or the reservation store until a restart (44/00)",
     "the device failed while pending changes were stored (0C/00)",
     "after an earlier command: the device failed while pending changes were stored (0C/00)",
     "the cartridge cannot be read: its file is damaged, or the device failed (11/00)",
@@ -126,6 +137,7 @@ fn each_fault_in_words(rt: HostRuntime) -> Result<(), Fail> {
     };
     let senses = [
         Sense::medium_failed(),
+        Sense::keeper_failed(),
         Sense::write_error(),
         Sense::deferred_write_error(),
         Sense::read_error(),
@@ -143,34 +155,43 @@ fn each_fault_in_words(rt: HostRuntime) -> Result<(), Fail> {
 
 #[test]
 fn a_conflict_in_words(rt: HostRuntime) -> Result<(), Fail> {
-    let cause = Cause::Conflict;
-    let conflict = AnswerLine { line: 7, cause };
-    let line = format!(in rt.alloc(); "{conflict}")?;
+    let line = line_of(rt.alloc(), Cause::Conflict)?;
     let wanted = "line 7: a reservation of another host stops this command; \
         REGISTER, then CLEAR or PREEMPT ends it (CONFLICT)";
     assert_equal!(rt; line.as_str(), wanted);
+    assert_holds!(rt; line.len() <= COLUMNS);
     Ok(())
 }
 
-// The line with the most words, of the last line that a script may have, with the largest number.
+// The sense data that count, with this number in INFORMATION.
+fn counting(number: u32) -> [Sense; 5] {
+    [
+        Sense::incorrect_length(number),
+        Sense::filemark_detected(number),
+        Sense::beginning(number),
+        Sense::end_of_data(Some(number)),
+        Sense::volume_overflow(Some(number)),
+    ]
+}
+
+// What begins the line of each of those.
+static COUNTING: &'static [&'static str] = &[
+    "line 7: the block has another length than the read",
+    "line 7: a filemark was reached",
+    "line 7: the beginning of the partition was reached",
+    "line 7: the end of data was reached",
+    "line 7: there is no room, and nothing changed",
+];
+
 #[test]
-fn the_longest_line_fits(rt: HostRuntime) -> Result<(), Fail> {
-    let senses = [
-        (Sense::medium_failed(), Counted::Bytes),
-        (Sense::volume_overflow(Some(u32::MAX)), Counted::Filemarks),
-        (Sense::beginning(u32::MAX), Counted::Filemarks),
-        (Sense::incorrect_length(0x8000_0000), Counted::Bytes),
-        (Sense::deferred_write_error(), Counted::Bytes),
-        (Sense::invalid_field(), Counted::Bytes),
-    ];
-    for (sense, counted) in senses {
-        let cause = Cause::Check(SenseText { sense, counted });
-        let meaning = AnswerLine {
-            line: 2_147_483_649,
-            cause,
-        };
-        let line = format!(in rt.alloc(); "{meaning}")?;
-        assert_holds!(rt; line.len() <= 120; sense);
+fn no_number_changes_the_words(rt: HostRuntime) -> Result<(), Fail> {
+    for number in [0, 1, 0x7fff_ffff, 0x8000_0000, u32::MAX] {
+        for (&sense, words) in counting(number).iter().zip(COUNTING) {
+            for counted in [Counted::Bytes, Counted::Blocks, Counted::Filemarks] {
+                let line = line_of(rt.alloc(), Cause::Check(SenseText { sense, counted }))?;
+                assert_holds!(rt; line.starts_with(*words) && line.len() <= COLUMNS; sense);
+            }
+        }
     }
     Ok(())
 }

@@ -8,7 +8,7 @@ use Rattle.vtl_script.specs.declared.lines.ParsedLine.TheVariants.{Nothing, Phas
 use Rattle.vtl_script.specs.declared.reasons.LineFault.{LineFault}
 use Rattle.vtl_script.specs.declared.reasons.LineRule.TheVariants.{Host}
 use Rattle.vtl_script.specs.Reasons.{too_long}
-use Rattle.vtl_script.specs.Lines.{Field, only_if, host_of, drive_of, decimal_of, refused_field, good_or, address_in, host_in, drive_rule, drive_at, block_at, data_at, command_of, parse_command, move_of, parse_move, parse_end, parse_order, parse_fields, parse_line, line_fields}
+use Rattle.vtl_script.specs.Lines.{Field, only_if, host_of, drive_of, decimal_of, refused_field, good_or, address_in, host_at, drive_rule, drive_at, cdb_at, data_at, command_from, parse_command, move_of, parse_move, parse_end, parse_order, parse_fields, parse_line, line_fields}
 use Rattle.vtl_script.specs.Parsed.{parsed_line, line_in}
 use Rattle.vtl_script.specs.Items.{has_host, by_host}
 
@@ -32,7 +32,7 @@ AllPass p is_configured =
 pass_command : (p : Line → Bool) (o d : Result ℕ LineFault) (c s : Result (List ℕ) LineFault)
     → ((host drive : ℕ) (cdb sent : List ℕ) → o ≡ Ok host → d ≡ Ok drive
     → p (record { host = host; drive = drive; cdb = cdb; sent = sent }) ≡ true)
-    → list_all p (filter_map line_in (command_of o d c s ∷ [])) ≡ true
+    → list_all p (filter_map line_in (command_from o d c s ∷ [])) ≡ true
 pass_command p (Ok host) (Ok drive) (Ok cdb) (Ok sent) is = rw (is host drive cdb sent refl refl) refl
 pass_command p (Err fault) d c s is = refl
 pass_command p (Ok host) (Err fault) c s is = refl
@@ -54,10 +54,10 @@ pass_with : (p : Line → Bool) (is_configured : ℕ → Bool) → AllPass p is_
     → (end : ℕ) (first : Field) (rest : List Field)
     → list_all p (filter_map line_in (parse_command is_configured end first rest ∷ [])) ≡ true
 pass_with p is_configured all end first [] =
-    pass_command p (host_in first) (drive_at is_configured end []) (block_at end []) (data_at [])
+    pass_command p (host_at first) (drive_at is_configured end []) (cdb_at end []) (data_at [])
     (λ host drive cdb sent is_host is_drive. absurd (cc))
 pass_with p is_configured all end first (to ∷ rest) =
-    pass_command p (host_in first) (drive_at is_configured end (to ∷ rest)) (block_at end (to ∷ rest))
+    pass_command p (host_at first) (drive_at is_configured end (to ∷ rest)) (cdb_at end (to ∷ rest))
     (data_at (to ∷ rest))
     (λ host drive cdb sent is_host is_drive.
     all first.bytes to.bytes host drive cdb sent (good_is (refused_field Host first) (host_of first.bytes) host is_host)

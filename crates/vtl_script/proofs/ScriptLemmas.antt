@@ -159,8 +159,9 @@ module _ {P : Type 0} (is_configured : ℕ → Bool) (answers : P → List Item 
       → ScriptEnds answers size parsed_list items text mid before new now result
   ends_whole size parsed_list items text mid before new now (Ok done) ends =
       (omega (arith, ends.0), ends.1, ends.2, ends.3)
-  ends_whole size parsed_list items text mid before new now (Err (BadLine reason)) ends = let is : reason.line ≡ ends.0 =
-      omega (arith, ends.1) in rw (← is) at ends.2
+  ends_whole size parsed_list items text mid before new now (Err (BadLine reason)) ends =
+      let is : reason.line ≡ ends.0 = omega (arith, ends.1) in
+      rw (← is) at ends.2
   ends_whole size parsed_list items text mid before new now (Err ReadFault) ends = ends
   ends_whole size parsed_list items text mid before new now (Err WriteFault) ends = ends
   ends_whole size parsed_list items text mid before new now (Err NoMemory) ends = ends

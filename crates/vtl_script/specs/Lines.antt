@@ -26,13 +26,13 @@ abbrev pub has_bytes : Field → Bool
 has_bytes field = nat_lt 0 (length field.bytes)
 
 -- parts of a line, with one space between two, of which the first begins at this place (own)
-abbrev pub placed : ℕ → List (List ℕ) → List Field
-placed from [] = []
-placed from (part ∷ parts) = record { from = from; bytes = part } ∷ placed (from + length part + 1) parts
+abbrev pub parts_from : ℕ → List (List ℕ) → List Field
+parts_from from [] = []
+parts_from from (part ∷ parts) = record { from = from; bytes = part } ∷ parts_from (from + length part + 1) parts
 
 -- the fields of a text that begins at this place: its parts between spaces, except for those of no byte (own)
 abbrev pub fields_from : ℕ → List ℕ → List Field
-fields_from from text = filter has_bytes (placed from (slice_split (λ byte. byte == 32) text))
+fields_from from text = filter has_bytes (parts_from from (slice_split (λ byte. byte == 32) text))
 
 -- the fields of a line (own)
 abbrev pub line_fields : List ℕ → List Field
@@ -78,8 +78,8 @@ abbrev pub address_in : Field → Result ℕ LineFault
 address_in field = good_or (refused_field Address field) (decimal_of field.bytes)
 
 -- the host of a command (own)
-abbrev pub host_in : Field → Result ℕ LineFault
-host_in field = good_or (refused_field Host field) (host_of field.bytes)
+abbrev pub host_at : Field → Result ℕ LineFault
+host_at field = good_or (refused_field Host field) (host_of field.bytes)
 
 -- every drive that there may be (own)
 abbrev pub any_drive : ℕ → Bool
@@ -116,10 +116,10 @@ drive_at is_configured end [] = Err (missing Missing end)
 drive_at is_configured end (drive ∷ rest) = drive_in is_configured drive
 
 -- the block of a command, in the fields behind its host (own)
-abbrev pub block_at : ℕ → List Field → Result (List ℕ) LineFault
-block_at end [] = Err (missing Missing end)
-block_at end (drive ∷ []) = Err (missing Missing end)
-block_at end (drive ∷ block ∷ rest) = bytes_in block
+abbrev pub cdb_at : ℕ → List Field → Result (List ℕ) LineFault
+cdb_at end [] = Err (missing Missing end)
+cdb_at end (drive ∷ []) = Err (missing Missing end)
+cdb_at end (drive ∷ block ∷ rest) = bytes_in block
 
 -- a field stands behind the last that there may be (own)
 abbrev pub too_many : {A : Type 0} → Result A LineFault → Field → Result A LineFault
@@ -139,18 +139,18 @@ data_at (drive ∷ []) = Ok []
 data_at (drive ∷ block ∷ rest) = data_in rest
 
 -- a command, where all that it has is good, and else what of it is wrong first (own)
-abbrev pub command_of : (host drive : Result ℕ LineFault) (cdb sent : Result (List ℕ) LineFault) → ParsedLine
-command_of (Err fault) drive cdb sent = Refused fault
-command_of (Ok host) (Err fault) cdb sent = Refused fault
-command_of (Ok host) (Ok drive) (Err fault) sent = Refused fault
-command_of (Ok host) (Ok drive) (Ok cdb) (Err fault) = Refused fault
-command_of (Ok host) (Ok drive) (Ok cdb) (Ok sent) =
+abbrev pub command_from : (host drive : Result ℕ LineFault) (cdb sent : Result (List ℕ) LineFault) → ParsedLine
+command_from (Err fault) drive cdb sent = Refused fault
+command_from (Ok host) (Err fault) cdb sent = Refused fault
+command_from (Ok host) (Ok drive) (Err fault) sent = Refused fault
+command_from (Ok host) (Ok drive) (Ok cdb) (Err fault) = Refused fault
+command_from (Ok host) (Ok drive) (Ok cdb) (Ok sent) =
     Command (record { host = host; drive = drive; cdb = cdb; sent = sent })
 
 -- HOST DRIVE CDB [DATA], the first field apart (own)
 abbrev pub parse_command : (ℕ → Bool) → ℕ → Field → List Field → ParsedLine
 parse_command is_configured end first rest =
-    command_of (host_in first) (drive_at is_configured end rest) (block_at end rest) (data_at rest)
+    command_from (host_at first) (drive_at is_configured end rest) (cdb_at end rest) (data_at rest)
 
 -- a move between two addresses, with nothing behind them, and else what is wrong first (own)
 abbrev pub move_of : (from to : Result ℕ LineFault) → List Field → ParsedLine

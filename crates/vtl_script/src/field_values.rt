@@ -1,8 +1,8 @@
 //! What the fields of a line spell: hosts, drives, addresses and bytes.
-ghost use Rattle.std.specs.Prelude.{◌≡◌, ◌≤◌, ◌*◌, not, length, position, IfOk, IsOk, MatchOption};
+ghost use Rattle.std.specs.Prelude.{◌≡◌, ◌≤◌, ◌<◌, ◌+◌, ◌*◌, ◌^◌, not, length, position, IfOk, IsOk, MatchOption};
 ghost use Rattle.std.specs.Char.{is_ascii_hexdigit};
 ghost use Rattle.vtl_base.specs.declared.bytes.TheConstants.{INLINE_BYTES};
-ghost use Rattle.vtl_script.specs.Lines.{field_of, any_drive, decimal_of, address_in, host_of, host_in, drive_of, drive_rule, drive_in, bytes_of, hex_fault, bytes_in};
+ghost use Rattle.vtl_script.specs.Lines.{field_of, any_drive, decimal_of, address_in, host_of, host_at, drive_of, drive_rule, drive_in, bytes_of, hex_fault, bytes_in};
 
 use crate::fields::Part;
 use crate::reasons::{Drives, LineFault, LineRule};
@@ -46,7 +46,7 @@ fn host_number(field: &[u8]) -> Option<Nexus>
 
 /// The host that a field spells.
 pub fn host(field: &Part<'_>) -> Result<Nexus, LineFault>
-    ensures { result ≡ host_in (field_of field.now) }
+    ensures { result ≡ host_at (field_of field.now) }
 {
     match host_number(field.bytes) {
         Some(host) => Ok(host),
@@ -132,6 +132,7 @@ fn other_byte(field: &[u8]) -> Option<usize>
 
 // What is wrong with a field that spells no bytes.
 fn hex_fault(field: &Part<'_>) -> LineFault
+    requires { field.now.from + length field.now.bytes.now < 2 ^ 64 }
     ensures { result ≡ hex_fault (field_of field.now) }
 {
     match other_byte(field.bytes) {
@@ -146,6 +147,7 @@ fn hex_fault(field: &Part<'_>) -> LineFault
 
 /// The bytes that a field spells, two hexadecimal digits for each. It takes memory where there are more than 24.
 pub fn bytes(alloc: Global, field: &Part<'_>) -> Result<Result<Bytes, LineFault>, NoMemory>
+    requires { field.now.from + length field.now.bytes.now < 2 ^ 64 }
     ensures bytes { IfOk result (λ bytes. bytes ≡ bytes_in (field_of field.now)) }
     ensures few { length field.now.bytes.now ≤ 2 * INLINE_BYTES → IsOk result }
 {

@@ -1,7 +1,7 @@
 //! The fields of a line: its parts between spaces.
-ghost use Rattle.std.specs.Prelude.{◌≡◌, ◌<◌, ◌≤◌, ◌-◌, ◌∷◌, ◌==◌, [], length, filter, MatchOption, IfSome};
+ghost use Rattle.std.specs.Prelude.{◌≡◌, ◌<◌, ◌≤◌, ◌+◌, ◌-◌, ◌∷◌, ◌==◌, [], length, filter, MatchOption, IfSome};
 ghost use Rattle.std.specs.List.{slice_split};
-ghost use Rattle.vtl_script.specs.Lines.{field_of, has_bytes, placed, fields_from, refused_field};
+ghost use Rattle.vtl_script.specs.Lines.{field_of, has_bytes, parts_from, fields_from, refused_field};
 
 use crate::reasons::{FoundText, LineFault, LineRule};
 use crate::splits::place_of;
@@ -33,8 +33,9 @@ fn cut(end: usize, text: &[u8]) -> (Part<'_>, &[u8])
     requires within { length text.now ≤ end }
     ensures fields { fields_from (end - length text.now) text.now ≡
         filter has_bytes (field_of result.0
-        ∷ placed (end - length result.1.now) (slice_split (λ byte. byte == 32) result.1.now)) }
+        ∷ parts_from (end - length result.1.now) (slice_split (λ byte. byte == 32) result.1.now)) }
     ensures shorter { length result.1.now < length text.now }
+    ensures inside { result.0.from + length result.0.bytes.now ≤ end }
 {
     let from = end - text.len();
     match place_of(b' ', text) {
@@ -57,6 +58,7 @@ pub fn next_field(end: usize, text: &[u8]) -> Option<(Part<'_>, &[u8])>
         ≡ field_of found.0 ∷ fields_from (end - length found.1.now) found.1.now) }
     ensures some { IfSome result (λ found. 0 < length found.0.bytes.now) }
     ensures shorter { IfSome result (λ found. length found.1.now ≤ length text.now) }
+    ensures inside { IfSome result (λ found. found.0.from + length found.0.bytes.now ≤ end) }
 {
     let mut rest = text;
     while !rest.is_empty() {

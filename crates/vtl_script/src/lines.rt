@@ -1,6 +1,6 @@
 //! One line of a script, and what it says.
 ghost use Rattle.std.specs.Prelude.{◌≡◌, ◌≤◌, ◌-◌, length, IfOk};
-ghost use Rattle.vtl_script.specs.Lines.{field_of, fields_from, data_in, parse_end, parse_move, parse_command, parse_line};
+ghost use Rattle.vtl_script.specs.Lines.{field_of, fields_from, data_in, parse_end, parse_move, parse_command, parse_order, parse_line};
 
 use crate::field_values::{address, bytes, drive, host};
 use crate::fields::{Part, next_field};
@@ -129,6 +129,28 @@ fn parse_command<P: Runner>(
     })
 }
 
+// What a line says that is no remark. `first` is its first field. `rest` stands behind that, at the end of a line of
+// `end` bytes.
+fn parse_order<P: Runner>(
+    alloc: Global,
+    runner: &P,
+    end: usize,
+    first: &Part<'_>,
+    rest: &[u8],
+) -> Result<ParsedLine, NoMemory>
+    requires { length rest.now ≤ end }
+    ensures { IfOk result (λ parsed. parsed ≡ parse_order (P.is_configured runner.now) end (field_of first.now)
+        (fields_from (end - length rest.now) rest.now)) }
+{
+    if first.bytes == b"--".as_slice() {
+        return Ok(parse_end(end, rest));
+    }
+    if first.bytes == b"move".as_slice() {
+        return Ok(parse_move(end, rest));
+    }
+    parse_command(alloc, runner, end, first, rest)
+}
+
 /// Returns what a line says; `runner` says which drives are configured. `line` comes without its line feed, and without
 /// the carriage return before that, if there is one. An error is returned where memory runs out.
 pub fn parse<P: Runner>(alloc: Global, runner: &P, line: &[u8]) -> Result<ParsedLine, NoMemory>
@@ -141,11 +163,5 @@ pub fn parse<P: Runner>(alloc: Global, runner: &P, line: &[u8]) -> Result<Parsed
     if first.bytes[0] == b'#' {
         return Ok(ParsedLine::Nothing);
     }
-    if first.bytes == b"--".as_slice() {
-        return Ok(parse_end(end, rest));
-    }
-    if first.bytes == b"move".as_slice() {
-        return Ok(parse_move(end, rest));
-    }
-    parse_command(alloc, runner, end, &first, rest)
+    parse_order(alloc, runner, end, &first, rest)
 }

@@ -7,7 +7,8 @@ pub returns-in-Some-clause-fields : goal.returns-in-Some-clause-fields
 returns-in-Some-clause-fields c =
     let text = c.args.text.now in
     let place = c.in-Some.place in
-    let short : length (drop (place + 1) text) ≤ length text - (place + 1) = omega (arith, length-drop (place + 1) text) in
+    let short : length (drop (place + 1) text) ≤ length text - (place + 1) =
+    omega (arith, length-drop (place + 1) text) in
     rw (take_all (length text - (place + 1)) (drop (place + 1) text) short)
     (cut_at c.args.end text place c.requires.within (sym c.place_of.ensures.place ∙ c.in-Some.is))
 
