@@ -5,6 +5,7 @@ mod HostLemmas
 mod InOrderLemmas
 mod ItemLemmas
 mod LineLemmas
+mod OrderLemmas
 mod PartLemmas
 mod PhaseLemmas
 mod ReadingLemmas

@@ -22,4 +22,4 @@ pub found_is : (part kept behind : List ℕ) (count : ℕ) (text : Bool) → cou
     → kept ≡ take count part → behind ≡ drop count (replicate 120 0) → text ≡ is_utf8 part
     → ◌≡◌ {A = FoundText} (record { bytes = kept ++ behind; count = count; is_text = text }) (found_of part)
 found_is part kept behind count text count_is kept_is behind_is text_is =
-    rw (text_is, kept_is, behind_is, drop-replicate count 120 0, count_is) refl
+    rw (text_is, kept_is, behind_is, drop-replicate {X = ℕ} count 120 0, count_is) refl
