@@ -31,7 +31,7 @@ fn each_frame_cut_off(rt: HostRuntime) -> Result<(), Fail> {
 // The number of a frame that is cut off is that behind those before it, which are read.
 #[test]
 fn in_any_pieces(rt: HostRuntime) -> Result<(), Fail> {
-    for (kind, count) in [(Kind::Requests, 7), (Kind::Answers, 9)] {
+    for (kind, count) in [(Kind::Requests, 18), (Kind::Answers, 15)] {
         let (input, text) = all_of(rt.alloc(), kind)?;
         let cut = &input.as_slice()[..input.len().saturating_sub(1)];
         for piece in 1..40 {

@@ -7,10 +7,11 @@ use std::io::ErrorKind;
 use std::test::Fail;
 use test_assertions::{assert_equal, assert_holds};
 use vtl_base::{Bytes, NoMemory};
-use vtl_wire::{Answer, Entries, Request, Server, WireFault, serve_requests};
+use vtl_wire::strays::astray;
+use vtl_wire::{Answer, Astray, Entries, Places, Request, Server, WireFault, serve_requests};
 
 /// A server that takes a given number of requests. A command is answered GOOD with its own data, a move GOOD, an
-/// inventory no entry.
+/// inventory and a status no entry, and what is astray by what names nobody.
 #[derive(Drop)]
 struct Shop {
     left: u32,
@@ -42,12 +43,30 @@ impl Server for Shop {
                 reply: Reply::good(sent),
                 tag,
             },
-            Request::Move { tag, .. } => Answer::Move {
+            Request::Move { host, tag, .. } => Answer::Move {
+                host,
                 reply: Reply::good(Bytes::new(alloc)),
                 tag,
             },
-            Request::Inventory { tag } => Answer::Inventory {
+            Request::Inventory { host, tag } => Answer::Inventory {
+                host,
                 entries: Entries::from_vec(Vec::new(alloc)),
+                tag,
+            },
+            Request::Status { host, tag } => Answer::Status {
+                host,
+                places: Places::from_vec(Vec::new(alloc)),
+                tag,
+            },
+            Request::Stray {
+                kind,
+                host,
+                drive,
+                tag,
+                ..
+            } => Answer::Stray {
+                host,
+                astray: astray(kind, host, drive).unwrap_or(Astray::Drive),
                 tag,
             },
         })
@@ -63,6 +82,17 @@ static ANSWERS: &'static [&'static str] = &[
     "02 00 00 00 00000000 00000009 00000000",
     "02 00 00 00 00000000 00000000 00000000",
     "03 00 00 00 00000000 01000000 00000000",
+    "02 40 00 00 00000000 0000000a 00000000",
+    "03 01 00 00 00000000 0000000b 00000000",
+    "04 40 00 00 00000000 0000000c 00000000",
+    "04 00 00 00 00000000 0000000d 00000000",
+    "ff 00 01 00 00000000 00000001 00000000",
+    "ff 41 01 00 00000000 00000002 00000000",
+    "ff 40 02 00 00000000 00000003 00000000",
+    "ff 01 02 00 00000000 00000004 00000000",
+    "ff ff 01 00 00000000 00000005 00000000",
+    "ff 41 01 00 00000000 00000006 00000000",
+    "ff ff 01 00 00000000 00000007 00000000",
 ];
 
 // How the serving of an input ends, and the writer.
@@ -85,19 +115,19 @@ fn serving(
 fn each_is_answered(rt: HostRuntime) -> Result<(), Fail> {
     let (input, _) = all_of(rt.alloc(), Kind::Requests)?;
     let mut output = Vec::new(rt.alloc());
-    for count in 0..8u32 {
+    for count in 0..19u32 {
         let frame = u64::from(count).saturating_add(1);
         let refused = Err(WireFault::BadFrame { frame });
         for piece in [1, 7, usize::MAX] {
             let plan = Plan::pieces(piece);
             let (end, writer) = serving(rt.alloc(), count, input.as_slice(), plan, plan);
-            assert_equal!(rt; end, if count == 7 { Ok(()) } else { refused }; (count, piece));
+            assert_equal!(rt; end, if count == 18 { Ok(()) } else { refused }; (count, piece));
             assert_equal!(rt; writer.written.as_slice(), output.as_slice(); (count, piece));
             assert_equal!(rt; writer.flushed, output.len(); (count, piece));
         }
-        if count == 6 {
+        if count == 17 {
             let cut = &input.as_slice()[..input.len().saturating_sub(1)];
-            let (end, writer) = serving(rt.alloc(), 7, cut, Plan::pieces(9), Plan::pieces(9));
+            let (end, writer) = serving(rt.alloc(), 18, cut, Plan::pieces(9), Plan::pieces(9));
             assert_equal!(rt; end, refused);
             assert_equal!(rt; writer.written.as_slice(), output.as_slice());
         }
@@ -113,20 +143,20 @@ fn each_is_answered(rt: HostRuntime) -> Result<(), Fail> {
 fn streams_that_fail(rt: HostRuntime) -> Result<(), Fail> {
     let (input, _) = all_of(rt.alloc(), Kind::Requests)?;
     let all = Plan::pieces(usize::MAX);
-    let (_, whole) = serving(rt.alloc(), 7, input.as_slice(), all, all);
+    let (_, whole) = serving(rt.alloc(), 18, input.as_slice(), all, all);
     let output = whole.written.as_slice();
     for call in 1..40 {
         let bad = Plan {
             piece: 9,
             bad: Some((call, ErrorKind::Other)),
         };
-        let (end, writer) = serving(rt.alloc(), 7, input.as_slice(), bad, all);
+        let (end, writer) = serving(rt.alloc(), 18, input.as_slice(), bad, all);
         let written = writer.written.as_slice();
         assert_holds!(rt; end == Ok(()) || end == Err(WireFault::ReadFault); call);
         assert_holds!(rt; end.is_err() || written.len() == output.len(); call);
         assert_holds!(rt; output.starts_with(written); call);
 
-        let (end, writer) = serving(rt.alloc(), 7, input.as_slice(), all, bad);
+        let (end, writer) = serving(rt.alloc(), 18, input.as_slice(), all, bad);
         assert_holds!(rt; end == Ok(()) || end == Err(WireFault::WriteFault); call);
         assert_equal!(rt; end.is_ok(), writer.flushed == output.len(); call);
         assert_holds!(rt; output.starts_with(writer.written.as_slice()); call);

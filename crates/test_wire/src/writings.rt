@@ -41,7 +41,7 @@ fn writing(
 fn each_frame_written(rt: HostRuntime) -> Result<(), Fail> {
     for kind in KINDS {
         let (all, _) = all_of(rt.alloc(), kind)?;
-        for place in 0..10usize {
+        for place in 0..19usize {
             let frame = match frames_of(kind).get(place) {
                 Some(line) => bytes(rt.alloc(), line.as_bytes())?,
                 None => all.clone()?,

@@ -15,14 +15,21 @@ use Rattle.scsi_sense.specs.declared.sense_data.Sense.{Sense}
 use Rattle.scsi_sense.specs.Replies.{status_code}
 use Rattle.scsi_sense.specs.SenseData.{sense_bytes}
 use Rattle.vtl_wire.specs.declared.answers.Answer.{Answer}
-use Rattle.vtl_wire.specs.declared.answers.Answer.TheVariants.{Command, Move, Inventory}
+use Rattle.vtl_wire.specs.declared.answers.Answer.TheVariants as answers
+use Rattle.vtl_wire.specs.declared.answers.Answer.TheVariants.{Command, Move, Inventory, Stray}
 use Rattle.vtl_wire.specs.declared.answers.Entry.{Entry}
-use Rattle.vtl_wire.specs.declared.frames.FrameKind.TheVariants as kinds
+use Rattle.vtl_wire.specs.declared.strays.Astray.{Astray}
+use Rattle.vtl_wire.specs.declared.strays.Astray.TheVariants.{Host, Drive}
+use Rattle.vtl_wire.specs.Strays.{code_of_astray}
 use Rattle.vtl_wire.specs.declared.headers.Header.{Header}
-use Rattle.vtl_wire.specs.Answers.{IsAnswer, IsEntry, IsSense, frame_of_answer, sense_front, spell_answer, spell_barcode, spell_entry}
-use Rattle.vtl_wire.specs.Frames.{IsHeader, header_of}
-use Rattle.vtl_wire.proofs.EntryLemmas.{entries_long, length-barcode, padded_all}
+use Rattle.vtl_wire.specs.Barcodes.{spell_barcode}
+use Rattle.vtl_wire.specs.Answers.{IsAnswer, IsEntry, IsSense, frame_of_answer, sense_front, spell_answer, spell_entry}
+use Rattle.vtl_wire.specs.Frames.{IsHeader, code_of_kind, header_of}
+use Rattle.vtl_wire.proofs.EntryLemmas.{entries_long, length-barcode}
+use Rattle.vtl_wire.proofs.BarcodeLemmas.{one_barcode}
 use Rattle.vtl_wire.proofs.FrameLemmas.{one_frame}
+use Rattle.vtl_wire.proofs.HeadLemmas.{host_small, one_host}
+use Rattle.vtl_wire.proofs.PlaceLemmas.{one_places}
 use Rattle.vtl_wire.proofs.SenseLemmas.{one_sense}
 
 one_status : (a b : Status) → status_code a ≡ status_code b → a ≡ b
@@ -35,49 +42,6 @@ one_status Check Conflict e = absurd (omega (arith, e))
 one_status Conflict Good e = absurd (omega (arith, e))
 one_status Conflict Check e = absurd (omega (arith, e))
 one_status Conflict Conflict e = refl
-
--- a byte that a barcode may have
-abbrev pub IsSymbol : ℕ → Type 0
-IsSymbol byte = IsTrue (is_symbol byte)
-
-pub no_space : IsTrue (is_symbol 32) → ⊥
-no_space holds = absurd (cc)
-
-pub no_zero : IsTrue (is_symbol 0) → ⊥
-no_zero holds = absurd (cc)
-
--- bytes with spaces behind them, among which is no space
-one_padded : (a b : List ℕ) (n m : ℕ) → All IsSymbol a
-    → All IsSymbol b → a ++ replicate n 32 ≡ b ++ replicate m 32 → a ≡ b
-one_padded [] [] n m all all' same = refl
-one_padded [] (y ∷ ys) zero m all all' same = absurd (cc)
-one_padded [] (y ∷ ys) (suc n) m all all' same =
-    let e : 32 ≡ y = cc in
-    absurd (no_space (subst (λ (s : ℕ). IsTrue (is_symbol s)) (sym e) (All-head IsSymbol y ys all')))
-one_padded (x ∷ xs) [] n zero all all' same = absurd (cc)
-one_padded (x ∷ xs) [] n (suc m) all all' same =
-    let e : x ≡ 32 = cc in
-    absurd (no_space (subst (λ (s : ℕ). IsTrue (is_symbol s)) e (All-head IsSymbol x xs all)))
-one_padded (x ∷ xs) (y ∷ ys) n m all all' same =
-    let e : x ≡ y = cc in
-    let rest : xs ++ replicate n 32 ≡ ys ++ replicate m 32 = cc in
-    let l = one_padded xs ys n m (All-tail IsSymbol x xs all) (All-tail IsSymbol y ys all') rest in
-    λ i. e i ∷ l i
-
-no_name : (b : List ℕ) → IsBarcode b → spell_barcode None ≡ spell_barcode (Some b) → ⊥
-no_name [] is same = omega (arith, is.some)
-no_name (y ∷ ys) is same =
-    let e : 0 ≡ y = cc in
-    no_zero (subst (λ (s : ℕ). IsTrue (is_symbol s)) (sym e) (All-head IsSymbol y ys is.symbols))
-
-one_barcode : (a b : Option (List ℕ)) → IfSome a IsBarcode → IfSome b IsBarcode
-    → spell_barcode a ≡ spell_barcode b → a ≡ b
-one_barcode None None is is' same = refl
-one_barcode None (Some b) is is' same = absurd (no_name b is' same)
-one_barcode (Some a) None is is' same = absurd (no_name a is (sym same))
-one_barcode (Some a) (Some b) is is' same =
-    ap Some (one_padded a b (MAX_BARCODE - length a) (MAX_BARCODE - length b) is.symbols is'.symbols
-    (sym (padded_all a is.short) ∙ same ∙ padded_all b is'.short))
 
 one_number : (n m : ℕ) → n < 2 ^ 32 → m < 2 ^ 32 → to_be_bytes w32 n ≡ to_be_bytes w32 m → n ≡ m
 one_number n m fits fits' same =
@@ -139,6 +103,10 @@ sense_small : (sense : Option Sense) → length (sense_front sense) < 2 ^ 8
 sense_small None = omega arith
 sense_small (Some sense) = omega (arith, length-sense sense)
 
+astray_small : (astray : Astray) → code_of_astray astray < 2 ^ 8
+astray_small Host = omega arith
+astray_small Drive = omega arith
+
 -- the numbers of an answer's header are of their width
 pub answer_numbers : (answer : Answer) → IsAnswer answer → IsHeader (header_of (frame_of_answer answer))
 answer_numbers (Command host reply tag) ok = record {
@@ -148,18 +116,32 @@ answer_numbers (Command host reply tag) ok = record {
   payload = omega (arith, ok.0.bytes);
   tag = ok.1.3;
 }
-answer_numbers (Move reply tag) ok = record {
-  host = omega arith;
+answer_numbers (Move host reply tag) ok = record {
+  host = omega (arith, host_small host ok.1.0);
   detail = status_small reply.status;
   front = sense_small reply.sense;
   payload = omega (arith, ok.0.bytes);
-  tag = ok.1.1;
+  tag = ok.1.2;
 }
-answer_numbers (Inventory entries tag) ok = record {
-  host = omega arith;
+answer_numbers (Inventory host entries tag) ok = record {
+  host = omega (arith, host_small host ok.1.0);
   detail = omega arith;
   front = omega arith;
   payload = omega (arith, ok.0, entries_long entries);
+  tag = ok.1.2;
+}
+answer_numbers (answers.Status host places tag) ok = record {
+  host = omega (arith, host_small host ok.1.0);
+  detail = omega arith;
+  front = omega arith;
+  payload = omega (arith, ok.0);
+  tag = ok.1.2;
+}
+answer_numbers (Stray host astray tag) ok = record {
+  host = ok.1.0;
+  detail = astray_small astray;
+  front = omega arith;
+  payload = omega arith;
   tag = ok.1.1;
 }
 
@@ -173,17 +155,15 @@ one_reply a b is is' status sense bytes = λ i. record {
   bytes = bytes i;
 }
 
-differ : (one other : Header) → one ≡ other → one.kind ≢ other.kind → ⊥
-differ one other same apart = apart (ap (λ (h : Header). h.kind) same)
+-- answers of different kinds have different headers
+differ : (one other : Header) → one ≡ other → code_of_kind one.kind ≢ code_of_kind other.kind → ⊥
+differ one other same apart = apart (ap (λ (h : Header). code_of_kind h.kind) same)
 
-command_moves : kinds.Command ≢ kinds.Move
-command_moves e = absurd (cc)
-
-command_inventory : kinds.Command ≢ kinds.Inventory
-command_inventory e = absurd (cc)
-
-move_inventory : kinds.Move ≢ kinds.Inventory
-move_inventory e = absurd (cc)
+one_astray : (a b : Astray) → code_of_astray a ≡ code_of_astray b → a ≡ b
+one_astray Host Host e = refl
+one_astray Host Drive e = absurd (omega (arith, e))
+one_astray Drive Host e = absurd (omega (arith, e))
+one_astray Drive Drive e = refl
 
 one_of_frames : (one other : Answer) → IsAnswer one → IsAnswer other
     → header_of (frame_of_answer one) ≡ header_of (frame_of_answer other)
@@ -192,22 +172,61 @@ one_of_frames : (one other : Answer) → IsAnswer one → IsAnswer other
 one_of_frames (Command h r t) (Command h' r' t') ok ok' header front payload =
     let reply = one_reply r r' ok.1.2 ok'.1.2 (ap (λ (x : Header). x.detail) header) front payload in
     λ i. Command (header i).host (reply i) (header i).tag
-one_of_frames (Move r t) (Move r' t') ok ok' header front payload =
-    let reply = one_reply r r' ok.1.0 ok'.1.0 (ap (λ (x : Header). x.detail) header) front payload in
-    λ i. Move (reply i) (header i).tag
-one_of_frames (Inventory e t) (Inventory e' t') ok ok' header front payload =
-    let entries = one_entries e e' ok.1.0 ok'.1.0 payload in
-    λ i. Inventory (entries i) (header i).tag
-one_of_frames (Command h r t) (Move r' t') ok ok' header front payload = absurd (differ _ _ header command_moves)
-one_of_frames (Command h r t) (Inventory e' t') ok ok' header front payload =
-    absurd (differ _ _ header command_inventory)
-one_of_frames (Move r t) (Command h' r' t') ok ok' header front payload =
-    absurd (differ _ _ (sym header) command_moves)
-one_of_frames (Move r t) (Inventory e' t') ok ok' header front payload = absurd (differ _ _ header move_inventory)
-one_of_frames (Inventory e t) (Command h' r' t') ok ok' header front payload =
-    absurd (differ _ _ (sym header) command_inventory)
-one_of_frames (Inventory e t) (Move r' t') ok ok' header front payload =
-    absurd (differ _ _ (sym header) move_inventory)
+one_of_frames (Move h r t) (Move h' r' t') ok ok' header front payload =
+    let host = one_host h h' ok.1.0 ok'.1.0 (ap (λ (x : Header). x.host) header) in
+    let reply = one_reply r r' ok.1.1 ok'.1.1 (ap (λ (x : Header). x.detail) header) front payload in
+    λ i. Move (host i) (reply i) (header i).tag
+one_of_frames (Inventory h e t) (Inventory h' e' t') ok ok' header front payload =
+    let host = one_host h h' ok.1.0 ok'.1.0 (ap (λ (x : Header). x.host) header) in
+    let entries = one_entries e e' ok.1.1 ok'.1.1 payload in
+    λ i. Inventory (host i) (entries i) (header i).tag
+one_of_frames (answers.Status h p t) (answers.Status h' p' t') ok ok' header front payload =
+    let host = one_host h h' ok.1.0 ok'.1.0 (ap (λ (x : Header). x.host) header) in
+    let places = one_places p p' ok.1.1 ok'.1.1 payload in
+    λ i. answers.Status (host i) (places i) (header i).tag
+one_of_frames (Stray h a t) (Stray h' a' t') ok ok' header front payload =
+    let astray = one_astray a a' (ap (λ (x : Header). x.detail) header) in
+    λ i. Stray (header i).host (astray i) (header i).tag
+one_of_frames (Command h r t) (Move h' r' t') ok ok' header front payload =
+    absurd (differ _ _ header (λ e. omega (arith, e)))
+one_of_frames (Command h r t) (Inventory h' e' t') ok ok' header front payload =
+    absurd (differ _ _ header (λ e. omega (arith, e)))
+one_of_frames (Command h r t) (answers.Status h' p' t') ok ok' header front payload =
+    absurd (differ _ _ header (λ e. omega (arith, e)))
+one_of_frames (Command h r t) (Stray h' a' t') ok ok' header front payload =
+    absurd (differ _ _ header (λ e. omega (arith, e)))
+one_of_frames (Move h r t) (Command h' r' t') ok ok' header front payload =
+    absurd (differ _ _ header (λ e. omega (arith, e)))
+one_of_frames (Move h r t) (Inventory h' e' t') ok ok' header front payload =
+    absurd (differ _ _ header (λ e. omega (arith, e)))
+one_of_frames (Move h r t) (answers.Status h' p' t') ok ok' header front payload =
+    absurd (differ _ _ header (λ e. omega (arith, e)))
+one_of_frames (Move h r t) (Stray h' a' t') ok ok' header front payload =
+    absurd (differ _ _ header (λ e. omega (arith, e)))
+one_of_frames (Inventory h e t) (Command h' r' t') ok ok' header front payload =
+    absurd (differ _ _ header (λ e. omega (arith, e)))
+one_of_frames (Inventory h e t) (Move h' r' t') ok ok' header front payload =
+    absurd (differ _ _ header (λ e. omega (arith, e)))
+one_of_frames (Inventory h e t) (answers.Status h' p' t') ok ok' header front payload =
+    absurd (differ _ _ header (λ e. omega (arith, e)))
+one_of_frames (Inventory h e t) (Stray h' a' t') ok ok' header front payload =
+    absurd (differ _ _ header (λ e. omega (arith, e)))
+one_of_frames (answers.Status h p t) (Command h' r' t') ok ok' header front payload =
+    absurd (differ _ _ header (λ e. omega (arith, e)))
+one_of_frames (answers.Status h p t) (Move h' r' t') ok ok' header front payload =
+    absurd (differ _ _ header (λ e. omega (arith, e)))
+one_of_frames (answers.Status h p t) (Inventory h' e' t') ok ok' header front payload =
+    absurd (differ _ _ header (λ e. omega (arith, e)))
+one_of_frames (answers.Status h p t) (Stray h' a' t') ok ok' header front payload =
+    absurd (differ _ _ header (λ e. omega (arith, e)))
+one_of_frames (Stray h a t) (Command h' r' t') ok ok' header front payload =
+    absurd (differ _ _ header (λ e. omega (arith, e)))
+one_of_frames (Stray h a t) (Move h' r' t') ok ok' header front payload =
+    absurd (differ _ _ header (λ e. omega (arith, e)))
+one_of_frames (Stray h a t) (Inventory h' e' t') ok ok' header front payload =
+    absurd (differ _ _ header (λ e. omega (arith, e)))
+one_of_frames (Stray h a t) (answers.Status h' p' t') ok ok' header front payload =
+    absurd (differ _ _ header (λ e. omega (arith, e)))
 
 -- no answer's spelling begins another's
 pub one_answer : (one other : Answer) (x y : List ℕ) → IsAnswer one → IsAnswer other

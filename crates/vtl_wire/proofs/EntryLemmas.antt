@@ -9,8 +9,10 @@ use Rattle.vtl_wire.specs.declared.answers.Answer.{Answer}
 use Rattle.vtl_wire.specs.declared.answers.Answer.TheVariants.{Inventory}
 use Rattle.vtl_wire.specs.declared.answers.Entry.{Entry}
 use Rattle.vtl_wire.specs.declared.frames.FrameKind.TheVariants as kinds
-use Rattle.vtl_wire.specs.Answers.{frame_of_answer, spell_barcode, spell_entry}
+use Rattle.vtl_wire.specs.Barcodes.{spell_barcode}
+use Rattle.vtl_wire.specs.Answers.{frame_of_answer, spell_entry}
 use Rattle.vtl_wire.specs.Frames.{header_of}
+use Rattle.vtl_wire.specs.Requests.{host_byte}
 
 -- the first sixteen of at most so many bytes and spaces are all of the bytes, and spaces
 pub padded_all : (a : List ℕ) → length a ≤ MAX_BARCODE
@@ -42,23 +44,24 @@ entries_long (x ∷ xs) =
     )
 
 -- the header of an inventory counts them
-pub inventory_header : (answer : Answer) (entries given : List Entry) (tag : ℕ) → answer ≡ Inventory entries tag
+pub inventory_header : (answer : Answer) (host : Option ℕ) (entries given : List Entry) (tag : ℕ)
+    → answer ≡ Inventory host entries tag
     → given ≡ entries
     → record {
       kind = kinds.Inventory;
-      host = 0;
+      host = host_byte host;
       detail = 0;
       front = 0;
       payload = 20 * length given;
       tag = tag;
     }
     ≡ header_of (frame_of_answer answer)
-inventory_header answer entries given tag is same =
+inventory_header answer host entries given tag is same =
     let long : 20 * length given ≡ length (flat_map spell_entry entries) =
     omega (arith, ap length same, entries_long entries) in
     (λ i. record {
       kind = kinds.Inventory;
-      host = 0;
+      host = host_byte host;
       detail = 0;
       front = 0;
       payload = long i;

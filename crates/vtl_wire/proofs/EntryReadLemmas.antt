@@ -12,8 +12,10 @@ use Rattle.byteorder.specs.Numbers.{big_number-reads_back}
 use Rattle.vtl_base.specs.declared.limits.TheConstants.{MAX_BARCODE}
 use Rattle.vtl_base.specs.Barcode.{IsBarcode, is_symbol}
 use Rattle.vtl_wire.specs.declared.answers.Entry.{Entry}
-use Rattle.vtl_wire.specs.Answers.{IsEntry, spell_barcode, spell_entry}
-use Rattle.vtl_wire.proofs.AnswerLemmas.{IsSymbol, no_entries, no_space, no_zero, one_entry}
+use Rattle.vtl_wire.specs.Barcodes.{spell_barcode}
+use Rattle.vtl_wire.specs.Answers.{IsEntry, spell_entry}
+use Rattle.vtl_wire.proofs.AnswerLemmas.{no_entries, one_entry}
+use Rattle.vtl_wire.proofs.BarcodeLemmas.{IsSymbol, no_space, no_zero}
 use Rattle.vtl_wire.proofs.EntryLemmas.{entries_long, length-barcode, padded_all}
 
 -- this many bytes stand before the first space

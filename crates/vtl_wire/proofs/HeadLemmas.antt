@@ -1,85 +1,139 @@
 -- What the header of a request says.
-use Rattle.std.proofs.Common.{◌≡◌, ℕ, ◌<◌, ◌≤◌, ◌==◌, Some, refl, arith, true}
-use Rattle.std.specs.Prelude.{◌&&◌, nat_le}
+use Rattle.std.proofs.Common.{◌≡◌, ℕ, zero, suc, ◌<◌, ◌≤◌, ◌==◌, ◌^◌, Bool, Option, None, Some, IfSome, refl, sym, ap, ◌∙◌, arith, true}
+use Rattle.std.specs.Prelude.{◌&&◌, nat_le, is_some, if◌then◌else◌}
 use Rattle.std.proofs.lemmas.Bool.{and_parts, eqb-true, leb-true}
 use Rattle.std.proofs.lemmas.Option.{cond_some}
 use Rattle.vtl_base.specs.declared.limits.TheConstants.{NEXUSES, DRIVES}
 use Rattle.vtl_wire.specs.declared.frames.TheConstants.{MOST_CDB, MOST_DATA, MOVE_BYTES}
 use Rattle.vtl_wire.specs.declared.frames.FrameKind.{FrameKind}
-use Rattle.vtl_wire.specs.declared.frames.FrameKind.TheVariants as kinds
+use Rattle.vtl_wire.specs.declared.frames.FrameKind.TheVariants.{Command, Move, Inventory, Status, Stray}
 use Rattle.vtl_wire.specs.declared.headers.Header.{Header}
 use Rattle.vtl_wire.specs.declared.request_heads.RequestHead.{RequestHead}
 use Rattle.vtl_wire.specs.declared.request_heads.RequestHead.TheVariants as heads
-use Rattle.vtl_wire.specs.Inner.Requested.{is_plain, request_head_by}
+use Rattle.vtl_wire.specs.declared.strays.Astray.{Astray}
+use Rattle.vtl_wire.specs.declared.strays.Astray.TheVariants.{Host, Drive}
+use Rattle.vtl_wire.specs.Requests.{IsHost, host_byte}
+use Rattle.vtl_wire.specs.Strays.{astray_host, astray_of, has_form}
+use Rattle.vtl_wire.specs.Inner.Requested.{head_with, host_at}
 
--- the limits that a command's header keeps
-pub record IsCommandHeader (header : Header) : Type 0 where
-  pub least_host : 1 ≤ header.host
-  pub most_host : header.host ≤ NEXUSES
-  pub least_drive : 1 ≤ header.detail
-  pub most_drive : header.detail ≤ DRIVES
-  pub block : header.front ≤ MOST_CDB
-  pub sent_with : header.payload ≤ MOST_DATA
+-- no drive, so many bytes first, and no data
+pub record IsPlain (wanted drive front payload : ℕ) : Type 0 where
+  pub drive_is : drive ≡ 0
+  pub long : front ≡ wanted
+  pub none : payload ≡ 0
 
--- a header with no host, no drive and no data
-pub record IsPlain (header : Header) (front : ℕ) : Type 0 where
-  pub host : header.host ≡ 0
-  pub drive : header.detail ≡ 0
-  pub long : header.front ≡ front
-  pub none : header.payload ≡ 0
+-- the form of a request
+abbrev pub Form : FrameKind → ℕ → ℕ → ℕ → Type 0
+Form Command drive front payload = (front ≤ MOST_CDB) × (payload ≤ MOST_DATA)
+Form Move drive front payload = IsPlain MOVE_BYTES drive front payload
+Form Inventory drive front payload = IsPlain 0 drive front payload
+Form Status drive front payload = IsPlain 0 drive front payload
+Form Stray drive front payload = ⊥
 
--- what a header of this kind says
-abbrev pub Says : FrameKind → Header → RequestHead → Type 0
-Says kinds.Command header head =
-    (heads.Command header.host header.detail header.tag ≡ head) × IsCommandHeader header
-Says kinds.Move header head = (heads.Move header.tag ≡ head) × IsPlain header MOVE_BYTES
-Says kinds.Inventory header head = (heads.Inventory header.tag ≡ head) × IsPlain header 0
-
-plain_says : (header : Header) (front : ℕ) → is_plain header front ≡ true → IsPlain header front
-plain_says header front holds =
-    let one = and_parts (header.host == 0) _ holds in
-    let two = and_parts (header.detail == 0) _ one.1 in
-    let three = and_parts (header.front == front) (header.payload == 0) two.1 in
+plain_is : (wanted drive front payload : ℕ) → (drive == 0 && (front == wanted && payload == 0)) ≡ true
+    → IsPlain wanted drive front payload
+plain_is wanted drive front payload holds =
+    let one = and_parts (drive == 0) (front == wanted && payload == 0) holds in
+    let two = and_parts (front == wanted) (payload == 0) one.1 in
     record {
-      host = eqb-true header.host 0 one.0;
-      drive = eqb-true header.detail 0 two.0;
-      long = eqb-true header.front front three.0;
-      none = eqb-true header.payload 0 three.1;
+      drive_is = eqb-true drive 0 one.0;
+      long = eqb-true front wanted two.0;
+      none = eqb-true payload 0 two.1;
     }
 
-pub head_says : (kind : FrameKind) (header : Header) (head : RequestHead)
-    → request_head_by kind header ≡ Some head → Says kind header head
-head_says kinds.Command header head is =
-    let found = cond_some _ (heads.Command header.host header.detail header.tag) head is in
-    let one = and_parts (nat_le 1 header.host && nat_le header.host NEXUSES) _ found.0 in
-    let two = and_parts (nat_le 1 header.detail && nat_le header.detail DRIVES) _ one.1 in
-    let host = and_parts (nat_le 1 header.host) (nat_le header.host NEXUSES) one.0 in
-    let drive = and_parts (nat_le 1 header.detail) (nat_le header.detail DRIVES) two.0 in
-    let long = and_parts (nat_le header.front MOST_CDB) (nat_le header.payload MOST_DATA) two.1 in (
-      found.1,
-      record {
-        least_host = leb-true 1 header.host host.0;
-        most_host = leb-true header.host NEXUSES host.1;
-        least_drive = leb-true 1 header.detail drive.0;
-        most_drive = leb-true header.detail DRIVES drive.1;
-        block = leb-true header.front MOST_CDB long.0;
-        sent_with = leb-true header.payload MOST_DATA long.1;
-      },
-    )
-head_says kinds.Move header head is =
-    let found = cond_some (is_plain header MOVE_BYTES) (heads.Move header.tag) head is in
-    (found.1, plain_says header MOVE_BYTES found.0)
-head_says kinds.Inventory header head is =
-    let found = cond_some (is_plain header 0) (heads.Inventory header.tag) head is in
-    (found.1, plain_says header 0 found.0)
+pub form_is : (kind : FrameKind) (drive front payload : ℕ) → has_form kind drive front payload ≡ true
+    → Form kind drive front payload
+form_is Command drive front payload holds =
+    let two = and_parts (nat_le front MOST_CDB) (nat_le payload MOST_DATA) holds in
+    (leb-true front MOST_CDB two.0, leb-true payload MOST_DATA two.1)
+form_is Move drive front payload holds = plain_is MOVE_BYTES drive front payload holds
+form_is Inventory drive front payload holds = plain_is 0 drive front payload holds
+form_is Status drive front payload holds = plain_is 0 drive front payload holds
+form_is Stray drive front payload holds = absurd (cc)
 
--- a header that counts data is a command's
-pub counts_data : (kind : FrameKind) (header : Header) (head : RequestHead) → request_head_by kind header ≡ Some head
-    → 0 < header.payload
-    → (heads.Command header.host header.detail header.tag ≡ head) × IsCommandHeader header × (kind ≡ kinds.Command)
-counts_data kinds.Command header head is some =
-    let says = head_says kinds.Command header head is in (says.0, says.1, refl)
-counts_data kinds.Move header head is some =
-    absurd (omega (arith, some, (head_says kinds.Move header head is).1.none))
-counts_data kinds.Inventory header head is some =
-    absurd (omega (arith, some, (head_says kinds.Inventory header head is).1.none))
+-- what stands first is short, and the data are as many as a frame has
+pub form_short : (kind : FrameKind) (drive front payload : ℕ) → has_form kind drive front payload ≡ true
+    → (front ≤ MOST_CDB) × (payload ≤ MOST_DATA)
+form_short kind drive front payload holds = by kind (form_is kind drive front payload holds)
+  where
+    by : (kind : FrameKind) → Form kind drive front payload → (front ≤ MOST_CDB) × (payload ≤ MOST_DATA)
+    by Command form = form
+    by Move form = (omega (arith, form.long), omega (arith, form.none))
+    by Inventory form = (omega (arith, form.long), omega (arith, form.none))
+    by Status form = (omega (arith, form.long), omega (arith, form.none))
+    by Stray form = absurd form
+
+-- only a command has data
+pub counts_data : (kind : FrameKind) (drive front payload : ℕ) → has_form kind drive front payload ≡ true
+    → 0 < payload → kind ≡ Command
+counts_data kind drive front payload holds some = by kind (form_is kind drive front payload holds)
+  where
+    by : (kind : FrameKind) → Form kind drive front payload → kind ≡ Command
+    by Command form = refl
+    by Move form = absurd (omega (arith, some, form.none))
+    by Inventory form = absurd (omega (arith, some, form.none))
+    by Status form = absurd (omega (arith, some, form.none))
+    by Stray form = absurd form
+
+-- a host and a drive that are in range
+pub record IsCommandTo (host drive : ℕ) : Type 0 where
+  pub least_host : 1 ≤ host
+  pub most_host : host ≤ NEXUSES
+  pub least_drive : 1 ≤ drive
+  pub most_drive : drive ≤ DRIVES
+
+-- a condition under which there is nothing holds where there is nothing
+none_if : {A : Type 0} (b : Bool) (x : A) → (if b then None else Some x) ≡ None → b ≡ true
+none_if true x is = refl
+none_if false x is = absurd (cc)
+
+none_if_both : {A : Type 0} (a b : Bool) (x y : A) → (if a then (if b then None else Some x) else Some y) ≡ None
+    → (a ≡ true) × (b ≡ true)
+none_if_both true true x y is = (refl, refl)
+none_if_both true false x y is = absurd (cc)
+none_if_both false b x y is = absurd (cc)
+
+pub command_to : (host drive : ℕ) → astray_of Command host drive ≡ None → IsCommandTo host drive
+command_to host drive is =
+    let both = none_if_both (nat_le 1 host && nat_le host NEXUSES) (nat_le 1 drive && nat_le drive DRIVES) Drive Host
+    is in
+    let host_in = and_parts (nat_le 1 host) (nat_le host NEXUSES) both.0 in
+    let drive_in = and_parts (nat_le 1 drive) (nat_le drive DRIVES) both.1 in
+    record {
+      least_host = leb-true 1 host host_in.0;
+      most_host = leb-true host NEXUSES host_in.1;
+      least_drive = leb-true 1 drive drive_in.0;
+      most_drive = leb-true drive DRIVES drive_in.1;
+    }
+
+pub host_in_range : (host : ℕ) → astray_host host ≡ None → host ≤ NEXUSES
+host_in_range host is = leb-true host NEXUSES (none_if (nat_le host NEXUSES) Host is)
+
+-- the host of a byte that is in range
+pub record IsGiver (host : ℕ) : Type 0 where
+  pub same : host_byte (host_at host) ≡ host
+  pub valid : IfSome (host_at host) IsHost
+
+pub giver_at : (host : ℕ) → host ≤ NEXUSES → IsGiver host
+giver_at zero small = record { same = refl; valid = tt }
+giver_at (suc n) small = record { same = refl; valid = record { least = omega arith; most = small } }
+
+pub host_again : (host : Option ℕ) → IfSome host IsHost → host_at (host_byte host) ≡ host
+host_again None ok = refl
+host_again (Some zero) ok = absurd (omega (arith, ok.least))
+host_again (Some (suc n)) ok = refl
+
+pub host_small : (host : Option ℕ) → IfSome host IsHost → host_byte host ≤ NEXUSES
+host_small None ok = omega arith
+host_small (Some host) ok = ok.most
+
+-- the byte tells the host
+pub one_host : (host other : Option ℕ) → IfSome host IsHost → IfSome other IsHost
+    → host_byte host ≡ host_byte other → host ≡ other
+one_host host other ok ok' same = sym (host_again host ok) ∙ ap host_at same ∙ host_again other ok'
+
+-- what is out of range makes a request that is astray
+pub some_stray : (astray : Option Astray) (header : Header) → is_some astray ≡ true
+    → head_with astray header ≡ heads.Stray
+some_stray None header is = absurd (cc)
+some_stray (Some astray) header is = refl

@@ -9,7 +9,7 @@ use Rattle.std.proofs.lemmas.Option.{cond_some}
 use Rattle.byteorder.specs.Endian.{big_number}
 use Rattle.byteorder.specs.Numbers.{big_number-reads_back}
 use Rattle.vtl_wire.specs.declared.frames.FrameKind.{FrameKind}
-use Rattle.vtl_wire.specs.declared.frames.FrameKind.TheVariants.{Command, Move, Inventory}
+use Rattle.vtl_wire.specs.declared.frames.FrameKind.TheVariants.{Command, Move, Inventory, Status, Stray}
 use Rattle.vtl_wire.specs.declared.headers.Header.{Header}
 use Rattle.vtl_wire.specs.Frames.{IsHeader, code_of_kind, kind_with, spell_header}
 use Rattle.vtl_wire.specs.Inner.Headers.{header_at, header_by, header_in}
@@ -62,31 +62,39 @@ quarters bytes long =
     ∙ take-append-drop 4 (drop 4 bytes) in
     ap (λ (l : List ℕ). take 4 bytes ++ l) second ∙ take-append-drop 4 bytes
 
--- the kind of a byte has that byte
-kind_coded : (code : ℕ) (kind : FrameKind) → kind_with code ≡ Some kind → code_of_kind kind ≡ code
-kind_coded code kind is = elim (cases_Bool (code == 1)) [
-  | inl one ↦
-      let e : Some Command ≡ Some kind = sym (cond-true (code == 1) (Some Command)
-      (if code == 2 then Some Move else (if code == 3 then Some Inventory else None)) one) ∙ is in
-      let k : Command ≡ kind = cc in
-      ap code_of_kind (sym k) ∙ sym (eqb-true code 1 one)
-  | inr other ↦
-      let next : (if code == 2 then Some Move else (if code == 3 then Some Inventory else None)) ≡ Some kind =
-      sym (cond-false (code == 1) (Some Command)
-      (if code == 2 then Some Move else (if code == 3 then Some Inventory else None)) other) ∙ is in
-      elim (cases_Bool (code == 2)) [
-        | inl two ↦
-            let e : Some Move ≡ Some kind = sym (cond-true (code == 2) (Some Move)
-            (if code == 3 then Some Inventory else None) two) ∙ next in
-            let k : Move ≡ kind = cc in
-            ap code_of_kind (sym k) ∙ sym (eqb-true code 2 two)
-        | inr others ↦
-            let last : (if code == 3 then Some Inventory else None) ≡ Some kind =
-            sym (cond-false (code == 2) (Some Move) (if code == 3 then Some Inventory else None) others) ∙ next in
-            let found = cond_some (code == 3) Inventory kind last in
-            ap code_of_kind (sym found.1) ∙ sym (eqb-true code 3 found.0)
-      ]
-]
+module _ (code : ℕ) (kind : FrameKind) where
+  -- the kind of a byte that is one of some kinds has that byte, if that of the others has
+  one_of : (n : ℕ) (this : FrameKind) (others : Option FrameKind) → code_of_kind this ≡ n
+      → (others ≡ Some kind → code_of_kind kind ≡ code) → (if code == n then Some this else others) ≡ Some kind
+      → code_of_kind kind ≡ code
+  one_of n this others is more found = elim (cases_Bool (code == n)) [
+    | inl one ↦
+        let e : Some this ≡ Some kind = sym (cond-true (code == n) (Some this) others one) ∙ found in
+        let k : this ≡ kind = cc in
+        ap code_of_kind (sym k) ∙ is ∙ sym (eqb-true code n one)
+    | inr other ↦ more (sym (cond-false (code == n) (Some this) others other) ∙ found)
+  ]
+
+  no_kind : None ≡ Some kind → code_of_kind kind ≡ code
+  no_kind is = absurd (cc)
+
+  abbrev stray : Option FrameKind
+  stray = if code == 255 then Some Stray else None
+
+  abbrev status : Option FrameKind
+  status = if code == 4 then Some Status else stray
+
+  abbrev inventory : Option FrameKind
+  inventory = if code == 3 then Some Inventory else status
+
+  abbrev moves : Option FrameKind
+  moves = if code == 2 then Some Move else inventory
+
+  -- the kind of a byte has that byte
+  kind_coded : kind_with code ≡ Some kind → code_of_kind kind ≡ code
+  kind_coded is =
+      one_of 1 Command moves refl (one_of 2 Move inventory refl (one_of 3 Inventory status refl
+      (one_of 4 Status stray refl (one_of 255 Stray None refl no_kind)))) is
 
 module _ (bytes : List ℕ) (long : length bytes ≡ 16) (fits : AreBytes bytes) where
   number_at : (at : ℕ) → at + 4 ≤ 16 → to_be_bytes w32 (big_number 4 (drop at bytes)) ≡ take 4 (drop at bytes)
@@ -139,6 +147,8 @@ kind_again : (kind : FrameKind) → kind_with (code_of_kind kind) ≡ Some kind
 kind_again Command = refl
 kind_again Move = refl
 kind_again Inventory = refl
+kind_again Status = refl
+kind_again Stray = refl
 
 -- a header that is spelled is read
 pub header_again : (header : Header) → IsHeader header → header_at (spell_header header) ≡ Some header

@@ -1,6 +1,7 @@
 mod AnswerHeadLemmas
 mod AnswerLemmas
 mod AnswerReadLemmas
+mod BarcodeLemmas
 mod BeginLemmas
 mod BehindLemmas
 mod EntryLemmas
@@ -10,6 +11,7 @@ mod FrameLemmas
 mod HeadLemmas
 mod HeaderLemmas
 mod LawLemmas
+mod PlaceLemmas
 mod ReaderLemmas
 mod RequestLemmas
 mod RequestReadLemmas

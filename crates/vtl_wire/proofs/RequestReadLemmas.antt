@@ -9,18 +9,19 @@ use Rattle.vtl_wire.specs.declared.faults.WireFault.TheVariants.{BadFrame, ReadF
 use Rattle.vtl_wire.specs.declared.headers.Header.{Header}
 use Rattle.vtl_wire.specs.declared.request_heads.RequestHead.{RequestHead}
 use Rattle.vtl_wire.specs.declared.requests.Request.{Request}
-use Rattle.vtl_wire.specs.declared.requests.Request.TheVariants.{Command}
 use Rattle.vtl_wire.specs.Frames.{IsHeader, spell_frame, spell_header}
 use Rattle.vtl_wire.specs.Requests.{IsRequest, frame_of_request, spell_request}
 use Rattle.vtl_wire.specs.Reads.{LacksData, RefusesRequest}
 use Rattle.vtl_wire.specs.Inner.Headers.{frame_with}
 use Rattle.vtl_wire.specs.Inner.Reading.{FindsNoRequest, MissesBytes, MissesParts, TakesFewer}
-use Rattle.vtl_wire.specs.Inner.Requested.{request_head}
+use Rattle.vtl_wire.specs.Inner.Requested.{head_with, request_head}
+use Rattle.vtl_wire.specs.Strays.{astray_of, has_form}
+use Rattle.std.proofs.lemmas.Option.{cond_some}
 use Rattle.vtl_wire.proofs.BeginLemmas.{cut_begins}
 use Rattle.vtl_wire.proofs.FillLemmas.{fewer_later}
 use Rattle.vtl_wire.proofs.FrameLemmas.{length-header, spelled_with}
-use Rattle.vtl_wire.proofs.HeadLemmas.{counts_data}
-use Rattle.vtl_wire.proofs.RequestLemmas.{no_head_begins, request_numbers}
+use Rattle.vtl_wire.proofs.HeadLemmas.{form_short}
+use Rattle.vtl_wire.proofs.RequestLemmas.{big_request, no_head_begins, request_numbers}
 
 -- a read failed within the first part
 pub missed_few : (left left' : Option (List ℕ)) (front payload : ℕ) (fault : WireFault) → fault ≡ ReadFault
@@ -70,36 +71,21 @@ pub lacks_data : (left mid left' : Option (List ℕ)) (header : Header) (head : 
     → INLINE_BYTES < header.payload → length read ≡ header.front → Consumes mid left' read
     → LacksData left left'
 lacks_data left mid left' header head read fits is taken many long more =
-    let found = counts_data header.kind header head is (omega (arith, many)) in record {
+    let found = cond_some (has_form header.kind header.detail header.front header.payload)
+    (head_with (astray_of header.kind header.host header.detail) header) head is in record {
       read = spell_header header ++ read;
       taken = Consumes-trans left mid left' (spell_header header) read taken more;
       count = header.payload;
       many = many;
-      most = found.1.sent_with;
-      begun = λ sent length_is. (
-        Command header.host header.detail read sent header.tag,
-        (
-          record {
-            least_host = found.1.least_host;
-            most_host = found.1.most_host;
-            least_drive = found.1.least_drive;
-            most_drive = found.1.most_drive;
-            block = omega (arith, found.1.block, long);
-            sent_with = omega (arith, found.1.sent_with, length_is);
-          },
-          fits.tag,
-        ),
-        append_assoc (spell_header header) read sent
-            ∙ sym (spelled_with header read sent long length_is)
-            ∙ ap spell_frame (λ i. record {
-              kind = found.2 i;
-              host = header.host;
-              detail = header.detail;
-              tag = header.tag;
-              front = read;
-              payload = sent;
-            }),
-      );
+      most = (form_short header.kind header.detail header.front header.payload found.0).1;
+      begun = λ sent length_is.
+          let made = big_request header read sent fits long length_is found.0 (omega (arith, many)) in (
+            made.0,
+            made.1.valid,
+            append_assoc (spell_header header) read sent
+                ∙ sym (spelled_with header read sent long length_is)
+                ∙ ap spell_frame (sym made.1.frame),
+          );
     }
 
 -- why a request is missed behind its header

@@ -1,8 +1,8 @@
 -- What a front end is answered, in bytes (own).
-use Rattle.std.specs.Prelude.{◌≡◌, ◌≢◌, ℕ, ◌≤◌, ◌<◌, ◌*◌, ◌^◌, List, [], ◌++◌, length, take, flat_map, replicate, Option, None, Some, IfSome}
+use Rattle.std.specs.Prelude.{◌≡◌, ◌≢◌, ℕ, ◌≤◌, ◌<◌, ◌*◌, ◌^◌, List, [], ◌++◌, length, flat_map, Option, None, Some, IfSome}
 use Rattle.std.specs.List.{All}
 use Rattle.std.specs.Int.{to_be_bytes, w32}
-use Rattle.vtl_base.specs.declared.limits.TheConstants.{NEXUSES, MAX_BARCODE}
+use Rattle.vtl_base.specs.declared.limits.TheConstants.{NEXUSES}
 use Rattle.vtl_base.specs.Barcode.{IsBarcode}
 use Rattle.scsi_sense.specs.declared.replies.Reply.{Reply}
 use Rattle.scsi_sense.specs.declared.replies.Status.TheVariants.{Check}
@@ -13,20 +13,20 @@ use Rattle.vtl_wire.specs.declared.frames.TheConstants.{ENTRY_BYTES, MOST_DATA}
 use Rattle.vtl_wire.specs.declared.frames.FrameKind.{FrameKind}
 use Rattle.vtl_wire.specs.declared.frames.FrameKind.TheVariants as kinds
 use Rattle.vtl_wire.specs.declared.answers.Answer.{Answer}
-use Rattle.vtl_wire.specs.declared.answers.Answer.TheVariants.{Command, Move, Inventory}
+use Rattle.vtl_wire.specs.declared.answers.Answer.TheVariants.{Command, Move, Inventory, Status, Stray}
 use Rattle.vtl_wire.specs.declared.answers.Entry.{Entry}
 use Rattle.vtl_wire.specs.Frames.{Frame, spell_frame}
+use Rattle.place_figures.specs.declared.places.Place.{Place}
+use Rattle.vtl_wire.specs.Barcodes.{spell_barcode}
+use Rattle.vtl_wire.specs.Places.{IsPlace, spell_place}
+use Rattle.vtl_wire.specs.Requests.{IsHost, host_byte}
+use Rattle.vtl_wire.specs.Strays.{code_of_astray}
 use Rattle.vtl_wire.specs.Grammars.{BeginsWith, Grammar, IsFrameRefused, SpellsFrames}
 
 -- the sense data of an answer, 18 bytes where it has some (own)
 abbrev pub sense_front : Option Sense → List ℕ
 sense_front None = []
 sense_front (Some sense) = sense_bytes sense
-
--- a barcode, which has at most 16 bytes, in 16: with spaces behind it; 16 bytes of 00h where nothing is there (own)
-abbrev pub spell_barcode : Option (List ℕ) → List ℕ
-spell_barcode None = replicate MAX_BARCODE 0
-spell_barcode (Some barcode) = take MAX_BARCODE (barcode ++ replicate MAX_BARCODE 32)
 
 -- an entry of an inventory in 20 bytes: the element address, 4 bytes, the highest first, and the barcode (own)
 abbrev pub spell_entry : Entry → List ℕ
@@ -43,18 +43,26 @@ frame_of_reply kind host reply tag = record {
   payload = reply.bytes;
 }
 
--- the frame of an answer: to a command its host and its reply, to a move its reply, to an inventory status 00h and the
--- entries; all with the tag of the request (own)
+-- the frame of an answer with these data: status 00h, and no sense data (own)
+abbrev pub frame_of_data : FrameKind → Option ℕ → List ℕ → ℕ → Frame
+frame_of_data kind host payload tag =
+    record { kind = kind; host = host_byte host; detail = 0; tag = tag; front = []; payload = payload }
+
+-- the frame of an answer: to a command its host and its reply, to a move its host and its reply, to an inventory or a
+-- status the entries; to a request that is astray its host and which number names nobody; all with the tag of the
+-- request (own)
 abbrev pub frame_of_answer : Answer → Frame
 frame_of_answer (Command host reply tag) = frame_of_reply kinds.Command host reply tag
-frame_of_answer (Move reply tag) = frame_of_reply kinds.Move 0 reply tag
-frame_of_answer (Inventory entries tag) = record {
-  kind = kinds.Inventory;
-  host = 0;
-  detail = 0;
+frame_of_answer (Move host reply tag) = frame_of_reply kinds.Move (host_byte host) reply tag
+frame_of_answer (Inventory host entries tag) = frame_of_data kinds.Inventory host (flat_map spell_entry entries) tag
+frame_of_answer (Status host places tag) = frame_of_data kinds.Status host (flat_map spell_place places) tag
+frame_of_answer (Stray host astray tag) = record {
+  kind = kinds.Stray;
+  host = host;
+  detail = code_of_astray astray;
   tag = tag;
   front = [];
-  payload = flat_map spell_entry entries;
+  payload = [];
 }
 
 -- a reply that a frame holds: only CHECK CONDITION has sense data, and at most 1,100,000 bytes go to the host (own)
@@ -62,11 +70,13 @@ pub record FitsReply (reply : Reply) : Type 0 where
   pub sense : reply.status ≢ Check → reply.sense ≡ None
   pub bytes : length reply.bytes ≤ MOST_DATA
 
--- an answer that a frame holds: of an inventory at most 55,000 entries (own)
+-- an answer that a frame holds: of an inventory at most 55,000 entries, of a status at most 1,100,000 bytes (own)
 abbrev pub FitsAnswer : Answer → Type 0
 FitsAnswer (Command host reply tag) = FitsReply reply
-FitsAnswer (Move reply tag) = FitsReply reply
-FitsAnswer (Inventory entries tag) = ENTRY_BYTES * length entries ≤ MOST_DATA
+FitsAnswer (Move host reply tag) = FitsReply reply
+FitsAnswer (Inventory host entries tag) = ENTRY_BYTES * length entries ≤ MOST_DATA
+FitsAnswer (Status host places tag) = length (flat_map spell_place places) ≤ MOST_DATA
+FitsAnswer (Stray host astray tag) = Unit {0}
 
 -- an answer in bytes (own)
 abbrev pub spell_answer : Answer → List ℕ
@@ -85,8 +95,10 @@ IsSense sense = IfSome sense.information (λ number. number < 2 ^ 32)
 abbrev pub HasNumbers : Answer → Type 0
 HasNumbers (Command host reply tag) =
     (1 ≤ host) × (host ≤ NEXUSES) × IfSome reply.sense IsSense × (tag < 2 ^ 32)
-HasNumbers (Move reply tag) = IfSome reply.sense IsSense × (tag < 2 ^ 32)
-HasNumbers (Inventory entries tag) = All IsEntry entries × (tag < 2 ^ 32)
+HasNumbers (Move host reply tag) = IfSome host IsHost × IfSome reply.sense IsSense × (tag < 2 ^ 32)
+HasNumbers (Inventory host entries tag) = IfSome host IsHost × All IsEntry entries × (tag < 2 ^ 32)
+HasNumbers (Status host places tag) = IfSome host IsHost × All IsPlace places × (tag < 2 ^ 32)
+HasNumbers (Stray host astray tag) = (host < 2 ^ 8) × (tag < 2 ^ 32)
 
 -- an answer that has a spelling (own)
 abbrev pub IsAnswer : Answer → Type 0

@@ -2,7 +2,7 @@
 use Rattle.std.specs.Prelude.{ℕ, ◌<◌, ◌^◌, ◌==◌, if◌then◌else◌, List, [], ◌∷◌, ◌++◌, length, Option, None, Some}
 use Rattle.std.specs.Int.{to_be_bytes, w32}
 use Rattle.vtl_wire.specs.declared.frames.FrameKind.{FrameKind}
-use Rattle.vtl_wire.specs.declared.frames.FrameKind.TheVariants.{Command, Move, Inventory}
+use Rattle.vtl_wire.specs.declared.frames.FrameKind.TheVariants.{Command, Move, Inventory, Status, Stray}
 use Rattle.vtl_wire.specs.declared.headers.Header.{Header}
 
 -- the byte of a kind (own)
@@ -10,6 +10,8 @@ abbrev pub code_of_kind : FrameKind → ℕ
 code_of_kind Command = 0x01
 code_of_kind Move = 0x02
 code_of_kind Inventory = 0x03
+code_of_kind Status = 0x04
+code_of_kind Stray = 0xff
 
 -- the kind with this byte, if there is one (own)
 abbrev pub kind_with : ℕ → Option FrameKind
@@ -17,7 +19,9 @@ kind_with code =
     if code == 1 then Some Command
     else (if code == 2 then Some Move
     else (if code == 3 then Some Inventory
-    else None))
+    else (if code == 4 then Some Status
+    else (if code == 0xff then Some Stray
+    else None))))
 
 -- A frame: its kind; a host; the drive of a request or the status of an answer; a tag; a command block, two element
 -- addresses or sense data; and the data (own).

@@ -1,5 +1,6 @@
 pub mod Answered
 pub mod Headers
+pub mod Placed
 pub mod Reading
 pub mod Requested
 pub mod Sensed

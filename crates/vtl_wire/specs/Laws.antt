@@ -1,10 +1,12 @@
 -- Laws of frames (own).
 use Rattle.std.specs.Prelude.{◌≡◌}
 use Rattle.vtl_base.specs.declared.bytes.TheConstants.{INLINE_BYTES}
-use Rattle.vtl_wire.specs.declared.frames.FrameKind.TheVariants.{Command, Move, Inventory}
-use Rattle.vtl_wire.specs.declared.frames.TheConstants.{HEADER_BYTES, MOST_CDB, MOVE_BYTES, SENSE_BYTES, MOST_DATA, ENTRY_BYTES}
+use Rattle.vtl_wire.specs.declared.frames.FrameKind.TheVariants.{Command, Move, Inventory, Status, Stray}
+use Rattle.vtl_wire.specs.declared.frames.TheConstants.{HEADER_BYTES, MOST_CDB, MOVE_BYTES, SENSE_BYTES, MOST_DATA, ENTRY_BYTES, PLACE_BYTES, PARTITION_BYTES, DRIVE_BYTES}
 use Rattle.vtl_wire.specs.Answers.{answer_frames}
 use Rattle.vtl_wire.specs.Frames.{code_of_kind}
+use Rattle.vtl_wire.specs.Strays.{code_of_astray}
+use Rattle.vtl_wire.specs.declared.strays.Astray.TheVariants.{Host, Drive}
 use Rattle.vtl_wire.specs.Grammars.{NoneBeginsAnother, NoneRefused, OneList, OneRefused}
 use Rattle.vtl_wire.specs.Requests.{request_frames}
 
@@ -16,10 +18,17 @@ pub record FramesInNumbers : Type 0 where
   pub sense : SENSE_BYTES ≡ 18
   pub payload : MOST_DATA ≡ 1_100_000
   pub entry : ENTRY_BYTES ≡ 20
+  pub place : PLACE_BYTES ≡ 26
+  pub partition : PARTITION_BYTES ≡ 20
+  pub drive : DRIVE_BYTES ≡ 36
   pub inline : INLINE_BYTES ≡ 24
   pub command : code_of_kind Command ≡ 1
   pub move : code_of_kind Move ≡ 2
   pub inventory : code_of_kind Inventory ≡ 3
+  pub status : code_of_kind Status ≡ 4
+  pub stray : code_of_kind Stray ≡ 255
+  pub astray_host : code_of_astray Host ≡ 1
+  pub astray_drive : code_of_astray Drive ≡ 2
 
 -- no request's spelling begins another's: what begins with two of them begins with one, and the rest is one too (own)
 abbrev pub NoRequestBeginsAnother : Type 0

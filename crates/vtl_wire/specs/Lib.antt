@@ -1,10 +1,13 @@
 pub mod AnswerReads
 pub mod Answers
+pub mod Barcodes
 pub mod Frames
 pub mod Grammars
 pub mod Inner
 pub mod Laws
+pub mod Places
 pub mod Reads
 pub mod Requests
 pub mod Serving
+pub mod Strays
 pub mod Writes

@@ -6,7 +6,7 @@ ghost use Rattle.vtl_wire.specs.Reads.{NotesFault, count_after};
 ghost use Rattle.vtl_wire.specs.Inner.Answered.{FindsAnswer, FindsNoAnswer};
 
 use crate::answer_heads::{AnswerHead, answer_head};
-use crate::answer_parts::{find_inventory, find_reply};
+use crate::answer_parts::{find_inventory, find_reply, find_status};
 use crate::answers::Answer;
 use crate::faults::WireFault;
 use crate::memory::Memory;
@@ -51,7 +51,17 @@ fn find_answer<R: Read>(
     };
     match answer_head(header) {
         Some(AnswerHead::Reply(head)) => find_reply(memory, reads, reader, header, head),
-        Some(AnswerHead::Inventory { tag }) => find_inventory(memory, reads, reader, header, tag),
+        Some(AnswerHead::Inventory { host, tag }) => {
+            find_inventory(memory, reads, reader, header, host, tag)
+        }
+        Some(AnswerHead::Status { host, tag }) => {
+            find_status(memory, reads, reader, header, host, tag)
+        }
+        Some(AnswerHead::Stray { astray }) => Ok(Found::Frame(Answer::Stray {
+            host: header.host,
+            astray,
+            tag: header.tag,
+        })),
         None => Ok(Found::Refused),
     }
 }

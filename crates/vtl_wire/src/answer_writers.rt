@@ -1,7 +1,10 @@
 //! Answers, written frame by frame.
 ghost use Rattle.std.specs.Prelude.{◌≡◌, ◌≤◌, ◌-◌, ◌++◌, length, take, flat_map, replicate, IfErr, OnOk, OnErr};
 ghost use Rattle.std.specs.Io.KnownBytes.{Appends};
-ghost use Rattle.vtl_wire.specs.Answers.{FitsAnswer, FitsReply, frame_of_answer, frame_of_reply, sense_front, spell_answer, spell_barcode, spell_entry};
+ghost use Rattle.vtl_wire.specs.Answers.{FitsAnswer, FitsReply, frame_of_answer, frame_of_reply, sense_front, spell_answer, spell_entry};
+ghost use Rattle.vtl_wire.specs.Barcodes.{spell_barcode};
+ghost use Rattle.vtl_wire.specs.Requests.{host_byte};
+ghost use Rattle.vtl_wire.specs.declared.frames.TheConstants.{MOST_DATA};
 ghost use Rattle.vtl_wire.specs.Frames.{header_of, spell_header};
 ghost use Rattle.vtl_base.specs.declared.limits.TheConstants.{MAX_BARCODE};
 ghost use Rattle.vtl_wire.specs.Writes.{AppendsFront};
@@ -9,11 +12,12 @@ ghost use Rattle.vtl_wire.specs.Writes.{AppendsFront};
 use crate::answers::{Answer, Entry};
 use crate::faults::WireFault;
 use crate::frames::{ENTRY_BYTES, FrameKind, SENSE_BYTES};
-use crate::headers::Header;
+use crate::headers::{Header, host_byte};
+use crate::place_writers::{bytes_of, write_status};
 use crate::writing::{flush, write_bytes, write_frame};
 use scsi_sense::{Reply, Sense};
 use std::io::Write;
-use vtl_base::Barcode;
+use vtl_base::{Barcode, Nexus};
 use vtl_base::limits::MAX_BARCODE;
 
 // How many bytes of sense data an answer has.
@@ -41,6 +45,22 @@ fn reply_header(kind: FrameKind, host: u8, reply: &Reply, tag: u32) -> Header
     }
 }
 
+// The header of an answer with `count` bytes of entries.
+fn data_header(kind: FrameKind, host: &Option<Nexus>, count: usize, tag: u32) -> Header
+    requires { count ≤ MOST_DATA }
+    ensures { result ≡ record { kind = kind; host = host_byte host.now; detail = 0; front = 0; payload = count;
+        tag = tag } }
+{
+    Header {
+        kind,
+        host: host_byte(host),
+        detail: 0,
+        front: 0,
+        payload: count as u32,
+        tag,
+    }
+}
+
 // The header of an answer's frame.
 fn answer_header(answer: &Answer) -> Header
     requires { FitsAnswer answer.now }
@@ -50,13 +70,22 @@ fn answer_header(answer: &Answer) -> Header
         Answer::Command { host, reply, tag } => {
             reply_header(FrameKind::Command, host.number(), reply, *tag)
         }
-        Answer::Move { reply, tag } => reply_header(FrameKind::Move, 0, reply, *tag),
-        Answer::Inventory { entries, tag } => Header {
-            kind: FrameKind::Inventory,
-            host: 0,
-            detail: 0,
+        Answer::Move { host, reply, tag } => {
+            reply_header(FrameKind::Move, host_byte(host), reply, *tag)
+        }
+        Answer::Inventory { host, entries, tag } => {
+            let count = ENTRY_BYTES * entries.as_slice().len();
+            data_header(FrameKind::Inventory, host, count, *tag)
+        }
+        Answer::Status { host, places, tag } => {
+            data_header(FrameKind::Status, host, bytes_of(places.as_slice()), *tag)
+        }
+        Answer::Stray { host, astray, tag } => Header {
+            kind: FrameKind::Stray,
+            host: *host,
+            detail: astray.code(),
             front: 0,
-            payload: (ENTRY_BYTES * entries.as_slice().len()) as u32,
+            payload: 0,
             tag: *tag,
         },
     }
@@ -77,7 +106,7 @@ fn write_reply<W: Write>(writer: &mut W, header: Header, reply: &Reply) -> Resul
 }
 
 // These bytes, with spaces after them up to 16 bytes.
-fn with_spaces(symbols: &[u8]) -> [u8; MAX_BARCODE]
+pub(crate) fn with_spaces(symbols: &[u8]) -> [u8; MAX_BARCODE]
     requires { length symbols.now ≤ MAX_BARCODE }
     ensures { result ≡ symbols.now ++ replicate (MAX_BARCODE - length symbols.now) 32 }
 {
@@ -150,6 +179,8 @@ fn write_whole<W: Write>(writer: &mut W, answer: &Answer) -> Result<(), WireFaul
             writer, header, reply,
         ),
         Answer::Inventory { entries, .. } => write_inventory(writer, header, entries.as_slice()),
+        Answer::Status { places, .. } => write_status(writer, header, places.as_slice()),
+        Answer::Stray { .. } => write_frame(writer, header, &[], &[]),
     }
 }
 

@@ -4,7 +4,8 @@ ghost use Rattle.std.specs.List.{All};
 ghost use Rattle.vtl_base.specs.Barcode.{IsBarcode};
 ghost use Rattle.vtl_wire.specs.declared.answers.Entry.{Entry};
 ghost use Rattle.vtl_wire.specs.declared.frames.TheConstants.{ENTRY_BYTES};
-ghost use Rattle.vtl_wire.specs.Answers.{IsEntry, spell_barcode, spell_entry};
+ghost use Rattle.vtl_wire.specs.Answers.{IsEntry, spell_entry};
+ghost use Rattle.vtl_wire.specs.Barcodes.{spell_barcode};
 
 use crate::answer_writers::entry_bytes;
 use crate::answers::Entry;
@@ -28,7 +29,7 @@ fn before_space(bytes: &[u8]) -> usize
 
 // The barcode that these bytes spell, or None where they spell an empty place. Whether they spell either is not
 // checked.
-fn barcode_like(bytes: &[u8]) -> Option<Barcode>
+pub(crate) fn barcode_like(bytes: &[u8]) -> Option<Barcode>
     ensures like { (barcode : Option (List ℕ)) → IfSome barcode IsBarcode → bytes.now ≡ spell_barcode barcode
         → result ≡ barcode }
     ensures valid { IfSome result IsBarcode }

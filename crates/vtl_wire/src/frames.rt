@@ -21,12 +21,25 @@ pub const MOST_DATA: u32 = 1_100_000;
 /// spaces. If there is no cartridge at the address, these 16 bytes are 00h.
 pub const ENTRY_BYTES: usize = 20;
 
-/// The kind of a request, and of its answer.
+/// How many bytes an entry of a status has at least: those of a slot in which nothing is. They are 4 for the element
+/// address, 1 for what is there, 4 for its home, 16 for the barcode, and 1 for the number of partitions.
+pub const PLACE_BYTES: usize = 26;
+
+/// How many bytes the figures of a partition have in an entry of a status.
+pub const PARTITION_BYTES: usize = 20;
+
+/// How many bytes the figures of a drive have in its entry of a status.
+pub const DRIVE_BYTES: usize = 36;
+
+/// The kind of a request, and of its answer; or that of an answer to a request that is astray.
 #[derive(Clone, Copy, PartialEq, Eq, Debug)]
 pub enum FrameKind {
     Command = 0x01,
     Move = 0x02,
     Inventory = 0x03,
+    Status = 0x04,
+    /// Only an answer: the request names a host or a drive that is not there, and nobody served it.
+    Stray = 0xff,
 }
 
 impl FrameKind {
@@ -45,6 +58,8 @@ impl FrameKind {
             0x01 => Some(FrameKind::Command),
             0x02 => Some(FrameKind::Move),
             0x03 => Some(FrameKind::Inventory),
+            0x04 => Some(FrameKind::Status),
+            0xff => Some(FrameKind::Stray),
             _ => None,
         }
     }

@@ -1,12 +1,14 @@
 //! The header of a frame, which a request and an answer share.
 ghost use Rattle.std.specs.Prelude.{◌≡◌, IfSome, IfNone, length};
 ghost use Rattle.vtl_wire.specs.Frames.{IsHeader, spell_header};
+ghost use Rattle.vtl_wire.specs.Requests.{host_byte};
 ghost use Rattle.vtl_wire.specs.declared.frames.TheConstants.{HEADER_BYTES};
 ghost use Rattle.vtl_wire.specs.declared.headers.Header.{Header};
 ghost use Rattle.vtl_wire.specs.Inner.Headers.{header_at};
 
 use crate::frames::{FrameKind, HEADER_BYTES};
 use byteorder::{BigEndian, ByteOrder};
+use vtl_base::Nexus;
 
 /// The header of a frame (own).
 #[derive(Clone, Copy, PartialEq, Eq, Debug)]
@@ -24,6 +26,16 @@ pub struct Header {
     pub payload: u32,
     /// The tag of the request, which its answer repeats.
     pub tag: u32,
+}
+
+// The byte of a host; 0 where there is none.
+pub(crate) fn host_byte(host: &Option<Nexus>) -> u8
+    ensures { result ≡ host_byte host.now }
+{
+    match host {
+        Some(host) => host.number(),
+        None => 0,
+    }
 }
 
 impl Header {

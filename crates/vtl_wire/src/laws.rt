@@ -2,8 +2,10 @@
 ghost use Rattle.vtl_wire.specs.Laws.{FramesInNumbers, NoAnswerBeginsAnother, NoRequestBeginsAnother, NoneRefusedOfAnswers, NoneRefusedOfRequests, OneAnswerRefused, OneFrameRefused, OneListOfAnswers, OneListOfRequests};
 
 /// The numbers of the frame format. A header has 16 bytes, a command block at most 16, two element addresses 8, sense
-/// data 18, an entry 20, and data at most 1,100,000. Up to 24 bytes of data are read without allocating memory. The
-/// kinds of frames are 1 (command), 2 (move) and 3 (inventory).
+/// data 18, an entry 20, that of a status at least 26, with 20 more for each partition and 36 for a drive, and data at most
+/// 1,100,000. Up to 24 bytes of data are read without allocating memory. The
+/// kinds of frames are 1 (command), 2 (move), 3 (inventory), 4 (status) and 255 (a request that is astray: 1 by its host,
+/// 2 by its drive).
 pub fn frames_in_numbers()
     ensures { FramesInNumbers }
 {}

@@ -1,13 +1,14 @@
 //! Memory for the data of frames.
 ghost use Rattle.std.specs.Prelude.{◌≡◌, ◌≤◌, ◌<◌, ◌+◌, ◌*◌, [], length, vec_len, vec_capacity, IfOk, IfErr, OnErr};
 ghost use Rattle.vtl_base.specs.declared.bytes.TheConstants.{INLINE_BYTES};
-ghost use Rattle.vtl_wire.specs.declared.frames.TheConstants.{ENTRY_BYTES};
+ghost use Rattle.vtl_wire.specs.declared.frames.TheConstants.{ENTRY_BYTES, PLACE_BYTES};
 ghost use Rattle.vtl_wire.specs.Inner.Answered.{MayBeHeader};
 
 use crate::answers::Entry;
 use crate::faults::WireFault;
-use crate::frames::ENTRY_BYTES;
+use crate::frames::{ENTRY_BYTES, PLACE_BYTES};
 use crate::headers::Header;
+use place_figures::Place;
 use std::alloc::Global;
 use vtl_base::Bytes;
 
@@ -57,6 +58,21 @@ impl Memory {
         ensures fault { IfErr result (λ fault. fault ≡ WireFault.NoMemory) }
     {
         let count = header.payload as usize / ENTRY_BYTES;
+        let room = Vec::with_capacity(self.alloc, count)?;
+        Ok(room)
+    }
+
+    // Room for the entries of a status in the data that this header counts. Some request or answer may have this
+    // header.
+    pub(crate) fn places(&self, header: Header) -> Result<Vec<Place>, WireFault>
+        requires { MayBeHeader header }
+        ensures none { IfOk result (λ room. (room.items ≡ []) × (vec_len room ≡ 0)) }
+        ensures room { IfOk result (λ room. header.payload < PLACE_BYTES * vec_capacity room + PLACE_BYTES) }
+        ensures most { IfOk result (λ room. PLACE_BYTES * vec_capacity room ≤ header.payload) }
+        ensures some { OnErr result (PLACE_BYTES ≤ header.payload) }
+        ensures fault { IfErr result (λ fault. fault ≡ WireFault.NoMemory) }
+    {
+        let count = header.payload as usize / PLACE_BYTES;
         let room = Vec::with_capacity(self.alloc, count)?;
         Ok(room)
     }

@@ -1,15 +1,18 @@
 //! What the header of a request says of the request.
-ghost use Rattle.std.specs.Prelude.{◌≡◌, ◌++◌, length, Some};
+ghost use Rattle.std.specs.Prelude.{◌≡◌, ◌≤◌, ◌++◌, length, None, Some};
 ghost use Rattle.std.specs.Int.{to_be_bytes, w32};
 ghost use Rattle.vtl_wire.specs.declared.frames.TheConstants.{MOVE_BYTES};
+ghost use Rattle.vtl_base.specs.declared.limits.TheConstants.{NEXUSES};
 ghost use Rattle.vtl_wire.specs.Requests.{IsRequest, frame_of_request};
 ghost use Rattle.vtl_wire.specs.Inner.Headers.{frame_with};
-ghost use Rattle.vtl_wire.specs.Inner.Requested.{command_head, is_plain, request_head};
+ghost use Rattle.vtl_wire.specs.Inner.Requested.{head_by, host_at, request_head};
+ghost use Rattle.vtl_wire.specs.Strays.{astray_of};
 
-use crate::frames::{FrameKind, MOST_CDB, MOST_DATA, MOVE_BYTES};
+use crate::frames::{FrameKind, MOVE_BYTES};
 use crate::headers::Header;
 use crate::parts::Parts;
 use crate::requests::Request;
+use crate::strays::{astray, has_form};
 use byteorder::{BigEndian, ByteOrder};
 use vtl_base::{DriveNo, Nexus};
 
@@ -22,43 +25,68 @@ pub(crate) enum RequestHead {
         tag: u32,
     },
     Move {
+        host: Option<Nexus>,
         tag: u32,
     },
     Inventory {
+        host: Option<Nexus>,
         tag: u32,
     },
+    Status {
+        host: Option<Nexus>,
+        tag: u32,
+    },
+    // A request whose host or drive is out of range.
+    Stray,
 }
 
-// The command of this header, if host, drive and lengths are within their limits.
-fn command_head(header: Header) -> Option<RequestHead>
-    ensures { result ≡ command_head header }
+// The host of this byte, which is at most 64. None where it is 0.
+fn host_at(host: u8) -> Option<Nexus>
+    requires { host ≤ NEXUSES }
+    ensures { result ≡ host_at host }
 {
-    let host = Nexus::new(header.host)?;
-    let drive = DriveNo::new(header.detail)?;
-    if header.front as usize > MOST_CDB || header.payload > MOST_DATA {
-        return None;
-    }
+    Nexus::new(host)
+}
+
+// What this header, whose host and drive are in range, says of its request.
+fn head_by(header: Header) -> RequestHead
+    requires { astray_of header.kind header.host header.detail ≡ None }
+    ensures { result ≡ head_by header.kind header }
+{
     let tag = header.tag;
-    Some(RequestHead::Command { host, drive, tag })
-}
-
-// Whether the header names no host and no drive, and counts `front` bytes and no data after it.
-fn is_plain(header: Header, front: usize) -> bool
-    ensures { result ≡ is_plain header front }
-{
-    header.host == 0 && header.detail == 0 && header.front as usize == front && header.payload == 0
+    match header.kind {
+        FrameKind::Command => RequestHead::Command {
+            host: Nexus::new(header.host).unwrap(),
+            drive: DriveNo::new(header.detail).unwrap(),
+            tag,
+        },
+        FrameKind::Move => RequestHead::Move {
+            host: host_at(header.host),
+            tag,
+        },
+        FrameKind::Inventory => RequestHead::Inventory {
+            host: host_at(header.host),
+            tag,
+        },
+        FrameKind::Status => RequestHead::Status {
+            host: host_at(header.host),
+            tag,
+        },
+        FrameKind::Stray => RequestHead::Stray,
+    }
 }
 
 // What this header says of its request, if a request may have this header.
 pub(crate) fn request_head(header: Header) -> Option<RequestHead>
     ensures { result ≡ request_head header }
 {
-    let tag = header.tag;
-    match header.kind {
-        FrameKind::Command => command_head(header),
-        FrameKind::Move if is_plain(header, MOVE_BYTES) => Some(RequestHead::Move { tag }),
-        FrameKind::Inventory if is_plain(header, 0) => Some(RequestHead::Inventory { tag }),
-        FrameKind::Move | FrameKind::Inventory => None,
+    let payload = header.payload as usize;
+    if !has_form(header.kind, header.detail, header.front as usize, payload) {
+        return None;
+    }
+    match astray(header.kind, header.host, header.detail) {
+        Some(_) => Some(RequestHead::Stray),
+        None => Some(head_by(header)),
     }
 }
 
@@ -88,10 +116,24 @@ pub(crate) fn request_in(header: Header, head: RequestHead, parts: Parts) -> Req
             sent: parts.payload,
             tag,
         },
-        RequestHead::Move { tag } => {
+        RequestHead::Move { host, tag } => {
             let (from, to) = two_numbers(parts.front.as_slice());
-            Request::Move { from, to, tag }
+            Request::Move {
+                host,
+                from,
+                to,
+                tag,
+            }
         }
-        RequestHead::Inventory { tag } => Request::Inventory { tag },
+        RequestHead::Inventory { host, tag } => Request::Inventory { host, tag },
+        RequestHead::Status { host, tag } => Request::Status { host, tag },
+        RequestHead::Stray => Request::Stray {
+            kind: header.kind,
+            host: header.host,
+            drive: header.detail,
+            front: parts.front,
+            sent: parts.payload,
+            tag: header.tag,
+        },
     }
 }

@@ -1,17 +1,35 @@
 //! Requests, written frame by frame: the front end's part.
-ghost use Rattle.std.specs.Prelude.{◌≡◌, ◌++◌, IfErr, OnOk, OnErr};
+ghost use Rattle.std.specs.Prelude.{◌≡◌, ◌≤◌, ◌++◌, IfErr, OnOk, OnErr};
 ghost use Rattle.std.specs.Int.{to_be_bytes, w32};
 ghost use Rattle.std.specs.Io.KnownBytes.{Appends};
+ghost use Rattle.vtl_wire.specs.declared.frames.TheConstants.{MOVE_BYTES};
 ghost use Rattle.vtl_wire.specs.Frames.{header_of};
-ghost use Rattle.vtl_wire.specs.Requests.{FitsRequest, frame_of_request, spell_request};
+ghost use Rattle.vtl_wire.specs.Requests.{FitsRequest, frame_of_request, host_byte, spell_request};
 ghost use Rattle.vtl_wire.specs.Writes.{AppendsFront};
 
 use crate::faults::WireFault;
 use crate::frames::{FrameKind, MOVE_BYTES};
-use crate::headers::Header;
+use crate::headers::{Header, host_byte};
 use crate::requests::Request;
 use crate::writing::{flush, write_frame};
 use std::io::Write;
+use vtl_base::Nexus;
+
+// The header of a request without data that is no command. It names no drive.
+fn plain_header(kind: FrameKind, host: &Option<Nexus>, front: usize, tag: u32) -> Header
+    requires { front ≤ MOVE_BYTES }
+    ensures { result ≡ record { kind = kind; host = host_byte host.now; detail = 0; front = front; payload = 0;
+        tag = tag } }
+{
+    Header {
+        kind,
+        host: host_byte(host),
+        detail: 0,
+        front: front as u8,
+        payload: 0,
+        tag,
+    }
+}
 
 // The header of a request's frame.
 fn request_header(request: &Request) -> Header
@@ -33,20 +51,22 @@ fn request_header(request: &Request) -> Header
             payload: sent.len() as u32,
             tag: *tag,
         },
-        Request::Move { tag, .. } => Header {
-            kind: FrameKind::Move,
-            host: 0,
-            detail: 0,
-            front: MOVE_BYTES as u8,
-            payload: 0,
-            tag: *tag,
-        },
-        Request::Inventory { tag } => Header {
-            kind: FrameKind::Inventory,
-            host: 0,
-            detail: 0,
-            front: 0,
-            payload: 0,
+        Request::Move { host, tag, .. } => plain_header(FrameKind::Move, host, MOVE_BYTES, *tag),
+        Request::Inventory { host, tag } => plain_header(FrameKind::Inventory, host, 0, *tag),
+        Request::Status { host, tag } => plain_header(FrameKind::Status, host, 0, *tag),
+        Request::Stray {
+            kind,
+            host,
+            drive,
+            front,
+            sent,
+            tag,
+        } => Header {
+            kind: *kind,
+            host: *host,
+            detail: *drive,
+            front: front.len() as u8,
+            payload: sent.len() as u32,
             tag: *tag,
         },
     }
@@ -77,7 +97,10 @@ fn write_request_whole<W: Write>(writer: &mut W, request: &Request) -> Result<()
         Request::Move { from, to, .. } => {
             write_frame(writer, header, &address_bytes(*from, *to), &[])
         }
-        Request::Inventory { .. } => write_frame(writer, header, &[], &[]),
+        Request::Inventory { .. } | Request::Status { .. } => write_frame(writer, header, &[], &[]),
+        Request::Stray { front, sent, .. } => {
+            write_frame(writer, header, front.as_slice(), sent.as_slice())
+        }
     }
 }
 

@@ -25,6 +25,12 @@ returns-in-Some-Inventory-clause-fault g c =
     IfErr-weaker c.find_inventory.result _ _ (missed_behind _ _ _ c.in-Frame.header header.0 header.1)
     c.find_inventory.ensures.fault
 
+pub returns-in-Some-Status-clause-fault : goal.returns-in-Some-Status-clause-fault
+returns-in-Some-Status-clause-fault g c =
+    let header = rw c.in-Frame.is at c.in_ok-header.ensures.header in
+    IfErr-weaker c.find_status.result _ _ (missed_behind _ _ _ c.in-Frame.header header.0 header.1)
+    c.find_status.ensures.fault
+
 pub returns-in-None-clause-found : goal.returns-in-None-clause-found
 returns-in-None-clause-found g c =
     let header = rw c.in-Frame.is at c.in_ok-header.ensures.header in
