@@ -4,19 +4,12 @@ use Rattle.std.specs.List.{All}
 use Rattle.std.specs.Io.KnownBytes.{Appends}
 use Rattle.vtl_wire.specs.declared.answers.Answer.{Answer}
 use Rattle.vtl_wire.specs.declared.requests.Request.{Request}
-use Rattle.vtl_wire.specs.declared.requests.Request.TheVariants.{Command, Move, Inventory}
 use Rattle.vtl_wire.specs.Answers.{FitsAnswer, spell_answer}
 use Rattle.vtl_wire.specs.Serving.{WritesFront}
 
--- the host of a command; 0 of a move and of an inventory (own)
-abbrev pub host_in : Request → ℕ
-host_in (Command host drive cdb sent tag) = host
-host_in (Move from to tag) = 0
-host_in (Inventory tag) = 0
-
--- the commands of a host, in their order (own)
-abbrev pub of_host : ℕ → List Request → List Request
-of_host host requests = filter (λ request. host_in request == host) requests
+-- the requests of a queue, in their order (own)
+abbrev pub of_queue : (Request → ℕ) → ℕ → List Request → List Request
+of_queue queue number requests = filter (λ request. queue request == number) requests
 
 -- requests are answered one after another, each from where the one before left what serves them (own)
 abbrev pub AnswersAll : {S : Type 0} → (S → Request → Answer → S → Type 0) → S → List Request → List Answer → S
@@ -27,12 +20,12 @@ AnswersAll {S} answers old (request ∷ requests) (one ∷ others) new =
 AnswersAll answers old [] (one ∷ others) new = ⊥
 AnswersAll answers old (request ∷ requests) [] new = ⊥
 
--- an answer, with the place of the host that gave it, which is the host's number less one (own)
+-- an answer, with the place of the queue that it comes from, which is the queue's number less one (own)
 pub record Given : Type 0 where
   pub place : ℕ
   pub answer : Answer
 
--- the answers that the host at this place gave, in their order (own)
+-- the answers of the queue at this place, in their order (own)
 abbrev pub of_place : ℕ → List Given → List Answer
 of_place place [] = []
 of_place place (one ∷ others) =
@@ -60,14 +53,14 @@ pub record WritesCut (before now : Option (List ℕ)) (given : List Given) : Typ
   pub written : WritesWhole before between whole
   pub part : WritesFront between now cut.answer
 
--- some host of so many, whose place is its number less one, has fewer answers than commands: one was not answered, or
+-- some queue of so many, whose place is its number less one, has fewer answers than requests: one was not answered, or
 -- its answer was not given on (own)
-pub record OwesAnswer (hosts : ℕ) (commands : List Request) (given : List Given) : Type 0 where
+pub record OwesAnswer (queue : Request → ℕ) (queues : ℕ) (commands : List Request) (given : List Given) : Type 0 where
   pub place : ℕ
-  pub within : place < hosts
-  pub fewer : length (of_place place given) < length (of_host (place + 1) commands)
+  pub within : place < queues
+  pub fewer : length (of_place place given) < length (of_queue queue (place + 1) commands)
 
--- The commands of a host were answered up to some place, each once and in their order, and a beginning of these answers
+-- The requests of a queue were answered up to some place, each once and in their order, and a beginning of these answers
 -- was given on (own).
 pub record AnswersBegun {S : Type 0} (answers : S → Request → Answer → S → Type 0)
     (old : S) (commands : List Request) (given : List Answer) (new : S) : Type 0 where
@@ -79,23 +72,23 @@ pub record AnswersBegun {S : Type 0} (answers : S → Request → Answer → S �
   pub made_are : made ≡ given ++ held_back
   pub answered : AnswersAll answers old done made new
 
--- of each host, whose place is its number less one, all commands were answered, each once and in their order, and there
+-- of each queue, whose place is its number less one, all requests were answered, each once and in their order, and there
 -- are no other answers (own)
-pub record AnswersHosts {S : Type 0} (answers : S → Request → Answer → S → Type 0)
+pub record AnswersHosts {S : Type 0} (answers : S → Request → Answer → S → Type 0) (queue : Request → ℕ)
     (old : List S) (commands : List Request) (given : List Given) (new : List S) : Type 0 where
   pub long : length new ≡ length old
   pub each :
       (place : ℕ) (d : S) → place < length old
-      → AnswersAll answers (slice_index_or old place d) (of_host (place + 1) commands) (of_place place given)
+      → AnswersAll answers (slice_index_or old place d) (of_queue queue (place + 1) commands) (of_place place given)
       (slice_index_or new place d)
   pub others : All (λ one. one.place < length old) given
 
--- the same up to some command of each host (own)
-pub record AnswersUpTo {S : Type 0} (answers : S → Request → Answer → S → Type 0)
+-- the same up to some request of each queue (own)
+pub record AnswersUpTo {S : Type 0} (answers : S → Request → Answer → S → Type 0) (queue : Request → ℕ)
     (old : List S) (commands : List Request) (given : List Given) (new : List S) : Type 0 where
   pub long : length new ≡ length old
   pub each :
       (place : ℕ) (d : S) → place < length old
-      → AnswersBegun answers (slice_index_or old place d) (of_host (place + 1) commands) (of_place place given)
+      → AnswersBegun answers (slice_index_or old place d) (of_queue queue (place + 1) commands) (of_place place given)
       (slice_index_or new place d)
   pub others : All (λ one. one.place < length old) given

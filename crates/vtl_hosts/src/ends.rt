@@ -1,16 +1,15 @@
 //! The values of the threads of all hosts.
 ghost use Rattle.std.specs.Prelude.{◌≡◌, ◌≤◌, ◌<◌, ◌++◌, ◌∷◌, [], length, IfOk, vec_capacity};
-ghost use Rattle.vtl_base.specs.declared.limits.TheConstants.{NEXUSES};
+ghost use Rattle.vtl_hosts.specs.declared.servers.TheConstants.{QUEUES};
 ghost use Rattle.vtl_hosts.specs.Inner.Idle.{AreIdle, servers_of};
 ghost use Rattle.vtl_hosts.specs.Inner.Rooms.{AreRooms};
 
 use crate::bells::Bells;
 use crate::hosts::HostEnd;
 use crate::rings::{Rings, make_rings};
-use crate::servers::Host;
+use crate::servers::{Host, QUEUES};
 use rtrb::{Consumer, Producer};
 use std::alloc::{AllocError, Global};
-use vtl_base::limits::NEXUSES;
 use vtl_wire::{Answer, Request};
 
 /// What the threads of a round work with: for each host the values of its thread and the other ends of its two rings;
@@ -39,10 +38,10 @@ pub(crate) fn make_rooms<S: Host + Drop>(alloc: Global) -> Result<Rooms<S>, Allo
 {
     Ok(Rooms {
         rings: make_rings(alloc)?,
-        hosts: Vec::with_capacity(alloc, NEXUSES as usize)?,
-        requests: Vec::with_capacity(alloc, NEXUSES as usize)?,
-        answers: Vec::with_capacity(alloc, NEXUSES as usize)?,
-        bells: Bells::new(alloc, NEXUSES as usize)?,
+        hosts: Vec::with_capacity(alloc, QUEUES as usize)?,
+        requests: Vec::with_capacity(alloc, QUEUES as usize)?,
+        answers: Vec::with_capacity(alloc, QUEUES as usize)?,
+        bells: Bells::new(alloc, QUEUES as usize)?,
     })
 }
 
@@ -80,7 +79,7 @@ impl<S: Host + Drop> Ends<S> {
     /// no more memory.
     pub(crate) fn of(rooms: Rooms<S>, servers: Vec<S>) -> Ends<S>
         requires rooms { AreRooms rooms }
-        requires servers { length servers.items ≡ NEXUSES }
+        requires servers { length servers.items ≡ QUEUES }
         ensures servers { servers_of result.hosts.items ≡ servers.items }
         ensures idle { AreIdle result.hosts.items result.requests.items result.answers.items }
     {

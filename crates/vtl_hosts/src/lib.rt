@@ -15,5 +15,5 @@ pub mod servers;
 pub mod turns;
 mod writing;
 
-pub use servers::{Desk, Host};
+pub use servers::{Desk, Host, QUEUES};
 pub use turns::{Served, serve_hosts};

@@ -1,8 +1,7 @@
-//! The thread that reads: each command goes to its host's ring.
+//! The thread that reads: each request goes to the ring of its queue.
 ghost use Rattle.std.specs.Prelude.{◌≡◌, ◌<◌, ◌+◌, IfOk, IfErr, IfSome, IfNone, Some, None, true, length};
-ghost use Rattle.vtl_base.specs.declared.limits.TheConstants.{NEXUSES};
+ghost use Rattle.vtl_hosts.specs.declared.servers.TheConstants.{QUEUES};
 ghost use Rattle.vtl_wire.specs.Reads.{NotesFault};
-ghost use Rattle.vtl_hosts.specs.Rounds.{host_in};
 ghost use Rattle.vtl_hosts.specs.Inner.Reading.{CountsNext, EndsRound, ReadsNext, ReadsRound, StopsNext};
 
 use crate::bells::Bells;
@@ -22,22 +21,11 @@ pub(crate) enum Break {
     /// A write failed; or not all threads had begun, and one command was read. The next command is then read in the
     /// next round, once that command is answered.
     Again,
-    /// This request came, a move or an inventory.
+    /// This request came, which has no queue.
     Next(Request),
 }
 
-// The place of a command's host, which is the host's number less 1. None for a move and an inventory.
-fn place_of(request: &Request) -> Option<usize>
-    ensures some { IfSome result (λ place. (host_in request.now ≡ place + 1) × (place < NEXUSES)) }
-    ensures none { IfNone result (host_in request.now ≡ 0) }
-{
-    match request {
-        Request::Command { host, .. } => Some(usize::from(host.number()) - 1),
-        Request::Move { .. } | Request::Inventory { .. } => None,
-    }
-}
-
-// Reads a request. Returns None where it is a command, which was sent to its host.
+// Reads a request. Returns None where it has a queue, into which it was sent.
 fn read_next<G: Desk, I: Read, R: Wait>(
     rt: &R,
     desk: &G,
@@ -47,8 +35,8 @@ fn read_next<G: Desk, I: Read, R: Wait>(
     reader: &mut I,
     rings: &mut [Producer<Request>],
 ) -> Result<Option<Break>, WireFault>
-    requires { length rings.old ≡ NEXUSES }
-    ensures reads { ReadsNext (G.is_taken desk.now) frames.old.frames rings.old (I.remaining reader.old)
+    requires { length rings.old ≡ QUEUES }
+    ensures reads { ReadsNext (G.is_taken desk.now) (G.queue_of desk.now) frames.old.frames rings.old (I.remaining reader.old)
         frames.new.frames rings.new (I.remaining reader.new) result }
     ensures late { seen.new.late ≡ seen.old.late }
     ensures stops { StopsNext seen.new.stopped result }
@@ -67,16 +55,18 @@ fn read_next<G: Desk, I: Read, R: Wait>(
             frame: frames.frames(),
         });
     }
-    let Some(place) = place_of(&request) else {
+    let queue = desk.queue(&request);
+    if queue == 0 {
         return Ok(Some(Break::Next(request)));
-    };
+    }
+    let place = usize::from(queue) - 1;
     push_waiting(rt, &bells.reader, &mut rings[place], request);
     bells.ring_command(rt, place);
     Ok(None)
 }
 
-/// Reads commands, and sends each to its host. It ends at a move, an inventory or the end of the input, after a failed
-/// write, or with an error. Where not all threads have begun, it reads one command at most, for which the rings have
+/// Reads requests, and sends each to its queue. It ends at a request that has no queue or the end of the input, after a
+/// failed write, or with an error. Where not all threads have begun, it reads one command at most, for which the rings have
 /// room. So no thread waits for work that begins only after that thread has ended. It ends for no other reason: at an
 /// end of a round all hosts wait for the slowest one.
 pub(crate) fn read_round<G: Desk, I: Read, R: Wait>(
@@ -88,8 +78,8 @@ pub(crate) fn read_round<G: Desk, I: Read, R: Wait>(
     reader: &mut I,
     rings: &mut [Producer<Request>],
 ) -> Result<Break, WireFault>
-    requires { length rings.old ≡ NEXUSES }
-    ensures reads { ReadsRound (G.is_taken desk.now) frames.old.frames rings.old (I.remaining reader.old)
+    requires { length rings.old ≡ QUEUES }
+    ensures reads { ReadsRound (G.is_taken desk.now) (G.queue_of desk.now) frames.old.frames rings.old (I.remaining reader.old)
         frames.new.frames rings.new (I.remaining reader.new) result }
     ensures ends { EndsRound seen.old.late seen.new.stopped frames.old.frames frames.new.frames result }
     ensures same { IfOk result (λ _. frames.new.failed ≡ frames.old.failed) }

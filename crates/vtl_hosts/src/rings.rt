@@ -1,11 +1,11 @@
 //! The rings between the threads.
 ghost use Rattle.std.specs.Prelude.{◌≡◌, [], length, IfOk};
 ghost use Rattle.rtrb.specs.Ring.{IsPair, producer_capacity, received, sent};
-ghost use Rattle.vtl_base.specs.declared.limits.TheConstants.{NEXUSES};
+ghost use Rattle.vtl_hosts.specs.declared.servers.TheConstants.{QUEUES};
 
+use crate::servers::QUEUES;
 use rtrb::{Consumer, Producer, RingBuffer};
 use std::alloc::{AllocError, Global};
-use vtl_base::limits::NEXUSES;
 use vtl_wire::{Answer, Request};
 
 /// The two rings of a host, into which nothing was sent yet. Each has room for one item: the one for a request that
@@ -37,10 +37,10 @@ fn new_rings(alloc: Global) -> Result<Rings, AllocError> {
 
 /// Makes the rings of all hosts, two for each.
 pub(crate) fn make_rings(alloc: Global) -> Result<Vec<Rings>, AllocError>
-    ensures { IfOk result (λ rings. length rings.items ≡ NEXUSES) }
+    ensures { IfOk result (λ rings. length rings.items ≡ QUEUES) }
 {
-    let mut rings = Vec::with_capacity(alloc, NEXUSES as usize)?;
-    for _ in 0..NEXUSES {
+    let mut rings = Vec::with_capacity(alloc, QUEUES as usize)?;
+    for _ in 0..QUEUES {
         rings.push(new_rings(alloc)?)?;
     }
     Ok(rings)

@@ -1,7 +1,7 @@
 //! A round: commands are read, carried out and answered, all at the same time, up to a move, an inventory or the end of
 //! the input.
 ghost use Rattle.std.specs.Prelude.{◌≡◌, ◌&&◌, not, length, false, true, IfOk, IfErr};
-ghost use Rattle.vtl_base.specs.declared.limits.TheConstants.{NEXUSES};
+ghost use Rattle.vtl_hosts.specs.declared.servers.TheConstants.{QUEUES};
 ghost use Rattle.vtl_wire.specs.Reads.{NotesFault};
 ghost use Rattle.vtl_hosts.specs.Inner.Hosts.{AreHostsDone, IsHostDone};
 ghost use Rattle.vtl_hosts.specs.Inner.Reading.{ReadsRound};
@@ -14,7 +14,7 @@ use crate::hosts::{HostEnd, answer_all};
 use crate::looking::are_empty;
 use crate::reading::{Break, read_round};
 use crate::seen::Seen;
-use crate::servers::{Desk, Host};
+use crate::servers::{Desk, Host, QUEUES};
 use crate::writing::write_round;
 use rtrb::{Consumer, Producer};
 use std::io::{Read, Write};
@@ -23,7 +23,6 @@ use std::sync::Wait;
 use std::thread;
 use std::thread::Threads;
 use std::time::Clock;
-use vtl_base::limits::NEXUSES;
 use vtl_wire::{Answer, Request, RequestReader, WireFault};
 
 /// How a round ended. `read` says why no more was read. `whole` is true where all commands were answered and all
@@ -45,7 +44,7 @@ fn answer_hosts<S: Host + Send, R: Threads + Wait + Sync>(
     let answer = |place: usize, host: &mut HostEnd<S>|
         ensures { IsHostDone S.answers host.entry.now host.exit.now }
     { answer_all(rt, bells, place, host) };
-    thread::for_each_mut(rt, hosts, NEXUSES as usize, &answer);
+    thread::for_each_mut(rt, hosts, QUEUES as usize, &answer);
     bells.writer.close(rt);
 }
 
@@ -58,8 +57,8 @@ fn read_and_close<G: Desk, I: Read, R: Wait + Clock>(
     reader: &mut I,
     rings: &mut [Producer<Request>],
 ) -> Result<Break, WireFault>
-    requires { length rings.old ≡ NEXUSES }
-    ensures reads { ReadsRound (G.is_taken desk.now) frames.old.frames rings.old (I.remaining reader.old)
+    requires { length rings.old ≡ QUEUES }
+    ensures reads { ReadsRound (G.is_taken desk.now) (G.queue_of desk.now) frames.old.frames rings.old (I.remaining reader.old)
         frames.new.frames rings.new (I.remaining reader.new) result }
     ensures same { IfOk result (λ _. frames.new.failed ≡ frames.old.failed) }
     ensures noted { IfErr result (NotesFault frames.old.failed frames.new.failed) }
@@ -112,8 +111,8 @@ fn run_threads<S: Host + Send, G: Desk, R: Threads + Wait + Clock + Sync, I: Rea
     requests: &mut [Producer<Request>],
     hosts: &mut [HostEnd<S>],
 ) -> Said
-    requires { length requests.old ≡ NEXUSES }
-    ensures read { ReadsRound (G.is_taken desk.now) frames.old.frames requests.old (I.remaining reader.old)
+    requires { length requests.old ≡ QUEUES }
+    ensures read { ReadsRound (G.is_taken desk.now) (G.queue_of desk.now) frames.old.frames requests.old (I.remaining reader.old)
         frames.new.frames requests.new (I.remaining reader.new) result.read }
     ensures same { IfOk result.read (λ _. frames.new.failed ≡ frames.old.failed) }
     ensures noted { IfErr result.read (NotesFault frames.old.failed frames.new.failed) }
@@ -127,8 +126,8 @@ fn run_threads<S: Host + Send, G: Desk, R: Threads + Wait + Clock + Sync, I: Rea
             (W.contents writer.exit.now) result }
     { answer_and_write(rt, bells, writer, answers, hosts) };
     let mut read = || -> Result<Break, WireFault>
-        requires { length requests.now ≡ NEXUSES }
-        ensures reads { ReadsRound (G.is_taken desk.entry.now) frames.entry.now.frames requests.entry.now
+        requires { length requests.now ≡ QUEUES }
+        ensures reads { ReadsRound (G.is_taken desk.entry.now) (G.queue_of desk.entry.now) frames.entry.now.frames requests.entry.now
             (I.remaining reader.entry.now) frames.exit.now.frames requests.exit.now (I.remaining reader.exit.now)
             result }
         ensures same { IfOk result (λ _. frames.exit.now.failed ≡ frames.entry.now.failed) }
@@ -151,8 +150,8 @@ fn run_round<S: Host + Send, G: Desk, R: Threads + Wait + Clock + Sync, I: Read,
     hosts: &mut [HostEnd<S>],
 ) -> Round
     requires idle { AreIdle hosts.old requests.old answers.old }
-    requires all { length hosts.old ≡ NEXUSES }
-    ensures runs { RunsRound S.answers G.is_taken G.answers frames.old.frames
+    requires all { length hosts.old ≡ QUEUES }
+    ensures runs { RunsRound S.answers G.is_taken G.queue_of G.answers frames.old.frames
         (record { hosts = servers_of hosts.old; desk = desk.now }) (I.remaining reader.old) (W.contents writer.old)
         frames.new.frames (record { hosts = servers_of hosts.new; desk = desk.now }) (I.remaining reader.new)
         (W.contents writer.new) result.read result.whole }
@@ -196,14 +195,14 @@ pub(crate) fn serve_round<
     writer: &mut W,
 ) -> Round
     requires idle { AreIdle ends.old.hosts.items ends.old.requests.items ends.old.answers.items }
-    requires all { length ends.old.hosts.items ≡ NEXUSES }
-    ensures runs { RunsRound S.answers G.is_taken G.answers frames.old.frames
+    requires all { length ends.old.hosts.items ≡ QUEUES }
+    ensures runs { RunsRound S.answers G.is_taken G.queue_of G.answers frames.old.frames
         (record { hosts = servers_of ends.old.hosts.items; desk = desk.now }) (I.remaining reader.old)
         (W.contents writer.old) frames.new.frames (record { hosts = servers_of ends.new.hosts.items; desk = desk.now })
         (I.remaining reader.new) (W.contents writer.new) result.read result.whole }
     ensures idle { result.whole ≡ true
         → AreIdle ends.new.hosts.items ends.new.requests.items ends.new.answers.items }
-    ensures all { length ends.new.hosts.items ≡ NEXUSES }
+    ensures all { length ends.new.hosts.items ≡ QUEUES }
     ensures same { IfOk result.read (λ _. frames.new.failed ≡ frames.old.failed) }
     ensures noted { IfErr result.read (NotesFault frames.old.failed frames.new.failed) }
 {

@@ -1,7 +1,6 @@
 //! Rounds one after another, with moves and inventories between them.
 ghost use Rattle.std.specs.Prelude.{◌≡◌, ◌≤◌, [], length, true, IfOk, IfErr, vec_capacity};
-ghost use Rattle.vtl_base.specs.declared.limits.TheConstants.{NEXUSES};
-ghost use Rattle.vtl_hosts.specs.Rounds.{host_in};
+ghost use Rattle.vtl_hosts.specs.declared.servers.TheConstants.{QUEUES};
 ghost use Rattle.vtl_hosts.specs.Turns.{ServesHosts};
 ghost use Rattle.vtl_hosts.specs.Inner.Idle.{AreIdle, servers_of};
 ghost use Rattle.vtl_hosts.specs.Inner.Serving.{AnswersOfNoHost, ServesNextTurn};
@@ -9,14 +8,13 @@ ghost use Rattle.vtl_hosts.specs.Inner.Serving.{AnswersOfNoHost, ServesNextTurn}
 use crate::ends::{Ends, make_rooms};
 use crate::reading::Break;
 use crate::rounds::serve_round;
-use crate::servers::{Desk, Host};
+use crate::servers::{Desk, Host, QUEUES};
 use std::alloc::Global;
 use std::io::{Read, Write};
 use std::marker::{Send, Sync};
 use std::sync::Wait;
 use std::thread::Threads;
 use std::time::Clock;
-use vtl_base::limits::NEXUSES;
 use vtl_wire::{Request, RequestReader, WireFault, write_if_fits};
 
 /// The servers of the hosts after the serving, and how the serving ended.
@@ -36,7 +34,7 @@ fn serve_alone<G: Desk, W: Write>(
     writer: &mut W,
 ) -> Result<(), WireFault>
     requires taken { G.is_taken desk.old request ≡ true }
-    requires host { host_in request ≡ 0 }
+    requires alone { G.queue_of desk.old request ≡ 0 }
     ensures { AnswersOfNoHost G.answers G.lacks desk.old request (W.contents writer.old) desk.new
         (W.contents writer.new)
         result }
@@ -56,14 +54,14 @@ fn serve_turn<S: Host + Send, G: Desk, R: Threads + Wait + Clock + Sync, I: Read
     writer: &mut W,
 ) -> Result<bool, WireFault>
     requires idle { AreIdle ends.old.hosts.items ends.old.requests.items ends.old.answers.items }
-    requires all { length ends.old.hosts.items ≡ NEXUSES }
-    ensures serves { ServesNextTurn S.answers G.is_taken G.answers G.lacks frames.old.frames
+    requires all { length ends.old.hosts.items ≡ QUEUES }
+    ensures serves { ServesNextTurn S.answers G.is_taken G.queue_of G.answers G.lacks frames.old.frames
         (record { hosts = servers_of ends.old.hosts.items; desk = desk.old }) (I.remaining reader.old)
         (W.contents writer.old) frames.new.frames (record { hosts = servers_of ends.new.hosts.items; desk = desk.new })
         (I.remaining reader.new) (W.contents writer.new) result }
     ensures idle { IfOk result (λ more. more ≡ true
         → AreIdle ends.new.hosts.items ends.new.requests.items ends.new.answers.items) }
-    ensures all { length ends.new.hosts.items ≡ NEXUSES }
+    ensures all { length ends.new.hosts.items ≡ QUEUES }
     ensures same { IfOk result (λ _. frames.new.failed ≡ frames.old.failed) }
     ensures noted { IfErr result (λ fault. fault ≡ WireFault.ReadFault → frames.new.failed ≡ true) }
 {
@@ -91,12 +89,12 @@ fn serve_turns<S: Host + Send, G: Desk, R: Threads + Wait + Clock + Sync, I: Rea
     writer: &mut W,
 ) -> Result<(), WireFault>
     requires idle { AreIdle ends.old.hosts.items ends.old.requests.items ends.old.answers.items }
-    requires all { length ends.old.hosts.items ≡ NEXUSES }
-    ensures serves { ServesHosts S.answers G.is_taken G.answers G.lacks
+    requires all { length ends.old.hosts.items ≡ QUEUES }
+    ensures serves { ServesHosts S.answers G.is_taken G.queue_of G.answers G.lacks
         (record { hosts = servers_of ends.old.hosts.items; desk = desk.old }) (I.remaining reader.old)
         (W.contents writer.old) (record { hosts = servers_of ends.new.hosts.items; desk = desk.new })
         (I.remaining reader.new) (W.contents writer.new) result }
-    ensures all { length ends.new.hosts.items ≡ NEXUSES }
+    ensures all { length ends.new.hosts.items ≡ QUEUES }
 {
     let mut frames = RequestReader::new(alloc);
     for _ in rt.forever() {
@@ -107,13 +105,13 @@ fn serve_turns<S: Host + Send, G: Desk, R: Threads + Wait + Clock + Sync, I: Rea
     unreachable!()
 }
 
-/// Serves the 64 hosts over one pipe. `servers` has the server of each host, at the place that is the host's number
-/// less 1. Requests are read from `reader`, up to the end of the input or until the first error: a frame that is
+/// Serves the 64 hosts over one pipe. `servers` has the server of each queue, at the place that is its number less 1: of
+/// each host, and last that of the requests that are astray. Requests are read from `reader`, up to the end of the input or until the first error: a frame that is
 /// refused, a request that is not taken, a failed read or write, or memory that runs out.
 ///
-/// The commands of each host are answered in their order, in a thread of their own. While one command of a host is
-/// carried out, one more may wait; when a third comes, the reading waits. A move or an inventory is served once all
-/// commands before it are answered, and before more is read. Each answer is written to `writer` and flushed once it is
+/// The requests of each queue are answered in their order, in a thread of their own. While one of them is carried out,
+/// one more may wait; when a third comes, the reading waits. A request that has no queue is served once all before it
+/// are answered, and before more is read. Each answer is written to `writer` and flushed once it is
 /// made.
 ///
 /// Every command that was read and taken is answered, and the answer is written, unless the outcome is `WriteFault`.
@@ -135,19 +133,19 @@ pub fn serve_hosts<
     reader: &mut I,
     writer: &mut W,
 ) -> Result<Served<S>, Vec<S>>
-    requires { length servers.items ≡ NEXUSES }
-    ensures serves { IfOk result (λ served. ServesHosts S.answers G.is_taken G.answers G.lacks
+    requires { length servers.items ≡ QUEUES }
+    ensures serves { IfOk result (λ served. ServesHosts S.answers G.is_taken G.queue_of G.answers G.lacks
         (record { hosts = servers.items; desk = desk.old }) (I.remaining reader.old) (W.contents writer.old)
         (record { hosts = served.servers.items; desk = desk.new }) (I.remaining reader.new) (W.contents writer.new)
         served.outcome) }
-    ensures all { IfOk result (λ served. length served.servers.items ≡ NEXUSES) }
+    ensures all { IfOk result (λ served. length served.servers.items ≡ QUEUES) }
     ensures back { IfErr result (λ back. (back ≡ servers) × (desk.new ≡ desk.old) × (reader.new ≡ reader.old)
         × (writer.new ≡ writer.old)) }
 {
     let Ok(rooms) = make_rooms(alloc) else {
         return Err(servers);
     };
-    let Ok(room) = Vec::with_capacity(alloc, NEXUSES as usize) else {
+    let Ok(room) = Vec::with_capacity(alloc, QUEUES as usize) else {
         return Err(servers);
     };
     let mut ends = Ends::of(rooms, servers);

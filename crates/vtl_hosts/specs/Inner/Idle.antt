@@ -28,14 +28,14 @@ module _ {S : Type 0} where
     pub no_stray : (k : ℕ) (h : HostEnd S) → k < length hosts → (slice_index_or hosts k h).strayed ≡ false
 
 module _ {S G : Type 0} (serves : S → Request → Answer → S → Type 0) (takes : G → Request → Bool)
-    (answers : G → Request → Answer → G → Type 0) where
+    (queue : G → Request → ℕ) (answers : G → Request → Answer → G → Type 0) where
   -- A round after this many frames: commands were read, and then why no more were. At `true` all were answered, and all
   -- answers written; else not all were (own).
   abbrev pub RunsRound : ℕ → HostsState S G → Option (List ℕ) → Option (List ℕ) → ℕ → HostsState S G
       → Option (List ℕ) → Option (List ℕ) → Result Break WireFault → Bool → Type 0
   RunsRound count old left before count' new left' now read true =
-      (behind : Option (List ℕ)) × (whole : ServesWhole serves takes answers old left before new behind now)
-      × ReadingEnds (takes old.desk) (count_on count whole.commands) behind count' left' read
+      (behind : Option (List ℕ)) × (whole : ServesWhole serves takes queue answers old left before new behind now)
+      × ReadingEnds (takes old.desk) (queue old.desk) (count_on count whole.commands) behind count' left' read
   RunsRound count old left before count' new left' now read false =
-      (behind : Option (List ℕ)) × ServesPart serves takes answers old left before new behind now
-      × ReadsNoCommand serves takes answers old.desk behind left'
+      (behind : Option (List ℕ)) × ServesPart serves takes queue answers old left before new behind now
+      × ReadsNoCommand serves takes queue answers old.desk behind left'

@@ -11,54 +11,53 @@ use Rattle.vtl_wire.specs.Requests.{IsRequest, spell_requests}
 use Rattle.vtl_wire.specs.Serving.{RefusesNext}
 use Rattle.vtl_hosts.specs.declared.reading.Break.{Break}
 use Rattle.vtl_hosts.specs.declared.reading.Break.TheVariants.{Ended, Again, Next}
-use Rattle.vtl_hosts.specs.Rounds.{host_in}
-use Rattle.vtl_hosts.specs.Turns.{count_on, IsCommand}
+use Rattle.vtl_hosts.specs.Turns.{IsQueued, count_on}
 use Rattle.vtl_hosts.specs.Inner.Rings.{Deals, Requests}
 
 -- How the reading of commands ends, after this many frames: the input has ended; no more is read in this round; a
 -- move or an inventory was read; the next frame is refused, and this is its number; a read failed; or there is no
 -- memory for the data of the next (own).
-abbrev pub ReadingEnds : (Request → Bool) → ℕ → Option (List ℕ) → ℕ → Option (List ℕ) → Result Break WireFault → Type 0
-ReadingEnds takes count left count' left' (Ok Ended) = ReadsRequest left left' None
-ReadingEnds takes count left count' left' (Ok Again) = (left' ≡ left) × (count' ≡ count)
-ReadingEnds takes count left count' left' (Ok (Next request)) =
-    ReadsRequest left left' (Some request) × (takes request ≡ true) × (host_in request ≡ 0) × (count' ≡ ticked count)
-ReadingEnds takes count left count' left' (Err (BadFrame number)) =
+abbrev pub ReadingEnds : (Request → Bool) → (Request → ℕ) → ℕ → Option (List ℕ) → ℕ → Option (List ℕ) → Result Break WireFault → Type 0
+ReadingEnds takes queue count left count' left' (Ok Ended) = ReadsRequest left left' None
+ReadingEnds takes queue count left count' left' (Ok Again) = (left' ≡ left) × (count' ≡ count)
+ReadingEnds takes queue count left count' left' (Ok (Next request)) =
+    ReadsRequest left left' (Some request) × (takes request ≡ true) × (queue request ≡ 0) × (count' ≡ ticked count)
+ReadingEnds takes queue count left count' left' (Err (BadFrame number)) =
     (number ≡ ticked count) × RefusesNext takes left left'
-ReadingEnds takes count left count' left' (Err ReadFault) = TakesSome left left'
-ReadingEnds takes count left count' left' (Err WriteFault) = ⊥
-ReadingEnds takes count left count' left' (Err NoMemory) = LacksData left left'
+ReadingEnds takes queue count left count' left' (Err ReadFault) = TakesSome left left'
+ReadingEnds takes queue count left count' left' (Err WriteFault) = ⊥
+ReadingEnds takes queue count left count' left' (Err NoMemory) = LacksData left left'
 
 -- commands were read and counted, and went to their hosts (own)
-pub record ReadsCommands (takes : Request → Bool)
+pub record ReadsCommands (takes : Request → Bool) (queue : Request → ℕ)
     (count : ℕ) (rings : List Requests) (left : Option (List ℕ))
     (count' : ℕ) (rings' : List Requests) (left' : Option (List ℕ)) : Type 0 where
   pub commands : List Request
   pub read : Consumes left left' (spell_requests commands)
   pub spelled : All IsRequest commands
-  pub taken : All (IsCommand takes) commands
+  pub taken : All (IsQueued takes queue) commands
   pub counted : count' ≡ count_on count commands
-  pub dealt : Deals rings rings' commands
+  pub dealt : Deals queue rings rings' commands
 
 -- a command was read, and went to its host; or the reading ends (own)
-abbrev pub ReadsNext : (Request → Bool) → ℕ → List Requests → Option (List ℕ) → ℕ → List Requests
+abbrev pub ReadsNext : (Request → Bool) → (Request → ℕ) → ℕ → List Requests → Option (List ℕ) → ℕ → List Requests
     → Option (List ℕ) → Result (Option Break) WireFault → Type 0
-ReadsNext takes count rings left count' rings' left' (Ok None) =
-    ReadsCommands takes count rings left count' rings' left'
-ReadsNext takes count rings left count' rings' left' (Ok (Some found)) =
-    ReadingEnds takes count left count' left' (Ok found) × (rings' ≡ rings)
-ReadsNext takes count rings left count' rings' left' (Err fault) =
-    ReadingEnds takes count left count' left' (Err fault) × (rings' ≡ rings)
+ReadsNext takes queue count rings left count' rings' left' (Ok None) =
+    ReadsCommands takes queue count rings left count' rings' left'
+ReadsNext takes queue count rings left count' rings' left' (Ok (Some found)) =
+    ReadingEnds takes queue count left count' left' (Ok found) × (rings' ≡ rings)
+ReadsNext takes queue count rings left count' rings' left' (Err fault) =
+    ReadingEnds takes queue count left count' left' (Err fault) × (rings' ≡ rings)
 
 -- commands were read, and went to their hosts, and the reading ended behind them (own)
-pub record ReadsRound (takes : Request → Bool)
+pub record ReadsRound (takes : Request → Bool) (queue : Request → ℕ)
     (count : ℕ) (rings : List Requests) (left : Option (List ℕ))
     (count' : ℕ) (rings' : List Requests) (left' : Option (List ℕ))
     (result : Result Break WireFault) : Type 0 where
   pub counted : ℕ
   pub behind : Option (List ℕ)
-  pub read : ReadsCommands takes count rings left counted rings' behind
-  pub ended : ReadingEnds takes counted behind count' left' result
+  pub read : ReadsCommands takes queue count rings left counted rings' behind
+  pub ended : ReadingEnds takes queue counted behind count' left' result
 
 -- What ends the reading is the first frame behind `count`, or no frame is read any more (own).
 abbrev pub EndsAtOnce : ℕ → ℕ → Result Break WireFault → Type 0

@@ -24,12 +24,12 @@ AnswersOfNoHost answers lacks old request before new now (Err NoMemory) =
     lacks old request × (new ≡ old) × (now ≡ before)
 
 module _ {S G : Type 0} (serves : S → Request → Answer → S → Type 0) (takes : G → Request → Bool)
-    (answers : G → Request → Answer → G → Type 0) (lacks : G → Request → Type 0) where
+    (queue : G → Request → ℕ) (answers : G → Request → Answer → G → Type 0) (lacks : G → Request → Type 0) where
   -- turns were read, answered and written, and their frames counted (own)
   pub record ServesTurns (count : ℕ) (old : HostsState S G) (left before : Option (List ℕ)) (count' : ℕ)
       (new : HostsState S G) (left' now : Option (List ℕ)) : Type 0 where
     pub turns : List Turn
-    pub answered : AnswersTurns serves takes answers old turns new
+    pub answered : AnswersTurns serves takes queue answers old turns new
     pub read : Consumes left left' (spell_requests (requests_of turns))
     pub spelled : All IsRequest (requests_of turns)
     pub written : Appends before now (spell_turns turns)
@@ -40,8 +40,8 @@ module _ {S G : Type 0} (serves : S → Request → Answer → S → Type 0) (ta
   abbrev pub EndsServing : ℕ → HostsState S G → Option (List ℕ) → Option (List ℕ) → HostsState S G
       → Option (List ℕ) → Option (List ℕ) → Result (Unit {0}) WireFault → Type 0
   EndsServing count old left before new left' now result =
-      EndsWhole serves takes answers lacks count old left before new left' now result
-      ⊎ EndsPart serves takes answers old left before new left' now result
+      EndsWhole serves takes queue answers lacks count old left before new left' now result
+      ⊎ EndsPart serves takes queue answers old left before new left' now result
 
   -- one more turn, or the serving ends (own)
   abbrev pub ServesNextTurn : ℕ → HostsState S G → Option (List ℕ) → Option (List ℕ) → ℕ → HostsState S G
