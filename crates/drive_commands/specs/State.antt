@@ -135,3 +135,10 @@ abbrev pub IsAtHand : {M : Type 0} → (M → Type 0) → Bay M → Type 0
 IsAtHand hand Empty = Unit {0}
 IsAtHand hand (Unloaded m) = hand m
 IsAtHand hand (Loaded m) = hand m
+
+-- what is loaded, which is awake, and the position on it; nothing where nothing is loaded (own)
+abbrev pub LooksAtLoaded : {M : Type 0} → (M → MediumState) → Bay M → Pos → Option (M × Pos) → Type 0
+LooksAtLoaded state (Loaded medium) position found =
+    (found ≡ Some (medium, position)) × ((state medium).awake ≡ true)
+LooksAtLoaded state Empty position found = found ≡ None
+LooksAtLoaded state (Unloaded medium) position found = found ≡ None

@@ -9,3 +9,4 @@ pub mod Seats
 pub mod Seen
 pub mod Served
 pub mod Sessions
+pub mod Status

@@ -15,6 +15,7 @@ mod rows;
 pub mod sealed;
 mod sessions;
 mod shared;
+pub mod status;
 
 pub use bay_moves::{Bay, NotOn, Parked, laws, move_lent};
 pub use beside::beside_flushers;
@@ -28,4 +29,5 @@ pub use places::{BackPlace, FrontPlace, Mover, Operator, Seat};
 pub use ring_rows::RingRow;
 pub use sealed::Sealed;
 pub use split_bay::Rings;
+pub use status::{SeenDrive, Status};
 pub use vtl_script::Line;

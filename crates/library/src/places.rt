@@ -3,6 +3,7 @@
 ghost use Rattle.std.specs.Prelude.{◌≡◌, Some, is_some, true};
 ghost use Rattle.library.specs.Halves.{HasShare, IsAccepted, TurnsHeld};
 ghost use Rattle.library.specs.Seen.{is_place_seen, seen_of_front};
+ghost use Rattle.library.specs.Status.{seen_in};
 
 mod answers;
 mod ending;
@@ -14,6 +15,7 @@ mod seats;
 mod slots;
 
 use crate::inventories::Element;
+use crate::status::SeenDrive;
 pub use ending::EndedPlace;
 use ledgers::{Parties, PartyShare};
 pub use movers::{Mover, Operator};
@@ -100,6 +102,22 @@ impl<D: Disk, B: Parties + Rings> FrontPlace<D, B> {
                     Element::Full
                 }
             }
+            None => unreachable!(),
+        }
+    }
+}
+
+impl<D: Disk, B: Parties + Rings> FrontPlace<D, B> {
+    /// What a status shows of the drive. Nothing changes.
+    pub fn status(&self) -> SeenDrive
+        ensures { seen_in D.state self.now ≡ Some result }
+    {
+        match &self.half {
+            Some(half) => SeenDrive {
+                presence: half.presence(),
+                partitions: half.partitions(),
+                figures: half.figures(),
+            },
             None => unreachable!(),
         }
     }

@@ -1,6 +1,7 @@
 pub mod Backs
 pub mod Beginnings
 pub mod Both
+pub mod Figures
 pub mod Fronts
 pub mod Halves
 pub mod Looks

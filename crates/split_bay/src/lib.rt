@@ -4,6 +4,7 @@
 pub mod backs;
 mod both;
 pub mod ends;
+mod figures;
 pub mod fronts;
 pub mod halves;
 pub mod items;

@@ -54,6 +54,7 @@ pub record KnowsAway (catalog : Option (List PlacedPart)) (away : Away) : Type 0
   pub failed_is : away.failed ≡ away.noted.failed
   pub none : away.noted.failed ≡ true → away.left.records ≡ 0
   pub waiting_is : away.waiting ≡ length away.noted.pending
+  pub bytes_are : away.waiting_bytes ≡ sum_by block_bytes away.noted.pending
   pub few : length away.noted.pending + away.left.records ≤ BUFFER_RECORDS
   pub short : 1 ≤ away.left.records → sum_by block_bytes away.noted.pending + away.left.bytes ≤ BUFFER_BYTES
   pub room : away.noted.awake ≡ true → IsRoomFor away.noted.room away.left.room away.noted.pending

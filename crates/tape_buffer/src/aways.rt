@@ -1,5 +1,5 @@
 //! What a medium knows of itself while its disks are away.
-ghost use Rattle.std.specs.Prelude.{◌≡◌, ◌≤◌, ◌+◌, [], ◌∷◌, None, Some, true, false, IfErr, length};
+ghost use Rattle.std.specs.Prelude.{◌≡◌, ◌≤◌, ◌+◌, [], ◌∷◌, None, Some, true, false, IfErr, length, sum_by};
 ghost use Rattle.volume_core.specs.Medium.{Accepts, MediumState, accept_answer, accepted_by, block_bytes, met_fault, volume_of};
 ghost use Rattle.volume_core.specs.Stores.{Stores};
 ghost use Rattle.object_index.specs.Shapes.{IsIndexOf};
@@ -11,7 +11,7 @@ ghost use Rattle.tape_buffer.specs.Limits.{FitsBuffer};
 ghost use Rattle.tape_buffer.specs.Moves.{IsHere};
 ghost use Rattle.tape_buffer.specs.State.{state_of};
 ghost use Rattle.tape_buffer.specs.declared.budgets.Budget.{Budget};
-ghost use Rattle.vtl_base.specs.declared.limits.TheConstants.{BUFFER_RECORDS};
+ghost use Rattle.vtl_base.specs.declared.limits.TheConstants.{BUFFER_BYTES, BUFFER_RECORDS};
 
 use crate::budgets::Budget;
 use crate::holding::{Holding, known_in};
@@ -48,6 +48,8 @@ pub struct Away {
     pub failed: bool,
     /// How many changes are pending, as hosts see it.
     pub waiting: usize,
+    /// How many bytes their blocks have.
+    pub waiting_bytes: u64,
     /// How much may still be accepted before the disks are at hand again.
     pub left: Budget,
     /// A change that was accepted and not passed on yet.
@@ -71,16 +73,19 @@ impl Away {
         requires loose { self.old.loose ≡ None }
         requires within { KeepsBudget self.old.left (change ∷ []) }
         requires few { self.old.waiting ≤ BUFFER_RECORDS }
+        requires short { self.old.waiting_bytes + block_bytes change ≤ BUFFER_BYTES }
         ensures { self.new ≡ record {
           noted = seen_with self.old.noted (change ∷ []);
           failed = self.old.failed;
           waiting = self.old.waiting + 1;
+          waiting_bytes = self.old.waiting_bytes + block_bytes change;
           left = budget_after self.old.left (change ∷ []);
           loose = Some change;
         } }
     {
         self.noted = noted_with(&self.noted, &change);
         self.waiting += 1;
+        self.waiting_bytes += block_bytes(&change);
         self.left = Budget {
             records: self.left.records - 1,
             bytes: self.left.bytes - block_bytes(&change),
@@ -141,6 +146,7 @@ pub(crate) fn nothing_away() -> Away {
         noted: note(&0u8),
         failed: false,
         waiting: 0,
+        waiting_bytes: 0,
         left: Budget {
             records: 0,
             bytes: 0,
@@ -160,19 +166,23 @@ pub(crate) fn away_of<D: Disk>(
     ensures noted { result.noted ≡ state_of D.state (buffer_of held.now) }
     ensures failed { result.failed ≡ (state_of D.state (buffer_of held.now)).failed }
     ensures waiting { result.waiting ≡ length (state_of D.state (buffer_of held.now)).pending }
+    ensures bytes { result.waiting_bytes ≡ sum_by block_bytes (state_of D.state (buffer_of held.now)).pending }
     ensures left { result.left ≡ left }
     ensures loose { result.loose ≡ None }
     ensures fits { FitsBuffer result.noted.pending }
 {
     known_in(held);
-    let (failed, waiting) = match held {
-        Holding::Open((cartridge, pending)) => (cartridge.has_failed(), pending.len()),
-        Holding::Closed(_) | Holding::Away(_) => (false, 0),
+    let (failed, waiting, waiting_bytes) = match held {
+        Holding::Open((cartridge, pending)) => {
+            (cartridge.has_failed(), pending.len(), pending.block_bytes())
+        }
+        Holding::Closed(_) | Holding::Away(_) => (false, 0, 0),
     };
     Away {
         noted: noted_of(held),
         failed,
         waiting,
+        waiting_bytes,
         left,
         loose: None,
     }

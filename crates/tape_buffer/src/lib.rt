@@ -10,6 +10,7 @@ mod closing;
 mod detaching;
 pub mod disks;
 mod fetching;
+mod figures;
 pub mod holding;
 mod lending;
 mod media;

@@ -96,6 +96,13 @@ impl Pending {
             || block_bytes(change) > BUFFER_BYTES as u64 - self.bytes
     }
 
+    /// How many bytes the blocks of the pending changes have.
+    pub(crate) fn block_bytes(&self) -> u64
+        ensures { result ≡ sum_by block_bytes self.now }
+    {
+        self.bytes
+    }
+
     /// How many bytes the pending changes would take on a side if each were stored as a frame of its own.
     pub(crate) fn frame_bytes(&self) -> u64
         ensures { result ≡ sum_by frame_size self.now }

@@ -1,11 +1,12 @@
 //! Calls that look at a drive. None of them changes it.
 ghost use Rattle.std.specs.Prelude.{◌≡◌, ◌↔◌, IsTrue, is_some, option_copied};
 ghost use Rattle.drive_commands.specs.declared.bays.Bay.TheVariants as Bays;
-ghost use Rattle.drive_commands.specs.State.{has_failed_in, medium_in, IsBayPositioned};
+ghost use Rattle.drive_commands.specs.State.{has_failed_in, medium_in, IsBayPositioned, LooksAtLoaded};
 
 use super::Drive;
 use crate::bays::Bay;
-use pr_core::Keeper;
+use positioning::Pos;
+use pr_core::{Keeper, PrState};
 use volume_core::Medium;
 
 impl<M: Medium, K: Keeper> Drive<M, K> {
@@ -70,5 +71,22 @@ impl<M: Medium, K: Keeper> Drive<M, K> {
         ensures { result ≡ self.now.deferred }
     {
         self.deferred
+    }
+
+    /// The loaded medium, which is awake, and the position on it; None where none is loaded.
+    pub fn loaded(&self) -> Option<(&M, Pos)>
+        ensures { LooksAtLoaded M.state self.now.bay self.now.position result }
+    {
+        match &self.bay {
+            Bay::Loaded(medium) => Some((medium, self.position)),
+            Bay::Empty | Bay::Unloaded(_) => None,
+        }
+    }
+
+    /// The registrations and the reservation.
+    pub fn reservations(&self) -> &PrState
+        ensures { result.now ≡ self.now.reservations }
+    {
+        self.reservations.state()
     }
 }
