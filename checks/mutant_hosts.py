@@ -44,7 +44,7 @@ EDITS = [
      "            Turn::Device => self.report_fault(rt),\n", "            Turn::Device => {}\n",
      ["a_turn_in_which_the_device_fails"]),
     ("the hosts of a pipe are answered one after another", "vtl_hosts", "src/rounds.rt",
-     "    thread::for_each_mut(rt, hosts, NEXUSES as usize, &answer);\n",
+     "    thread::for_each_mut(rt, hosts, QUEUES as usize, &answer);\n",
      "    thread::for_each_mut(rt, hosts, 1, &answer);\n",
      ["hosts_wait_for_each_other", "a_drive_answers_while_another_stands_in_its_turn"]),
     ("each round has one command", "vtl_hosts", "src/seen.rt",
