@@ -119,7 +119,7 @@ first_entry bytes rest long are none = by are.entries are.valid are.spelled
         ∙ take_at (spell_entry x) (flat_map spell_entry xs) 20 (entry_long x))
 
 -- a part of this length of the bytes from there on is twenty of them
-twenty_at : (bytes : List ℕ) (at : ℕ) → take (at + 20 - at) (drop at bytes) ≡ take 20 (drop at bytes)
+pub twenty_at : (bytes : List ℕ) (at : ℕ) → take (at + 20 - at) (drop at bytes) ≡ take 20 (drop at bytes)
 twenty_at bytes at =
     let e : at + 20 - at ≡ 20 = omega arith in ap (λ (n : ℕ). take n (drop at bytes)) e
 

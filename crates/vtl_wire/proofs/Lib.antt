@@ -12,6 +12,8 @@ mod HeadLemmas
 mod HeaderLemmas
 mod LawLemmas
 mod PlaceLemmas
+mod PlacePartLemmas
+mod PlaceReadLemmas
 mod ReaderLemmas
 mod RequestLemmas
 mod RequestReadLemmas

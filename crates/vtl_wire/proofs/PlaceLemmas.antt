@@ -152,7 +152,7 @@ nothing_there : (b : CartridgeFigures) (x y : List ℕ)
     → spell_cartridge None ++ x ≡ spell_cartridge (Some b) ++ y → ⊥
 nothing_there b x y same = let e : 0 ≡ code_of_presence b.presence = cc in some_presence b.presence e
 
-one_there : (a b : Option CartridgeFigures) (x y : List ℕ) → IfSome a IsCartridge → IfSome b IsCartridge
+pub one_there : (a b : Option CartridgeFigures) (x y : List ℕ) → IfSome a IsCartridge → IfSome b IsCartridge
     → spell_cartridge a ++ x ≡ spell_cartridge b ++ y → (a ≡ b) × (x ≡ y)
 one_there None None x y is is' same = (refl, (cut (replicate 22 0) (replicate 22 0) x y 22 refl refl same).1)
 one_there None (Some b) x y is is' same = absurd (nothing_there b x y same)
@@ -198,7 +198,7 @@ one_drive a b is is' same =
       deferred = deferred_is i;
     }
 
-one_if_drive : (a b : Option DriveFigures) (x y : List ℕ) → IfSome a IsDrive → IfSome b IsDrive
+pub one_if_drive : (a b : Option DriveFigures) (x y : List ℕ) → IfSome a IsDrive → IfSome b IsDrive
     → is_some a ≡ is_some b → spell_if_drive a ++ x ≡ spell_if_drive b ++ y → (a ≡ b) × (x ≡ y)
 one_if_drive None None x y is is' both same = (refl, same)
 one_if_drive None (Some b) x y is is' both same = absurd (cc)

@@ -1,22 +1,20 @@
 //! The entries of a status, read from their bytes.
 ghost use Rattle.std.specs.Prelude.{◌≡◌, ◌≤◌, ◌<◌, ◌*◌, ◌++◌, ℕ, List, [], Some, length, flat_map, vec_len, vec_capacity, IfSome, IfNone};
 ghost use Rattle.std.specs.List.{All};
-ghost use Rattle.place_figures.specs.declared.partitions.PartitionFigures.{PartitionFigures};
-ghost use Rattle.place_figures.specs.declared.places.CartridgeFigures.{CartridgeFigures};
 ghost use Rattle.place_figures.specs.declared.places.DriveFigures.{DriveFigures};
 ghost use Rattle.place_figures.specs.declared.places.Place.{Place};
 ghost use Rattle.place_figures.specs.declared.places.Presence.{Presence};
 ghost use Rattle.vtl_wire.specs.declared.frames.TheConstants.{PLACE_BYTES, PARTITION_BYTES, DRIVE_BYTES};
-ghost use Rattle.vtl_wire.specs.Inner.Placed.{BeginsWithCartridge, BeginsWithPartitions, BeginsWithPlace, ReadsCartridge, ReadsPartitions, ReadsPlace};
-ghost use Rattle.vtl_wire.specs.Places.{IsDrive, IsPartition, IsPlace, code_of_presence, is_of_drive, spell_drive, spell_partition, spell_place};
+ghost use Rattle.vtl_wire.specs.declared.place_writers.TheConstants.{CARTRIDGE_BYTES};
+ghost use Rattle.vtl_wire.specs.Inner.Placed.{BeginsWithCartridge, BeginsWithDrive, BeginsWithPartitions, BeginsWithPlace, BeginsWithThere, ReadsCartridge, ReadsDrive, ReadsPartitions, ReadsPlace, ReadsThere, drive_at, partition_at};
+ghost use Rattle.vtl_wire.specs.Places.{IsDrive, IsPlace, code_of_presence, is_of_drive, spell_drive, spell_place};
 
 use crate::entry_readers::barcode_like;
 use crate::frames::{DRIVE_BYTES, PARTITION_BYTES, PLACE_BYTES};
-use crate::place_writers::{CARTRIDGE_BYTES, cartridge_bytes, drive_bytes};
+use crate::place_writers::{CARTRIDGE_BYTES, bytes_of_place, cartridge_bytes, drive_bytes};
 use byteorder::{BigEndian, ByteOrder};
 use place_figures::{CartridgeFigures, DriveFigures, PartitionFigures, Partitions, Place, Presence};
-use vtl_base::DriveNo;
-use vtl_base::limits::MAX_PARTITIONS;
+use vtl_base::limits::{DRIVES, MAX_PARTITIONS};
 
 // How a cartridge is where it is, by its byte.
 fn presence_with(code: u8) -> Option<Presence>
@@ -36,14 +34,13 @@ fn presence_with(code: u8) -> Option<Presence>
 fn is_of_drive(address: u32) -> bool
     ensures { result ≡ is_of_drive address }
 {
-    address >= 1 && address <= u32::from(vtl_base::limits::DRIVES)
+    address >= 1 && address <= u32::from(DRIVES)
 }
 
 // The partition that 20 bytes spell.
 fn read_partition(bytes: &[u8]) -> PartitionFigures
     requires { length bytes.now ≡ PARTITION_BYTES }
-    ensures spelled { bytes.now ≡ spell_partition result }
-    ensures valid { IsPartition result }
+    ensures { result ≡ partition_at bytes.now }
 {
     PartitionFigures {
         capacity: BigEndian::read_u64(bytes),
@@ -57,7 +54,10 @@ fn read_partitions(bytes: &[u8], count: usize) -> Option<Partitions>
     ensures found { IfSome result (ReadsPartitions bytes.now count) }
     ensures none { IfNone result (BeginsWithPartitions bytes.now count → ⊥) }
 {
-    if count > MAX_PARTITIONS as usize || bytes.len() < PARTITION_BYTES * count {
+    if count > MAX_PARTITIONS as usize {
+        return None;
+    }
+    if bytes.len() < PARTITION_BYTES * count {
         return None;
     }
     let mut partitions = Partitions::new();
@@ -91,13 +91,13 @@ fn read_cartridge(first: &[u8], rest: &[u8]) -> Option<CartridgeFigures>
     })
 }
 
-// The figures of a drive that these bytes spell, if they spell some.
-fn read_drive(bytes: &[u8]) -> Option<DriveFigures>
+// The figures of a drive that these bytes spell, if they spell some: that is not checked.
+fn drive_at(bytes: &[u8]) -> DriveFigures
     requires { length bytes.now ≡ DRIVE_BYTES }
-    ensures found { IfSome result (λ drive. IsDrive drive × (bytes.now ≡ spell_drive drive)) }
-    ensures none { IfNone result ((drive : DriveFigures) → IsDrive drive → bytes.now ≡ spell_drive drive → ⊥) }
+    ensures at { result ≡ drive_at bytes.now }
+    ensures valid { IsDrive result }
 {
-    let drive = DriveFigures {
+    DriveFigures {
         partition: bytes[0],
         object: BigEndian::read_u32(&bytes[1..]),
         sent_changes: BigEndian::read_u32(&bytes[5..]),
@@ -107,7 +107,16 @@ fn read_drive(bytes: &[u8]) -> Option<DriveFigures>
         holder: bytes[26],
         registered: BigEndian::read_u64(&bytes[27..]),
         deferred: bytes[35] == 1,
-    };
+    }
+}
+
+// The figures of a drive that these bytes spell, if they spell some.
+fn read_drive(bytes: &[u8]) -> Option<DriveFigures>
+    requires { length bytes.now ≡ DRIVE_BYTES }
+    ensures found { IfSome result (λ drive. IsDrive drive × (bytes.now ≡ spell_drive drive)) }
+    ensures none { IfNone result ((drive : DriveFigures) → IsDrive drive → bytes.now ≡ spell_drive drive → ⊥) }
+{
+    let drive = drive_at(bytes);
     if drive_bytes(&drive).as_slice() != bytes {
         return None;
     }
@@ -123,26 +132,52 @@ pub(crate) struct ReadPlace {
 
 // What is there, behind an element address, and how many bytes that has.
 #[derive(Drop)]
-struct There {
-    cartridge: Option<CartridgeFigures>,
-    count: usize,
+pub(crate) struct There {
+    pub(crate) cartridge: Option<CartridgeFigures>,
+    pub(crate) count: usize,
 }
 
 // What these bytes, at least 22, begin with, if they begin with a cartridge, or with none.
-fn read_there(bytes: &[u8]) -> Option<There> {
-    let (first, rest) = bytes.split_at(CARTRIDGE_BYTES);
+fn read_there(bytes: &[u8]) -> Option<There>
+    requires { CARTRIDGE_BYTES ≤ length bytes.now }
+    ensures found { IfSome result (ReadsThere bytes.now) }
+    ensures none { IfNone result (BeginsWithThere bytes.now → ⊥) }
+{
+    let first = &bytes[..CARTRIDGE_BYTES];
     if first == [0; CARTRIDGE_BYTES].as_slice() {
         return Some(There {
             cartridge: None,
             count: CARTRIDGE_BYTES,
         });
     }
-    let cartridge = read_cartridge(first, rest)?;
+    let cartridge = read_cartridge(first, &bytes[CARTRIDGE_BYTES..])?;
     let count = CARTRIDGE_BYTES + PARTITION_BYTES * cartridge.partitions.as_slice().len();
     Some(There {
         cartridge: Some(cartridge),
         count,
     })
+}
+
+// The figures of a drive, or that there are none.
+#[derive(Clone, Copy)]
+pub(crate) struct ReadDrive {
+    pub(crate) drive: Option<DriveFigures>,
+}
+
+// The figures that these bytes begin with, if this is the element address of a drive; of a slot there are none. The
+// result is None where they begin with no drive's figures, but should.
+fn read_if_drive(address: u32, bytes: &[u8]) -> Option<ReadDrive>
+    ensures found { IfSome result (ReadsDrive address bytes.now) }
+    ensures none { IfNone result (BeginsWithDrive address bytes.now → ⊥) }
+{
+    if !is_of_drive(address) {
+        return Some(ReadDrive { drive: None });
+    }
+    if bytes.len() < DRIVE_BYTES {
+        return None;
+    }
+    let drive = read_drive(&bytes[..DRIVE_BYTES])?;
+    Some(ReadDrive { drive: Some(drive) })
 }
 
 // The entry that these bytes begin with, if they begin with one.
@@ -155,31 +190,14 @@ fn read_place(bytes: &[u8]) -> Option<ReadPlace>
     }
     let address = BigEndian::read_u32(bytes);
     let There { cartridge, count } = read_there(&bytes[4..])?;
-    let behind = 4 + count;
-    if !is_of_drive(address) {
-        let place = Place {
-            address,
-            cartridge,
-            drive: None,
-        };
-        return Some(ReadPlace {
-            place,
-            count: behind,
-        });
-    }
-    if bytes.len() < behind + DRIVE_BYTES {
-        return None;
-    }
-    let drive = read_drive(&bytes[behind..behind + DRIVE_BYTES])?;
+    let ReadDrive { drive } = read_if_drive(address, &bytes[4 + count..])?;
     let place = Place {
         address,
         cartridge,
-        drive: Some(drive),
+        drive,
     };
-    Some(ReadPlace {
-        place,
-        count: behind + DRIVE_BYTES,
-    })
+    let count = bytes_of_place(&place);
+    Some(ReadPlace { place, count })
 }
 
 // The entries that these bytes spell, if they spell entries. They are put into `room`, which has room for them.
@@ -193,7 +211,7 @@ pub(crate) fn read_places(room: Vec<Place>, bytes: &[u8]) -> Option<Vec<Place>>
 {
     let mut places = room;
     let mut at = 0;
-    for _ in 0..bytes.len() {
+    for step in 0..bytes.len() {
         if at == bytes.len() {
             return Some(places);
         }

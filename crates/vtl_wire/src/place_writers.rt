@@ -28,7 +28,7 @@ fn code_of(presence: Presence) -> u8
 }
 
 // How many bytes an entry has.
-fn bytes_of_place(place: &Place) -> usize
+pub(crate) fn bytes_of_place(place: &Place) -> usize
     ensures { result ≡ length (spell_place place.now) }
 {
     let partitions = match &place.cartridge {
