@@ -62,7 +62,7 @@ module _ {S : Type 0} (answers : S → Request → Answer → S → Type 0) wher
     received = sym (append-nil (received host.requests));
     sent = sym (append-nil (sent host.answers));
     answered = refl;
-    strayed = refl;
+    dropped = refl;
   }
 
   pub served_on : (old mid new : HostEnd S) → IsHostServed answers old mid → IsHostServed answers mid new
@@ -77,33 +77,33 @@ module _ {S : Type 0} (answers : S → Request → Answer → S → Type 0) wher
     answered =
         answers_on old.server mid.server new.server one.requests two.requests one.given two.given one.answered
         two.answered;
-    strayed = two.strayed ∙ one.strayed;
+    dropped = two.dropped ∙ one.dropped;
   }
 
   pub done_on : (old mid new : HostEnd S) → IsHostServed answers old mid → IsHostDone answers mid new
       → IsHostDone answers old new
   done_on old mid new one two = record {
     requests = one.requests ++ two.requests;
-    stray = two.stray;
+    left_out = two.left_out;
     given = one.given ++ two.given;
     same_requests = consumer_on old.requests mid.requests new.requests one.same_requests two.same_requests;
     same_answers = producer_on old.answers mid.answers new.answers one.same_answers two.same_answers;
     received =
-        added_on _ _ _ one.requests (two.requests ++ two.stray) one.received two.received
+        added_on _ _ _ one.requests (two.requests ++ two.left_out) one.received two.received
         ∙ ap (λ (l : List Request). received old.requests ++ l)
-        (sym (append_assoc one.requests two.requests two.stray));
+        (sym (append_assoc one.requests two.requests two.left_out));
     sent = added_on _ _ _ one.given two.given one.sent two.sent;
     answered =
         answers_on old.server mid.server new.server one.requests two.requests one.given two.given one.answered
         two.answered;
-    strays = two.strays;
-    noted = λ none. two.noted none ∙ one.strayed;
+    drops = two.drops;
+    noted = λ none. two.noted none ∙ one.dropped;
   }
 
   pub done_of : (old new : HostEnd S) → IsHostServed answers old new → IsHostDone answers old new
   done_of old new one = record {
     requests = one.requests;
-    stray = [];
+    left_out = [];
     given = one.given;
     same_requests = one.same_requests;
     same_answers = one.same_answers;
@@ -111,6 +111,6 @@ module _ {S : Type 0} (answers : S → Request → Answer → S → Type 0) wher
         one.received ∙ ap (λ (l : List Request). received old.requests ++ l) (sym (append-nil one.requests));
     sent = one.sent;
     answered = one.answered;
-    strays = λ same. refl;
-    noted = λ none. one.strayed;
+    drops = λ same. refl;
+    noted = λ none. one.dropped;
   }

@@ -37,7 +37,7 @@ module _ {S : Type 0} where
     pub pairs : ArePairsAt h r a
     pub no_request : received h.requests ≡ sent r
     pub no_answer : received a ≡ sent h.answers
-    pub no_stray : h.strayed ≡ false
+    pub none_dropped : h.dropped ≡ false
 
   pub idle_none : AreIdle {S = S} [] [] []
   idle_none = record {
@@ -48,7 +48,7 @@ module _ {S : Type 0} where
     };
     no_request = λ k h r less. absurd (omega (arith, less));
     no_answer = λ k h a less. absurd (omega (arith, less));
-    no_stray = λ k h less. absurd (omega (arith, less));
+    none_dropped = λ k h less. absurd (omega (arith, less));
   }
 
   pub idle_more : (hosts : List (HostEnd S)) (requests : List Requests) (answers : List Answers)
@@ -65,7 +65,7 @@ module _ {S : Type 0} where
     };
     no_request = λ k x y less. request_at k x y less (cases_eq k (length hosts));
     no_answer = λ k x z less. answer_at k x z less (cases_eq k (length hosts));
-    no_stray = λ k x less. stray_at k x less (cases_eq k (length hosts));
+    none_dropped = λ k x less. dropped_at k x less (cases_eq k (length hosts));
   }
     where
       pairs_at : (k : ℕ) (x : HostEnd S) (y : Requests) (z : Answers) → k < length (hosts ++ h ∷ [])
@@ -113,9 +113,9 @@ module _ {S : Type 0} where
           (before_last answers a k z (omega (arith, within, so.pairs.as_many_answers)))
           ∙ so.no_answer k x z within ∙ sym (ap (λ (l : HostEnd S). sent l.answers) (before_last hosts h k x within))
 
-      stray_at : (k : ℕ) (x : HostEnd S) → k < length (hosts ++ h ∷ [])
-          → (k ≡ length hosts) ⊎ (k ≡ length hosts → ⊥) → (get_or (hosts ++ h ∷ []) k x).strayed ≡ false
-      stray_at k x less (inl last) = ap (λ (l : HostEnd S). l.strayed) (at_last hosts h k x last) ∙ one.no_stray
-      stray_at k x less (inr other) =
+      dropped_at : (k : ℕ) (x : HostEnd S) → k < length (hosts ++ h ∷ [])
+          → (k ≡ length hosts) ⊎ (k ≡ length hosts → ⊥) → (get_or (hosts ++ h ∷ []) k x).dropped ≡ false
+      dropped_at k x less (inl last) = ap (λ (l : HostEnd S). l.dropped) (at_last hosts h k x last) ∙ one.none_dropped
+      dropped_at k x less (inr other) =
           let within : k < length hosts = omega (arith, less, other, length-append hosts (h ∷ [])) in
-          ap (λ (l : HostEnd S). l.strayed) (before_last hosts h k x within) ∙ so.no_stray k x within
+          ap (λ (l : HostEnd S). l.dropped) (before_last hosts h k x within) ∙ so.none_dropped k x within

@@ -25,7 +25,7 @@ module _ {S : Type 0} where
       → ChecksRings h r a h' r' a' other
   looks_weaker h r a h' r' a' one other from looks = record {
     server = looks.server;
-    strayed = looks.strayed;
+    dropped = looks.dropped;
     pairs = looks.pairs;
     put_requests = looks.put_requests;
     taken_requests = looks.taken_requests;
@@ -35,7 +35,7 @@ module _ {S : Type 0} where
     all_answers = looks.all_answers;
     no_request = λ is. looks.no_request (from is);
     no_answer = λ is. looks.no_answer (from is);
-    no_stray = λ is. looks.no_stray (from is);
+    none_dropped = λ is. looks.none_dropped (from is);
   }
 
   -- the rings of the hosts before this place were looked at

@@ -44,10 +44,10 @@ rest_of start all out_ rest put whole was made is =
     (sym was ∙ sym whole ∙ ap (λ (l : List _). l ++ rest) is ∙ append_assoc start made rest)
 
 -- a request was dropped where that is noted now
-some_stray : (stray : List Request) (old new : Bool) → old ≡ false → new ≡ true → (stray ≡ [] → new ≡ old)
-    → 0 < length stray
-some_stray [] old new before now noted = let same = noted refl in absurd (cc)
-some_stray (x ∷ xs) old new before now noted = omega arith
+some_dropped : (left_out : List Request) (old new : Bool) → old ≡ false → new ≡ true → (left_out ≡ [] → new ≡ old)
+    → 0 < length left_out
+some_dropped [] old new before now noted = let same = noted refl in absurd (cc)
+some_dropped (x ∷ xs) old new before now noted = omega arith
 
 module _ {S : Type 0} (serves : S → Request → Answer → S → Type 0) where
   module _ (h h' h'' : HostEnd S) (r r' r'' : Requests) (a a' a'' : Answers) (commands : List Request)
@@ -55,13 +55,13 @@ module _ {S : Type 0} (serves : S → Request → Answer → S → Type 0) where
       (done : IsHostDone serves h h') (dealt : sent r' ≡ sent r ++ commands) (taken : received a' ≡ received a ++ given)
       (no_request : received h.requests ≡ sent r) (no_answer : received a ≡ sent h.answers)
       (looks : ChecksRings h' r' a' h'' r'' a'' empty) where
-    commands_are : commands ≡ done.requests ++ (done.stray ++ known_items h''.requests)
+    commands_are : commands ≡ done.requests ++ (done.left_out ++ known_items h''.requests)
     commands_are =
         rest_of (sent r) (sent r'') (received h''.requests) (known_items h''.requests) commands looks.all_requests
-        (looks.put_requests ∙ dealt) (done.requests ++ done.stray)
+        (looks.put_requests ∙ dealt) (done.requests ++ done.left_out)
         (looks.taken_requests ∙ done.received
-        ∙ ap (λ (l : List Request). l ++ (done.requests ++ done.stray)) no_request)
-        ∙ append_assoc done.requests done.stray (known_items h''.requests)
+        ∙ ap (λ (l : List Request). l ++ (done.requests ++ done.left_out)) no_request)
+        ∙ append_assoc done.requests done.left_out (known_items h''.requests)
 
     made_are : done.given ≡ given ++ known_items a''
     made_are =
@@ -76,7 +76,7 @@ module _ {S : Type 0} (serves : S → Request → Answer → S → Type 0) where
     pub begun_at : AnswersBegun serves h.server commands given h''.server
     begun_at = record {
       done = done.requests;
-      left = done.stray ++ known_items h''.requests;
+      left = done.left_out ++ known_items h''.requests;
       commands_are = commands_are;
       made = done.given;
       held_back = known_items a'';
@@ -85,13 +85,13 @@ module _ {S : Type 0} (serves : S → Request → Answer → S → Type 0) where
     }
 
     -- where something is left there are fewer answers
-    pub owed_at : h.strayed ≡ false → LeavesSome h'' a'' → length given < length commands
+    pub owed_at : h.dropped ≡ false → LeavesSome h'' a'' → length given < length commands
     owed_at before leaves = by leaves
       where
-        counts : length commands ≡ length done.requests + (length done.stray + length (known_items h''.requests))
+        counts : length commands ≡ length done.requests + (length done.left_out + length (known_items h''.requests))
         counts =
-            ap length commands_are ∙ length-append done.requests (done.stray ++ known_items h''.requests)
-            ∙ ap (λ (n : ℕ). length done.requests + n) (length-append done.stray (known_items h''.requests))
+            ap length commands_are ∙ length-append done.requests (done.left_out ++ known_items h''.requests)
+            ∙ ap (λ (n : ℕ). length done.requests + n) (length-append done.left_out (known_items h''.requests))
 
         gave : length done.requests ≡ length given + length (known_items a'')
         gave =
@@ -101,17 +101,17 @@ module _ {S : Type 0} (serves : S → Request → Answer → S → Type 0) where
         by : LeavesSome h'' a'' → length given < length commands
         by (inl request) = omega (arith, counts, gave, request)
         by (inr (inl answer)) = omega (arith, counts, gave, answer)
-        by (inr (inr strayed)) =
+        by (inr (inr dropped)) =
             omega (
               arith,
               counts,
               gave,
-              some_stray done.stray h.strayed h'.strayed before (sym looks.strayed ∙ strayed) done.noted,
+              some_dropped done.left_out h.dropped h'.dropped before (sym looks.dropped ∙ dropped) done.noted,
             )
 
     pub whole_at : empty ≡ true → AnswersAll serves h.server commands given h''.server
     whole_at is =
-        let none : done.stray ≡ [] = done.strays (sym looks.strayed ∙ looks.no_stray is) in
+        let none : done.left_out ≡ [] = done.drops (sym looks.dropped ∙ looks.none_dropped is) in
         let all : commands ≡ done.requests =
         commands_are
         ∙ ap (λ (l : List Request). done.requests ++ (l ++ known_items h''.requests)) none
@@ -202,7 +202,7 @@ module _ {S : Type 0} (serves : S → Request → Answer → S → Type 0) where
               (dealt.each k r (omega (arith, within, idle.pairs.as_many_requests)))
               (taken.each k a (omega (arith, within, idle.pairs.as_many_answers))) (idle.no_request k h r within)
               (idle.no_answer k h a within) (looks.each k h r a (omega (arith, within, done.long)))
-              (idle.no_stray k h within) (leaves.some h a);
+              (idle.none_dropped k h within) (leaves.some h a);
         }
 
     pub idle_again : empty ≡ true → AreIdle hosts'' requests'' answers''
@@ -226,11 +226,11 @@ module _ {S : Type 0} (serves : S → Request → Answer → S → Type 0) where
           sym (append-nil (received (get_or answers'' k a)))
           ∙ ap (λ (l : List Answer). received (get_or answers'' k a) ++ l) (sym (one.no_answer is))
           ∙ one.all_answers;
-      no_stray = λ k h less.
+      none_dropped = λ k h less.
           let within : k < length hosts' = omega (arith, less, looks.long) in
           let r = (item_at requests k (omega (arith, within, done.long, idle.pairs.as_many_requests))).item in
           let a = (item_at answers k (omega (arith, within, done.long, idle.pairs.as_many_answers))).item in
-          (looks.each k h r a within).no_stray is;
+          (looks.each k h r a within).none_dropped is;
     }
 
   -- the ends are pairs still

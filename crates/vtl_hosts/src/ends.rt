@@ -67,7 +67,7 @@ fn add_host<S: Host + Drop>(
         server,
         requests: rings.to_host,
         answers: rings.from_host,
-        strayed: false,
+        dropped: false,
     };
     hosts.push(host).unwrap();
     requests.push(rings.requests).unwrap();

@@ -1,5 +1,5 @@
 //! The thread of a host: it takes commands from one ring, carries them out, and sends the answers into another.
-ghost use Rattle.std.specs.Prelude.{◌≡◌, ◌++◌, ◌∷◌, [], false};
+ghost use Rattle.std.specs.Prelude.{◌≡◌, ◌⊎◌, ◌++◌, ◌∷◌, [], false};
 ghost use Rattle.rtrb.specs.Ring.{received};
 ghost use Rattle.vtl_wire.specs.declared.requests.Request.{Request};
 ghost use Rattle.vtl_hosts.specs.Inner.Hosts.{IsHostDone, IsHostTurn};
@@ -12,13 +12,13 @@ use std::sync::Wait;
 use vtl_wire::{Answer, Request};
 
 /// What the thread of a host works with: the host's server, the ring of its requests, the ring of its answers, and
-/// whether a request was dropped because the server does not take it.
+/// whether a request was dropped because the server does not take it, or memory ran out for its answer.
 #[derive(Drop)]
 pub(crate) struct HostEnd<S: Host> {
     pub(crate) server: S,
     pub(crate) requests: Consumer<Request>,
     pub(crate) answers: Producer<Answer>,
-    pub(crate) strayed: bool,
+    pub(crate) dropped: bool,
 }
 
 // The result of one turn of a host.
@@ -27,8 +27,8 @@ pub(crate) enum Turn {
     Served,
     // There was no request.
     Empty,
-    // A request came that the host does not take.
-    Stray,
+    // A request came that the host does not take, or memory ran out for its answer.
+    Dropped,
 }
 
 // Answers the next request of the host at `place`, if there is one.
@@ -41,27 +41,32 @@ fn answer_next<S: Host, R: Wait>(
 ) -> Turn
     ensures turn { IsHostTurn S.answers host.old result host.new }
 
-    // A command is dropped only where the host does not take it.
-    ensures stray { result ≡ Turn.Stray → (request : Request)
+    // A request is dropped only where the host does not take it, or memory ran out.
+    ensures left_out { result ≡ Turn.Dropped → (request : Request)
         × (received host.new.requests ≡ received host.old.requests ++ request ∷ [])
-        × (S.is_taken host.new.server request ≡ false) }
+        × ((S.is_taken host.new.server request ≡ false) ⊎ S.lacks host.old.server request) }
 {
     let Ok(request) = host.requests.pop() else {
         return Turn::Empty;
     };
     bells.reader.ring(rt);
     if !host.server.takes(&request) {
-        host.strayed = true;
-        return Turn::Stray;
+        host.dropped = true;
+        return Turn::Dropped;
     }
-    let answer = host.server.answer(request);
-    push_waiting(rt, &own.room, &mut host.answers, answer);
+    match host.server.answer(request) {
+        Ok(answer) => push_waiting(rt, &own.room, &mut host.answers, answer),
+        Err(_) => {
+            host.dropped = true;
+            return Turn::Dropped;
+        }
+    }
     bells.ring_answer(rt, place);
     Turn::Served
 }
 
 /// Answers the requests of the host at `place` (the host's number less 1), in their order, until nothing more comes. It
-/// ends early at a request that the host's server does not take.
+/// ends early at a request that the host's server does not take, or for whose answer memory ran out.
 pub(crate) fn answer_all<S: Host, R: Wait>(
     rt: &R,
     bells: &Bells,
@@ -79,7 +84,7 @@ pub(crate) fn answer_all<S: Host, R: Wait>(
         let count = own.commands.count(rt);
         match answer_next(rt, bells, own, place, host) {
             Turn::Served => {}
-            Turn::Stray => return,
+            Turn::Dropped => return,
             Turn::Empty => {
                 if is_last {
                     return;

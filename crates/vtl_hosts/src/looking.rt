@@ -21,7 +21,7 @@ fn is_empty_at<S: Host>(
 {
     let waiting = host.requests.slots_beside(requests);
     let unwritten = answers.slots_beside(&mut host.answers);
-    waiting == 0 && unwritten == 0 && !host.strayed
+    waiting == 0 && unwritten == 0 && !host.dropped
 }
 
 // Whether both are true.

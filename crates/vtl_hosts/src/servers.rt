@@ -21,14 +21,18 @@ pub trait Host {
     /// A server in the first state may give this answer to this request, and is then in the last state.
     ghost answers: { Self → Request → Answer → Self → Type 0 };
 
+    /// A cause for memory to run out while a request is answered. Where memory never runs out, this is an empty type.
+    ghost lacks: { Self → Request → Type 0 };
+
     /// Whether the server takes this request.
     fn takes(&self, request: &Request) -> bool
         ensures { result ≡ is_taken self.now request.now };
 
-    /// Answers a request that the server takes. Where memory runs out, the answer reports that.
-    fn answer(&mut self, request: Request) -> Answer
+    /// Answers a request that the server takes. `Err` means that memory ran out; then nothing was done.
+    fn answer(&mut self, request: Request) -> Result<Answer, NoMemory>
         requires { is_taken self.old request ≡ true }
-        ensures { answers self.old request result self.new };
+        ensures ok { IfOk result (λ answer. answers self.old request answer self.new) }
+        ensures err { OnErr result (lacks self.old request × (self.new ≡ self.old)) };
 }
 
 /// A server that decides which requests are taken and which queue each has, and that serves those without a queue:

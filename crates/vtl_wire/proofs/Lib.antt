@@ -8,6 +8,7 @@ mod EntryLemmas
 mod EntryReadLemmas
 mod FillLemmas
 mod FrameLemmas
+mod HeadKindLemmas
 mod HeadLemmas
 mod HeaderLemmas
 mod LawLemmas

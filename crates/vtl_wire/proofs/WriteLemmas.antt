@@ -6,8 +6,6 @@ use Rattle.std.proofs.KnownBytes.{Appends-kept, Appends-nil, Appends-trans}
 use Rattle.std.proofs.Math.Seq.{take-add, take-length}
 use Rattle.std.proofs.lemmas.Grind.{flat_map-append}
 use Rattle.std.specs.Io.KnownBytes.{Appends, Keeps}
-use Rattle.vtl_wire.specs.declared.answers.Entry.{Entry}
-use Rattle.vtl_wire.specs.Answers.{spell_entry}
 use Rattle.vtl_wire.specs.Writes.{AppendsFront}
 
 -- what holds anyway holds at an error
@@ -100,25 +98,26 @@ front_whole before mid now bytes all keeps = record {
   appended = Appends-kept before mid now bytes all keeps;
 }
 
--- one entry more
-pub entries_more : (entries : List Entry) (at : ℕ) (entry : Entry)
-    → take (at + 1) entries ≡ take at entries ++ entry ∷ []
-    → flat_map spell_entry (take (at + 1) entries) ≡ flat_map spell_entry (take at entries) ++ spell_entry entry
-entries_more entries at entry one =
-    ap (flat_map spell_entry) one ∙ flat_map-append spell_entry (take at entries) (entry ∷ [])
-    ∙ ap (λ (l : List ℕ). flat_map spell_entry (take at entries) ++ l) (append-nil (spell_entry entry))
+module _ {X : Type 0} (spell : X → List ℕ) where
+  -- one entry more
+  pub entries_more : (entries : List X) (at : ℕ) (entry : X)
+      → take (at + 1) entries ≡ take at entries ++ entry ∷ []
+      → flat_map spell (take (at + 1) entries) ≡ flat_map spell (take at entries) ++ spell entry
+  entries_more entries at entry one =
+      ap (flat_map spell) one ∙ flat_map-append spell (take at entries) (entry ∷ [])
+      ∙ ap (λ (l : List ℕ). flat_map spell (take at entries) ++ l) (append-nil (spell entry))
 
--- a beginning of one entry more is one of all
-pub entries_front : (before mid now : Option (List ℕ)) (entries : List Entry) (at : ℕ) (entry : Entry)
-    → take (at + 1) entries ≡ take at entries ++ entry ∷ []
-    → Appends before mid (flat_map spell_entry (take at entries)) → AppendsFront mid now (spell_entry entry)
-    → AppendsFront before now (flat_map spell_entry entries)
-entries_front before mid now entries at entry one so wrote =
-    let all : flat_map spell_entry entries
-    ≡ (flat_map spell_entry (take at entries) ++ spell_entry entry) ++ flat_map spell_entry (drop (at + 1) entries) =
-    ap (flat_map spell_entry) (sym (take-append-drop (at + 1) entries))
-    ∙ flat_map-append spell_entry (take (at + 1) entries) (drop (at + 1) entries)
-    ∙ ap (λ (l : List ℕ). l ++ flat_map spell_entry (drop (at + 1) entries)) (entries_more entries at entry one) in
-    rw all (front_first before now (flat_map spell_entry (take at entries) ++ spell_entry entry)
-    (flat_map spell_entry (drop (at + 1) entries))
-    (front_second before mid now (flat_map spell_entry (take at entries)) (spell_entry entry) so wrote))
+  -- a beginning of one entry more is one of all
+  pub entries_front : (before mid now : Option (List ℕ)) (entries : List X) (at : ℕ) (entry : X)
+      → take (at + 1) entries ≡ take at entries ++ entry ∷ []
+      → Appends before mid (flat_map spell (take at entries)) → AppendsFront mid now (spell entry)
+      → AppendsFront before now (flat_map spell entries)
+  entries_front before mid now entries at entry one so wrote =
+      let all : flat_map spell entries
+      ≡ (flat_map spell (take at entries) ++ spell entry) ++ flat_map spell (drop (at + 1) entries) =
+      ap (flat_map spell) (sym (take-append-drop (at + 1) entries))
+      ∙ flat_map-append spell (take (at + 1) entries) (drop (at + 1) entries)
+      ∙ ap (λ (l : List ℕ). l ++ flat_map spell (drop (at + 1) entries)) (entries_more entries at entry one) in
+      rw all (front_first before now (flat_map spell (take at entries) ++ spell entry)
+      (flat_map spell (drop (at + 1) entries))
+      (front_second before mid now (flat_map spell (take at entries)) (spell entry) so wrote))

@@ -10,8 +10,9 @@ ghost use Rattle.vtl_wire.specs.Inner.Answered.{HeadSays, IsReplyHeader, Replies
 
 use crate::frames::{ENTRY_BYTES, FrameKind, MOST_DATA, SENSE_BYTES};
 use crate::headers::Header;
-use scsi_sense::Status;
+use crate::request_heads::host_at;
 use crate::strays::Astray;
+use scsi_sense::Status;
 use vtl_base::Nexus;
 use vtl_base::limits::NEXUSES;
 
@@ -101,7 +102,7 @@ fn giver_of(header: Header) -> Option<Giver>
         return None;
     }
     Some(Giver {
-        host: Nexus::new(header.host),
+        host: host_at(header.host),
     })
 }
 
@@ -120,7 +121,10 @@ fn inventory_head(header: Header) -> Option<AnswerHead>
     ensures none { IfNone result ((head : AnswerHead) → HeadSays header head → ⊥) }
 {
     let Giver { host } = giver_of(header)?;
-    if !has_data(header) || header.payload as usize % ENTRY_BYTES != 0 {
+    if !has_data(header) {
+        return None;
+    }
+    if header.payload as usize % ENTRY_BYTES != 0 {
         return None;
     }
     let tag = header.tag;
@@ -147,7 +151,10 @@ fn stray_head(header: Header) -> Option<AnswerHead>
     ensures found { IfSome result (HeadSays header) }
     ensures none { IfNone result ((head : AnswerHead) → HeadSays header head → ⊥) }
 {
-    if header.front != 0 || header.payload != 0 {
+    if header.front != 0 {
+        return None;
+    }
+    if header.payload != 0 {
         return None;
     }
     match header.detail {

@@ -1,5 +1,5 @@
 //! The entries of a status, written.
-ghost use Rattle.std.specs.Prelude.{◌≡◌, ◌≤◌, ◌↔◌, ◌++◌, IsTrue, ◌∷◌, [], Some, length, flat_map, IfErr, OnOk, OnErr};
+ghost use Rattle.std.specs.Prelude.{◌≡◌, ◌≤◌, ◌<◌, ◌↔◌, ◌++◌, IsTrue, ◌∷◌, [], Some, length, flat_map, IfSome, IfNone, IfErr, OnOk, OnErr};
 ghost use Rattle.std.specs.Int.{to_be_bytes, w32};
 ghost use Rattle.std.specs.Io.KnownBytes.{Appends};
 ghost use Rattle.vtl_wire.specs.declared.frames.TheConstants.{MOST_DATA};
@@ -27,9 +27,10 @@ fn code_of(presence: Presence) -> u8
     presence as u8
 }
 
-// How many bytes an entry has.
+// How many bytes an entry has: at most 142.
 pub(crate) fn bytes_of_place(place: &Place) -> usize
-    ensures { result ≡ length (spell_place place.now) }
+    ensures count { result ≡ length (spell_place place.now) }
+    ensures most { result ≤ 142 }
 {
     let partitions = match &place.cartridge {
         Some(cartridge) => cartridge.partitions.as_slice().len(),
@@ -42,22 +43,40 @@ pub(crate) fn bytes_of_place(place: &Place) -> usize
     PLACE_BYTES + PARTITION_BYTES * partitions + drive
 }
 
-/// How many bytes these entries have together.
-pub(crate) fn bytes_of(places: &[Place]) -> usize
-    ensures { result ≡ length (flat_map spell_place places.now) }
+// How many bytes these entries have together. None where a frame cannot hold as many.
+fn bytes_within(places: &[Place]) -> Option<usize>
+    ensures found { IfSome result (λ count. (count ≡ length (flat_map spell_place places.now)) × (count ≤ MOST_DATA)) }
+    ensures none { IfNone result (MOST_DATA < length (flat_map spell_place places.now)) }
 {
     let mut count = 0;
     for place in places {
         count += bytes_of_place(place);
+        if count > MOST_DATA as usize {
+            return None;
+        }
     }
-    count
+    Some(count)
+}
+
+/// How many bytes these entries, which a frame can hold, have together.
+pub(crate) fn bytes_of(places: &[Place]) -> usize
+    requires { length (flat_map spell_place places.now) ≤ MOST_DATA }
+    ensures { result ≡ length (flat_map spell_place places.now) }
+{
+    match bytes_within(places) {
+        Some(count) => count,
+        None => unreachable!(),
+    }
 }
 
 /// Whether a frame can hold these entries.
 pub(crate) fn fit_places(places: &[Place]) -> bool
     ensures { IsTrue result ↔ (length (flat_map spell_place places.now) ≤ MOST_DATA) }
 {
-    bytes_of(places) <= MOST_DATA as usize
+    match bytes_within(places) {
+        Some(_) => true,
+        None => false,
+    }
 }
 
 // The 20 bytes of a partition.

@@ -41,7 +41,7 @@ pub(crate) enum RequestHead {
 }
 
 // The host of this byte, which is at most 64. None where it is 0.
-fn host_at(host: u8) -> Option<Nexus>
+pub(crate) fn host_at(host: u8) -> Option<Nexus>
     requires { host ≤ NEXUSES }
     ensures { result ≡ host_at host }
 {

@@ -25,7 +25,7 @@ module _ {S : Type 0} where
     pub no_answer :
         (k : ℕ) (h : HostEnd S) (a : Answers) → k < length hosts
         → received (slice_index_or answers k a) ≡ sent (slice_index_or hosts k h).answers
-    pub no_stray : (k : ℕ) (h : HostEnd S) → k < length hosts → (slice_index_or hosts k h).strayed ≡ false
+    pub none_dropped : (k : ℕ) (h : HostEnd S) → k < length hosts → (slice_index_or hosts k h).dropped ≡ false
 
 module _ {S G : Type 0} (serves : S → Request → Answer → S → Type 0) (takes : G → Request → Bool)
     (queue : G → Request → ℕ) (answers : G → Request → Answer → G → Type 0) where

@@ -23,7 +23,7 @@ module _ {S : Type 0} where
   pub record ChecksRings (host : HostEnd S) (requests : Requests) (answers : Answers)
       (host' : HostEnd S) (requests' : Requests) (answers' : Answers) (empty : Bool) : Type 0 where
     pub server : host'.server ≡ host.server
-    pub strayed : host'.strayed ≡ host.strayed
+    pub dropped : host'.dropped ≡ host.dropped
     pub pairs : ArePairsAt host' requests' answers'
     pub put_requests : sent requests' ≡ sent requests
     pub taken_requests : received host'.requests ≡ received host.requests
@@ -33,7 +33,7 @@ module _ {S : Type 0} where
     pub all_answers : received answers' ++ known_items answers' ≡ sent host'.answers
     pub no_request : empty ≡ true → known_items host'.requests ≡ []
     pub no_answer : empty ≡ true → known_items answers' ≡ []
-    pub no_stray : empty ≡ true → host'.strayed ≡ false
+    pub none_dropped : empty ≡ true → host'.dropped ≡ false
 
   -- the rings of each host were checked, and are the same (own)
   pub record LooksAll (hosts : List (HostEnd S)) (requests : List Requests) (answers : List Answers)
@@ -50,7 +50,7 @@ module _ {S : Type 0} where
   -- a request or an answer is left in a host's rings, or a request was dropped (own)
   abbrev pub LeavesSome : HostEnd S → Answers → Type 0
   LeavesSome host answers =
-      (0 < length (known_items host.requests)) ⊎ ((0 < length (known_items answers)) ⊎ (host.strayed ≡ true))
+      (0 < length (known_items host.requests)) ⊎ ((0 < length (known_items answers)) ⊎ (host.dropped ≡ true))
 
   -- so it is at some host (own)
   pub record LeavesAt (hosts : List (HostEnd S)) (answers : List Answers) : Type 0 where

@@ -9,7 +9,7 @@ pub returns-clause-idle : goal.returns-clause-idle
 returns-clause-idle g c =
     let rings = c.args.rings in
     let host : HostEnd g.row.S.Denot =
-    record { server = c.args.server; requests = rings.to_host; answers = rings.from_host; strayed = false } in
+    record { server = c.args.server; requests = rings.to_host; answers = rings.from_host; dropped = false } in
     let hosts = rw c.unwrap.ensures at c.push.ensures.items in
     let requests = rw c.unwrap-2.ensures at c.push-2.ensures.items in
     let answers = rw c.unwrap-3.ensures at c.push-3.ensures.items in
@@ -27,5 +27,5 @@ returns-clause-idle g c =
       pairs = record { requests_pair = rings.requests_pair; answers_pair = rings.answers_pair };
       no_request = rings.no_request.1 ∙ sym rings.no_request.0;
       no_answer = rings.no_answer.1 ∙ sym rings.no_answer.0;
-      no_stray = refl;
+      none_dropped = refl;
     }))))

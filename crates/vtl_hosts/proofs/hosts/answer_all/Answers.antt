@@ -11,9 +11,9 @@ pub loop-preserved-in-Served : goal.loop-preserved-in-Served
 loop-preserved-in-Served g c =
     served_on g.S.Host.answers c.args.host.now c.loop.host _ c.loop.invariant c.in-Served.ensures.turn
 
-pub returns-in-Stray : goal.returns-in-Stray
-returns-in-Stray g c =
-    done_on g.S.Host.answers c.args.host.now c.loop.host _ c.loop.invariant c.in-Stray.ensures.turn
+pub returns-in-Dropped : goal.returns-in-Dropped
+returns-in-Dropped g c =
+    done_on g.S.Host.answers c.args.host.now c.loop.host _ c.loop.invariant c.in-Dropped.ensures.turn
 
 pub returns-then-is_last : goal.returns-then-is_last
 returns-then-is_last g c =

@@ -8,13 +8,13 @@ pub returns-then-not-takes-clause-turn : goal.returns-then-not-takes-clause-turn
 returns-then-not-takes-clause-turn g c =
     record {
       requests = [];
-      stray = c.in-Ok.request ∷ [];
+      left_out = c.in-Ok.request ∷ [];
       given = [];
       same_requests = c.in-Ok.ensures.ring;
       same_answers = producer_same c.args.host.now.answers;
       received = c.in-Ok.ensures.ok.0;
       sent = sym (append-nil (sent c.args.host.now.answers));
       answered = refl;
-      strays = λ same. absurd (cc);
+      drops = λ same. absurd (cc);
       noted = λ none. absurd (cc);
     }

@@ -18,7 +18,7 @@ loop-entry-preserved g c =
     let one : take (at + 1) entries ≡ take at entries ++ c.entry-item.result ∷ [] =
     take_more entries at c.entry-item.result c.loop-entry-test.true
     ∙ ap (λ (x : Entry). take at entries ++ x ∷ []) (sym c.entry-item.is) in
-    subst (Appends _ _) (sym (entries_more entries at c.entry-item.result one))
+    subst (Appends _ _) (sym (entries_more spell_entry entries at c.entry-item.result one))
     (Appends-trans _ _ _ _ (spell_entry c.entry-item.result) c.loop-entry.invariant
     (subst (Appends _ _) c.entry_bytes.ensures c.in_ok-write_bytes.ensures.ok))
 
@@ -29,7 +29,7 @@ returns-in_err-write_bytes-clause-err g c =
     let one : take (at + 1) entries ≡ take at entries ++ c.entry-item.result ∷ [] =
     take_more entries at c.entry-item.result c.loop-entry-test.true
     ∙ ap (λ (x : Entry). take at entries ++ x ∷ []) (sym c.entry-item.is) in
-    on_err _ _ (entries_front _ _ _ entries at c.entry-item.result one c.loop-entry.invariant
+    on_err _ _ (entries_front spell_entry _ _ _ entries at c.entry-item.result one c.loop-entry.invariant
     (rw c.entry_bytes.ensures at c.in_err-write_bytes.ensures.err))
 
 pub returns-clause-ok : goal.returns-clause-ok
