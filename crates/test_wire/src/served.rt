@@ -7,7 +7,7 @@ use std::io::ErrorKind;
 use std::test::Fail;
 use test_assertions::{assert_equal, assert_holds};
 use vtl_base::{Bytes, NoMemory};
-use vtl_wire::strays::astray;
+use vtl_wire::strays::out_of_range;
 use vtl_wire::{Answer, Astray, Entries, Places, Request, Server, WireFault, serve_requests};
 
 /// A server that takes a given number of requests. A command is answered GOOD with its own data, a move GOOD, an
@@ -66,7 +66,7 @@ impl Server for Shop {
                 ..
             } => Answer::Stray {
                 host,
-                astray: astray(kind, host, drive).unwrap_or(Astray::Drive),
+                astray: out_of_range(kind, host, drive).unwrap_or(Astray::Drive),
                 tag,
             },
         })

@@ -23,7 +23,7 @@ use Rattle.vtl_wire.proofs.HeaderLemmas.{AreBytes, bytes_behind, four_first}
 use Rattle.vtl_wire.proofs.PlaceLemmas.{cut, head_long, head_of}
 
 -- the first of bytes are bytes
-bytes_before : (n : ℕ) (bytes : List ℕ) → AreBytes bytes → AreBytes (take n bytes)
+pub bytes_before : (n : ℕ) (bytes : List ℕ) → AreBytes bytes → AreBytes (take n bytes)
 bytes_before zero bytes fits i = omega arith
 bytes_before (suc n) [] fits i = omega arith
 bytes_before (suc n) (x ∷ xs) fits zero = fits 0

@@ -78,11 +78,10 @@ fn reply_head(header: Header, replied: Replied) -> Option<AnswerHead>
     ensures none { IfNone result ((status : Status) → IsReplyHeader header status → ⊥) }
 {
     let status = reply_status(header)?;
-    let tag = header.tag;
     Some(AnswerHead::Reply(ReplyHead {
         replied,
         status,
-        tag,
+        tag: header.tag,
     }))
 }
 

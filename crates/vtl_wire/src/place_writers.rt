@@ -130,7 +130,8 @@ fn write_partitions<W: Write>(
     writer: &mut W,
     partitions: &[PartitionFigures],
 ) -> Result<(), WireFault>
-    ensures ok { OnOk result (Appends (W.contents writer.old) (W.contents writer.new) (flat_map spell_partition partitions.now)) }
+    ensures ok { OnOk result (Appends (W.contents writer.old) (W.contents writer.new)
+        (flat_map spell_partition partitions.now)) }
     ensures err { OnErr result (AppendsFront (W.contents writer.old) (W.contents writer.new)
         (flat_map spell_partition partitions.now)) }
     ensures fault { IfErr result (λ fault. fault ≡ WireFault.WriteFault) }
@@ -188,7 +189,8 @@ fn write_place<W: Write>(writer: &mut W, place: &Place) -> Result<(), WireFault>
 
 // Writes the entries of a status.
 fn write_places<W: Write>(writer: &mut W, places: &[Place]) -> Result<(), WireFault>
-    ensures ok { OnOk result (Appends (W.contents writer.old) (W.contents writer.new) (flat_map spell_place places.now)) }
+    ensures ok { OnOk result (Appends (W.contents writer.old) (W.contents writer.new)
+        (flat_map spell_place places.now)) }
     ensures err { OnErr result (AppendsFront (W.contents writer.old) (W.contents writer.new)
         (flat_map spell_place places.now)) }
     ensures fault { IfErr result (λ fault. fault ≡ WireFault.WriteFault) }
@@ -205,7 +207,8 @@ pub(crate) fn write_status<W: Write>(
     header: Header,
     places: &[Place],
 ) -> Result<(), WireFault>
-    ensures ok { OnOk result (Appends (W.contents writer.old) (W.contents writer.new) (spell_header header ++ flat_map spell_place places.now)) }
+    ensures ok { OnOk result (Appends (W.contents writer.old) (W.contents writer.new)
+        (spell_header header ++ flat_map spell_place places.now)) }
     ensures err { OnErr result (AppendsFront (W.contents writer.old) (W.contents writer.new)
         (spell_header header ++ flat_map spell_place places.now)) }
     ensures fault { IfErr result (λ fault. fault ≡ WireFault.WriteFault) }

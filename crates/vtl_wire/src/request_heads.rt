@@ -12,7 +12,7 @@ use crate::frames::{FrameKind, MOVE_BYTES};
 use crate::headers::Header;
 use crate::parts::Parts;
 use crate::requests::Request;
-use crate::strays::{astray, has_form};
+use crate::strays::{has_form, out_of_range};
 use byteorder::{BigEndian, ByteOrder};
 use vtl_base::{DriveNo, Nexus};
 
@@ -84,7 +84,7 @@ pub(crate) fn request_head(header: Header) -> Option<RequestHead>
     if !has_form(header.kind, header.detail, header.front as usize, payload) {
         return None;
     }
-    match astray(header.kind, header.host, header.detail) {
+    match out_of_range(header.kind, header.host, header.detail) {
         Some(_) => Some(RequestHead::Stray),
         None => Some(head_by(header)),
     }
@@ -127,13 +127,16 @@ pub(crate) fn request_in(header: Header, head: RequestHead, parts: Parts) -> Req
         }
         RequestHead::Inventory { host, tag } => Request::Inventory { host, tag },
         RequestHead::Status { host, tag } => Request::Status { host, tag },
-        RequestHead::Stray => Request::Stray {
-            kind: header.kind,
-            host: header.host,
-            drive: header.detail,
-            front: parts.front,
-            sent: parts.payload,
-            tag: header.tag,
-        },
+        RequestHead::Stray => {
+            let Parts { front, payload } = parts;
+            Request::Stray {
+                kind: header.kind,
+                host: header.host,
+                drive: header.detail,
+                front,
+                sent: payload,
+                tag: header.tag,
+            }
+        }
     }
 }

@@ -3,7 +3,7 @@ ghost use Rattle.std.specs.Prelude.{◌↔◌, IsTrue};
 ghost use Rattle.vtl_wire.specs.Requests.{FitsRequest};
 
 use crate::frames::{FrameKind, MOST_CDB, MOST_DATA};
-use crate::strays::{astray, has_form};
+use crate::strays::{has_form, out_of_range};
 use vtl_base::{Bytes, DriveNo, Nexus};
 
 /// A request of a front end. Its tag may be any number. The answer has the same tag. A move, an inventory and a status
@@ -70,7 +70,7 @@ impl Request {
                 ..
             } => {
                 has_form(*kind, *drive, front.len(), sent.len())
-                    && astray(*kind, *host, *drive).is_some()
+                    && out_of_range(*kind, *host, *drive).is_some()
             }
         }
     }

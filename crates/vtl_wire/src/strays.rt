@@ -40,7 +40,7 @@ pub(crate) fn has_form(kind: FrameKind, drive: u8, front: usize, payload: usize)
 /// Which number in a request of this kind is out of its range: that of the host, if it is, or else that of the drive.
 /// None where both are in range. A command names a host from 1 to 64 and a drive from 1 to 16. Other requests name such
 /// a host, or 0 for none.
-pub fn astray(kind: FrameKind, host: u8, drive: u8) -> Option<Astray>
+pub fn out_of_range(kind: FrameKind, host: u8, drive: u8) -> Option<Astray>
     ensures { result ≡ astray_of kind host drive }
 {
     match kind {
