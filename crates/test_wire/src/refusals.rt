@@ -25,12 +25,12 @@ static REQUESTS: &'static [&'static str] = &[
 
 // Of answers an unknown kind; a host out of range; a status that there is not; a length of sense data or of data out of
 // range, sense data with another status; a byte that has to be 00h; an inventory or a status with an answer's status,
-// with sense data, or with part of an entry; one of the answers to what is astray with another number, or with data.
-// In entries of a status the address of a slot for a drive, and no drive's; nothing or an unknown state with a barcode;
-// no barcode, or a space in front of it; more or fewer partitions than follow, or five; another byte for an error.
-// In sense data another response code; a byte that has to be
-// 00h; a reserved key; a bit that is reserved; INFORMATION without VALID; another length of what follows. In entries a
-// zero behind a barcode; a space in front of one, or in it; a small letter; 15 zeros and another byte; 16 spaces.
+// with sense data, or with part of an entry, which of a status is read; one of the answers to what is astray with
+// another number, or with data. In entries of a status the address of a slot for a drive, and no drive's; nothing or an
+// unknown state with a barcode; no barcode, or a space in front of it; more or fewer partitions than follow, or five;
+// another byte for an error. In sense data another response code; a byte that has to be 00h; a reserved key; a bit that
+// is reserved; INFORMATION without VALID; another length of what follows. In entries a zero behind a barcode; a space
+// in front of one, or in it; a small letter; 15 zeros and another byte; 16 spaces.
 static ANSWERS: &'static [&'static str] = &[
     "01 01 00 00 00000000 00000001 00000000 | 0000 0005 00ff 0100 0141 01ff 0201 0208 0228 0312",
     "01 01 00 00 00000000 00000001 00000000 | 0c01 0d01 0e01 0f01",
@@ -43,7 +43,10 @@ static ANSWERS: &'static [&'static str] = &[
     "02 00 02 12 00000000 00000001 00000000 | 0308",
     "02 00 00 00 0010c8e0 00000001 00000000 | 07e1",
     "03 00 00 00 00000000 00000001 00000000 | 0141 01ff 0202 0218 0312 0701 0713 0715 0c80",
-    "04 00 00 00 00000000 00000001 00000000 | 0141 01ff 0202 0218 0312 0701 0719 071b 0c80",
+    "04 00 00 00 00000000 00000001 00000000 | 0141 01ff 0202 0218 0312 0c80",
+    "04 00 00 00 00000001 00000001 00000000 00 | 1000 1001",
+    "04 00 00 00 00000019 00000001 00000000 000003e9 00 00000000 000000000000000000000000000000 00 | 1000",
+    "04 00 00 00 0000001b 00000001 00000000 000003e9 00 00000000 00000000000000000000000000000000 00 00 | 2a00 2a01",
     "04 00 02 00 00000000 00000001 00000000 | 0312",
     "ff 41 01 00 00000000 00000001 00000000 | 0000 0200 0203 0301 0312 0701 0c80",
     "04 00 00 00 0000003e 00000001 00000000 00000001 01 000003e9 41202020202020202020202020202020 00 \

@@ -189,6 +189,16 @@ cartridge_parts first rest c long read =
       whole = two.0;
     }
 
+-- what is read of the 22 bytes of a cartridge spells them
+pub cartridge_back : (first rest : List ℕ) (c : CartridgeFigures) (code home count : ℕ) (barcode : List ℕ)
+    → CartridgeParts first rest c → code ≡ slice_index first 0 → home ≡ big_number 4 (drop 1 first)
+    → Some barcode ≡ Some c.barcode → count ≡ slice_index first 21
+    → code ∷ to_be_bytes w32 home ++ (spell_barcode (Some barcode) ++ (count ∷ [])) ≡ first
+cartridge_back first rest c code home count barcode parts code_is home_is name count_is =
+    (λ i. (code_is ∙ parts.code) i ∷ to_be_bytes w32 ((home_is ∙ parts.home) i)
+    ++ (spell_barcode (name i) ++ ((count_is ∙ parts.count) i ∷ [])))
+    ∙ sym parts.whole
+
 bool_again : (b : Bool) → (byte_of b == 1) ≡ b
 bool_again true = refl
 bool_again false = refl
@@ -223,9 +233,8 @@ drive_again d is =
       deferred = bool_again d.deferred i;
     }
 
--- bytes that the drive which they are does not spell are no drive's
-pub drive_missed : (bytes : List ℕ) (found : DriveFigures) → found ≡ drive_at bytes → spell_drive found ≢ bytes
-    → (d : DriveFigures) → IsDrive d → bytes ≡ spell_drive d → ⊥
-drive_missed bytes found at apart d is same =
-    let e : found ≡ d = at ∙ ap drive_at same ∙ drive_again d is in
-    absurd (apart (ap spell_drive e ∙ sym same))
+-- so what is read of a drive's bytes spells them
+pub drive_back : (bytes : List ℕ) (found : DriveFigures) → found ≡ drive_at bytes → (d : DriveFigures) → IsDrive d
+    → bytes ≡ spell_drive d → spell_drive found ≡ bytes
+drive_back bytes found at d is same =
+    let e : found ≡ d = at ∙ ap drive_at same ∙ drive_again d is in ap spell_drive e ∙ sym same

@@ -46,11 +46,11 @@ there_none bytes first is zeros = record {
 
 -- a cartridge is there
 pub there_some : (bytes first rest : List ℕ) (c : CartridgeFigures) (count : ℕ) → first ≡ take 22 bytes
-    → rest ≡ drop 22 bytes → ReadsCartridge (first ++ rest) c → count ≡ 22 + 20 * length c.partitions
+    → rest ≡ drop 22 bytes → ReadsCartridge (first ++ rest) c → count ≡ length (spell_cartridge (Some c))
     → ReadsThere bytes (record { cartridge = Some c; count = count })
 there_some bytes first rest c count is behind read counts = record {
   valid = read.valid;
-  count = counts ∙ sym (cartridge_long c);
+  count = counts;
   rest = read.rest;
   begins = sym (take-append-drop 22 bytes) ∙ (λ i. sym is i ++ sym behind i) ∙ read.begins;
 }

@@ -1,5 +1,5 @@
 //! The entries of a status, read from their bytes.
-ghost use Rattle.std.specs.Prelude.{◌≡◌, ◌≤◌, ◌<◌, ◌*◌, ◌++◌, ℕ, List, [], Some, length, flat_map, vec_len, vec_capacity, IfSome, IfNone};
+ghost use Rattle.std.specs.Prelude.{◌≡◌, ◌≤◌, ◌<◌, ◌+◌, ◌*◌, ◌++◌, List, [], length, flat_map, vec_len, vec_capacity, IfSome, IfNone};
 ghost use Rattle.std.specs.List.{All};
 ghost use Rattle.place_figures.specs.declared.places.DriveFigures.{DriveFigures};
 ghost use Rattle.place_figures.specs.declared.places.Place.{Place};
@@ -11,7 +11,7 @@ ghost use Rattle.vtl_wire.specs.Places.{IsDrive, IsPlace, code_of_presence, is_o
 
 use crate::entry_readers::barcode_like;
 use crate::frames::{DRIVE_BYTES, PARTITION_BYTES, PLACE_BYTES};
-use crate::place_writers::{CARTRIDGE_BYTES, bytes_of_place, cartridge_bytes, drive_bytes};
+use crate::place_writers::{CARTRIDGE_BYTES, bytes_of_cartridge, bytes_of_place, cartridge_bytes, drive_bytes};
 use byteorder::{BigEndian, ByteOrder};
 use place_figures::{CartridgeFigures, DriveFigures, PartitionFigures, Partitions, Place, Presence};
 use vtl_base::limits::{DRIVES, MAX_PARTITIONS};
@@ -150,12 +150,9 @@ fn read_there(bytes: &[u8]) -> Option<There>
             count: CARTRIDGE_BYTES,
         });
     }
-    let cartridge = read_cartridge(first, &bytes[CARTRIDGE_BYTES..])?;
-    let count = CARTRIDGE_BYTES + PARTITION_BYTES * cartridge.partitions.as_slice().len();
-    Some(There {
-        cartridge: Some(cartridge),
-        count,
-    })
+    let cartridge = Some(read_cartridge(first, &bytes[CARTRIDGE_BYTES..])?);
+    let count = bytes_of_cartridge(&cartridge);
+    Some(There { cartridge, count })
 }
 
 // The figures of a drive, or that there are none.

@@ -10,7 +10,7 @@ ghost use Rattle.vtl_wire.specs.Writes.{AppendsFront};
 
 use crate::answer_writers::with_spaces;
 use crate::faults::WireFault;
-use crate::frames::{DRIVE_BYTES, MOST_DATA, PARTITION_BYTES, PLACE_BYTES};
+use crate::frames::{DRIVE_BYTES, MOST_DATA, PARTITION_BYTES};
 use crate::headers::Header;
 use crate::writing::write_bytes;
 use place_figures::{CartridgeFigures, DriveFigures, PartitionFigures, Place, Presence};
@@ -27,20 +27,36 @@ fn code_of(presence: Presence) -> u8
     presence as u8
 }
 
+// How many bytes that has which is there: at most 102.
+pub(crate) fn bytes_of_cartridge(cartridge: &Option<CartridgeFigures>) -> usize
+    ensures count { result ≡ length (spell_cartridge cartridge.now) }
+    ensures most { result ≤ 102 }
+{
+    match cartridge {
+        Some(cartridge) => {
+            CARTRIDGE_BYTES + PARTITION_BYTES * cartridge.partitions.as_slice().len()
+        }
+        None => CARTRIDGE_BYTES,
+    }
+}
+
+// How many bytes the figures of a drive have, if there are some.
+fn bytes_of_drive(drive: &Option<DriveFigures>) -> usize
+    ensures count { result ≡ length (spell_if_drive drive.now) }
+    ensures most { result ≤ 36 }
+{
+    match drive {
+        Some(_) => DRIVE_BYTES,
+        None => 0,
+    }
+}
+
 // How many bytes an entry has: at most 142.
 pub(crate) fn bytes_of_place(place: &Place) -> usize
     ensures count { result ≡ length (spell_place place.now) }
     ensures most { result ≤ 142 }
 {
-    let partitions = match &place.cartridge {
-        Some(cartridge) => cartridge.partitions.as_slice().len(),
-        None => 0,
-    };
-    let drive = match &place.drive {
-        Some(_) => DRIVE_BYTES,
-        None => 0,
-    };
-    PLACE_BYTES + PARTITION_BYTES * partitions + drive
+    4 + bytes_of_cartridge(&place.cartridge) + bytes_of_drive(&place.drive)
 }
 
 // How many bytes these entries have together. None where a frame cannot hold as many.
