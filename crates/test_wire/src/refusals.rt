@@ -103,6 +103,12 @@ fn are_refused(
 #[test]
 fn refused_frames(rt: HostRuntime) -> Result<(), Fail> {
     let written = bytes(rt.alloc(), FIRST)?;
-    are_refused(&rt, rt.alloc(), Kind::Requests, b"inventory 0 5\n", REQUESTS)?;
+    are_refused(
+        &rt,
+        rt.alloc(),
+        Kind::Requests,
+        b"inventory 0 5\n",
+        REQUESTS,
+    )?;
     are_refused(&rt, rt.alloc(), Kind::Answers, written.as_slice(), ANSWERS)
 }

@@ -65,11 +65,14 @@ there_missed bytes first rest is behind apart none w = by w.0 w.1 w.2 w.3
     by None more valid begins =
         absurd (apart (is ∙ ap (take 22) begins ∙ take_at (replicate 22 0) more 22 refl))
     by (Some c) more valid begins =
-        none (c, record {
-          valid = valid;
-          rest = more;
-          begins = (λ i. is i ++ behind i) ∙ take-append-drop 22 bytes ∙ begins;
-        })
+        none (
+          c,
+          record {
+            valid = valid;
+            rest = more;
+            begins = (λ i. is i ++ behind i) ∙ take-append-drop 22 bytes ∙ begins;
+          },
+        )
 
 -- the figures of a drive are there
 pub drive_there : (address : ℕ) (bytes first : List ℕ) (d : DriveFigures) → is_of_drive address ≡ true
@@ -160,12 +163,15 @@ place_no_drive bytes behind rest address there number is read last none w =
     sym read.begins ∙ is ∙ parts.behind in
     let two = one_there there.cartridge w.0.cartridge read.rest (spell_if_drive w.0.drive ++ w.1) read.valid
     w.2.cartridge same in
-    none (w.0.drive, record {
-      valid = w.2.drive;
-      of_drive = w.2.of_drive ∙ ap is_of_drive (sym (number ∙ parts.address));
-      rest = w.1;
-      begins = behind_there bytes behind there rest read is last ∙ two.1;
-    })
+    none (
+      w.0.drive,
+      record {
+        valid = w.2.drive;
+        of_drive = w.2.of_drive ∙ ap is_of_drive (sym (number ∙ parts.address));
+        rest = w.1;
+        begins = behind_there bytes behind there rest read is last ∙ two.1;
+      },
+    )
 
 -- an entry that was read
 pub place_read : (bytes behind rest : List ℕ) (address : ℕ) (there : There) (drive : Option DriveFigures) (count : ℕ)

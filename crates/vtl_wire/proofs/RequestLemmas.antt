@@ -209,7 +209,7 @@ module _ (header : Header) (front payload : List ℕ) (fits : IsHeader header)
       by is None found = (
         Command header.host header.detail front payload header.tag,
         command_of is ((λ i. astray_of (is i) header.host header.detail) ∙ sym found)
-        (form_short header.kind header.detail header.front header.payload form),
+            (form_short header.kind header.detail header.front header.payload form),
       )
 
   module _ (are : AreBytes front) where
@@ -233,8 +233,8 @@ module _ (header : Header) (front payload : List ℕ) (fits : IsHeader header)
     of_kind kinds.Move is none form =
         let giver = giver_at header.host (host_in_range header.host none) in record {
           frame = plain_with kinds.Move is
-          (to_be_bytes w32 (big_number 4 front) ++ to_be_bytes w32 (big_number 4 (drop 4 front)))
-          (eight_bytes front (front_long ∙ form.long) are) giver form.drive_is form.none;
+              (to_be_bytes w32 (big_number 4 front) ++ to_be_bytes w32 (big_number 4 (drop 4 front)))
+              (eight_bytes front (front_long ∙ form.long) are) giver form.drive_is form.none;
           valid = (
             giver.valid,
             number_fits front are,
@@ -245,13 +245,13 @@ module _ (header : Header) (front payload : List ℕ) (fits : IsHeader header)
     of_kind kinds.Inventory is none form =
         let giver = giver_at header.host (host_in_range header.host none) in record {
           frame = plain_with kinds.Inventory is [] (no_bytes front (front_long ∙ form.long)) giver form.drive_is
-          form.none;
+              form.none;
           valid = (giver.valid, fits.tag);
         }
     of_kind kinds.Status is none form =
         let giver = giver_at header.host (host_in_range header.host none) in record {
           frame = plain_with kinds.Status is [] (no_bytes front (front_long ∙ form.long)) giver form.drive_is
-          form.none;
+              form.none;
           valid = (giver.valid, fits.tag);
         }
     of_kind kinds.Stray is none form = absurd form

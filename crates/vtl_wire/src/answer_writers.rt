@@ -1,5 +1,5 @@
 //! Answers, written frame by frame.
-ghost use Rattle.std.specs.Prelude.{◌≡◌, ◌≤◌, ◌-◌, ◌++◌, length, take, flat_map, replicate, IfErr, OnOk, OnErr};
+ghost use Rattle.std.specs.Prelude.{◌≡◌, ◌≤◌, ◌-◌, ◌++◌, Some, length, take, flat_map, replicate, IfErr, OnOk, OnErr};
 ghost use Rattle.std.specs.Io.KnownBytes.{Appends};
 ghost use Rattle.vtl_wire.specs.Answers.{FitsAnswer, FitsReply, frame_of_answer, frame_of_reply, sense_front, spell_answer, spell_entry};
 ghost use Rattle.vtl_wire.specs.Barcodes.{spell_barcode};
@@ -17,8 +17,8 @@ use crate::place_writers::{bytes_of, write_status};
 use crate::writing::{flush, write_bytes, write_frame};
 use scsi_sense::{Reply, Sense};
 use std::io::Write;
-use vtl_base::{Barcode, Nexus};
 use vtl_base::limits::MAX_BARCODE;
+use vtl_base::{Barcode, Nexus};
 
 // How many bytes of sense data an answer has.
 fn sense_len(sense: &Option<Sense>) -> u8
@@ -48,8 +48,14 @@ fn reply_header(kind: FrameKind, host: u8, reply: &Reply, tag: u32) -> Header
 // The header of an answer with `count` bytes of entries.
 fn data_header(kind: FrameKind, host: &Option<Nexus>, count: usize, tag: u32) -> Header
     requires { count ≤ MOST_DATA }
-    ensures { result ≡ record { kind = kind; host = host_byte host.now; detail = 0; front = 0; payload = count;
-        tag = tag } }
+    ensures { result ≡ record {
+      kind = kind;
+      host = host_byte host.now;
+      detail = 0;
+      front = 0;
+      payload = count;
+      tag = tag;
+    } }
 {
     Header {
         kind,
@@ -106,7 +112,7 @@ fn write_reply<W: Write>(writer: &mut W, header: Header, reply: &Reply) -> Resul
 }
 
 // These bytes, with spaces after them up to 16 bytes.
-pub(crate) fn with_spaces(symbols: &[u8]) -> [u8; MAX_BARCODE]
+fn with_spaces(symbols: &[u8]) -> [u8; MAX_BARCODE]
     requires { length symbols.now ≤ MAX_BARCODE }
     ensures { result ≡ symbols.now ++ replicate (MAX_BARCODE - length symbols.now) 32 }
 {
@@ -115,12 +121,19 @@ pub(crate) fn with_spaces(symbols: &[u8]) -> [u8; MAX_BARCODE]
     bytes
 }
 
-// The 16 bytes of a barcode; 16 bytes of 00h where there is none.
+// The 16 bytes of a barcode.
+pub(crate) fn name_bytes(barcode: &Barcode) -> [u8; MAX_BARCODE]
+    ensures { result ≡ spell_barcode (Some barcode.now) }
+{
+    with_spaces(barcode.as_bytes())
+}
+
+// The same; 16 bytes of 00h where there is none.
 fn barcode_bytes(barcode: &Option<Barcode>) -> [u8; MAX_BARCODE]
     ensures { result ≡ spell_barcode barcode.now }
 {
     match barcode {
-        Some(barcode) => with_spaces(barcode.as_bytes()),
+        Some(barcode) => name_bytes(barcode),
         None => [0; MAX_BARCODE],
     }
 }

@@ -83,7 +83,11 @@ impl Places {
 #[derive(Drop)]
 pub enum Answer {
     /// The answer to a command: the host that sent the command, and the reply.
-    Command { host: Nexus, reply: Reply, tag: u32 },
+    Command {
+        host: Nexus,
+        reply: Reply,
+        tag: u32,
+    },
     /// The answer to a move, of a host or of none.
     Move {
         host: Option<Nexus>,
@@ -104,7 +108,11 @@ pub enum Answer {
     },
     /// The answer to a request that names a host or a drive that is not there: the number of its host, whatever it is,
     /// and which of the two names nobody. Nobody served the request.
-    Stray { host: u8, astray: Astray, tag: u32 },
+    Stray {
+        host: u8,
+        astray: Astray,
+        tag: u32,
+    },
 }
 
 // Whether a frame can hold this reply.

@@ -11,9 +11,13 @@ ghost use Rattle.vtl_wire.specs.Places.{IsDrive, IsPlace, code_of_presence, is_o
 
 use crate::entry_readers::barcode_like;
 use crate::frames::{DRIVE_BYTES, PARTITION_BYTES, PLACE_BYTES};
-use crate::place_writers::{CARTRIDGE_BYTES, bytes_of_cartridge, bytes_of_place, cartridge_bytes, drive_bytes};
+use crate::place_writers::{
+    CARTRIDGE_BYTES, bytes_of_cartridge, bytes_of_place, cartridge_bytes, drive_bytes,
+};
 use byteorder::{BigEndian, ByteOrder};
-use place_figures::{CartridgeFigures, DriveFigures, PartitionFigures, Partitions, Place, Presence};
+use place_figures::{
+    CartridgeFigures, DriveFigures, PartitionFigures, Partitions, Place, Presence,
+};
 use vtl_base::limits::{DRIVES, MAX_PARTITIONS};
 
 // How a cartridge is where it is, by its byte.

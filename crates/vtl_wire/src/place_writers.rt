@@ -8,7 +8,7 @@ ghost use Rattle.vtl_wire.specs.Frames.{spell_header};
 ghost use Rattle.vtl_wire.specs.Places.{code_of_presence, spell_cartridge, spell_drive, spell_if_drive, spell_partition, spell_place};
 ghost use Rattle.vtl_wire.specs.Writes.{AppendsFront};
 
-use crate::answer_writers::with_spaces;
+use crate::answer_writers::name_bytes;
 use crate::faults::WireFault;
 use crate::frames::{DRIVE_BYTES, MOST_DATA, PARTITION_BYTES};
 use crate::headers::Header;
@@ -119,7 +119,7 @@ pub(crate) fn cartridge_bytes(
     let mut bytes = [0; CARTRIDGE_BYTES];
     bytes[0] = code_of(presence);
     bytes[1..5].copy_from_slice(&home.to_be_bytes());
-    bytes[5..21].copy_from_slice(&with_spaces(barcode.as_bytes()));
+    bytes[5..21].copy_from_slice(&name_bytes(barcode));
     bytes[21] = partitions;
     bytes
 }
@@ -173,7 +173,12 @@ fn write_cartridge<W: Write>(
     };
     let partitions = cartridge.partitions.as_slice();
     let count = partitions.len() as u8;
-    let first = cartridge_bytes(cartridge.presence, cartridge.home, &cartridge.barcode, count);
+    let first = cartridge_bytes(
+        cartridge.presence,
+        cartridge.home,
+        &cartridge.barcode,
+        count,
+    );
     write_bytes(writer, &first)?;
     write_partitions(writer, partitions)
 }

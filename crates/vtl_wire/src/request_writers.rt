@@ -18,8 +18,14 @@ use vtl_base::Nexus;
 // The header of a request without data that is no command. It names no drive.
 fn plain_header(kind: FrameKind, host: &Option<Nexus>, front: usize, tag: u32) -> Header
     requires { front ≤ MOVE_BYTES }
-    ensures { result ≡ record { kind = kind; host = host_byte host.now; detail = 0; front = front; payload = 0;
-        tag = tag } }
+    ensures { result ≡ record {
+      kind = kind;
+      host = host_byte host.now;
+      detail = 0;
+      front = front;
+      payload = 0;
+      tag = tag;
+    } }
 {
     Header {
         kind,

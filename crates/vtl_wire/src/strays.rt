@@ -3,8 +3,8 @@ ghost use Rattle.std.specs.Prelude.{◌≡◌};
 ghost use Rattle.vtl_wire.specs.Strays.{code_of_astray, has_form, astray_of};
 
 use crate::frames::{FrameKind, MOST_CDB, MOST_DATA, MOVE_BYTES};
-use vtl_base::{DriveNo, Nexus};
 use vtl_base::limits::NEXUSES;
+use vtl_base::{DriveNo, Nexus};
 
 /// The number in a request that names nobody: of its host, or of its drive.
 #[derive(Clone, Copy, PartialEq, Eq, Debug)]

@@ -2,7 +2,7 @@ use Rattle.std.proofs.Common.{◌≡◌, ◌+◌, ◌-◌, ◌*◌, ◌∷◌, �
 use Rattle.std.proofs.lemmas.List.{length-take-le}
 use Rattle.place_figures.specs.declared.partitions.PartitionFigures.{PartitionFigures}
 use Rattle.vtl_wire.proofs.HeaderLemmas.{bytes_behind}
-use Rattle.vtl_wire.proofs.PlacePartLemmas.{ArePartitionsTo, bytes_before, partitions_more, partitions_read}
+use Rattle.vtl_wire.proofs.PlacePartLemmas.{ArePartitionsTo, bytes_before, partitions_more, partitions_read, partitions_short}
 use Rattle.vtl_wire.proofs.place_readers.read_partitions.Goals as goal
 
 pub loop-place-preserved : goal.loop-place-preserved
@@ -25,3 +25,6 @@ returns-clause-found c =
     partitions_read c.args.bytes.now c.args.count c.loop-place.partitions
     (subst (λ (n : _). ArePartitionsTo c.args.bytes.now n c.loop-place.partitions) (omega arith)
     c.loop-place.invariant) (omega arith)
+
+pub returns-then-bytes-count-clause-none : goal.returns-then-bytes-count-clause-none
+returns-then-bytes-count-clause-none c = partitions_short c.args.bytes.now c.args.count (omega arith)
