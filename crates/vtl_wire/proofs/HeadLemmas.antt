@@ -1,7 +1,7 @@
 -- What the header of a request says.
-use Rattle.std.proofs.Common.{◌≡◌, ℕ, zero, suc, ◌<◌, ◌≤◌, ◌==◌, ◌^◌, Bool, Option, None, Some, IfSome, refl, sym, ap, ◌∙◌, arith, true}
+use Rattle.std.proofs.Common.{◌≡◌, ℕ, zero, suc, ◌<◌, ◌≤◌, ◌==◌, ◌^◌, Bool, true, false, Option, None, Some, IfSome, refl, sym, ap, ◌∙◌, subst, arith, inl, inr}
 use Rattle.std.specs.Prelude.{◌&&◌, nat_le, is_some, if◌then◌else◌}
-use Rattle.std.proofs.lemmas.Bool.{and_parts, eqb-true, leb-true}
+use Rattle.std.proofs.lemmas.Bool.{and_parts, cases_Bool, cond-false, eqb-true, leb-true}
 use Rattle.std.proofs.lemmas.Option.{cond_some}
 use Rattle.vtl_base.specs.declared.limits.TheConstants.{NEXUSES, DRIVES}
 use Rattle.vtl_wire.specs.declared.frames.TheConstants.{MOST_CDB, MOST_DATA, MOVE_BYTES}
@@ -109,6 +109,12 @@ command_to host drive is =
 pub host_in_range : (host : ℕ) → astray_host host ≡ None → host ≤ NEXUSES
 host_in_range host is = leb-true host NEXUSES (none_if (nat_le host NEXUSES) Host is)
 
+host_some : (n : ℕ) → host_at (suc n) ≡ Some (suc n)
+host_some n = elim (cases_Bool (suc n == 0)) [
+  | inl is ↦ absurd (omega (arith, eqb-true (suc n) 0 is))
+  | inr other ↦ cond-false (suc n == 0) None (Some (suc n)) other
+]
+
 -- the host of a byte that is in range
 pub record IsGiver (host : ℕ) : Type 0 where
   pub same : host_byte (host_at host) ≡ host
@@ -116,12 +122,16 @@ pub record IsGiver (host : ℕ) : Type 0 where
 
 pub giver_at : (host : ℕ) → host ≤ NEXUSES → IsGiver host
 giver_at zero small = record { same = refl; valid = tt }
-giver_at (suc n) small = record { same = refl; valid = record { least = omega arith; most = small } }
+giver_at (suc n) small =
+    let ok : IsHost (suc n) = record { least = omega arith; most = small } in record {
+      same = ap host_byte (host_some n);
+      valid = subst (λ (host : Option ℕ). IfSome host IsHost) (sym (host_some n)) ok;
+    }
 
 pub host_again : (host : Option ℕ) → IfSome host IsHost → host_at (host_byte host) ≡ host
 host_again None ok = refl
 host_again (Some zero) ok = absurd (omega (arith, ok.least))
-host_again (Some (suc n)) ok = refl
+host_again (Some (suc n)) ok = host_some n
 
 pub host_small : (host : Option ℕ) → IfSome host IsHost → host_byte host ≤ NEXUSES
 host_small None ok = omega arith
