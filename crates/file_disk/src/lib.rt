@@ -20,7 +20,7 @@ pub use disk::DiskOver;
 pub use error::FileError;
 pub use failed::{FailedCall, SystemCall};
 pub use looking::{FileLook, has_open_pair, look};
-pub use opening::{create, no_file, open, open_or_create, open_to_read};
+pub use opening::{create, no_file, open, open_or_create, open_to_look, open_to_read};
 pub use raw::{CallFailed, RawFile, Stop};
 pub use system::SystemFile;
 

@@ -27,6 +27,8 @@ const OWNER_ALONE: u32 = 0o600;
 enum Access {
     Change,
     Read,
+    // To be read, beside whoever changes it from then on.
+    Look,
 }
 
 pub(crate) fn device(call: SystemCall, error: &io::Error) -> FileError
@@ -159,6 +161,14 @@ pub fn open_to_read(rt: &HostRuntime, path: &str) -> Result<FileDisk, FileError>
     open_as(rt, path, Access::Read)
 }
 
+/// Opens a file as `open_to_read` does, and gives its lock back before it returns, so that no process is kept from
+/// changing the file while it is read. So what is read may be neither old nor new. Errors: those of `open_to_read`.
+pub fn open_to_look(rt: &HostRuntime, path: &str) -> Result<FileDisk, FileError>
+    ensures ok { IfOk result (λ disk. disk.failures ≡ 0) }
+{
+    open_as(rt, path, Access::Look)
+}
+
 /// A disk of no bytes, with no file under it, in place of a file that is missing. Each call that would change it fails.
 pub fn no_file() -> FileDisk
     ensures failures { result.failures ≡ 0 }
@@ -171,7 +181,7 @@ pub fn no_file() -> FileDisk
 // no missing file: `open_or_create`, which would make that, refuses the link too.
 fn not_found(rt: &HostRuntime, path: &str, access: Access, error: &io::Error) -> FileError {
     match error_of(SystemCall::Look, error) {
-        FileError::Missing if access == Access::Read && fs::symlink_metadata(rt, path).is_ok() => {
+        FileError::Missing if access != Access::Change && fs::symlink_metadata(rt, path).is_ok() => {
             FileError::NotAFile
         }
         other => other,
@@ -206,7 +216,7 @@ fn prepared(file: File, access: Access) -> Result<FileDisk, FileError>
     };
     match access {
         Access::Change => Ok(DiskOver::opened(file)),
-        Access::Read => match file.sync() {
+        Access::Read | Access::Look => match file.sync() {
             Ok(()) => Ok(DiskOver::new(file)),
             Err(_) => Err(not_synced(&file)),
         },
@@ -246,9 +256,13 @@ fn above_streams(file: File) -> io::Result<File> {
 fn lock(file: &File, access: Access) -> Result<bool, FileError> {
     let taken = match access {
         Access::Change => file.try_lock(),
-        Access::Read => file.try_lock_shared(),
+        Access::Read | Access::Look => file.try_lock_shared(),
     };
     match taken {
+        Ok(()) if access == Access::Look => match file.unlock() {
+            Ok(()) => Ok(true),
+            Err(error) => Err(device(SystemCall::Lock, &error)),
+        },
         Ok(()) => Ok(true),
         Err(error) => lock_answer(&error),
     }

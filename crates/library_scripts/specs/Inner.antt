@@ -5,4 +5,5 @@ pub mod Jobs
 pub mod Serves
 pub mod Staged
 pub mod StagesOn
+pub mod Strictly
 pub mod Threads

@@ -1,3 +1,4 @@
 pub mod Crews
 pub mod Inner
 pub mod Ran
+pub mod RanStrictly

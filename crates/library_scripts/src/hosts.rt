@@ -5,6 +5,7 @@ ghost use Rattle.std.specs.List.Sorted.{IsNonDecreasingBy};
 ghost use Rattle.scsi_sense.specs.declared.replies.Reply.{Reply};
 ghost use Rattle.vtl_script.specs.declared.items.Item.{Item};
 ghost use Rattle.vtl_script.specs.declared.items.Item.TheVariants as Kinds;
+ghost use Rattle.vtl_script.specs.Strict.{CarriesItem};
 ghost use Rattle.vtl_script.specs.declared.lines.Line.{Line};
 ghost use Rattle.library.specs.Counts.{has_drive};
 ghost use Rattle.library_scripts.specs.Crews.{CrewState};
@@ -45,6 +46,18 @@ pub(crate) trait Hosts {
         requires { list_all (λ line. has_drive (crew self.old).drives line.drive) lines.old ≡ true }
         ensures ok { IfOk result (λ replies.
             answers (crew self.old) (Kinds.Phase lines.old ∷ []) replies.items (crew self.new)) }
+        ensures err { OnErr result (crew self.new ≡ crew self.old) };
+
+    /// Carries out the lines of a phase as `run_in_turn` does, but none of a host's lines that follow on one whose answer
+    /// ends a strict run.
+    fn run_in_turn_strictly(
+        &mut self,
+        alloc: Global,
+        lines: &mut [Line],
+    ) -> Result<Vec<Reply>, NoMemory>
+        requires { list_all (λ line. has_drive (crew self.old).drives line.drive) lines.old ≡ true }
+        ensures ok { IfOk result (λ replies.
+            CarriesItem answers (crew self.old) (Kinds.Phase lines.old) replies.items (crew self.new)) }
         ensures err { OnErr result (crew self.new ≡ crew self.old) };
 
     /// Deals the lines of a phase to their hosts, and reserves memory for their replies. The hosts' numbers have to

@@ -4,6 +4,7 @@ ghost use Rattle.bay_moves.specs.Runs.{line_request};
 ghost use Rattle.library.specs.Counts.{has_drive};
 ghost use Rattle.library.specs.Served.{IsServed};
 ghost use Rattle.library_scripts.specs.Inner.Jobs.{IsDone, IsReady};
+ghost use Rattle.library_scripts.specs.Inner.Strictly.{IsDoneStrictly};
 
 use crate::threads::Idle;
 use ledgers::Parties;
@@ -14,7 +15,7 @@ use std::marker::Model;
 use std::sync::Wait;
 use tape_disk::Disk;
 use vtl_base::NoMemory;
-use vtl_script::Line;
+use vtl_script::{Line, ends_run, is_test};
 
 /// A job: the seat of a host, the host's lines of a phase, and room for their replies.
 #[derive(Drop)]
@@ -96,6 +97,32 @@ impl<H: Parties> Job<H> {
             replies,
         } = self;
         library.session(rt, seat, lines.as_mut_slice(), replies);
+    }
+
+    /// Carries out the lines of the job, in order, up to the first answer that ends a strict run. Their replies are in
+    /// the job then.
+    pub(crate) fn serve_strictly<D: Disk + Drop, B: Parties + Rings, R: Wait>(
+        &mut self,
+        rt: &R,
+        library: &Library<D, B, H>,
+    )
+        requires { IsReady library.now self.old }
+        ensures { IsDoneStrictly D.state self.old self.new }
+    {
+        let Job {
+            seat,
+            lines,
+            replies,
+        } = self;
+        for line in lines.as_mut_slice() {
+            let is_test = is_test(line.cdb.as_slice());
+            let reply = library.serve_line(rt, seat, line);
+            let ends = ends_run(is_test, &reply);
+            replies.push(reply).unwrap();
+            if ends {
+                return;
+            }
+        }
     }
 
     /// Carries out a line that was not added to the job, for the job's host. A block that is written takes the line's

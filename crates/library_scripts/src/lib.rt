@@ -9,7 +9,10 @@ mod phases;
 pub mod runs;
 mod serving;
 mod stages;
+mod strict_crews;
+pub mod strict_runs;
 mod threads;
 
 pub use runs::{Ran, run_library};
+pub use strict_runs::run_library_strictly;
 pub use vtl_script::run_script;

@@ -4,6 +4,7 @@ ghost use Rattle.std.specs.List.{list_all};
 ghost use Rattle.std.specs.List.Sorted.{IsNonDecreasingBy};
 ghost use Rattle.vtl_base.specs.declared.limits.TheConstants.{NEXUSES};
 ghost use Rattle.bay_moves.specs.Runs.{line_event};
+ghost use Rattle.vtl_script.specs.Strict.{carried, left_of};
 ghost use Rattle.library.specs.Counts.{has_drive};
 ghost use Rattle.library_scripts.specs.Crews.{AnswersAllAmong};
 ghost use Rattle.library_scripts.specs.Inner.InPlace.{AreInPlace};
@@ -16,8 +17,8 @@ use scsi_sense::Reply;
 use std::alloc::Global;
 use std::sync::Wait;
 use tape_disk::Disk;
-use vtl_base::NoMemory;
-use vtl_script::Line;
+use vtl_base::{Nexus, NoMemory};
+use vtl_script::{Line, ends_run, is_test};
 
 /// Returns true where these lines are of at least two hosts, and no line comes after one of a host with a higher
 /// number.
@@ -63,6 +64,42 @@ pub(crate) fn serve_in_turn<D: Disk + Drop, B: Parties + Rings, H: Parties, R: W
     for line in lines {
         let place = job_place(line);
         let reply = jobs[place].serve_line(rt, library, line);
+        replies.push(reply).unwrap();
+    }
+    Ok(replies)
+}
+
+/// Carries out the lines as `serve_in_turn` does, but none of a host's lines that follow on one whose answer ends a
+/// strict run.
+pub(crate) fn serve_in_turn_strictly<D: Disk + Drop, B: Parties + Rings, H: Parties, R: Wait>(
+    rt: &R,
+    alloc: Global,
+    library: &Library<D, B, H>,
+    jobs: &mut [Job<H>],
+    lines: &mut [Line],
+) -> Result<Vec<Reply>, NoMemory>
+    requires places { AreInPlace (seats_of jobs.old) }
+    requires configured { list_all (λ line. has_drive library.now line.drive) lines.old ≡ true }
+    ensures ok { IfOk result (λ replies. AnswersAllAmong D.state library.now (seats_of jobs.old)
+        (map line_event (carried lines.old replies.items)) replies.items (seats_of jobs.new)
+        × (left_of lines.old replies.items ≡ [])) }
+    ensures err { OnErr result (seats_of jobs.new ≡ seats_of jobs.old) }
+    ensures places { AreInPlace (seats_of jobs.new) }
+{
+    let mut replies = Vec::with_capacity(alloc, lines.len())?;
+    let mut ended: Option<Nexus> = None;
+    for line in lines {
+        if ended == Some(line.host) {
+            continue;
+        }
+        let is_test = is_test(line.cdb.as_slice());
+        let place = job_place(line);
+        let reply = jobs[place].serve_line(rt, library, line);
+        ended = if ends_run(is_test, &reply) {
+            Some(line.host)
+        } else {
+            None
+        };
         replies.push(reply).unwrap();
     }
     Ok(replies)

@@ -38,15 +38,15 @@ pub struct Ran<D: Disk> {
     pub outcome: Result<(), ScriptFault>,
 }
 
-// Room for the jobs of all hosts, and for their seats when they are returned.
+/// Room for the jobs of all hosts, and for their seats when they are returned.
 #[derive(Drop)]
-struct Rooms<H: Parties> {
-    jobs: Vec<Job<H>>,
-    seats: Vec<Seat<H>>,
+pub(crate) struct Rooms<H: Parties> {
+    pub(crate) jobs: Vec<Job<H>>,
+    pub(crate) seats: Vec<Seat<H>>,
 }
 
-// Makes room for all hosts.
-fn make_rooms<H: Parties>(alloc: Global) -> Result<Rooms<H>, NoMemory>
+/// Makes room for all hosts.
+pub(crate) fn make_rooms<H: Parties>(alloc: Global) -> Result<Rooms<H>, NoMemory>
     ensures jobs { IfOk result (λ rooms. (rooms.jobs.items ≡ []) × (NEXUSES ≤ vec_capacity rooms.jobs)) }
     ensures seats { IfOk result (λ rooms. (rooms.seats.items ≡ []) × (NEXUSES ≤ vec_capacity rooms.seats)) }
 {
@@ -56,20 +56,20 @@ fn make_rooms<H: Parties>(alloc: Global) -> Result<Rooms<H>, NoMemory>
     })
 }
 
-// The seats of all hosts, and the operator, who makes the moves.
+/// The seats of all hosts, and the operator, who makes the moves.
 #[derive(Drop)]
-struct Seated<H: Parties> {
-    rooms: Rooms<H>,
-    seats: Vec<Seat<H>>,
-    operator: Operator<H>,
+pub(crate) struct Seated<H: Parties> {
+    pub(crate) rooms: Rooms<H>,
+    pub(crate) seats: Vec<Seat<H>>,
+    pub(crate) operator: Operator<H>,
 }
 
-// The seats and the operator after a script over a library, and how the script ended.
+/// The seats and the operator after a script over a library, and how the script ended.
 #[derive(Drop)]
-struct RanFor<H: Parties> {
-    seats: Vec<Seat<H>>,
-    operator: Operator<H>,
-    outcome: Result<(), ScriptFault>,
+pub(crate) struct RanFor<H: Parties> {
+    pub(crate) seats: Vec<Seat<H>>,
+    pub(crate) operator: Operator<H>,
+    pub(crate) outcome: Result<(), ScriptFault>,
 }
 
 // Runs the script over an open library while each drive has a flusher beside it; then closes the library, so that every

@@ -2,6 +2,7 @@
 ghost use Rattle.std.specs.Prelude.{All};
 ghost use Rattle.library_scripts.specs.Inner.Jobs.{AreDone, IsDone, IsReady, IsServedStage};
 ghost use Rattle.library_scripts.specs.Inner.Staged.{AreReady};
+ghost use Rattle.library_scripts.specs.Inner.Strictly.{AreDoneStrictly, IsDoneStrictly, IsServedStrictly};
 
 use crate::jobs::Job;
 use crate::stages::Stage;
@@ -44,5 +45,38 @@ fn serve_jobs<
         requires { IsReady library.now job.now }
         ensures { IsDone D.state job.entry.now job.exit.now }
     { job.serve(rt, library) };
+    each_beside(rt, &serve, jobs);
+}
+
+/// Carries out the lines of each host as `serve_all` does, each host's up to the first answer that ends a strict run.
+pub(crate) fn serve_all_strictly<
+    'a,
+    D: Disk + Drop + Send,
+    B: Parties + Rings + Send + Sync,
+    H: Parties + Send + Sync,
+    R: Threads + Wait + Sync,
+>(stage: &mut Stage<'a, D, B, H, R>)
+    requires { AreReady stage.old }
+    ensures { IsServedStrictly D.state stage.old stage.new }
+{
+    let rt = stage.rt;
+    let library = stage.library;
+    serve_jobs_strictly(rt, library, stage.jobs.as_mut_slice());
+}
+
+// Carries out the lines of each job, up to the first answer that ends a strict run.
+fn serve_jobs_strictly<
+    D: Disk + Drop + Send,
+    B: Parties + Rings + Send + Sync,
+    H: Parties + Send + Sync,
+    R: Threads + Wait + Sync,
+>(rt: &R, library: &Library<D, B, H>, jobs: &mut [Job<H>])
+    requires { All (IsReady library.now) jobs.old }
+    ensures { AreDoneStrictly D.state jobs.old jobs.new }
+{
+    let serve = |_: usize, job: &mut Job<H>|
+        requires { IsReady library.now job.now }
+        ensures { IsDoneStrictly D.state job.entry.now job.exit.now }
+    { job.serve_strictly(rt, library) };
     each_beside(rt, &serve, jobs);
 }

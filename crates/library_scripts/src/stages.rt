@@ -10,7 +10,7 @@ ghost use Rattle.library_scripts.specs.Inner.StagesOn.{stage_answered, stage_cou
 
 use crate::hosts::Hosts;
 use crate::jobs::Job;
-use crate::phases::{begin_all, deal_all, give_all, serve_in_turn};
+use crate::phases::{begin_all, deal_all, give_all, serve_in_turn, serve_in_turn_strictly};
 use ledgers::Parties;
 use library::{Library, Operator, Rings, Seat};
 use scsi_sense::Reply;
@@ -124,6 +124,16 @@ impl<'a, D: Disk + Drop, B: Parties + Rings, H: Parties, R: Wait> Hosts for Stag
         let rt = self.rt;
         let library = self.library;
         serve_in_turn(rt, alloc, library, self.jobs.as_mut_slice(), lines)
+    }
+
+    fn run_in_turn_strictly(
+        &mut self,
+        alloc: Global,
+        lines: &mut [Line],
+    ) -> Result<Vec<Reply>, NoMemory> {
+        let rt = self.rt;
+        let library = self.library;
+        serve_in_turn_strictly(rt, alloc, library, self.jobs.as_mut_slice(), lines)
     }
 
     fn deal(&mut self, lines: &mut [Line]) -> Result<(), NoMemory> {

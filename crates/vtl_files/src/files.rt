@@ -43,6 +43,32 @@ pub trait ReadFiles<D: Disk> {
         ensures { (D.state result).honest → (D.state result).seen ≡ [] };
 }
 
+/// Files that are read for a status, beside whoever changes them.
+pub trait StatusFiles<D: Disk> {
+    // The answers that a call may have, by the name.
+    ghost looks_into: { List ℕ → Result D FileError → Type 0 };
+
+    // The disk that was returned for a name.
+    ghost puts_back: { List ℕ → D → Type 0 };
+
+    /// Opens the file of this name to be read, and returns a disk over it. Each call of the disk that would change the
+    /// file fails. No lock is held once it is open; so it may be changed meanwhile, and no disk promises to be honest.
+    /// The error is `InUse` where another process has the file open to change it.
+    fn look_into(&self, name: &str) -> Result<D, FileError>
+        ensures { looks_into name.now result };
+
+    /// Closes the file of this name, and takes `disk`, the disk over the file, as it is.
+    fn put_back(&self, name: &str, disk: D)
+        ensures { puts_back name.now disk };
+
+    /// Returns a disk with no bytes, which stands for a missing file.
+    fn empty(&self) -> D
+        ensures { (D.state result).honest → (D.state result).seen ≡ [] };
+
+    /// Whether what is said is read by somebody at a terminal.
+    fn is_terminal(&self) -> bool;
+}
+
 /// Files that are looked at by their names, before they are opened or made.
 pub trait LookFiles {
     // The answers that a look may have, by the name.

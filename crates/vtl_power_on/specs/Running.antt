@@ -11,6 +11,7 @@ use Rattle.bay_moves.specs.Elements.{HeldState}
 use Rattle.library.specs.Counts.{AcceptedNone}
 use Rattle.library.specs.Ends.{EndsShared}
 use Rattle.library_scripts.specs.Ran.{RunsShared}
+use Rattle.library_scripts.specs.RanStrictly.{RunsSharedStrictly}
 use Rattle.library.specs.declared.finishing.FinishError.{FinishError}
 use Rattle.vtl_faults.specs.FromBelow.{fault_of}
 use Rattle.vtl_faults.specs.declared.faults.VtlFault.{VtlFault}
@@ -56,4 +57,23 @@ abbrev pub RunsHeld : {D : Type 0} → (D → DiskState) → (old : HeldState D)
     → (left left' before now : Option (List ℕ)) → (new : HeldState D) → Result (Unit {0}) VtlFault → Type 0
 RunsHeld state old left left' before now new outcome =
     RunsStarted state old left left' before now new outcome
+    ⊎ (outcome ≡ Err NoMemory) × (new ≡ old) × IsIdle left left' before now
+
+-- a script was run as by `RunsStarted`, up to the first answer that ends a strict run (own)
+pub record RunsStrictlyStarted {D : Type 0} (state : D → DiskState) (old : HeldState D)
+    (left left' before now : Option (List ℕ)) (new : HeldState D) (outcome : Result (Unit {0}) VtlFault) : Type 0 where
+  pub ended : Result (Unit {0}) ScriptFault
+  pub counts : Result (List (Option ℕ)) FinishError
+  pub answers : ℕ
+  pub moves : ℕ
+  pub runs : RunsSharedStrictly state old.bays every_nexus left before now ended new.bays counts answers moves
+  pub takes : ended ≢ Err ReadFault → TakesWithin left 0 left'
+  pub ends : EndsShared state old.bays new.bays new.slots counts
+  pub outcome_is : outcome ≡ outcome_of ended counts
+
+-- it was run in this way; or memory ran out before it, nothing was read or written, and the library is unchanged (own)
+abbrev pub RunsHeldStrictly : {D : Type 0} → (D → DiskState) → (old : HeldState D)
+    → (left left' before now : Option (List ℕ)) → (new : HeldState D) → Result (Unit {0}) VtlFault → Type 0
+RunsHeldStrictly state old left left' before now new outcome =
+    RunsStrictlyStarted state old left left' before now new outcome
     ⊎ (outcome ≡ Err NoMemory) × (new ≡ old) × IsIdle left left' before now

@@ -10,25 +10,28 @@ use Rattle.vtl_faults.specs.FromBelow.{IsFailure}
 use Rattle.vtl_faults.specs.declared.faults.VtlFault.{VtlFault}
 use Rattle.vtl_faults.specs.declared.faults.VtlFault.TheVariants.{NoMemory}
 use Rattle.vtl_files.specs.Configured.{ReadsConfig, ReadsToOpen}
-use Rattle.vtl_power_on.specs.Running.{IsIdle, RunsHeld}
+use Rattle.vtl_power_on.specs.Running.{IsIdle, RunsHeld, RunsHeldStrictly}
 use Rattle.vtl_power_on.specs.Serving.{ServesHeld, built_in_labels, labels_of}
 use Rattle.vtl_power_on.specs.Sides.{SidesGiven, memory_state, new_sides, takes_any}
 use Rattle.vtl_power_on.specs.Starting.{IsBuiltIn, IsNotStarted, IsStart, IsStarted, built_in_barcode, built_in_capacities}
 use Rattle.vtl_power_on.specs.Unfinished.{NotStartedState}
 use Rattle.vtl_power_on.specs.declared.works.Purpose.{Purpose}
-use Rattle.vtl_power_on.specs.declared.works.Purpose.TheVariants.{Run, Serve}
+use Rattle.vtl_power_on.specs.declared.works.Purpose.TheVariants.{Run, RunStrictly, Serve}
 use Rattle.vtl_power_on.specs.declared.works.Work.{Work}
-use Rattle.vtl_power_on.specs.declared.works.Work.TheVariants.{Script, Frames}
+use Rattle.vtl_power_on.specs.declared.works.Work.TheVariants.{Script, StrictScript, Frames}
 
 -- the work of this purpose over a library whose cartridges are where the labels say (own)
 abbrev pub work_of : Purpose → List Label → Work
 work_of Run labels = Script
+work_of RunStrictly labels = StrictScript
 work_of Serve labels = Frames labels
 
--- a script was run over this library, or all hosts were served over it (own)
+-- a script was run over this library, strictly or not, or all hosts were served over it (own)
 abbrev pub UsesHeld : {D : Type 0} → Work → (D → DiskState) → (old : HeldState D)
     → (left left' before now : Option (List ℕ)) → (new : HeldState D) → Result (Unit {0}) VtlFault → Type 0
 UsesHeld Script state old left left' before now new outcome = RunsHeld state old left left' before now new outcome
+UsesHeld StrictScript state old left left' before now new outcome =
+    RunsHeldStrictly state old left left' before now new outcome
 UsesHeld (Frames labels) state old left left' before now new outcome =
     ServesHeld state old labels left left' before now new outcome
 

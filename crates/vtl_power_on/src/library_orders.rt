@@ -29,6 +29,8 @@ use vtl_files::files::{ChangeFiles, LookFiles, SecondFiles, TakesBack, TextFiles
 #[derive(Drop)]
 pub struct LibraryOrder {
     pub purpose: Purpose,
+    /// Whether cartridges whose homes are drives are there unloaded at the start.
+    pub unloaded: bool,
     /// Whether the cartridges and stores of a configuration are made anew in memory, and no file is opened for them.
     pub memory: bool,
     /// The name of the file of the configuration. None: the built-in one, in memory.
@@ -84,6 +86,7 @@ pub fn use_library<
 {
     let LibraryOrder {
         purpose,
+        unloaded,
         memory,
         config,
     } = order;

@@ -10,7 +10,7 @@ use crate::starting::NotStarted;
 use crate::works::{Work, outcome_of, served_outcome};
 use bay_moves::{Bay, Held};
 use library::{Finished, RingRow, Sealed, Unopened};
-use library_scripts::{Ran, run_library};
+use library_scripts::{Ran, run_library, run_library_strictly};
 use std::alloc::Global;
 use std::io::{Read, Write};
 use std::marker::Brand;
@@ -128,6 +128,15 @@ pub fn with_library<
     let pace = Pace { rt };
     match work {
         Work::Script => match run_library::<D, Brand, Brand, R, Pace<'_, R>, I, W>(
+            rt, alloc, parts, &pace, reader, writer,
+        ) {
+            Ok(Ran { finished, outcome }) => {
+                let Finished { left, counts, .. } = finished;
+                close(sides, left, outcome_of(outcome, counts))
+            }
+            Err(back) => close(sides, back, Err(VtlFault::NoMemory)),
+        },
+        Work::StrictScript => match run_library_strictly::<D, Brand, Brand, R, Pace<'_, R>, I, W>(
             rt, alloc, parts, &pace, reader, writer,
         ) {
             Ok(Ran { finished, outcome }) => {

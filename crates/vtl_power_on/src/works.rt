@@ -19,6 +19,8 @@ use vtl_wire::WireFault;
 pub enum Purpose {
     /// To run a script.
     Run,
+    /// To run a script up to the first answer that is refused.
+    RunStrictly,
     /// To serve frames.
     Serve,
 }
@@ -28,6 +30,8 @@ pub enum Purpose {
 pub enum Work {
     /// A script is run over it.
     Script,
+    /// A script is run over it, up to the first answer that ends a strict run.
+    StrictScript,
     /// Frames are served, for all hosts at the same time. The labels say where the cartridges are.
     Frames(Labels),
 }
@@ -43,6 +47,7 @@ pub(crate) fn work_of(
 {
     match purpose {
         Purpose::Run => Ok(Work::Script),
+        Purpose::RunStrictly => Ok(Work::StrictScript),
         Purpose::Serve => Ok(Work::Frames(labels_of(alloc, cartridges)?)),
     }
 }
@@ -53,6 +58,7 @@ pub(crate) fn built_in_work(alloc: Global, purpose: Purpose) -> Result<Work, NoM
 {
     match purpose {
         Purpose::Run => Ok(Work::Script),
+        Purpose::RunStrictly => Ok(Work::StrictScript),
         Purpose::Serve => Ok(Work::Frames(built_in_labels(alloc)?)),
     }
 }

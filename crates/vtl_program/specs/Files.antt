@@ -19,6 +19,9 @@ pub record FileAnswers (D : Type 0) : Type 1 where
   -- a file is opened to be read, and its disk is returned
   pub opens_to_read : List ℕ → Result D FileError → Type 0
   pub closes : List ℕ → D → Type 0
+  -- a file is opened to be read for a status, and its disk is returned
+  pub looks_into : List ℕ → Result D FileError → Type 0
+  pub puts_back : List ℕ → D → Type 0
   -- a file is opened to be changed, and its disk is returned: alone; in a library; or in one whose drives were not
   -- all switched on
   pub opens : List ℕ → Result D FileError → Type 0
@@ -38,18 +41,21 @@ pub record FileAnswers (D : Type 0) : Type 1 where
 abbrev pub answers_of : {D : Type 0} → (List ℕ → Result (Vec ℕ Global) Error → Type 0)
     → (looks : List ℕ → Result FileLook FileError → Type 0) → (pairs : List ℕ → Result Bool FileError → Type 0)
     → (opens_to_read : List ℕ → Result D FileError → Type 0) → (closes : List ℕ → D → Type 0)
+    → (looks_into : List ℕ → Result D FileError → Type 0) → (puts_back : List ℕ → D → Type 0)
     → (opens : List ℕ → Result D FileError → Type 0) → (returns_disk : List ℕ → D → Type 0)
     → (closes_all : HeldState D → Type 0) → (gives_up : NotStartedState D → Type 0)
     → (opens_second : Bool → List ℕ → Result D FileError → Type 0) → (closes_second : List ℕ → D → Type 0)
     → (makes : List ℕ → Result D FileError → Type 0) → (leaves takes_away : List ℕ → D → Type 0)
     → FileAnswers D
-answers_of reads looks pairs opens_to_read closes opens returns_disk closes_all gives_up opens_second closes_second
+answers_of reads looks pairs opens_to_read closes looks_into puts_back opens returns_disk closes_all gives_up opens_second closes_second
     makes leaves takes_away = record {
       reads = reads;
       looks = looks;
       pairs = pairs;
       opens_to_read = opens_to_read;
       closes = closes;
+      looks_into = looks_into;
+      puts_back = puts_back;
       opens = opens;
       returns_disk = returns_disk;
       closes_all = closes_all;

@@ -1,5 +1,5 @@
 -- What the program does for the words of its command line (own).
-use Rattle.std.specs.Prelude.{◌≡◌, ◌⊎◌, ℕ, Bool, List, Option, Result, Ok, Err, String, Vec, string_bytes}
+use Rattle.std.specs.Prelude.{◌≡◌, ◌⊎◌, ℕ, Bool, true, false, List, Option, Result, Ok, Err, String, Vec, string_bytes}
 use Rattle.std.specs.Io.KnownBytes.{Appends, Keeps}
 use Rattle.std.specs.declared.alloc.Global.{Global}
 use Rattle.std.specs.declared.io.Error.{Error}
@@ -9,7 +9,7 @@ use Rattle.file_disk.specs.declared.error.FileError.{FileError}
 use Rattle.file_disk.specs.declared.looking.FileLook.{FileLook}
 use Rattle.vtl_script.specs.Text.{AppendsPart}
 use Rattle.vtl_config.specs.declared.entries.Config.{Config}
-use Rattle.vtl_words.specs.Orders.{Asked, Asks, RefusesWords, check, check_all, create, reclaim, run, serve, texts_of}
+use Rattle.vtl_words.specs.Orders.{Asked, Asks, RefusesWords, check, check_all, create, reclaim, run, serve, status, texts_of}
 use Rattle.vtl_words.specs.declared.orders.WordsError.{WordsError}
 use Rattle.vtl_words.specs.declared.orders.WordsError.TheVariants.{Help, Refused, NoMemory}
 use Rattle.vtl_faults.specs.declared.endings.Ended.{Ended}
@@ -25,8 +25,10 @@ use Rattle.vtl_files.specs.Configured.{ReadsToOpen, ReadsConfig}
 use Rattle.vtl_faults.specs.Endings.{EndsProgram}
 use Rattle.vtl_power_on.specs.Running.{IsIdle}
 use Rattle.vtl_files.specs.Reclaims.{ReclaimsNamed}
+use Rattle.vtl_files.specs.Statuses.{SaysStatus}
 use Rattle.vtl_power_on.specs.Sides.{file_sides}
 use Rattle.vtl_power_on.specs.Using.{UsesOrder}
+use Rattle.vtl_power_on.specs.declared.works.Purpose.{Purpose}
 use Rattle.vtl_power_on.specs.declared.works.Purpose.TheVariants as purposes
 
 module _ {D : Type 0} (state : D → DiskState) where
@@ -62,6 +64,21 @@ module _ {D : Type 0} (state : D → DiskState) where
       (config : Result Config VtlFault) × ReadsConfig reads name config
       × ChecksIn effect opens_to_read closes config before now result
 
+  -- what the library of a configuration holds is said; where there is no configuration, nothing is written (own)
+  abbrev pub SaysStatusIn : (looks_into : List ℕ → Result D FileError → Type 0) → (puts_back : List ℕ → D → Type 0)
+      → Result Config VtlFault → (json : Bool) → (before now : Option (List ℕ)) → Result Verdict VtlFault → Type 0
+  SaysStatusIn looks_into puts_back (Ok config) json before now result =
+      SaysStatus state looks_into puts_back config json before now result
+  SaysStatusIn looks_into puts_back (Err fault) json before now result = (result ≡ Err fault) × Keeps before now
+
+  -- what `vtl status` does, by the configuration that a file says (own)
+  abbrev pub SaysStatusOrder : (List ℕ → Result (Vec ℕ Global) Error → Type 0)
+      → (looks_into : List ℕ → Result D FileError → Type 0) → (puts_back : List ℕ → D → Type 0)
+      → (name : List ℕ) → (json : Bool) → (before now : Option (List ℕ)) → Result Verdict VtlFault → Type 0
+  SaysStatusOrder reads looks_into puts_back name json before now result =
+      (config : Result Config VtlFault) × ReadsConfig reads name config
+      × SaysStatusIn looks_into puts_back config json before now result
+
   -- what `vtl reclaim` does, by the configuration that a file says (own)
   abbrev pub ReclaimsOrder : (List ℕ → Result (Vec ℕ Global) Error → Type 0)
       → (looks : List ℕ → Result FileLook FileError → Type 0) → (pairs : List ℕ → Result Bool FileError → Type 0)
@@ -72,6 +89,11 @@ module _ {D : Type 0} (state : D → DiskState) where
       (config : Result Config VtlFault) × ReadsToOpen reads name config
       × ReclaimsNamed state looks pairs opens opens_second returns_disk closes_second barcode config before now result
 
+-- what a library is switched on for by `run`, with `--strict` or without (own)
+abbrev pub purpose_of : (strict : Bool) → Purpose
+purpose_of true = purposes.RunStrictly
+purpose_of false = purposes.Run
+
 -- it is done, or a fault came (own)
 abbrev pub verdict_from : Result (Unit {0}) VtlFault → Result Verdict VtlFault
 verdict_from (Ok done) = Ok Done
@@ -81,13 +103,13 @@ module _ {D : Type 0} (state : D → DiskState) (effect : DiskCall → Result Un
     (files : FileAnswers D) where
   -- what an order does; except for a run and a serving nothing is read (own)
   abbrev pub DoesOrder : Asked → (left left' before now : Option (List ℕ)) → Result Verdict VtlFault → Type 0
-  DoesOrder (run memory config) left left' before now result =
+  DoesOrder (run strict unloaded memory config) left left' before now result =
       (outcome : Result (Unit {0}) VtlFault)
       × UsesOrder state files.reads (file_sides state files.pairs files.opens files.opens_second files.returns_disk)
       files.closes_all files.gives_up
-      purposes.Run memory config left left' before now outcome
+      (purpose_of strict) memory config left left' before now outcome
       × (result ≡ verdict_from outcome)
-  DoesOrder (serve memory config) left left' before now result =
+  DoesOrder (serve unloaded memory config) left left' before now result =
       (outcome : Result (Unit {0}) VtlFault)
       × UsesOrder state files.reads (file_sides state files.pairs files.opens files.opens_second files.returns_disk)
       files.closes_all files.gives_up
@@ -103,6 +125,9 @@ module _ {D : Type 0} (state : D → DiskState) (effect : DiskCall → Result Un
       ChecksOrder state effect files.opens_to_read files.closes file blocks before now result × Keeps left left'
   DoesOrder (check_all config) left left' before now result =
       ChecksConfigOrder state effect files.reads files.opens_to_read files.closes config before now result
+      × Keeps left left'
+  DoesOrder (status config json) left left' before now result =
+      SaysStatusOrder state files.reads files.looks_into files.puts_back config json before now result
       × Keeps left left'
   DoesOrder (reclaim config barcode) left left' before now result =
       ReclaimsOrder state files.reads files.looks files.pairs files.opens files.opens_second files.returns_disk

@@ -22,7 +22,7 @@ use vtl_config::{Config, ConfigError, read_config};
 use vtl_faults::endings::Ended;
 use vtl_faults::faults::VtlFault;
 use vtl_files::files::{
-    ChangeFiles, LookFiles, MakeFiles, ReadFiles, SecondFiles, TakesBack, TextFiles,
+    ChangeFiles, LookFiles, MakeFiles, ReadFiles, SecondFiles, StatusFiles, TakesBack, TextFiles,
 };
 use vtl_notes::notes::Notes;
 use vtl_power_on::starting::NotStarted;
@@ -88,10 +88,13 @@ fn doubt_in(alloc: Global, words: &[String]) -> Doubt {
                 barcode,
             } => Doubt::Barcode(barcode),
             Order::Run {
+                strict: _strict,
+                unloaded: _unloaded,
                 memory: _memory,
                 config: _config,
             } => Doubt::Stores,
             Order::Serve {
+                unloaded: _unloaded,
                 memory: _memory,
                 config: _config,
             } => Doubt::Frames,
@@ -293,6 +296,7 @@ pub fn run_explained<
     F: TextFiles
         + LookFiles
         + ReadFiles<D>
+        + StatusFiles<D>
         + ReportsRead
         + ChangeFiles<D>
         + SecondFiles<D>
@@ -313,7 +317,8 @@ pub fn run_explained<
     errors: &mut E,
 ) -> Ended
     ensures { RunsExplained D.state D.effect
-        (answers_of F.reads F.looks F.pairs F.opens_to_read F.closes F.opens F.returns_disk F.closes_all F.gives_up
+        (answers_of F.reads F.looks F.pairs F.opens_to_read F.closes F.looks_into F.puts_back F.opens F.returns_disk
+        F.closes_all F.gives_up
         F.opens_second F.closes_second F.makes F.leaves F.takes_away)
         (given_words words)
         (I.remaining reader.old) (I.remaining reader.new)

@@ -2,7 +2,7 @@
 ghost use Rattle.vtl_words.specs.Orders.{asked_of, texts_of};
 ghost use Rattle.vtl_files.specs.Creating.{makes_of};
 ghost use Rattle.vtl_program.specs.Files.{answers_of};
-ghost use Rattle.vtl_program.specs.Orders.{AnswersWords, ChecksConfigOrder, CreatesOrder, DoesOrder, Obeys, ReclaimsOrder, RunsProgram, given_words};
+ghost use Rattle.vtl_program.specs.Orders.{AnswersWords, ChecksConfigOrder, CreatesOrder, DoesOrder, Obeys, ReclaimsOrder, RunsProgram, SaysStatusOrder, given_words};
 
 use check_lines::reading::ReportsRead;
 use library::Sealed;
@@ -19,10 +19,11 @@ use vtl_files::config_checks::check_config;
 use vtl_files::configs::{config_in, config_to_open};
 use vtl_files::creating::create_missing;
 use vtl_files::files::{
-    ChangeFiles, LookFiles, MakeFiles, ReadFiles, SecondFiles, TakesBack, TextFiles,
+    ChangeFiles, LookFiles, MakeFiles, ReadFiles, SecondFiles, StatusFiles, TakesBack, TextFiles,
 };
 use vtl_files::reclaiming::reclaim_named;
 use vtl_files::side_checks::check_named;
+use vtl_files::statuses::print_status;
 use vtl_files::writing::print_text;
 use vtl_power_on::library_orders::{LibraryOrder, use_library};
 use vtl_power_on::starting::NotStarted;
@@ -58,6 +59,21 @@ fn check_order<D: Disk, F: TextFiles + ReadFiles<D> + ReportsRead, W: Write>(
     check_config::<D, F, W>(alloc, files, config, writer)
 }
 
+// Says what the library of the configuration in the file `name` holds.
+fn status_order<D: Disk, F: TextFiles + StatusFiles<D>, W: Write>(
+    alloc: Global,
+    files: &F,
+    name: &str,
+    json: bool,
+    writer: &mut W,
+) -> Result<Verdict, VtlFault>
+    ensures { SaysStatusOrder D.state F.reads F.looks_into F.puts_back name.now json
+        (W.contents writer.old) (W.contents writer.new) result }
+{
+    let config = config_in(alloc, files, name)?;
+    print_status::<D, F, W>(alloc, files, config, json, writer)
+}
+
 // Reclaims the cartridge that has this barcode in the configuration in the file `name`.
 fn reclaim_order<
     D: Disk + Drop,
@@ -84,6 +100,7 @@ fn do_order<
     F: TextFiles
         + LookFiles
         + ReadFiles<D>
+        + StatusFiles<D>
         + ReportsRead
         + ChangeFiles<D>
         + SecondFiles<D>
@@ -101,24 +118,40 @@ fn do_order<
     writer: &mut W,
 ) -> Result<Verdict, VtlFault>
     ensures { DoesOrder D.state D.effect
-        (answers_of F.reads F.looks F.pairs F.opens_to_read F.closes F.opens F.returns_disk F.closes_all F.gives_up
+        (answers_of F.reads F.looks F.pairs F.opens_to_read F.closes F.looks_into F.puts_back F.opens F.returns_disk
+        F.closes_all F.gives_up
         F.opens_second F.closes_second F.makes F.leaves F.takes_away)
         (asked_of order)
         (I.remaining reader.old) (I.remaining reader.new)
         (W.contents writer.old) (W.contents writer.new) result }
 {
     match order {
-        Order::Run { memory, config } => {
+        Order::Run {
+            strict,
+            unloaded,
+            memory,
+            config,
+        } => {
             let order = LibraryOrder {
-                purpose: Purpose::Run,
+                purpose: if strict {
+                    Purpose::RunStrictly
+                } else {
+                    Purpose::Run
+                },
+                unloaded,
                 memory,
                 config,
             };
             use_library::<D, F, R, I, W>(rt, alloc, files, order, reader, writer)?
         }
-        Order::Serve { memory, config } => {
+        Order::Serve {
+            unloaded,
+            memory,
+            config,
+        } => {
             let order = LibraryOrder {
                 purpose: Purpose::Serve,
+                unloaded,
                 memory,
                 config,
             };
@@ -132,6 +165,9 @@ fn do_order<
         }
         Order::CheckAll { config } => {
             return check_order::<D, F, W>(alloc, files, config.as_str(), writer);
+        }
+        Order::Status { config, json } => {
+            return status_order::<D, F, W>(alloc, files, config.as_str(), json, writer);
         }
         Order::Reclaim { config, barcode } => {
             return reclaim_order::<D, F, W>(alloc, files, config.as_str(), &barcode, writer);
@@ -162,6 +198,7 @@ pub fn obey<
     F: TextFiles
         + LookFiles
         + ReadFiles<D>
+        + StatusFiles<D>
         + ReportsRead
         + ChangeFiles<D>
         + SecondFiles<D>
@@ -179,7 +216,8 @@ pub fn obey<
     writer: &mut W,
 ) -> Result<Verdict, VtlFault>
     ensures { Obeys D.state D.effect
-        (answers_of F.reads F.looks F.pairs F.opens_to_read F.closes F.opens F.returns_disk F.closes_all F.gives_up
+        (answers_of F.reads F.looks F.pairs F.opens_to_read F.closes F.looks_into F.puts_back F.opens F.returns_disk
+        F.closes_all F.gives_up
         F.opens_second F.closes_second F.makes F.leaves F.takes_away)
         (texts_of words.now)
         (I.remaining reader.old) (I.remaining reader.new)
@@ -199,6 +237,7 @@ pub fn run<
     F: TextFiles
         + LookFiles
         + ReadFiles<D>
+        + StatusFiles<D>
         + ReportsRead
         + ChangeFiles<D>
         + SecondFiles<D>
@@ -218,7 +257,8 @@ pub fn run<
     errors: &mut E,
 ) -> Ended
     ensures { RunsProgram D.state D.effect
-        (answers_of F.reads F.looks F.pairs F.opens_to_read F.closes F.opens F.returns_disk F.closes_all F.gives_up
+        (answers_of F.reads F.looks F.pairs F.opens_to_read F.closes F.looks_into F.puts_back F.opens F.returns_disk
+        F.closes_all F.gives_up
         F.opens_second F.closes_second F.makes F.leaves F.takes_away)
         (given_words words)
         (I.remaining reader.old) (I.remaining reader.new)

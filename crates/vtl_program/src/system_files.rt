@@ -7,11 +7,12 @@ use check_lines::reading::ReportsRead;
 use file_disk::{FileDisk, FileError, FileLook};
 use file_reasons::FileCall;
 use library::Sealed;
+use std::io::IsTerminal;
 use std::{fs, io};
 use tape_disk::Disk;
 use vtl_config::{FileName, UsedName};
 use vtl_files::files::{
-    ChangeFiles, LookFiles, MakeFiles, ReadFiles, SecondFiles, TakesBack, TextFiles,
+    ChangeFiles, LookFiles, MakeFiles, ReadFiles, SecondFiles, StatusFiles, TakesBack, TextFiles,
 };
 use vtl_notes::at_once::AtOnce;
 use vtl_notes::noted_disk::NotedDisk;
@@ -139,6 +140,31 @@ impl<'a> ReadFiles<SystemDisk<'a>> for SystemFiles<'a> {
 impl<'a> ReportsRead for SystemFiles<'a> {
     fn read(&self, used: u64, all: u64) {
         self.progress.read(used, all);
+    }
+}
+
+impl<'a> StatusFiles<SystemDisk<'a>> for SystemFiles<'a> {
+    ghost looks_into = { λ name answer. Unit {0} };
+
+    ghost puts_back = { λ name disk. Unit {0} };
+
+    fn look_into(&self, name: &str) -> Result<SystemDisk<'a>, FileError> {
+        match file_disk::open_to_look(self.rt, name) {
+            Ok(disk) => Ok(self.watched(name, 0, disk)),
+            Err(error) => Err(error),
+        }
+    }
+
+    fn put_back(&self, _: &str, disk: SystemDisk<'a>) {
+        drop(disk);
+    }
+
+    fn empty(&self) -> SystemDisk<'a> {
+        self.watched("", 0, file_disk::no_file())
+    }
+
+    fn is_terminal(&self) -> bool {
+        self.rt.stdout().is_terminal()
     }
 }
 

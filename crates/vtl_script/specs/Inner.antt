@@ -1,4 +1,6 @@
 pub mod ReadItem
+pub mod ReadStrict
 pub mod Reading
 pub mod RunItem
+pub mod RunStrict
 pub mod Writing

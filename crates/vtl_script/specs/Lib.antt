@@ -5,4 +5,5 @@ pub mod Items
 pub mod Lines
 pub mod Parsed
 pub mod Runs
+pub mod Strict
 pub mod Text

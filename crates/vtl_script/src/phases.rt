@@ -68,8 +68,8 @@ fn accepted(parsed: ParsedLine, is_last: bool, line: u64) -> Result<NextLine, Sc
     }
 }
 
-// What the next line says. Where the bytes that came show its end, the reader is not called.
-fn read_line<P: Runner, R: Read>(
+/// What the next line says. Where the bytes that came show its end, the reader is not called.
+pub(crate) fn read_line<P: Runner, R: Read>(
     alloc: Global,
     runner: &P,
     line_reader: &mut LineReader,
@@ -111,8 +111,8 @@ fn read_line<P: Runner, R: Read>(
     }
 }
 
-// The move that a line asks for.
-fn move_in(parsed: &ParsedLine) -> Option<Item>
+/// The move that a line asks for.
+pub(crate) fn move_in(parsed: &ParsedLine) -> Option<Item>
     ensures { result ≡ move_in parsed.now }
 {
     match parsed {
@@ -125,8 +125,8 @@ fn move_in(parsed: &ParsedLine) -> Option<Item>
     }
 }
 
-// Adds the command of a line, if it has one. Returns true where the line ends the phase.
-fn gather(lines: &mut Vec<Line>, parsed: ParsedLine) -> Result<bool, ScriptFault>
+/// Adds the command of a line, if it has one. Returns true where the line ends the phase.
+pub(crate) fn gather(lines: &mut Vec<Line>, parsed: ParsedLine) -> Result<bool, ScriptFault>
     ensures ends { IfOk result (λ is_end. is_end ≡ is_phase_end parsed) }
     ensures lines { OnOk result
         (lines.new.items ≡ lines.old.items ++ filter_map line_in (parsed ∷ [])) }

@@ -8,6 +8,18 @@ use Rattle.clap.specs.declared.builder.action.ArgAction.TheVariants.{Set, SetTru
 abbrev pub memory_flag : Rule
 memory_flag = record (new_rule (codes "memory")) { long = Some (codes "memory"); action = Some SetTrue }
 
+-- `--strict`, a flag (own)
+abbrev pub strict_flag : Rule
+strict_flag = record (new_rule (codes "strict")) { long = Some (codes "strict"); action = Some SetTrue }
+
+-- `--unloaded`, a flag (own)
+abbrev pub unloaded_flag : Rule
+unloaded_flag = record (new_rule (codes "unloaded")) { long = Some (codes "unloaded"); action = Some SetTrue }
+
+-- `--json`, a flag (own)
+abbrev pub json_flag : Rule
+json_flag = record (new_rule (codes "json")) { long = Some (codes "json"); action = Some SetTrue }
+
 -- `--explain`, a flag (own)
 abbrev pub explain_flag : Rule
 explain_flag = record (new_rule (codes "explain")) { long = Some (codes "explain"); action = Some SetTrue }
@@ -33,9 +45,18 @@ data_flag = record (new_rule (codes "data")) { long = Some (codes "data"); actio
 abbrev pub barcode_word : Rule
 barcode_word = record (new_rule (codes "barcode")) { action = Some Set; value_names = 1; required = true }
 
--- a word that opens a library, behind which stands `[--memory] [--config FILE] [--explain]` (own)
-abbrev pub library_command : List ℕ → App
-library_command name = with_rule (with_rule (with_rule (new_app name) memory_flag) config_option) explain_flag
+-- a word that opens a library, behind which stands `[--unloaded] [--memory] [--config FILE] [--explain]` too (own)
+abbrev pub library_command : App → App
+library_command app =
+    with_rule (with_rule (with_rule (with_rule app unloaded_flag) memory_flag) config_option) explain_flag
+
+-- `run [--strict]`, and what stands behind a word that opens a library (own)
+abbrev pub run_command : App
+run_command = library_command (with_rule (new_app (codes "run")) strict_flag)
+
+-- `serve`, and what stands behind a word that opens a library (own)
+abbrev pub serve_command : App
+serve_command = library_command (new_app (codes "serve"))
 
 -- `create --config FILE [--explain]` (own)
 abbrev pub create_command : App
@@ -48,6 +69,11 @@ check_command =
     with_rule (with_rule (with_rule (with_rule (new_app (codes "check")) file_word) config_option) data_flag)
     explain_flag
 
+-- `status --config FILE [--json] [--explain]` (own)
+abbrev pub status_command : App
+status_command =
+    with_rule (with_rule (with_rule (new_app (codes "status")) config_required) json_flag) explain_flag
+
 -- `reclaim --config FILE BARCODE [--explain]` (own)
 abbrev pub reclaim_command : App
 reclaim_command =
@@ -58,12 +84,13 @@ abbrev pub needs_a_word : Shape → Shape
 needs_a_word shape =
     record shape { has_version = true; subcommand_required = true; disable_help_subcommand = true }
 
--- `vtl`, with one of the five words behind it (own)
+-- `vtl`, with one of the six words behind it (own)
 abbrev pub vtl_command : App
 vtl_command =
     with_subcommand
     (with_subcommand
     (with_subcommand
     (with_subcommand
-    (with_subcommand (on_top needs_a_word (new_app (codes "vtl"))) (library_command (codes "run")).top)
-    (library_command (codes "serve")).top) create_command.top) check_command.top) reclaim_command.top
+    (with_subcommand
+    (with_subcommand (on_top needs_a_word (new_app (codes "vtl"))) run_command.top)
+    serve_command.top) create_command.top) check_command.top) status_command.top) reclaim_command.top

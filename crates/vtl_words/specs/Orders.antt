@@ -18,20 +18,22 @@ use Rattle.vtl_words.specs.declared.orders.WordsError.TheVariants.{Help, Refused
 
 -- an order, with texts as bytes (own)
 pub data Asked : Type 0 where
-  run : Bool → Option (List ℕ) → Asked
-  serve : Bool → Option (List ℕ) → Asked
+  run : (strict unloaded memory : Bool) → Option (List ℕ) → Asked
+  serve : (unloaded memory : Bool) → Option (List ℕ) → Asked
   create : List ℕ → Asked
   check : (file : List ℕ) (blocks : Bool) → Asked
   check_all : (config : List ℕ) → Asked
+  status : (config : List ℕ) (json : Bool) → Asked
   reclaim : (config barcode : List ℕ) → Asked
 
 -- the order as it is seen (own)
 abbrev pub asked_of : Order → Asked
-asked_of (order.Run memory config) = run memory (option_map string_bytes config)
-asked_of (order.Serve memory config) = serve memory (option_map string_bytes config)
+asked_of (order.Run strict unloaded memory config) = run strict unloaded memory (option_map string_bytes config)
+asked_of (order.Serve unloaded memory config) = serve unloaded memory (option_map string_bytes config)
 asked_of (order.Create config) = create (string_bytes config)
 asked_of (order.Check file blocks) = check (string_bytes file) blocks
 asked_of (order.CheckAll config) = check_all (string_bytes config)
+asked_of (order.Status config json) = status (string_bytes config) json
 asked_of (order.Reclaim config barcode) = reclaim (string_bytes config) barcode
 
 -- the flag was given (own)
@@ -46,6 +48,11 @@ check_by None (Some config) blocks = Some (check_all config)
 check_by (Some file) (Some config) blocks = None
 check_by None None blocks = None
 
+-- what `status` asks for, if the configuration is there (own)
+abbrev pub status_by : Option (List ℕ) → (json : Bool) → Option Asked
+status_by None json = None
+status_by (Some config) json = Some (status config json)
+
 -- what `reclaim` asks for, if both values are there (own)
 abbrev pub reclaim_by : Option (List ℕ) → Option (List ℕ) → Option Asked
 reclaim_by (Some config) (Some barcode) = Some (reclaim config barcode)
@@ -55,13 +62,17 @@ reclaim_by _ _ = None
 abbrev pub asked_by : List ℕ → List Row → Option Asked
 asked_by word rows =
     if bytes_eq word (codes "run")
-    then Some (run (is_set (first_of (codes "memory") rows)) (first_of (codes "config") rows))
+    then Some (run (is_set (first_of (codes "strict") rows)) (is_set (first_of (codes "unloaded") rows))
+    (is_set (first_of (codes "memory") rows)) (first_of (codes "config") rows))
     else if bytes_eq word (codes "serve")
-    then Some (serve (is_set (first_of (codes "memory") rows)) (first_of (codes "config") rows))
+    then Some (serve (is_set (first_of (codes "unloaded") rows)) (is_set (first_of (codes "memory") rows))
+    (first_of (codes "config") rows))
     else if bytes_eq word (codes "create") then option_map create (first_of (codes "config") rows)
     else if bytes_eq word (codes "check")
     then check_by (first_of (codes "file") rows) (first_of (codes "config") rows)
     (is_set (first_of (codes "data") rows))
+    else if bytes_eq word (codes "status")
+    then status_by (first_of (codes "config") rows) (is_set (first_of (codes "json") rows))
     else if bytes_eq word (codes "reclaim")
     then reclaim_by (first_of (codes "config") rows) (first_of (codes "barcode") rows)
     else None

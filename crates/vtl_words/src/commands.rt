@@ -24,12 +24,13 @@ Example:
   vtl run --config library.toml < backup.script
   vtl check daily1.tape
   vtl check --config library.toml
+  vtl status --config library.toml
   vtl reclaim --config library.toml DAILY1L6
 
 Statuses:
   0  done
   1  refused: the command line, a configuration, a script line, a frame, a
-     checked file or a cartridge that is to be reclaimed
+     file that is looked at or a cartridge that is to be reclaimed
   2  failed: a device, a file or a stream; a missing file, or one in use;
      a refused store of reservations
   3  out of memory
@@ -46,6 +47,8 @@ const CREATE_ABOUT: &str =
 const CHECK_ABOUT: &str =
     "Tells what a file of a cartridge or of a drive holds, or all files of a configuration";
 
+const STATUS_ABOUT: &str = "Says what a library that is not running holds, place by place";
+
 const RECLAIM_ABOUT: &str =
     "Gives back the room of overwritten data: copies a cartridge to its other file";
 
@@ -59,6 +62,18 @@ drive 1, and is gone at the end";
 const MEMORY_HELP: &str = "\
 Makes the cartridges and reservations anew in memory;
 no file is touched, and nothing is kept at the end";
+
+const STRICT_HELP: &str = "\
+Ends the run behind the first CONFLICT, CHECK with a key
+other than 0, or refused move, with status 1; what waits
+is stored; key 6 at TEST UNIT READY does not count";
+
+const UNLOADED_HELP: &str = "\
+Cartridges whose home is a drive are there unloaded at
+the start, so that no host writes over what another one
+wrote before a crash; LOAD loads them";
+
+const JSON_HELP: &str = "Writes one JSON document, for programs";
 
 const FILE_HELP: &str = "\
 The file to look at: a store's, or the first of a cartridge,
@@ -88,6 +103,36 @@ fn memory_flag<'a>(alloc: Global) -> Arg<'a>
         .long("memory")
         .action(ArgAction::SetTrue);
     flag.help(MEMORY_HELP)
+}
+
+fn strict_flag<'a>(alloc: Global) -> Arg<'a>
+    ensures rule { rule_of result ≡ line.strict_flag }
+    ensures local { result.global ≡ false }
+{
+    let flag = Arg::new(alloc, "strict")
+        .long("strict")
+        .action(ArgAction::SetTrue);
+    flag.help(STRICT_HELP)
+}
+
+fn unloaded_flag<'a>(alloc: Global) -> Arg<'a>
+    ensures rule { rule_of result ≡ line.unloaded_flag }
+    ensures local { result.global ≡ false }
+{
+    let flag = Arg::new(alloc, "unloaded")
+        .long("unloaded")
+        .action(ArgAction::SetTrue);
+    flag.help(UNLOADED_HELP)
+}
+
+fn json_flag<'a>(alloc: Global) -> Arg<'a>
+    ensures rule { rule_of result ≡ line.json_flag }
+    ensures local { result.global ≡ false }
+{
+    let flag = Arg::new(alloc, "json")
+        .long("json")
+        .action(ArgAction::SetTrue);
+    flag.help(JSON_HELP)
 }
 
 fn explain_flag<'a>(alloc: Global) -> Arg<'a>
@@ -188,33 +233,35 @@ fn with_word<'a>(
     Ok(added)
 }
 
-// A command with this name, described by `about`, that opens a library.
+// A command that opens a library, with the arguments that each such command has.
 fn library_command<'a>(
     alloc: Global,
-    name: &'a str,
-    about: &'a str,
+    command: Command<'a>,
 ) -> Result<Command<'a>, AllocError>
-    ensures app { IfOk result (λ r. app_of r ≡ line.library_command name.entry.now) }
+    requires { (out-Command command).has_globals ≡ false }
+    ensures app { IfOk result (λ r. app_of r ≡ line.library_command (app_of command.entry)) }
     ensures local { IfOk result (λ r. (out-Command r).has_globals ≡ false) }
 {
-    let flagged = with(named(alloc, name, about), memory_flag(alloc))?;
+    let unloaded = with(command, unloaded_flag(alloc))?;
+    let flagged = with(unloaded, memory_flag(alloc))?;
     let configured = with(flagged, config_option(alloc))?;
     let whole = with(configured, explain_flag(alloc))?;
     Ok(whole)
 }
 
 fn run_command<'a>(alloc: Global) -> Result<Command<'a>, AllocError>
-    ensures app { IfOk result (λ r. app_of r ≡ line.library_command (codes "run")) }
+    ensures app { IfOk result (λ r. app_of r ≡ line.run_command) }
     ensures local { IfOk result (λ r. (out-Command r).has_globals ≡ false) }
 {
-    library_command(alloc, "run", RUN_ABOUT)
+    let strict = with(named(alloc, "run", RUN_ABOUT), strict_flag(alloc))?;
+    library_command(alloc, strict)
 }
 
 fn serve_command<'a>(alloc: Global) -> Result<Command<'a>, AllocError>
-    ensures app { IfOk result (λ r. app_of r ≡ line.library_command (codes "serve")) }
+    ensures app { IfOk result (λ r. app_of r ≡ line.serve_command) }
     ensures local { IfOk result (λ r. (out-Command r).has_globals ≡ false) }
 {
-    library_command(alloc, "serve", SERVE_ABOUT)
+    library_command(alloc, named(alloc, "serve", SERVE_ABOUT))
 }
 
 fn create_command<'a>(alloc: Global) -> Result<Command<'a>, AllocError>
@@ -233,6 +280,16 @@ fn check_command<'a>(alloc: Global) -> Result<Command<'a>, AllocError>
     let filed = with(named(alloc, "check", CHECK_ABOUT), file_word(alloc))?;
     let configured = with(filed, check_config_option(alloc))?;
     let flagged = with(configured, data_flag(alloc))?;
+    let whole = with(flagged, explain_flag(alloc))?;
+    Ok(whole)
+}
+
+fn status_command<'a>(alloc: Global) -> Result<Command<'a>, AllocError>
+    ensures app { IfOk result (λ r. app_of r ≡ line.status_command) }
+    ensures local { IfOk result (λ r. (out-Command r).has_globals ≡ false) }
+{
+    let configured = with(named(alloc, "status", STATUS_ABOUT), config_required(alloc))?;
+    let flagged = with(configured, json_flag(alloc))?;
     let whole = with(flagged, explain_flag(alloc))?;
     Ok(whole)
 }
@@ -262,7 +319,7 @@ fn program<'a>(alloc: Global) -> Command<'a>
         .disable_help_subcommand(true)
 }
 
-/// Returns the command line of the program: `vtl` with its five subcommands, the arguments of each, and the help.
+/// Returns the command line of the program: `vtl` with its six subcommands, the arguments of each, and the help.
 pub(crate) fn vtl_command<'a>(alloc: Global) -> Result<Command<'a>, AllocError>
     ensures { IfOk result (λ r. app_of r ≡ line.vtl_command) }
 {
@@ -274,7 +331,9 @@ pub(crate) fn vtl_command<'a>(alloc: Global) -> Result<Command<'a>, AllocError>
     let three = with_word(two, create)?;
     let check = check_command(alloc);
     let four = with_word(three, check)?;
+    let status = status_command(alloc);
+    let five = with_word(four, status)?;
     let reclaim = reclaim_command(alloc);
-    let five = with_word(four, reclaim)?;
-    Ok(five)
+    let six = with_word(five, reclaim)?;
+    Ok(six)
 }

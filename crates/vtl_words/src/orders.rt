@@ -8,13 +8,18 @@ use vtl_base::Barcode;
 pub enum Order {
     /// Runs a script over the library of the configuration in the file `config`, or, where that is None, over the
     /// built-in library. If `memory` is true, the cartridges and the stores of reservations are made anew in memory.
-    /// The built-in library is always in memory.
+    /// The built-in library is always in memory. If `strict` is true, the run ends behind the first answer that ends a
+    /// strict run (`vtl_script::ends_run`). If `unloaded` is true, the cartridges whose homes are drives are there
+    /// unloaded at the start.
     Run {
+        strict: bool,
+        unloaded: bool,
         memory: bool,
         config: Option<String>,
     },
-    /// Serves frames over a library, which `memory` and `config` choose as for `Run`.
+    /// Serves frames over a library, which `memory`, `unloaded` and `config` choose as for `Run`.
     Serve {
+        unloaded: bool,
         memory: bool,
         config: Option<String>,
     },
@@ -31,6 +36,11 @@ pub enum Order {
     /// read to its end.
     CheckAll {
         config: String,
+    },
+    /// Says what the library of the configuration in the file `config` holds, as one document where `json` is true.
+    Status {
+        config: String,
+        json: bool,
     },
     /// Reclaims the cartridge that has this barcode in the configuration in the file `config`.
     Reclaim {

@@ -91,8 +91,15 @@ fn run_order(alloc: Global, matches: &ArgMatches<'_>) -> Result<Order, WordsErro
     ensures ok { IfOk result (AsksFor (asked_by (codes "run") (rows_of (found_of matches.now)))) }
     ensures err { IfErr result (AsksNothing (asked_by (codes "run") (rows_of (found_of matches.now)))) }
 {
+    let strict = is_set(value_of(matches, "strict"));
+    let unloaded = is_set(value_of(matches, "unloaded"));
     match library_in(alloc, matches) {
-        Ok((memory, config)) => Ok(Order::Run { memory, config }),
+        Ok((memory, config)) => Ok(Order::Run {
+            strict,
+            unloaded,
+            memory,
+            config,
+        }),
         Err(NoMemory) => Err(WordsError::NoMemory),
     }
 }
@@ -101,8 +108,13 @@ fn serve_order(alloc: Global, matches: &ArgMatches<'_>) -> Result<Order, WordsEr
     ensures ok { IfOk result (AsksFor (asked_by (codes "serve") (rows_of (found_of matches.now)))) }
     ensures err { IfErr result (AsksNothing (asked_by (codes "serve") (rows_of (found_of matches.now)))) }
 {
+    let unloaded = is_set(value_of(matches, "unloaded"));
     match library_in(alloc, matches) {
-        Ok((memory, config)) => Ok(Order::Serve { memory, config }),
+        Ok((memory, config)) => Ok(Order::Serve {
+            unloaded,
+            memory,
+            config,
+        }),
         Err(_no_memory) => Err(WordsError::NoMemory),
     }
 }
@@ -142,6 +154,20 @@ fn check_order(alloc: Global, matches: &ArgMatches<'_>) -> Result<Order, WordsEr
             Some(config) => Ok(Order::CheckAll { config }),
             None => Err(WordsError::Refused),
         },
+    }
+}
+
+fn status_order(alloc: Global, matches: &ArgMatches<'_>) -> Result<Order, WordsError>
+    ensures ok { IfOk result (AsksFor (asked_by (codes "status") (rows_of (found_of matches.now)))) }
+    ensures err { IfErr result (AsksNothing (asked_by (codes "status") (rows_of (found_of matches.now)))) }
+{
+    let json = is_set(value_of(matches, "json"));
+    match copied(alloc, value_of(matches, "config")) {
+        Ok(value) => match value {
+            Some(config) => Ok(Order::Status { config, json }),
+            None => Err(WordsError::Refused),
+        },
+        Err(_) => Err(WordsError::NoMemory),
     }
 }
 
@@ -189,6 +215,9 @@ fn order_by(alloc: Global, word: &str, matches: &ArgMatches<'_>) -> Result<Order
     }
     if word == "check" {
         return check_order(alloc, matches);
+    }
+    if word == "status" {
+        return status_order(alloc, matches);
     }
     if word == "reclaim" {
         return reclaim_order(alloc, matches);

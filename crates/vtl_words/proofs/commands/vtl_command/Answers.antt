@@ -13,5 +13,8 @@ returns c =
     c.in_ok-three.ensures.app in
     let four =
     word_added c.check_command-check.result _ _ _ _ three c.check_command-check.ensures.app c.in_ok-four.ensures.app in
-    word_added c.reclaim_command-reclaim.result _ _ _ _ four c.reclaim_command-reclaim.ensures.app
-    c.in_ok-five.ensures.app
+    let five =
+    word_added c.status_command-status.result _ _ _ _ four c.status_command-status.ensures.app
+    c.in_ok-five.ensures.app in
+    word_added c.reclaim_command-reclaim.result _ _ _ _ five c.reclaim_command-reclaim.ensures.app
+    c.in_ok-six.ensures.app
