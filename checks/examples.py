@@ -3,7 +3,7 @@
 
 `vtl create` must print create.expected, and the same with `kept` when it is asked again. Each NAME.script must write
 the bytes of NAME.expected and nothing on standard error, with status 0; where there is a NAME.ends, its first line is
-the status and the rest standard error. Then each command of NAME.check, a line `$ vtl WORDS`, must print the lines
+the status and the rest standard error; where there is a NAME.words, these are the run's. Then each command of NAME.check, a line `$ vtl WORDS`, must print the lines
 below it, and write no file, `reclaim` excepted; nor may the second `create`. A cartridge may have more frames than are
 written there: a flusher may store a part of what waits before all of it is. Then examples/tape.py saves and restores
 folders (tape_example.py). --program PATH: another program than the proved one."""
@@ -89,7 +89,8 @@ class Library:
     def run(self, name):
         status, _, said = example(f"{name}.ends", b"0\n").partition(b"\n")
         wanted = (int(status), example(f"{name}.expected"), said)
-        self.compare(name, wanted, ["run", "--config", "library.toml"], example(f"{name}.script"))
+        words = example(f"{name}.words", b"run --config library.toml").decode().split()
+        self.compare(name, wanted, words, example(f"{name}.script"))
         for command in example(f"{name}.check").decode().split("$ vtl ")[1:]:
             words, _, lines = command.partition("\n")
             compare = self.compare if words.startswith("reclaim ") else self.touch_nothing

@@ -38,7 +38,7 @@ def serves(program):
 
 def is_served(run):
     """Whether `vtl serve` can be given what this run of `vtl run` is given."""
-    return run.words[:1] == [b"run"] and not HELP & set(run.words) and run.refused is None and all(
+    return run.words[:1] == [b"run"] and not HELP & set(run.words) and b"--strict" not in run.words and run.refused is None and all(
         frame_of(line, 0) for line in run.lines if line.kind in ("command", "move"))
 
 

@@ -53,6 +53,12 @@ class Run:
         found = REFUSED.fullmatch(self.error or b"")
         return int(found[1]) if found else None
 
+    @property
+    def is_ended(self):
+        """The run is strict, and the answer to the line that is refused ended it."""
+        return b"--strict" in self.words and self.refused is not None and \
+            self.lines[self.refused - 1].answer is not None
+
 
 class Step:
     """What is done, or looked at, between runs: a file with its bytes, a folder, a link with what it leads to,
@@ -243,6 +249,10 @@ class Reader:
             start = max((at + 1 for at, line in enumerate(run.lines[:refused - 1]) if line.kind in ("end", "move")),
                         default=0)
             whole, none = run.lines[:start], run.lines[start:]
+        if run.is_ended:
+            # the phase of that line, in which what a host has behind its own such line is not answered
+            phase = phases(none)[0]
+            none = none[len(phase):]
         for line in whole:
             if line.answer is None and line.kind in ("command", "move"):
                 raise self.bad(line.number, "the line has no answer")

@@ -1,6 +1,6 @@
 //! Says what a library that is not running holds, place by place.
 ghost use Rattle.std.specs.Prelude.{◌≡◌};
-ghost use Rattle.vtl_files.specs.Statuses.{SaysStatus};
+ghost use Rattle.vtl_files.specs.StatusText.{SaysStatus};
 
 use crate::files::StatusFiles;
 use crate::looking_in::{CartridgeStatus, cartridge_status, store_status};

@@ -25,7 +25,7 @@ use Rattle.vtl_files.specs.Configured.{ReadsToOpen, ReadsConfig}
 use Rattle.vtl_faults.specs.Endings.{EndsProgram}
 use Rattle.vtl_power_on.specs.Running.{IsIdle}
 use Rattle.vtl_files.specs.Reclaims.{ReclaimsNamed}
-use Rattle.vtl_files.specs.Statuses.{SaysStatus}
+use Rattle.vtl_files.specs.StatusText.{SaysStatus}
 use Rattle.vtl_power_on.specs.Sides.{file_sides}
 use Rattle.vtl_power_on.specs.Using.{UsesOrder}
 use Rattle.vtl_power_on.specs.declared.works.Purpose.{Purpose}
