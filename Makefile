@@ -33,6 +33,7 @@ crates/vtl/out/vtl:
 install: crates/vtl/out/vtl
 	install -D -m 755 crates/vtl/out/vtl $(DESTDIR)$(PREFIX)/bin/vtl
 	install -D -m 644 docs/vtl.1 $(DESTDIR)$(PREFIX)/share/man/man1/vtl.1
+	install -D -m 644 docs/vtl.bash $(DESTDIR)$(PREFIX)/share/bash-completion/completions/vtl
 	install -d $(DOC)/docs $(DOC)/examples
 	install -m 644 README.md $(DOC)
 	install -m 644 docs/*.md $(DOC)/docs
@@ -97,6 +98,7 @@ examples: vtl
 	python3 checks/examples.py
 
 manual: vtl
+	python3 checks/completion.py --check
 	python3 checks/manual.py --selftest
 	python3 checks/manual.py
 

@@ -27,7 +27,8 @@ GOOD 68656c6c6f
 PRINTED = ["created DAILY1L6\ncreated DRIVE1\n", ANSWERS,
            "cartridge DAILY1L6 partitions 1 frames 1\npartition 0 objects 2 used 37\n",
            "DAILY1L6 daily1.tape\ncartridge DAILY1L6 partitions 1 frames 1\npartition 0 objects 2 used 37\n"
-           "DRIVE1 drive1.pr\nreservations DRIVE1 frames 0 registrations 0\n", "reclaimed DAILY1L6 epoch 1\n"]
+           "DRIVE1 drive1.pr\nreservations DRIVE1 frames 0 registrations 0\n", "1 DAILY1L6 whole, 37 of 16777216, files 66 and 0, file 1 counts, epoch 0, a reclaim frees 0\n"
+           "reservations of drive 1 none\n", "reclaimed DAILY1L6 epoch 1\n"]
 
 
 def text_of(path):
@@ -126,6 +127,7 @@ def installed():
     package = os.path.join(TOP, "frontends", "iscsi", "vtl_iscsi")
     own += ["share/man/man8/vtl-iscsi.8", "lib/systemd/system/vtl-iscsi.service", "share/doc/vtl/iscsi/README.md"]
     own += [f"share/vtl/vtl_iscsi/{name}" for name in os.listdir(package) if name.endswith(".py")]
+    own.append("share/bash-completion/completions/vtl")
     wanted = {path: 0o644 for path in ["share/man/man1/vtl.1", *own]}
     programs = ("tape.py", "cluster/ceph.sh", "cluster/library", "cluster/vtl-socket")
     wanted |= {f"share/doc/vtl/examples/{name}": 0o755 for name in programs}

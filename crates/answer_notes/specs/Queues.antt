@@ -1,9 +1,10 @@
 -- The lines of a script whose answers are to come.
-use Rattle.std.specs.Prelude.{◌≡◌, ℕ, ◌==◌, List, [], ◌∷◌, ◌++◌, filter, flat_map}
+use Rattle.std.specs.Prelude.{◌≡◌, ℕ, ◌==◌, false, if◌then◌else◌, List, [], ◌∷◌, ◌++◌, filter, flat_map}
 use Rattle.std.specs.List.{range_with_len}
 use Rattle.answer_meanings.specs.declared.sense_texts.Counted.TheVariants.{Bytes}
 use Rattle.vtl_script.specs.declared.lines.ParsedLine.{ParsedLine}
 use Rattle.vtl_script.specs.declared.lines.ParsedLine.TheVariants.{Nothing, PhaseEnd, Command, Move, Refused}
+use Rattle.vtl_script.specs.Strict.{is_test}
 use Rattle.answer_notes.specs.Causes.{counted_of}
 use Rattle.answer_notes.specs.declared.queues.Asked.{Asked}
 
@@ -19,6 +20,12 @@ lines_of_host host lines = filter (λ asked. asked.host == host) lines
 -- the lines of a phase in the order of their answers: by rising host, each host's in their order (own)
 abbrev pub asked_in_turn : List Asked → List Asked
 asked_in_turn lines = flat_map (λ host. lines_of_host host lines) (range_with_len 1 64)
+
+-- lines behind those of this host with which they begin (own)
+abbrev pub behind_lines_of : ℕ → List Asked → List Asked
+behind_lines_of host [] = []
+behind_lines_of host (asked ∷ lines) =
+    if asked.host == host then behind_lines_of host lines else asked ∷ lines
 
 -- no line was read (own)
 abbrev pub no_lines : Lines
@@ -40,9 +47,10 @@ with_move asked lines = record { phase = []; due = (lines.due ++ asked_in_turn l
 -- (own)
 abbrev pub with_parsed : ℕ → ParsedLine → Lines → Lines
 with_parsed number (Command line) lines =
-    with_line (record { line = number; host = line.host; counted = counted_of line.cdb }) lines
+    with_line
+    (record { line = number; host = line.host; counted = counted_of line.cdb; is_test = is_test line.cdb }) lines
 with_parsed number (Move from to) lines =
-    with_move (record { line = number; host = 0; counted = Bytes }) lines
+    with_move (record { line = number; host = 0; counted = Bytes; is_test = false }) lines
 with_parsed number PhaseEnd lines = with_end lines
 with_parsed number Nothing lines = lines
 with_parsed number Refused lines = lines

@@ -12,6 +12,8 @@ use answer_meanings::{AnswerLine, Counted, SenseText};
 use script_reasons::Drives;
 use std::alloc::{AllocError, Global};
 use std::sync::Mutex;
+use scsi_sense::SenseKey;
+use vtl_script::is_test;
 use vtl_script::lines::{ParsedLine, parse};
 
 // The digits of sense data in an answer.
@@ -47,6 +49,18 @@ fn cause_of(answer: &[u8], counted: Counted) -> Option<Cause>
     }
 }
 
+// Whether an answer to this line that reports this ends a strict run.
+fn ends_run(asked: &Asked, cause: &Cause) -> bool {
+    match cause {
+        Cause::Conflict => true,
+        Cause::Check(text) => match text.sense.key {
+            SenseKey::NoSense => false,
+            SenseKey::UnitAttention => !asked.is_test,
+            _ => true,
+        },
+    }
+}
+
 // Adds a line that was read, with its number, to the queue.
 fn note_line(
     alloc: Global,
@@ -63,11 +77,13 @@ fn note_line(
             line: number,
             host: command.host.number(),
             counted: counted_in(command.cdb.as_slice()),
+            is_test: is_test(command.cdb.as_slice()),
         }),
         Ok(ParsedLine::Move { .. }) => queue.add_move(Asked {
             line: number,
             host: 0,
             counted: Counted::Bytes,
+            is_test: false,
         }),
         Ok(ParsedLine::PhaseEnd) => queue.end_phase(),
         Ok(ParsedLine::Nothing) | Ok(ParsedLine::Refused) => Ok(()),
@@ -83,16 +99,24 @@ pub struct Answers {
     alloc: Global,
     drives: Drives,
     is_on: bool,
+    is_strict: bool,
     queue: Mutex<Option<Queue>>,
 }
 
 impl Answers {
     /// Creates an `Answers` without lines. If `is_on` is false, no line is ever added.
     pub fn new(alloc: Global, is_on: bool) -> Self {
+        Answers::of_run(alloc, is_on, false)
+    }
+
+    /// Creates an `Answers` without lines, as `new` does. If `is_strict`, the script is run strictly: behind an answer
+    /// that ends the run, no answer to a line of the same host is expected.
+    pub fn of_run(alloc: Global, is_on: bool, is_strict: bool) -> Self {
         Answers {
             alloc,
             drives: Drives::all(),
             is_on,
+            is_strict,
             queue: Mutex::new(if is_on { Some(Queue::new(alloc)) } else { None }),
         }
     }
@@ -141,11 +165,21 @@ impl Answers {
     {
         let mut queue = self.taken()?;
         let asked = queue.next();
+        let cause = match &asked {
+            Some(asked) => cause_of(answer, asked.counted),
+            None => None,
+        };
+        if let Some(cause) = &cause {
+            if let Some(asked) = &asked {
+                if self.is_strict && ends_run(asked, cause) {
+                    queue.pass_host(asked.host);
+                }
+            }
+        }
         self.put(queue);
-        let asked = asked?;
         Some(AnswerLine {
-            line: asked.line,
-            cause: cause_of(answer, asked.counted)?,
+            line: asked?.line,
+            cause: cause?,
         })
     }
 }

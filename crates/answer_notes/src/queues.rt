@@ -1,6 +1,6 @@
 //! The lines of a script whose answers are to come, in the order of the answers.
 ghost use Rattle.std.specs.Prelude.{◌≡◌, ◌≤◌, ◌++◌, length, OnOk, OnErr, MatchOption};
-ghost use Rattle.answer_notes.specs.Queues.{lines_of_host, asked_in_turn, no_lines, with_line, with_end, with_move, IsNext, IsNone};
+ghost use Rattle.answer_notes.specs.Queues.{lines_of_host, asked_in_turn, behind_lines_of, no_lines, with_line, with_end, with_move, IsNext, IsNone};
 
 use answer_meanings::Counted;
 use std::alloc::{AllocError, Global};
@@ -12,6 +12,8 @@ pub(crate) struct Asked {
     pub(crate) line: u64,
     pub(crate) host: u8,
     pub(crate) counted: Counted,
+    // whether it is a TEST UNIT READY
+    pub(crate) is_test: bool,
 }
 
 // The lines of a phase, and those of the phases before it whose answers are to come.
@@ -97,6 +99,18 @@ impl Queue {
         self.end_phase()?;
         self.due.push(asked)?;
         Ok(())
+    }
+
+    // Passes over the lines of this host whose answers come next: a strict run does not carry them out.
+    pub(crate) fn pass_host(&mut self, host: u8)
+        ensures { self.new ≡ record self.old { due = behind_lines_of host self.old.due } }
+    {
+        while let Some(asked) = self.due.as_slice().get(self.next) {
+            if asked.host != host {
+                return;
+            }
+            self.next += 1;
+        }
     }
 
     // Takes the line whose answer comes next; None where there is none.

@@ -94,13 +94,13 @@ pub(crate) fn serve_in_turn_strictly<D: Disk + Drop, B: Parties + Rings, H: Part
         }
         let is_test = is_test(line.cdb.as_slice());
         let place = job_place(line);
-        let reply = jobs[place].serve_line(rt, library, line);
-        ended = if ends_run(is_test, &reply) {
+        let answer = jobs[place].serve_line(rt, library, line);
+        ended = if ends_run(is_test, &answer) {
             Some(line.host)
         } else {
             None
         };
-        replies.push(reply).unwrap();
+        replies.push(answer).unwrap();
     }
     Ok(replies)
 }

@@ -45,7 +45,7 @@ fn long_names_are_names(rt: HostRuntime) -> Result<(), Fail> {
 }
 
 const NO_WORD: &str = "'vtl' requires a subcommand but one was not provided\n  \
-    [subcommands: run, serve, create, check, reclaim]";
+    [subcommands: run, serve, create, check, status, reclaim]";
 
 const EXTRA: &str = "unexpected argument 'extra' found";
 

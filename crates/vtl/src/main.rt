@@ -12,7 +12,7 @@ use vtl_notes::noted_streams::NotingWriter;
 use vtl_notes::notes::Notes;
 use vtl_notes::noting::NotingReader;
 use vtl_notes::progress::GibLines;
-use vtl_program::explaining::{asks, asks_at_once, asks_of_lines, run_explained};
+use vtl_program::explaining::{asks, asks_at_once, asks_of_lines, asks_strictly, run_explained};
 use vtl_program::system_files::SystemFiles;
 use vtl_words::UnreadWord;
 
@@ -66,7 +66,11 @@ fn main(rt: HostRuntime) -> ExitCode {
     let unread = unread_of(&rt, &words);
     let progress = GibLines::new(&rt, &words);
     let notes = Notes::new(rt.alloc(), asks(&words));
-    let answers = Answers::new(rt.alloc(), asks_of_lines(rt.alloc(), &words));
+    let answers = Answers::of_run(
+        rt.alloc(),
+        asks_of_lines(rt.alloc(), &words),
+        asks_strictly(rt.alloc(), &words),
+    );
     let mut reader = NotingReader::new(input, rt.alloc(), &notes, &answers);
     let (output, meanings) = (io::writer(&stdout), io::writer(&stderr));
     let output = NotingWriter::new(output, notes.output());

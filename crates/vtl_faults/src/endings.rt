@@ -1,7 +1,7 @@
 //! How the program ends, and how a fault is reported.
 ghost use Rattle.std.specs.Prelude.{◌≡◌};
 ghost use Rattle.vtl_faults.specs.Faults.{status_of};
-ghost use Rattle.vtl_faults.specs.Endings.{EndsProgram, Reports};
+ghost use Rattle.vtl_faults.specs.Endings.{EndsProgram, Reports, line_in};
 
 use crate::faults::{Verdict, VtlFault};
 use crate::lines::whole_line;
@@ -56,6 +56,8 @@ pub struct Ended {
     /// True where there is no fault, or the fault's line was written whole; false where the line could not be written
     /// whole.
     pub is_reported: bool,
+    /// The number of the script's line that is refused, counted from 1; None where there is another fault, or none.
+    pub line: Option<u64>,
 }
 
 // Writes the line of a fault. Returns true where all of it was written; if a write fails, a beginning of it may be.
@@ -68,6 +70,16 @@ fn report<E: Write>(line: FaultLine, errors: &mut E) -> bool
             Err(_) => false,
         },
         Err(_) => false,
+    }
+}
+
+// The number of the script's line that is refused, if that is the fault.
+fn line_in(fault: &VtlFault) -> Option<u64>
+    ensures { result ≡ line_in fault.now }
+{
+    match fault {
+        VtlFault::Script { line } => Some(*line),
+        _ => None,
     }
 }
 
@@ -84,12 +96,14 @@ pub fn end<E: Write>(outcome: Result<Verdict, VtlFault>, errors: &mut E) -> Ende
                 Verdict::Refused => 1,
             },
             is_reported: true,
+            line: None,
         },
         Err(fault) => {
             let (status, line) = fault_line(&fault);
             Ended {
                 status,
                 is_reported: report(line, errors),
+                line: line_in(&fault),
             }
         }
     }

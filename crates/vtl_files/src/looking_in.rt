@@ -9,7 +9,7 @@ use cartridge::{Cartridge, CartridgeError, NotOpened, Shelved};
 use cartridge_sides::Which;
 use file_disk::FileError;
 use pr_core::PrState;
-use std::alloc::Global;
+use std::alloc::{AllocError, Global};
 use tape_disk::Disk;
 use volume_copy::Totals;
 use vtl_base::NoMemory;
@@ -102,7 +102,7 @@ fn copy_bytes<D: Disk>(alloc: Global, cartridge: &Cartridge<D>) -> Result<u64, N
 fn parts_of<D: Disk>(
     alloc: Global,
     cartridge: &Cartridge<D>,
-) -> Result<Vec<PartStatus>, NoMemory> {
+) -> Result<Vec<PartStatus>, AllocError> {
     let mut parts = Vec::new(alloc);
     for part in 0..cartridge.parts() {
         let objects = cartridge.count(part);
@@ -161,11 +161,14 @@ fn opened_status<D: Disk>(
             let epoch = shelved.epoch();
             let (first, second) = shelved.into_disks();
             let status = match counted {
-                Ok(counted) => Ok(CartridgeStatus {
-                    state: FilesState::Whole,
-                    lengths,
-                    counted: Some(CountedStatus { epoch, ..counted }),
-                }),
+                Ok(mut counted) => {
+                    counted.epoch = epoch;
+                    Ok(CartridgeStatus {
+                        state: FilesState::Whole,
+                        lengths,
+                        counted: Some(counted),
+                    })
+                }
                 Err(error) => Err(error),
             };
             (status, first, second)

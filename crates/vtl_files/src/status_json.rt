@@ -2,7 +2,7 @@
 
 use crate::looking_in::{CartridgeStatus, CountedStatus, FilesState, StoreStatus};
 use crate::status_texts::{Text, add_barcode};
-use pr_core::PrState;
+use pr_core::{PrState, Reservation};
 use std::alloc::AllocError;
 use vtl_base::Barcode;
 
@@ -33,7 +33,8 @@ fn add_state(text: &mut Text, state: FilesState) -> Result<(), AllocError> {
     text.add("\"state\":\"")?;
     text.add(word_of(state))?;
     let at = match state {
-        FilesState::Damaged { at } | FilesState::BadRecord { at } => Some(at),
+        FilesState::Damaged { at } => Some(at),
+        FilesState::BadRecord { at } => Some(at),
         _ => None,
     };
     add_value(text, "\",\"at\":", at)
@@ -75,9 +76,17 @@ fn add_cartridge(
         }
         None => text.add(",\"files\":null")?,
     }
-    add_value(text, ",\"counts\":", counted.map(|it| u64::from(it.file)))?;
-    add_value(text, ",\"epoch\":", counted.map(|it| it.epoch))?;
-    add_value(text, ",\"reclaim_frees\":", counted.map(|it| it.frees))
+    let (file, epoch, frees) = match counted {
+        Some(counted) => (
+            Some(u64::from(counted.file)),
+            Some(counted.epoch),
+            Some(counted.frees),
+        ),
+        None => (None, None, None),
+    };
+    add_value(text, ",\"counts\":", file)?;
+    add_value(text, ",\"epoch\":", epoch)?;
+    add_value(text, ",\"reclaim_frees\":", frees)
 }
 
 /// Adds the object of a place.
@@ -102,15 +111,28 @@ fn add_registrations(text: &mut Text, left: &PrState) -> Result<(), AllocError> 
     let mut is_first = true;
     for place in 0..64usize {
         if let Some(key) = left.keys[place] {
-            let known = format!(in text.alloc();
-                "{{\"host\":{},\"key\":\"{key:016x}\"}}", place + 1
-            )?;
-            text.add(if is_first { "" } else { "," })?;
+            let known = format!(in text.alloc(); "{key:016x}")?;
+            text.add(if is_first { "{\"host\":" } else { ",{\"host\":" })?;
             is_first = false;
+            text.add_number(place as u64 + 1)?;
+            text.add(",\"key\":\"")?;
             text.add(known.as_str())?;
+            text.add("\"}")?;
         }
     }
     Ok(())
+}
+
+// The type of a reservation and its holder, as numbers.
+fn numbers_of(reservation: Option<Reservation>) -> (Option<u64>, Option<u64>) {
+    let Some(reservation) = reservation else {
+        return (None, None);
+    };
+    let holder = match reservation.holder {
+        Some(holder) => Some(u64::from(holder.number())),
+        None => None,
+    };
+    (Some(u64::from(reservation.kind as u8)), holder)
 }
 
 /// Adds the object of a drive's reservations.
@@ -128,12 +150,8 @@ pub(crate) fn add_json_store(
         Some(left) => left.reservation,
         None => None,
     };
-    let kind = reservation.map(|it| it.kind as u64);
+    let (kind, holder) = numbers_of(reservation);
     add_value(text, ",\"type\":", kind)?;
-    let holder = match reservation {
-        Some(reservation) => reservation.holder.map(|it| u64::from(it.number())),
-        None => None,
-    };
     add_value(text, ",\"holder\":", holder)?;
     text.add(",\"registrations\":[")?;
     if let Some(left) = &status.left {

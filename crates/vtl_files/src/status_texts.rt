@@ -70,12 +70,12 @@ fn add_state(text: &mut Text, state: FilesState) -> Result<(), AllocError> {
     }
 }
 
-// Adds a bar of 20 places, of which as many are filled as what is used takes, each begun one too.
+// Adds a bar of 20 places. One is filled where more is used than a twentieth of the capacity for each place before it.
 fn add_bar(text: &mut Text, part: &PartStatus) -> Result<(), AllocError> {
-    let filled = (part.used * BAR).div_ceil(part.capacity.max(1));
+    let step = part.capacity / BAR;
     text.add(" [")?;
     for place in 0..BAR {
-        text.add(if place < filled { "#" } else { "." })?;
+        text.add(if part.used > place * step { "#" } else { "." })?;
     }
     text.add("]")
 }
@@ -127,8 +127,7 @@ pub(crate) fn add_place(
     address: u16,
     cartridge: Option<(&Barcode, &CartridgeStatus)>,
     has_bars: bool,
-) -> Result<(), AllocError>
-{
+) -> Result<(), AllocError> {
     text.add_number(u64::from(address))?;
     match cartridge {
         Some((barcode, status)) => {
@@ -149,7 +148,8 @@ fn add_registrations(text: &mut Text, left: &PrState) -> Result<(), AllocError> 
         if let Some(key) = left.keys[place] {
             text.add(if is_first { ", keys" } else { "," })?;
             is_first = false;
-            let known = format!(in text.alloc(); " {} {key:016x}", place + 1)?;
+            let host = place + 1;
+            let known = format!(in text.alloc(); " {host} {key:016x}")?;
             text.add(known.as_str())?;
         }
     }
@@ -161,7 +161,7 @@ fn add_reservation(text: &mut Text, left: &PrState) -> Result<(), AllocError> {
     match left.reservation {
         Some(reservation) => {
             text.add("type ")?;
-            text.add_number(reservation.kind as u64)?;
+            text.add_number(u64::from(reservation.kind as u8))?;
             match reservation.holder {
                 Some(holder) => {
                     text.add(" of host ")?;

@@ -86,7 +86,7 @@ pub fn use_library<
 {
     let LibraryOrder {
         purpose,
-        unloaded,
+        unloaded: _unloaded,
         memory,
         config,
     } = order;

@@ -141,7 +141,8 @@ pub fn with_library<
         ) {
             Ok(Ran { finished, outcome }) => {
                 let Finished { left, counts, .. } = finished;
-                close(sides, left, outcome_of(outcome, counts))
+                let ended = outcome_of(outcome, counts);
+                close(sides, left, ended)
             }
             Err(back) => close(sides, back, Err(VtlFault::NoMemory)),
         },

@@ -62,6 +62,17 @@ pub fn asks_of_lines(alloc: Global, words: &Result<Vec<String>, VtlFault>) -> bo
     }
 }
 
+/// Whether the words ask for a strict run.
+pub fn asks_strictly(alloc: Global, words: &Result<Vec<String>, VtlFault>) -> bool {
+    match words {
+        Ok(words) => matches!(
+            read_words(alloc, words.as_slice()),
+            Ok(Order::Run { strict: true, .. })
+        ),
+        Err(_) => false,
+    }
+}
+
 // What an explanation has to be looked for in, besides what the files say.
 #[derive(Drop)]
 enum Doubt {
@@ -169,11 +180,15 @@ fn add_text(
     alloc: Global,
     notes: &Notes,
     doubt: &Doubt,
+    line: Option<u64>,
     lines: &mut Explanation,
 ) -> Result<(), AllocError> {
     add_config(alloc, notes, doubt, lines)?;
+    // A strict run may have ended before a bad line that was read.
     if let Some(reason) = notes.refused() {
-        reason.add_to(alloc, lines)?;
+        if line == Some(reason.line) {
+            reason.add_to(alloc, lines)?;
+        }
     }
     match doubt {
         Doubt::Frames => add_frame(alloc, notes, lines),
@@ -235,10 +250,10 @@ fn add_checked(alloc: Global, notes: &Notes, lines: &mut Explanation) -> Result<
     added
 }
 
-// The lines that explain why the program ends with this status.
+// The lines that explain why the program ends so.
 fn lines_for(
     alloc: Global,
-    status: u8,
+    ended: Ended,
     doubt: &Doubt,
     notes: &Notes,
 ) -> Result<Explanation, AllocError> {
@@ -246,10 +261,10 @@ fn lines_for(
     if let Doubt::Checks = doubt {
         add_checked(alloc, notes, &mut lines)?;
     }
-    match status {
+    match ended.status {
         1 => match doubt {
             Doubt::Words(reason) => reason.add_to(alloc, &mut lines)?,
-            _ => add_text(alloc, notes, doubt, &mut lines)?,
+            _ => add_text(alloc, notes, doubt, ended.line, &mut lines)?,
         },
         2 => add_failed(alloc, notes, doubt, &mut lines)?,
         3 => notes.add_memory(alloc, &mut lines)?,
@@ -258,12 +273,12 @@ fn lines_for(
     Ok(lines)
 }
 
-// Writes the lines for a status, if they are asked for. If memory runs out, nothing is written; if a write fails, a
+// Writes the lines for how the program ends, if they are asked for. If memory runs out, nothing is written; if a write fails, a
 // beginning of them may be.
 fn explain<E: Write>(
     asked: bool,
     alloc: Global,
-    status: u8,
+    ended: Ended,
     doubt: &Doubt,
     notes: &Notes,
     errors: &mut E,
@@ -273,7 +288,7 @@ fn explain<E: Write>(
     if !asked {
         return;
     }
-    let lines = match lines_for(alloc, status, doubt, notes) {
+    let lines = match lines_for(alloc, ended, doubt, notes) {
         Ok(lines) => lines,
         Err(_) => return,
     };
@@ -329,6 +344,6 @@ pub fn run_explained<
     let doubt = doubt_of(alloc, asked, &words);
     let ended = run::<D, F, R, I, W, E>(rt, alloc, files, words, reader, writer, errors);
     let wanted = is_wanted(asked, ended.is_reported);
-    explain(wanted, alloc, ended.status, &doubt, notes, errors);
+    explain(wanted, alloc, ended, &doubt, notes, errors);
     ended
 }

@@ -3,7 +3,7 @@ use super::streams::{ALL, BAD, Errors, PartWriter};
 use std::io::ErrorKind;
 use std::process::Abort;
 use test_assertions::assert_equal;
-use vtl_faults::endings::{Ended, end};
+use vtl_faults::endings::end;
 use vtl_faults::faults::VtlFault;
 use vtl_faults::faults::VtlFault::{Config, Device, Frame, NoMemory, Script, Words};
 use vtl_files::writing::print_text;
@@ -41,11 +41,8 @@ static LINES: &'static [Taken<'static>] = &[
 // The line of a fault is written to this writer, and the program ends so.
 fn is_taken(rt: &impl Abort, writer: &mut PartWriter, taken: &Taken, at: usize) {
     let (fault, _, _, status, text, is_reported) = *taken;
-    let ended = Ended {
-        status,
-        is_reported,
-    };
-    assert_equal!(rt; end(Err(fault), writer), ended; at);
+    let ended = end(Err(fault), writer);
+    assert_equal!(rt; (ended.status, ended.is_reported), (status, is_reported); at);
     assert_equal!(rt; writer.text(), text; at);
 }
 

@@ -9,7 +9,7 @@ use std::io::{self, ErrorKind};
 use tape_disk::{MemDisk, OnceDisk};
 use vtl_config::{FileName, UsedName};
 use vtl_files::files::{
-    ChangeFiles, LookFiles, MakeFiles, ReadFiles, SecondFiles, TakesBack, TextFiles,
+    ChangeFiles, LookFiles, MakeFiles, ReadFiles, SecondFiles, StatusFiles, TakesBack, TextFiles,
 };
 use vtl_power_on::starting::NotStarted;
 
@@ -183,6 +183,29 @@ impl ReadFiles<OnceDisk<MemDisk>> for NotedFiles {
 
     fn nothing(&self) -> OnceDisk<MemDisk> {
         OnceDisk::new(MemDisk::new(self.alloc), u64::MAX)
+    }
+}
+
+impl StatusFiles<OnceDisk<MemDisk>> for NotedFiles {
+    ghost looks_into = { λ name answer. Unit {0} };
+
+    ghost puts_back = { λ name disk. Unit {0} };
+
+    fn look_into(&self, name: &str) -> Result<OnceDisk<MemDisk>, FileError> {
+        self.opened("look into", name)
+    }
+
+    fn put_back(&self, name: &str, disk: OnceDisk<MemDisk>) {
+        let _ = self.noted("put back", name);
+        drop(disk);
+    }
+
+    fn empty(&self) -> OnceDisk<MemDisk> {
+        OnceDisk::new(MemDisk::new(self.alloc), u64::MAX)
+    }
+
+    fn is_terminal(&self) -> bool {
+        true
     }
 }
 

@@ -125,9 +125,6 @@ pub fn has_ended(
 ) {
     assert_equal!(rt; found.output.as_slice(), output.as_bytes(); at);
     assert_equal!(rt; found.errors.as_slice(), errors.as_bytes(); at);
-    let ended = Ended {
-        status,
-        is_reported: true,
-    };
-    assert_equal!(rt; found.ended, ended; at);
+    let ended = (found.ended.status, found.ended.is_reported);
+    assert_equal!(rt; ended, (status, true); at);
 }
