@@ -1,5 +1,5 @@
 -- What is on the side of a store, and what an image of it gives.
-use Rattle.std.specs.Prelude.{◌≡◌, ◌⊎◌, ◌<◌, ℕ, List, [], ◌∷◌, ◌++◌, length, map, take, slice_index_or, Option, option_to_list}
+use Rattle.std.specs.Prelude.{◌≡◌, ◌⊎◌, ◌<◌, ℕ, List, [], ◌∷◌, ◌++◌, length, map, take, slice_index_or, Option, option_to_list, false}
 use Rattle.std.specs.List.{All}
 use Rattle.gate_journal.specs.declared.header.SideKind.TheVariants.{Cartridge, Store}
 use Rattle.gate_journal.specs.Side.{BeginsAs, Heading, IsDamagedOf, IsNotOurs, StandsFor, drive_name, plain, spell}
@@ -9,9 +9,9 @@ use Rattle.pr_core.specs.Keepers.{last_saved}
 use Rattle.pr_core.specs.States.{empty_state, power_loss}
 use Rattle.aptpl_store.specs.Spelling.{IsSavable, SpellsState, spell_state}
 
--- the heading of a drive's store (own)
+-- the heading of a drive's store without sums (own)
 abbrev pub heading_for : ℕ → Heading
-heading_for drive = record { kind = Store; name = drive_name drive; capacities = [] }
+heading_for drive = record { kind = Store; name = drive_name drive; capacities = []; sums = false }
 
 -- the bodies of frames that spell these states, in order (own)
 abbrev pub state_bodies : List PrState → List (List ℕ)

@@ -38,6 +38,7 @@ impl<D: Disk> AptplStore<D> {
             kind: SideKind::Store,
             name: name_of(drive),
             capacities: Vec::new(alloc),
+            sums: false,
         };
         let Ok(frame) = make_frame(alloc) else {
             let error = StoreError::NoMemory;

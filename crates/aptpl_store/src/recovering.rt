@@ -6,7 +6,7 @@ use crate::creating::make_frame;
 use crate::decoding::decode;
 use crate::noted::Noted;
 use crate::state_body::StateBody;
-use gate_journal::{Decodes, Frame, Header, NotedBytes, SideKind};
+use gate_journal::{Copied, Decodes, Frame, Header, NotedBytes, SideKind};
 use pr_core::Reservations;
 use std::alloc::Global;
 use vtl_base::NoMemory;
@@ -29,7 +29,7 @@ impl Decodes for Recovered {
 
     ghost KIND = { Store };
 
-    ghost has_read = { λ found. HasRead found.noted.notes found.last };
+    ghost has_read = { λ found head. HasRead found.noted.notes found.last head.heading };
 
     ghost refuses = { λ found. IsNoState };
 
@@ -40,7 +40,11 @@ impl Decodes for Recovered {
 
     const KIND: SideKind = SideKind::Store;
 
-    fn begin(alloc: Global, _header: &Header) -> Result<Self, NoMemory> {
+    fn begin(
+        alloc: Global,
+        _header: &Header,
+        _copied: Option<Copied>,
+    ) -> Result<Self, NoMemory> {
         let frame = make_frame(alloc)?;
         Ok(Recovered {
             frame,

@@ -15,6 +15,7 @@ fn new_side(alloc: Global) -> Option<Journal<MemDisk>> {
         kind: SideKind::Cartridge,
         name: *b"T00001L6        ",
         capacities: vec![in alloc; 16_777_216].ok()?,
+        sums: false,
     };
     if !header.can_be_spelled() {
         return None;

@@ -1,5 +1,5 @@
 -- What a cartridge holds, and what a pair of images of its two disks gives.
-use Rattle.std.specs.Prelude.{◌≡◌, ◌⊎◌, ◌<◌, ◌≤◌, ℕ, List, [], ◌++◌, length, map, take, drop, slice_index_or, None}
+use Rattle.std.specs.Prelude.{◌≡◌, ◌⊎◌, ◌<◌, ◌≤◌, ℕ, List, [], ◌++◌, length, map, take, drop, slice_index_or, None, false}
 use Rattle.std.specs.List.{All, flat_map}
 use Rattle.volume_core.specs.declared.changes.Change.{Change}
 use Rattle.volume_core.specs.Volume.{Part, AllApply, after, empty_volume}
@@ -61,9 +61,10 @@ start_of contents = record {
   volume = after contents.base (changes_of (base_frames contents));
 }
 
--- the heading of a cartridge with this barcode and these capacities (own)
+-- the heading of a cartridge without sums, with this barcode and these capacities (own)
 abbrev pub heading_with : List ℕ → List ℕ → Heading
-heading_with barcode capacities = record { kind = Cartridge; name = padded barcode; capacities = capacities }
+heading_with barcode capacities =
+    record { kind = Cartridge; name = padded barcode; capacities = capacities; sums = false }
 
 -- the head of a side with this heading that is no copy (own)
 abbrev pub plain_head : Heading → Head

@@ -5,8 +5,7 @@ ghost use Rattle.vtl_base.specs.declared.limits.TheConstants.{MAX_BODY};
 ghost use Rattle.change_records.specs.Records.{IsRecord, spell_all};
 
 use change_records::spelled_parts;
-use gate_journal::BodyParts;
-use gate_journal::body_parts::PART_HEAD;
+use gate_journal::{BodyParts, PartHead};
 use std::marker::Model;
 use volume_core::Change;
 use vtl_base::layout::FRAME_HEAD;
@@ -71,7 +70,8 @@ impl<'a> BodyParts for Spelled<'a> {
         self.size
     }
 
-    fn part(&self, number: usize) -> Option<([u8; PART_HEAD], &[u8])> {
-        Some(spelled_parts(self.changes.get(number)?))
+    fn part(&self, number: usize) -> Option<(PartHead, &[u8])> {
+        let (head, block) = spelled_parts(self.changes.get(number)?);
+        Some((PartHead::Plain(head), block))
     }
 }

@@ -98,5 +98,6 @@ fn header_with(alloc: Global, barcode: &Barcode, capacities: &[u64]) -> Result<H
         kind: SideKind::Cartridge,
         name,
         capacities: Vec::from_slice(alloc, capacities)?,
+        sums: false,
     })
 }

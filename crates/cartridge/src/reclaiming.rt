@@ -28,7 +28,7 @@ use volume_copy::Totals;
 use volume_core::Catalog;
 use volume_reclaim::reclaim_volume;
 use vtl_base::NoMemory;
-use vtl_base::layout::{CAPACITY_BYTES, COPIED_BYTES, FRAME_HEAD, START_BYTES};
+use vtl_base::layout::{CAPACITY_BYTES, COPIED_BYTES, FRAME_HEAD, START_BYTES, SUM_BYTES};
 use vtl_base::limits::{COPY_BODY, MAX_SIDE};
 
 /// Why a cartridge is not reclaimed (own).
@@ -163,9 +163,10 @@ fn length_of_copy<D: Disk>(cartridge: &Cartridge<D>, totals: Totals) -> u64
     requires bound { totals.bytes ≤ MAX_CAPACITY * MAX_PARTITIONS }
     ensures { result ≡ copy_length cartridge.now.contents }
 {
-    let count = cartridge.journal.header().capacities.len() as u64;
-    let front = (START_BYTES + COPIED_BYTES) as u64 + CAPACITY_BYTES as u64 * count;
-    front + FRAME_HEAD * u64::from(totals.frames) + totals.bytes + 1
+    let header = cartridge.journal.header();
+    let sum = if header.sums { SUM_BYTES } else { 0 };
+    let front = START_BYTES + CAPACITY_BYTES * header.capacities.len() + COPIED_BYTES + sum;
+    front as u64 + FRAME_HEAD * u64::from(totals.frames) + totals.bytes + 1
 }
 
 // How often the cartridge was reclaimed.
@@ -187,6 +188,7 @@ fn copy_of_header(alloc: Global, header: &Header) -> Result<Header, NoMemory>
         kind: header.kind,
         name: header.name,
         capacities,
+        sums: header.sums,
     })
 }
 

@@ -3,7 +3,7 @@
 use crate::noted::Noted;
 use crate::walking::{walk_over, walk_piece};
 use change_records::RecordReader;
-use gate_journal::{Decodes, Header, NotedBytes, SideKind};
+use gate_journal::{Copied, Decodes, Header, NotedBytes, SideKind};
 use object_index::Index;
 use std::alloc::Global;
 use vtl_base::NoMemory;
@@ -25,7 +25,7 @@ impl Decodes for Recovered {
 
     ghost KIND = { Cartridge };
 
-    ghost has_read = { λ found. HasRead found.index found.noted.notes };
+    ghost has_read = { λ found head. HasRead found.index found.noted.notes head.heading };
 
     ghost refuses = { λ found. IsBadBody (volume_made (noted_contents found.noted.notes)) };
 
@@ -36,7 +36,11 @@ impl Decodes for Recovered {
 
     const KIND: SideKind = SideKind::Cartridge;
 
-    fn begin(alloc: Global, header: &Header) -> Result<Self, NoMemory> {
+    fn begin(
+        alloc: Global,
+        header: &Header,
+        _copied: Option<Copied>,
+    ) -> Result<Self, NoMemory> {
         let index = Index::new(alloc, &header.capacities)?;
         let noted = Noted::new(header);
         let reader = RecordReader::new();

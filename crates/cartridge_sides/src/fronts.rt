@@ -9,7 +9,7 @@ use tape_disk::Disk;
 use vtl_base::DevFault;
 use vtl_base::layout::LONGEST_FRONT;
 
-// Reads the first bytes of the disk into the buffer, 71 or as many as there are, and returns how many.
+// Reads the first bytes of the disk into the buffer, 75 or as many as there are, and returns how many.
 pub(crate) fn read_front<D: Disk>(disk: &mut D, bytes: &mut [u8]) -> Result<usize, DevFault>
     requires { length bytes.old ≡ LONGEST_FRONT }
     ensures passes { Passes (D.state disk.old) (D.state disk.new) result }

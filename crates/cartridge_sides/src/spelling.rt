@@ -2,15 +2,15 @@
 ghost use Rattle.std.specs.Prelude.{◌≡◌, ◌+◌, ◌-◌, ◌*◌, ◌≤◌, [], ◌∷◌, ◌++◌, length, take, drop, vec_capacity, vec_len};
 ghost use Rattle.std.specs.List.{flat_map};
 ghost use Rattle.std.specs.Int.{to_be_bytes, w32, w64};
-ghost use Rattle.gate_journal.specs.Heads.{spell_side_head};
+ghost use Rattle.gate_journal.specs.Heads.{spell_side_head, sum_size};
 ghost use Rattle.gate_journal.specs.Side.{IsBody, frame};
 ghost use Rattle.cartridge_sides.specs.Copying.{said_of};
 ghost use Rattle.vtl_base.specs.declared.limits.TheConstants.{MAX_PARTITIONS};
 ghost use Rattle.vtl_base.specs.declared.layout.TheConstants.{BEGUN_BYTES, CAPACITY_BYTES, COPIED_BYTES, FRAME_HEAD, LONGEST_FRONT, OPEN, START_BYTES};
 
 use byteorder::{BigEndian, ByteOrder};
-use gate_journal::{Copied, Header};
-use vtl_base::layout::{CAPACITY_BYTES, COPIED_BYTES, COPY_BIT, EPOCH_BYTES, FRAME_HEAD};
+use gate_journal::{Copied, Header, head_byte, heading_sum};
+use vtl_base::layout::{CAPACITY_BYTES, COPIED_BYTES, EPOCH_BYTES, FRAME_HEAD};
 
 // Makes a buffer hold the head of a copy, and nothing else.
 pub(crate) fn put_head(buffer: &mut Vec<u8>, header: &Header, copied: Copied)
@@ -18,11 +18,12 @@ pub(crate) fn put_head(buffer: &mut Vec<u8>, header: &Header, copied: Copied)
     requires room { LONGEST_FRONT - BEGUN_BYTES ≤ vec_capacity buffer.old }
     ensures items { buffer.new.items ≡ spell_side_head (said_of header.now copied) }
     ensures len { vec_len buffer.new
-        ≡ START_BYTES - BEGUN_BYTES + COPIED_BYTES + CAPACITY_BYTES * length header.now.capacities.items }
+        ≡ START_BYTES - BEGUN_BYTES + COPIED_BYTES + CAPACITY_BYTES * length header.now.capacities.items
+        + sum_size header.now.sums }
     ensures room { vec_capacity buffer.old ≤ vec_capacity buffer.new }
 {
     buffer.clear();
-    put(buffer, &[COPY_BIT + header.capacities.len() as u8]);
+    put(buffer, &[head_byte(header, Some(copied))]);
     put(buffer, &header.name);
     put_capacities(buffer, &header.capacities);
     let mut epoch = [0; EPOCH_BYTES];
@@ -31,6 +32,9 @@ pub(crate) fn put_head(buffer: &mut Vec<u8>, header: &Header, copied: Copied)
     let mut base = [0; COPIED_BYTES - EPOCH_BYTES];
     BigEndian::write_u32(&mut base, copied.base);
     put(buffer, &base);
+    if header.sums {
+        put(buffer, &heading_sum(header, Some(copied)).to_be_bytes());
+    }
 }
 
 // Appends eight bytes for each number.

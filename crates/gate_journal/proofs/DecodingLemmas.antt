@@ -13,7 +13,7 @@ use Rattle.gate_journal.specs.declared.error.OpenError.TheVariants.{NotOurs, Dam
 use Rattle.gate_journal.specs.Answers.{NoneFailed, NotOpenedAs}
 use Rattle.gate_journal.specs.Crash.{Unwritten}
 use Rattle.gate_journal.specs.Decoding.{HasDecoded, IsNotDecoded, TakesBody}
-use Rattle.gate_journal.specs.Side.{Front, Heading, StandsFor, frame, spell_front}
+use Rattle.gate_journal.specs.Side.{Front, Head, StandsFor, frame, spell_front}
 use Rattle.gate_journal.specs.Inner.Decoding.{NotFinished, opening_cause}
 use Rattle.gate_journal.proofs.AskedLemmas.{begins_as}
 use Rattle.gate_journal.proofs.Walks.{fault_since}
@@ -23,26 +23,26 @@ take_more : {A : Type 0} → (xs : List A) (d : A) (k : ℕ) → k < length xs
     → take (k + 1) xs ≡ take k xs ++ slice_index_or xs k d ∷ []
 take_more xs d k inside = ap (λ (n : ℕ). take n xs) (add-one k) ∙ take-suc xs k d inside
 
-module _ {T : Type 0} (has_read : T → Heading → List (ℕ × ℕ) → List (List ℕ) → Type 0)
+module _ {T : Type 0} (has_read : T → Head → List (ℕ × ℕ) → List (List ℕ) → Type 0)
     (refuses : T → List ℕ → Type 0) where
-  module _ (decoder : T) (heading : Heading) (extents : List (ℕ × ℕ)) (bodies : List (List ℕ)) (honest : Type 0)
+  module _ (decoder : T) (head : Head) (extents : List (ℕ × ℕ)) (bodies : List (List ℕ)) (honest : Type 0)
       (k : ℕ)
-      (so_far : HasDecoded has_read decoder heading (take k extents) (take k bodies) honest) where
+      (so_far : HasDecoded has_read decoder head (take k extents) (take k bodies) honest) where
     -- the next body is read
     pub decoded_next : (decoder' : T) (good : Bool) (at : ℕ) (body : List ℕ) → good ≡ true → k < length extents
         → slice_index_or extents k (0, 0) ≡ (at, length body)
-        → ((h : Heading) (e : List (ℕ × ℕ)) (b : List (List ℕ)) → has_read decoder h e b
+        → ((h : Head) (e : List (ℕ × ℕ)) (b : List (List ℕ)) → has_read decoder h e b
         → TakesBody has_read refuses good decoder decoder' h e b at body)
         → (honest → (k < length bodies) × (body ≡ slice_index_or bodies k []))
-        → HasDecoded has_read decoder' heading (take (k + 1) extents) (take (k + 1) bodies) honest
+        → HasDecoded has_read decoder' head (take (k + 1) extents) (take (k + 1) bodies) honest
     decoded_next decoder' good at body is_good inside extent_is takes is = (
       so_far.0 ++ body ∷ [],
-      subst (λ (e : List (ℕ × ℕ)). has_read decoder' heading e (so_far.0 ++ body ∷ []))
+      subst (λ (e : List (ℕ × ℕ)). has_read decoder' head e (so_far.0 ++ body ∷ []))
           (ap (λ (x : ℕ × ℕ). take k extents ++ x ∷ []) (sym extent_is) ∙ sym (take_more extents (0, 0) k inside))
           (subst
           (λ (b : Bool).
-          TakesBody has_read refuses b decoder decoder' heading (take k extents) so_far.0 at body)
-          is_good (takes heading (take k extents) so_far.0 so_far.1)),
+          TakesBody has_read refuses b decoder decoder' head (take k extents) so_far.0 at body)
+          is_good (takes head (take k extents) so_far.0 so_far.1)),
       λ h. (λ i. so_far.2 h i ++ (is h).1 i ∷ []) ∙ sym (take_more bodies [] k (is h).0),
     )
 

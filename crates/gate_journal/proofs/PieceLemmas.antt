@@ -5,7 +5,7 @@ use Rattle.std.proofs.lemmas.List.{length-drop, length-replicate, length-take-le
 use Rattle.gate_journal.specs.Decoding.{TakesPiece}
 use Rattle.gate_journal.specs.Inner.Padding.{padded_to}
 use Rattle.gate_journal.specs.Inner.Pieces.{DecodesBody, IsSoFar, TakesNext}
-use Rattle.gate_journal.specs.Side.{Heading}
+use Rattle.gate_journal.specs.Side.{Head}
 use Rattle.gate_journal.specs.declared.pieces.SoFar.{SoFar}
 
 pub padded_long : (count : ℕ) (bytes : List ℕ) → length (padded_to count bytes) ≡ count
@@ -56,7 +56,7 @@ so_far_moves so_far size honest later body other was same so = record {
   real = λ h. so.real (was h) ∙ ap (take so_far.from) (sym (same h));
 }
 
-module _ {T : Type 0} (has_read : T → Heading → List (ℕ × ℕ) → List (List ℕ) → Type 0)
+module _ {T : Type 0} (has_read : T → Head → List (ℕ × ℕ) → List (List ℕ) → Type 0)
     (refuses : T → List ℕ → Type 0) (is_within : T → T → ℕ → List ℕ → Type 0) (start old new : T) (extent : ℕ × ℕ)
     (honest : Type 0) (body : List ℕ) (sized : honest → length body ≡ extent.1) where
   -- the body is bad, whatever follows
@@ -84,7 +84,7 @@ module _ {T : Type 0} (has_read : T → Heading → List (ℕ × ℕ) → List (
         real = λ h.
             unread_next body after.from left (omega (arith, sum, sized h)) after.bytes.bytes (so.real h)
             ∙ take_all (after.from + left) body (omega (arith, sum, sized h));
-        takes = λ heading extents bodies had. bad heading extents bodies had more;
+        takes = λ head extents bodies had. bad head extents bodies had more;
       }
 
   -- the next bytes are taken, or show that it is bad
@@ -122,7 +122,7 @@ module _ {T : Type 0} (has_read : T → Heading → List (ℕ × ℕ) → List (
       }
 
 -- the same on a later disk that is as honest and holds the same body in the same extent
-pub next_moves : {T : Type 0} (has_read : T → Heading → List (ℕ × ℕ) → List (List ℕ) → Type 0)
+pub next_moves : {T : Type 0} (has_read : T → Head → List (ℕ × ℕ) → List (List ℕ) → Type 0)
     (refuses : T → List ℕ → Type 0) (is_within : T → T → ℕ → List ℕ → Type 0) (good : Bool) (old new : T)
     (before after : SoFar) (extent other : ℕ × ℕ) (honest later : Type 0) (body same : List ℕ) → extent ≡ other
     → (later → honest) → (later → same ≡ body)

@@ -1,8 +1,15 @@
 -- Bytes that begin with a front, part by part.
-use Rattle.std.proofs.Common.{◌≡◌, ℕ, ◌+◌, ◌-◌, ◌*◌, ◌≤◌, ◌<◌, List, [], ◌∷◌, ◌++◌, length, get_or, take, drop, refl, sym, ◌∙◌, ap, subst, arith, append_assoc, length-append, take-append-drop}
+use Rattle.std.proofs.Common.{◌≡◌, ◌⊎◌, inl, inr, Bool, true, false, ◌^◌, length-drop, ℕ, ◌+◌, ◌-◌, ◌*◌, ◌≤◌, ◌<◌, List, [], ◌∷◌, ◌++◌, length, get_or, take, drop, refl, sym, ◌∙◌, ap, subst, arith, append_assoc, length-append, take-append-drop}
 use Rattle.std.specs.Prelude.{IsTrue, Option, None, Some, slice_range}
-use Rattle.std.proofs.lemmas.List.{append-nil, drop-drop, drop_more, get_or-drop, get_or-take, get_or_append_left, length-take-le, take_at}
-use Rattle.std.proofs.lemmas.List.Elements.{All-nil}
+use Rattle.std.specs.List.{All}
+use Rattle.std.specs.Int.{to_be_bytes, w32}
+use Rattle.std.proofs.lemmas.List.{append-nil, drop-drop, drop_at, drop_more, get_or-drop, get_or-take, get_or_append_left, length-take-le, take_at}
+use Rattle.std.proofs.lemmas.List.Elements.{All-append, All-nil}
+use Rattle.byteorder.specs.Endian.{big_number}
+use Rattle.byteorder.specs.Numbers.{big_number-reads_back}
+use Rattle.crc32c.specs.Crc.{crc32c}
+use Rattle.crc32c.specs.Facts.{crc32c_lt}
+use Rattle.vtl_base.specs.declared.layout.TheConstants.{STORE_MARK}
 use Rattle.vtl_base.specs.Limits.{is_capacity}
 use Rattle.gate_journal.specs.declared.fronts.ParsedFront.{ParsedFront}
 use Rattle.gate_journal.specs.declared.header.SideKind.{SideKind}
@@ -10,13 +17,20 @@ use Rattle.gate_journal.specs.declared.reading.ReadFront.{ReadFront}
 use Rattle.gate_journal.specs.declared.header.SideKind.TheVariants.{Cartridge, Store}
 use Rattle.gate_journal.specs.declared.heads.Copied.{Copied}
 use Rattle.gate_journal.specs.declared.heads.ParsedHead.{ParsedHead}
-use Rattle.gate_journal.specs.Heads.{ParsesHead, count_byte, spell_side_head}
+use Rattle.gate_journal.specs.Heads.{Head, ParsesHead, behind_size, copied_size, count_byte, heading_sum, spell_fields, spell_side_head, spell_sum, with_sums, written, written_as}
 use Rattle.gate_journal.specs.Side.{OPEN, Front, Heading, IsCount, IsFront, IsName, IsNotOurs, IsPairGate, heading_of, mark, plain, spell_front, start}
 use Rattle.gate_journal.specs.Inner.Found.{front_read}
 use Rattle.gate_journal.specs.Inner.Fronts.{behind_start, count_there, front_as, front_is, front_there, length_front, length_start, letter_is, pair_there, plain_front, sized_by, store_is_plain}
-use Rattle.gate_journal.specs.Inner.Heads.{count_in, is_copy}
-use Rattle.gate_journal.specs.Inner.HeadsRead.{count_again}
-use Rattle.gate_journal.specs.Inner.Reading.{BeginsWithFront, ParsesFront, copied_size, heading_parsed, kind_by_letter, numbers_of, size_behind}
+use Rattle.gate_journal.specs.Inner.Heads.{count_in}
+use Rattle.gate_journal.specs.Inner.HeadsRead.{count_again, is_long, length_fields}
+use Rattle.gate_journal.proofs.HeadLemmas.{all_bytes, mark_bytes}
+use Rattle.gate_journal.proofs.Numbers.{AreBytes, bytes_behind, bytes_in_front, four_bytes}
+use Rattle.gate_journal.specs.Inner.Reading.{BeginsWithFront, IsSummedStore, ParsesFront, heading_parsed, kind_by_letter, numbers_of, size_behind}
+
+-- a store's head has neither epoch nor base
+store_written : (sums : Bool) → written_as sums Store None ≡ None
+store_written false = refl
+store_written true = refl
 
 -- the letter of the mark decides the kind
 letter_parses : (kind : SideKind) → kind_by_letter (get_or (mark kind) 3 0) ≡ kind
@@ -48,27 +62,32 @@ module _ (bytes : List ℕ) where
   kind_decoded w = ap kind_by_letter (letter_is w.0 w.1 bytes w.3) ∙ letter_parses w.0.head.heading.kind
 
   -- the parts of a front
-  reads : (w : BeginsWithFront bytes) → front_as w.0.head.heading.kind (is_copy w.0.head.copied) bytes ≡ w.0
+  reads : (w : BeginsWithFront bytes)
+      → front_as w.0.head.heading.kind (is_long w.0.head) w.0.head.heading.sums bytes ≡ w.0
   reads w =
-      ap (λ (l : List ℕ). front_as w.0.head.heading.kind (is_copy w.0.head.copied) l) w.3 ∙ front_is w.0 w.1 w.2
+      ap (λ (l : List ℕ). front_as w.0.head.heading.kind (is_long w.0.head) w.0.head.heading.sums l) w.3
+      ∙ front_is w.0 w.1 w.2
 
   pub name_parsed : (w : BeginsWithFront bytes) → take 16 (drop 11 bytes) ≡ w.0.head.heading.name
   name_parsed w = ap (λ (l : List ℕ). take 16 l) (sym (drop-drop 1 10 bytes))
       ∙ ap (λ (f : Front). f.head.heading.name) (reads w)
 
-  count_parsed : (w : BeginsWithFront bytes) →
-      count_in (is_copy w.0.head.copied) (get_or (drop 10 bytes) 0 0) ≡ length w.0.head.heading.capacities
+  abbrev counted : BeginsWithFront bytes → ℕ → ℕ
+  counted w byte = count_in (is_long w.0.head) w.0.head.heading.sums byte
+
+  count_parsed : (w : BeginsWithFront bytes)
+      → counted w (get_or (drop 10 bytes) 0 0) ≡ length w.0.head.heading.capacities
   count_parsed w =
-      ap (λ (n : ℕ). count_in (is_copy w.0.head.copied) n) (get_or-drop 10 bytes 0 0 ∙ count_there w.0 w.1 bytes w.3)
-      ∙ count_again w.0.head.copied (length w.0.head.heading.capacities)
+      ap (counted w) (get_or-drop 10 bytes 0 0 ∙ count_there w.0 w.1 bytes w.3)
+      ∙ count_again (written w.0.head) w.0.head.heading.sums (length w.0.head.heading.capacities)
 
   capacities_parsed : (w : BeginsWithFront bytes) (end : ℕ) → end ≡ 27 + 8 * length w.0.head.heading.capacities →
       numbers_of (slice_range bytes 27 end) ≡ w.0.head.heading.capacities
   capacities_parsed w end there =
-      let width : end - 27 ≡ 8 * count_in (is_copy w.0.head.copied) (get_or (drop 10 bytes) 0 0) =
+      let width : end - 27 ≡ 8 * counted w (get_or (drop 10 bytes) 0 0) =
       omega (arith, there, count_parsed w) in
       ap (λ (n : ℕ). numbers_of (take n (drop 27 bytes))) width
-      ∙ ap (λ (l : List ℕ). numbers_of (take (8 * count_in (is_copy w.0.head.copied) (get_or (drop 10 bytes) 0 0)) l))
+      ∙ ap (λ (l : List ℕ). numbers_of (take (8 * counted w (get_or (drop 10 bytes) 0 0)) l))
       (sym (drop-drop 17 10 bytes))
       ∙ ap (λ (f : Front). f.head.heading.capacities) (reads w)
 
@@ -106,6 +125,7 @@ module _ (bytes : List ℕ) where
           kind = Cartridge;
           pair = get_or bytes 9 0;
           copied = head.copied;
+          sums = head.sums;
           size = 10 + head.size;
         }))
     front_parsed parsed (h, rest, kind, ok, is, same) =
@@ -121,10 +141,11 @@ module _ (bytes : List ℕ) where
           record {
             kind = sym kind;
             pair = refl;
-            copied = same.1;
+            copied = same.copied;
+            sums = same.sums;
             size = omega (
               arith,
-              same.0,
+              same.size,
               length_start h.heading.kind pair,
               length-append (start OPEN h.heading.kind pair) (spell_side_head h),
             );
@@ -148,13 +169,77 @@ module _ (bytes : List ℕ) where
         ∙ pair_there w.0.head.heading.kind w.0.pair (spell_side_head w.0.head) w.1
         ∙ ap (λ (f : Front). f.pair) (plain_is w)
 
-    pub none_counted : BeginsWithFront bytes → get_or bytes 10 0 ≡ 0
-    none_counted w =
+    -- a store has no capacities, and the byte of its count says whether it has sums
+    pub store_byte : (w : BeginsWithFront bytes) → get_or bytes 10 0 ≡ with_sums w.0.head.heading.sums 0
+    store_byte w =
+        let sums = w.0.head.heading.sums in
+        let none : length w.0.head.heading.capacities ≡ 0 =
+        subst (λ (k : SideKind). IsCount k (length w.0.head.heading.capacities)) (kind_is Store begins w)
+        w.2.head.heading.count in
         count_there w.0 w.1 bytes w.3
-        ∙ ap (λ (c : Option Copied). count_byte c (length w.0.head.heading.capacities))
-        (ap (λ (f : Front). f.head.copied) (plain_is w))
-        ∙ subst (λ (k : SideKind). IsCount k (length w.0.head.heading.capacities)) (kind_is Store begins w)
-        w.2.head.heading.count
+        ∙ (λ i. with_sums sums (count_byte (written (plain_is w i).head) (none i)))
+        ∙ ap (λ (k : SideKind). with_sums sums (count_byte (written_as sums k None) 0)) (kind_is Store begins w)
+        ∙ ap (λ (c : Option Copied). with_sums sums (count_byte c 0)) (store_written sums)
+
+    pub none_counted : BeginsWithFront bytes → (get_or bytes 10 0 ≡ 0) ⊎ (get_or bytes 10 0 ≡ 64)
+    none_counted w = by w.0.head.heading.sums (store_byte w)
+      where
+        by : (sums : Bool) → get_or bytes 10 0 ≡ with_sums sums 0
+            → (get_or bytes 10 0 ≡ 0) ⊎ (get_or bytes 10 0 ≡ 64)
+        by false is = inl is
+        by true is = inr is
+
+    -- the bytes of a store's head up to the sum
+    store_fields : (w : BeginsWithFront bytes) → take 17 (drop 10 bytes) ≡ spell_fields w.0.head
+    store_fields w =
+        let h = w.0.head in
+        let sum = spell_sum h.heading.sums (heading_sum h) in
+        let none : length h.heading.capacities ≡ 0 =
+        subst (λ (k : SideKind). IsCount k (length h.heading.capacities)) (kind_is Store begins w)
+        w.2.head.heading.count in
+        let no_copy : copied_size (written h) ≡ 0 =
+        (λ i. copied_size (written (plain_is w i).head))
+        ∙ ap (λ (k : SideKind). copied_size (written_as h.heading.sums k None)) (kind_is Store begins w)
+        ∙ ap copied_size (store_written h.heading.sums) in
+        ap (take 17) (behind Store begins w ∙ append_assoc (spell_fields h) sum w.1)
+        ∙ take_at (spell_fields h) (sum ++ w.1) 17 (omega (arith, length_fields h w.2.head, none, no_copy))
+
+    -- a store with sums has that of its heading
+    pub store_summed : BeginsWithFront bytes → get_or bytes 10 0 ≡ 64 → AreBytes bytes → IsSummedStore bytes
+    store_summed w is fits = by w.0.head.heading.sums refl
+      where
+        h : Head
+        h = w.0.head
+
+        by : (sums : Bool) → h.heading.sums ≡ sums → IsSummedStore bytes
+        by false e =
+            let zero : get_or bytes 10 0 ≡ 0 = store_byte w ∙ ap (λ (s : Bool). with_sums s 0) e in
+            absurd (omega (arith, zero, is))
+        by true e =
+            let head_there : drop 10 bytes ≡ spell_fields h ++ (to_be_bytes w32 (heading_sum h) ++ w.1) =
+            behind Store begins w ∙ append_assoc (spell_fields h) (spell_sum h.heading.sums (heading_sum h)) w.1
+            ∙ ap (λ (s : Bool). spell_fields h ++ (spell_sum s (heading_sum h) ++ w.1)) e in
+            let long : length (spell_fields h) ≡ 17 =
+            ap length (sym (store_fields w)) ∙ length-take-le 17 (drop 10 bytes)
+            (omega (arith, some, length-drop 10 bytes)) in
+            let sum_there : drop 27 bytes ≡ to_be_bytes w32 (heading_sum h) ++ w.1 =
+            sym (drop-drop 17 10 bytes) ∙ ap (drop 17) head_there
+            ∙ drop_at (spell_fields h) (to_be_bytes w32 (heading_sum h) ++ w.1) 17 long in
+            let fits' : heading_sum h < 2 ^ 32 =
+            crc32c_lt (mark h.heading.kind ++ spell_fields h)
+            (All-append (λ b. b < 2 ^ 8) (mark h.heading.kind) (spell_fields h) (mark_bytes h.heading.kind)
+            (subst (λ (l : List ℕ). All (λ b. b < 2 ^ 8) l) (store_fields w)
+            (all_bytes (take 17 (drop 10 bytes)) (bytes_in_front 17 (drop 10 bytes) (bytes_behind 10 bytes fits))))) in (
+              omega (
+                arith,
+                ap length sum_there,
+                length-drop 27 bytes,
+                length-append (to_be_bytes w32 (heading_sum h)) w.1,
+              ),
+              ap (big_number 4) sum_there ∙ big_number-reads_back 4 (heading_sum h) w.1 fits'
+                  ∙ ap (λ (k : SideKind). crc32c (mark k ++ spell_fields h)) (kind_is Store begins w)
+                  ∙ ap (λ (l : List ℕ). crc32c (STORE_MARK ++ l)) (sym (store_fields w)),
+            )
 
     pub named : (w : BeginsWithFront bytes) → IsName Store name
     named w =
@@ -162,13 +247,15 @@ module _ (bytes : List ℕ) where
         (subst (λ (k : SideKind). IsName k w.0.head.heading.name) (kind_is Store begins w) w.2.head.heading.name)
 
     pub store_shown : get_or bytes 9 0 ≡ 0 → get_or bytes 10 0 ≡ 0 → IsName Store name →
-        ParsesFront bytes (Some (record { kind = Store; pair = get_or bytes 9 0; copied = None; size = 27 }))
+        ParsesFront bytes
+        (Some (record { kind = Store; pair = get_or bytes 9 0; copied = None; sums = false; size = 27 }))
     store_shown shut none ok =
-        let heading : Heading = record { kind = Store; name = name; capacities = [] } in
+        let heading : Heading = record { kind = Store; name = name; capacities = []; sums = false } in
         let f : Front = plain heading in
         let well : IsFront f =
         plain_front heading (record { name = ok; count = refl; capacities = All-nil (λ n. IsTrue (is_capacity n)) }) in
-        let two : 0 ∷ name ≡ (0 ∷ name ++ []) ++ [] = sym (append-nil (0 ∷ name)) ∙ sym (append-nil (0 ∷ name ++ [])) in
+        let two : 0 ∷ name ≡ ((0 ∷ name ++ []) ++ []) ++ [] =
+        sym (append-nil (0 ∷ name)) ∙ sym (append-nil (0 ∷ name ++ [])) ∙ sym (append-nil ((0 ∷ name ++ []) ++ [])) in
         let head : drop 10 bytes ≡ spell_side_head f.head ++ drop 27 bytes =
         drop_more bytes 10 0 (omega (arith, some))
         ∙ (λ i. none i ∷ sym (take-append-drop 16 (drop 11 bytes)) i)
@@ -179,7 +266,45 @@ module _ (bytes : List ℕ) where
           well,
           whole Store begins ∙ (λ i. start OPEN Store (shut i) ++ head i)
               ∙ sym (append_assoc (start OPEN Store 0) (spell_side_head f.head) (drop 27 bytes)),
-          record { kind = refl; pair = shut; copied = refl; size = omega (arith, length_front f well) },
+          record { kind = refl; pair = shut; copied = refl; sums = refl; size = omega (arith, length_front f well) },
+        )
+
+    pub sealed_store_shown : get_or bytes 9 0 ≡ 0 → get_or bytes 10 0 ≡ 64 → IsName Store name → AreBytes bytes
+        → IsSummedStore bytes
+        → ParsesFront bytes
+        (Some (record { kind = Store; pair = get_or bytes 9 0; copied = None; sums = true; size = 31 }))
+    sealed_store_shown shut byte ok fits summed =
+        let heading : Heading = record { kind = Store; name = name; capacities = []; sums = true } in
+        let f : Front = plain heading in
+        let well : IsFront f =
+        plain_front heading (record { name = ok; count = refl; capacities = All-nil (λ n. IsTrue (is_capacity n)) }) in
+        let two : 64 ∷ name ≡ (64 ∷ name ++ []) ++ [] =
+        sym (append-nil (64 ∷ name)) ∙ sym (append-nil (64 ∷ name ++ [])) in
+        let front : drop 10 bytes ≡ spell_fields f.head ++ drop 27 bytes =
+        drop_more bytes 10 0 (omega (arith, some))
+        ∙ (λ i. byte i ∷ sym (take-append-drop 16 (drop 11 bytes)) i)
+        ∙ ap (λ (l : List ℕ). 64 ∷ name ++ l) (drop-drop 16 11 bytes)
+        ∙ ap (λ (l : List ℕ). l ++ drop 27 bytes) two in
+        let seventeen : length (spell_fields f.head) ≡ 17 = omega (arith, length_fields f.head well.head) in
+        let sum : big_number 4 (drop 27 bytes) ≡ heading_sum f.head =
+        summed.1
+        ∙ ap (λ (l : List ℕ). crc32c (STORE_MARK ++ l)) (ap (take 17) front
+        ∙ take_at (spell_fields f.head) (drop 27 bytes) 17 seventeen) in
+        let four : take 4 (drop 27 bytes) ≡ to_be_bytes w32 (heading_sum f.head) =
+        sym (four_bytes (drop 27 bytes) (omega (arith, summed.0, length-drop 27 bytes)) (bytes_behind 27 bytes fits))
+        ∙ ap (to_be_bytes w32) sum in
+        let rest : List ℕ = drop 4 (drop 27 bytes) in
+        let head : drop 10 bytes ≡ spell_side_head f.head ++ rest =
+        front
+        ∙ ap (λ (l : List ℕ). spell_fields f.head ++ l) (sym (take-append-drop 4 (drop 27 bytes))
+        ∙ ap (λ (l : List ℕ). l ++ rest) four)
+        ∙ sym (append_assoc (spell_fields f.head) (to_be_bytes w32 (heading_sum f.head)) rest) in (
+          f,
+          rest,
+          well,
+          whole Store begins ∙ (λ i. start OPEN Store (shut i) ++ head i)
+              ∙ sym (append_assoc (start OPEN Store 0) (spell_side_head f.head) rest),
+          record { kind = refl; pair = shut; copied = refl; sums = refl; size = omega (arith, length_front f well) },
         )
 
 -- the heading in the bytes is that of the front
@@ -187,13 +312,18 @@ pub heading_is_parsed : (bytes : List ℕ) (parsed : ParsedFront) (w : ParsesFro
     heading_parsed parsed bytes ≡ w.0.head.heading
 heading_is_parsed bytes parsed (f, rest, ok, is, same) =
     let w : BeginsWithFront bytes = (f, rest, ok, is) in
-    let cut : copied_size parsed.copied ≡ copied_size f.head.copied = ap copied_size same.copied in
-    let end : parsed.size - copied_size parsed.copied ≡ 27 + 8 * length f.head.heading.capacities =
+    let cut : behind_size parsed.sums parsed.kind parsed.copied
+    ≡ behind_size f.head.heading.sums f.head.heading.kind f.head.copied =
+    λ i. behind_size (same.sums i) (same.kind i) (same.copied i) in
+    let end : parsed.size - behind_size parsed.sums parsed.kind parsed.copied
+    ≡ 27 + 8 * length f.head.heading.capacities =
     omega (arith, cut, same.size, length_front f ok) in
     λ i. record {
       kind = same.kind i;
       name = name_parsed bytes w i;
-      capacities = capacities_parsed bytes w (parsed.size - copied_size parsed.copied) end i;
+      capacities =
+          capacities_parsed bytes w (parsed.size - behind_size parsed.sums parsed.kind parsed.copied) end i;
+      sums = same.sums i;
     }
 
 -- a front in memory is the one that was read

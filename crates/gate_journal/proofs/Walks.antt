@@ -206,14 +206,14 @@ front_two image start capacities n first second =
 
 -- no front begins an image that is too short for its count, or whose count takes too many bytes
 pub too_short : (image : List ℕ) (count : ℕ) → count ≡ get_or image 10 0 →
-    (length image - 27 < size_behind count) ⊎ (44 < size_behind count) → IsNotOurs image
+    (length image - 27 < size_behind count) ⊎ (48 < size_behind count) → IsNotOurs image
 too_short image count told short f rest ok is =
     let begins = is ∙ ap (λ (l : List ℕ). l ++ rest) (append-nil (spell_front f)) in
     let same : size_behind count ≡ size_behind (get_or image 10 0) = ap size_behind told in
     ⊎_elim
     (λ (less : length image - 27 < size_behind count).
     omega (arith, same, less, sized_by f rest image ok begins, long_enough f rest image ok begins))
-    (λ (more : 44 < size_behind count). omega (arith, same, more, sized_by f rest image ok begins, short_front f ok))
+    (λ (more : 48 < size_behind count). omega (arith, same, more, sized_by f rest image ok begins, short_front f ok))
     short
 
 -- two reads filled a buffer with the first bytes of the image

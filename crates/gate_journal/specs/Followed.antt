@@ -1,5 +1,12 @@
 -- The parts of a body that stand elsewhere in memory while a frame is written.
 use Rattle.std.specs.Prelude.{◌≡◌, ◌≤◌, ◌⊎◌, ℕ, List, [], ◌∷◌, ◌++◌}
+use Rattle.gate_journal.specs.declared.body_parts.PartHead.{PartHead}
+use Rattle.gate_journal.specs.declared.body_parts.PartHead.TheVariants.{Plain, Sealed}
+
+-- the bytes of the head of a part (own)
+abbrev pub head_bytes : PartHead → List ℕ
+head_bytes (Plain bytes) = bytes
+head_bytes (Sealed bytes) = bytes
 
 -- these bytes, and those of the parts behind them, one after another (own)
 abbrev pub followed : List ℕ → List (List ℕ) → List ℕ

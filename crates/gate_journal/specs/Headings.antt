@@ -1,5 +1,5 @@
 -- The heading of a side, and the ten bytes before it.
-use Rattle.std.specs.Prelude.{◌≡◌, ◌≤◌, ℕ, ◌+◌, ◌-◌, List, [], ◌∷◌, ◌++◌, length, replicate, codes, if◌then◌else◌, nat_lt, IsTrue}
+use Rattle.std.specs.Prelude.{◌≡◌, ◌≤◌, Bool, ℕ, ◌+◌, ◌-◌, List, [], ◌∷◌, ◌++◌, length, replicate, codes, if◌then◌else◌, nat_lt, IsTrue}
 use Rattle.std.specs.List.{All}
 use Rattle.vtl_base.specs.declared.layout.TheConstants.{CARTRIDGE_MARK, NAME_BYTES, STORE_MARK}
 use Rattle.vtl_base.specs.Barcode.{IsBarcode}
@@ -10,16 +10,22 @@ use Rattle.gate_journal.specs.declared.header.SideKind.{SideKind}
 use Rattle.gate_journal.specs.declared.header.SideKind.TheVariants.{Cartridge, Store}
 pub use Rattle.vtl_base.specs.declared.layout.TheConstants.{OPEN, CLOSED}
 
--- The heading of a side: its kind, its name, and for a cartridge the capacity of each partition. Contracts see it in
--- place of a `Header`, whose form in memory they do not show (own).
+-- The heading of a side: its kind, its name, for a cartridge the capacity of each partition, and whether what is stored
+-- has sums. Contracts see it in place of a `Header`, whose form in memory they do not show (own).
 pub record Heading : Type 0 where
   pub kind : SideKind
   pub name : List ℕ
   pub capacities : List ℕ
+  pub sums : Bool
 
 -- the heading of a header in memory (own)
 abbrev pub heading_of : Header → Heading
-heading_of header = record { kind = header.kind; name = header.name; capacities = header.capacities.items }
+heading_of header = record {
+  kind = header.kind;
+  name = header.name;
+  capacities = header.capacities.items;
+  sums = header.sums;
+}
 
 -- a text, filled up with spaces to the length of a name (own)
 abbrev pub padded : List ℕ → List ℕ

@@ -1,7 +1,8 @@
 -- What the bytes of a side stand for: a front, and frames behind gates.
-use Rattle.std.specs.Prelude.{◌≡◌, ◌≢◌, ◌⊎◌, ◌≤◌, ◌<◌, ℕ, List, [], ◌∷◌, ◌++◌, length, Option, None}
+use Rattle.std.specs.Prelude.{◌≡◌, ◌≢◌, ◌⊎◌, ◌≤◌, ◌<◌, ◌+◌, ◌*◌, ℕ, List, [], ◌∷◌, ◌++◌, length, Option, None}
 use Rattle.std.specs.List.{All, flat_map}
 use Rattle.std.specs.Int.{to_be_bytes, w32}
+use Rattle.vtl_base.specs.declared.layout.TheConstants.{CAPACITY_BYTES, START_BYTES}
 use Rattle.vtl_base.specs.declared.limits.TheConstants.{MAX_BODY}
 use Rattle.gate_journal.specs.declared.header.Header.{Header}
 use Rattle.gate_journal.specs.declared.header.SideKind.{SideKind}
@@ -9,7 +10,8 @@ use Rattle.gate_journal.specs.declared.header.SideKind.TheVariants.{Cartridge, S
 use Rattle.gate_journal.specs.declared.heads.Copied.{Copied}
 pub use Rattle.gate_journal.specs.Headings.{OPEN, CLOSED, Heading, IsCount, IsHeading, IsName, digits, drive_name}
 pub use Rattle.gate_journal.specs.Headings.{heading_of, mark, padded, start}
-pub use Rattle.gate_journal.specs.Heads.{Head, IsHead, base_of, spell_side_head}
+use Rattle.gate_journal.specs.Heads.{behind_size}
+pub use Rattle.gate_journal.specs.Heads.{Head, IsHead, base_of, head_of, spell_side_head}
 
 -- What stands before the frames of a side: its head, and the byte of its pair gate (own).
 pub record Front : Type 0 where
@@ -22,11 +24,17 @@ plain heading = record { head = record { heading = heading; copied = None }; pai
 
 -- the front of a header in memory, with the epoch and base of a copy and the byte of the pair gate (own)
 abbrev pub front_of : Header → Option Copied → ℕ → Front
-front_of header copied pair = record { head = record { heading = heading_of header; copied = copied }; pair = pair }
+front_of header copied pair = record { head = head_of header copied; pair = pair }
 
 -- the bytes of a front: the ten bytes with an open side gate, and the head (own)
 abbrev pub spell_front : Front → List ℕ
 spell_front front = start OPEN front.head.heading.kind front.pair ++ spell_side_head front.head
+
+-- the length of a front: the place of the gate of the first frame (own)
+abbrev pub front_size : Head → ℕ
+front_size head =
+    START_BYTES + CAPACITY_BYTES * length head.heading.capacities
+    + behind_size head.heading.sums head.heading.kind head.copied
 
 -- the pair gate that a side of this kind may have: any byte for a cartridge, the written closed gate for a store (own)
 abbrev pub IsPairGate : SideKind → ℕ → Type 0

@@ -92,9 +92,10 @@ kind_code = code_by Bool coded_bool is_cartridge side_kind_of (elim [ Cartridge 
 -- a heading as plain data, for the view of a type that contains one (own)
 abbrev pub heading_code : Coded Heading
 heading_code =
-    code_by (SideKind × (List ℕ × List ℕ)) (coded× kind_code (coded× (coded_list coded_ℕ) (coded_list coded_ℕ)))
-    (λ h. (h.kind, (h.name, h.capacities)))
-    (λ p. record { kind = p.0; name = p.1.0; capacities = p.1.1 }) (λ _. refl)
+    code_by (SideKind × (List ℕ × (List ℕ × Bool)))
+    (coded× kind_code (coded× (coded_list coded_ℕ) (coded× (coded_list coded_ℕ) coded_bool)))
+    (λ h. (h.kind, (h.name, (h.capacities, h.sums))))
+    (λ p. record { kind = p.0; name = p.1.0; capacities = p.1.1.0; sums = p.1.1.1 }) (λ _. refl)
 
 -- epoch and base of a copy as plain data (own)
 abbrev copied_code : Coded Copied

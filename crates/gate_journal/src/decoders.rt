@@ -1,10 +1,11 @@
 //! The trait of a decoder, which reads the bodies of a side while the side is opened.
 ghost use Rattle.std.specs.Prelude.{◌≡◌, ◌≤◌, ◌++◌, ℕ, List, [], length, false, IfOk};
 ghost use Rattle.gate_journal.specs.Decoding.{IsUnderWay, TakesBody, TakesPiece};
-ghost use Rattle.gate_journal.specs.Side.{Heading, IsHeading, heading_of};
+ghost use Rattle.gate_journal.specs.Side.{Head, IsHead, head_of, heading_of};
 ghost use Rattle.gate_journal.specs.declared.header.SideKind.{SideKind};
 
 use crate::header::{Header, SideKind};
+use crate::heads::Copied;
 use crate::noted::NotedBytes;
 use std::alloc::Global;
 use vtl_base::NoMemory;
@@ -15,8 +16,8 @@ use vtl_base::NoMemory;
 pub trait Decodes: Drop {
     ghost KIND: { SideKind };
 
-    // It has read exactly these bodies, which lie in these extents of a side with this heading.
-    ghost has_read: { Self → Heading → List (ℕ × ℕ) → List (List ℕ) → Type 0 };
+    // It has read exactly these bodies, which lie in these extents of a side with this head.
+    ghost has_read: { Self → Head → List (ℕ × ℕ) → List (List ℕ) → Type 0 };
 
     // After what it has read, this body is bad.
     ghost refuses: { Self → List ℕ → Type 0 };
@@ -31,12 +32,12 @@ pub trait Decodes: Drop {
     /// The kind of side that this decoder is for.
     const KIND: SideKind;
 
-    /// Creates a decoder for a side with the header `header`, whose kind must be `KIND`. The decoder has read no body
-    /// yet.
-    fn begin(alloc: Global, header: &Header) -> Result<Self, NoMemory>
+    /// Creates a decoder for a side with the header `header`, whose kind must be `KIND`, and with this epoch and base
+    /// where it is a copy. The decoder has read no body yet.
+    fn begin(alloc: Global, header: &Header, copied: Option<Copied>) -> Result<Self, NoMemory>
         requires kind { (heading_of header.now).kind ≡ KIND }
-        requires valid { IsHeading (heading_of header.now) }
-        ensures { IfOk result (λ decoder. has_read decoder (heading_of header.now) [] []) };
+        requires valid { IsHead (head_of header.now copied) }
+        ensures { IfOk result (λ decoder. has_read decoder (head_of header.now copied) [] []) };
 
     /// Returns whether the next body may be good, if its length is `size` bytes. If this returns false, such a body is
     /// bad, and is not read.
@@ -75,7 +76,7 @@ pub trait Decodes: Drop {
     /// Ends the body that lies at place `at` of the disk. All its bytes have come; `body` notes them for proofs.
     /// Returns false where the body is bad.
     fn end_body(&mut self, at: u64, body: &NotedBytes) -> bool
-        ensures { (start : Self) (heading : Heading) (extents : List (ℕ × ℕ)) (bodies : List (List ℕ)) →
-            has_read start heading extents bodies → is_within start self.old at body.now.bytes →
-            TakesBody has_read refuses result start self.new heading extents bodies at body.now.bytes };
+        ensures { (start : Self) (head : Head) (extents : List (ℕ × ℕ)) (bodies : List (List ℕ)) →
+            has_read start head extents bodies → is_within start self.old at body.now.bytes →
+            TakesBody has_read refuses result start self.new head extents bodies at body.now.bytes };
 }

@@ -33,7 +33,7 @@ impl<D: Disk> Journal<D> {
         ensures ok { IfOk result (λ opened. (opened.0.front.head.heading.kind ≡ T.KIND)
             × (opened.0.failed ≡ false) × (frames ≤ opened.0.reserved_extents)
             × NoneFailed (D.state disk) (D.state opened.0.disk)) }
-        ensures read { IfOk result (λ opened. HasDecoded T.has_read opened.1 opened.0.front.head.heading
+        ensures read { IfOk result (λ opened. HasDecoded T.has_read opened.1 opened.0.front.head
             opened.0.extents opened.0.bodies (D.state disk).honest) }
         ensures stands { IfOk result (λ opened. (D.state disk).honest →
             StandsFor opened.0.front opened.0.bodies (D.state disk).seen
@@ -96,7 +96,7 @@ fn decode_frames<D: Disk, T: Decodes>(
     ensures ok { IfOk result (λ decoder. (journal.new.failed ≡ false)
         × (frames ≤ journal.new.reserved_extents)
         × NoneFailed (D.state journal.old.disk) (D.state journal.new.disk)
-        × HasDecoded T.has_read decoder journal.old.front.head.heading journal.old.extents
+        × HasDecoded T.has_read decoder journal.old.front.head journal.old.extents
         journal.old.bodies (D.state journal.old.disk).honest) }
     ensures refused { IfErr result (λ error. NotFinished T.has_read T.refuses error
         journal.old.front journal.old.bodies
@@ -106,7 +106,7 @@ fn decode_frames<D: Disk, T: Decodes>(
     let Ok(()) = journal.reserve_extents(frames) else {
         return Err(OpenError::NoMemory);
     };
-    let mut decoder = T::begin(alloc, journal.header())?;
+    let mut decoder = T::begin(alloc, journal.header(), journal.copied())?;
     let mut buffer = vec![in alloc; 0; room_for_pieces(journal)]?;
     decode_each(journal, &mut decoder, &mut buffer)?;
     Ok(decoder)
@@ -131,7 +131,7 @@ fn decode_each<D: Disk, T: Decodes>(
     buffer: &mut [u8],
 ) -> Result<(), OpenError>
     requires fine { journal.old.failed ≡ false }
-    requires begun { T.has_read decoder.old journal.old.front.head.heading [] [] }
+    requires begun { T.has_read decoder.old journal.old.front.head [] [] }
     requires room { 1 ≤ length buffer.old }
     ensures disk { Keeps (D.state journal.old.disk) (D.state journal.new.disk) }
     ensures unwritten { (D.state journal.old.disk).honest →
@@ -142,7 +142,7 @@ fn decode_each<D: Disk, T: Decodes>(
         × ((D.state journal.old.disk).honest → journal.new.bodies ≡ journal.old.bodies) }
     ensures ok { OnOk result ((journal.new.failed ≡ false)
         × NoneFailed (D.state journal.old.disk) (D.state journal.new.disk)
-        × HasDecoded T.has_read decoder.new journal.old.front.head.heading journal.old.extents
+        × HasDecoded T.has_read decoder.new journal.old.front.head journal.old.extents
         journal.old.bodies (D.state journal.old.disk).honest) }
     ensures refused { IfErr result (λ error. NotFinished T.has_read T.refuses error
         journal.old.front journal.old.bodies

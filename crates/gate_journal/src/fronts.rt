@@ -1,15 +1,17 @@
 //! What stands before the frames of a side: its first ten bytes, and its head.
-ghost use Rattle.std.specs.Prelude.{◌≡◌, ◌↔◌, ◌≤◌, IsTrue, Option, Some, length, take, slice_index};
+ghost use Rattle.std.specs.Prelude.{◌≡◌, ◌↔◌, ◌⊎◌, ◌≤◌, IsTrue, Option, Some, length, take, slice_index};
 ghost use Rattle.gate_journal.specs.Heads.{base_in};
 ghost use Rattle.gate_journal.specs.Side.{CLOSED, IsName, OPEN, start};
-ghost use Rattle.gate_journal.specs.Inner.Reading.{ParsesFront, copied_size};
-ghost use Rattle.vtl_base.specs.declared.layout.TheConstants.{BEGUN_BYTES, PAIR_GATE, START_BYTES};
+ghost use Rattle.gate_journal.specs.Inner.Reading.{IsSummedStore, ParsesFront, behind_size};
+ghost use Rattle.vtl_base.specs.declared.layout.TheConstants.{BEGUN_BYTES, PAIR_GATE, START_BYTES, SUMS_BIT};
 
 use crate::header::{SideKind, is_name};
 use crate::heads::{Copied, parse_head};
 use crate::spelling::{kind_by_letter, name_in, start};
+use crate::sums::{ends_with_sum, written_as};
 use vtl_base::layout::{
-    BEGUN_BYTES, CLOSED, COPIED_BYTES, LETTER_PLACE, NAME_BYTES, PAIR_GATE, START_BYTES,
+    BEGUN_BYTES, CLOSED, COPIED_BYTES, LETTER_PLACE, NAME_BYTES, PAIR_GATE, START_BYTES, SUM_BYTES,
+    SUMS_BIT,
 };
 
 // What is read from a front: where the frames begin, and how many there are at least.
@@ -19,6 +21,7 @@ pub(crate) struct ParsedFront {
     // The byte of its pair gate.
     pub pair: u8,
     pub copied: Option<Copied>,
+    pub sums: bool,
     // Its length in bytes.
     pub size: usize,
 }
@@ -33,13 +36,19 @@ pub(crate) fn base_in(copied: Option<Copied>) -> u32
     }
 }
 
-// How many bytes epoch and base take in a front: 12 in that of a copy, else 0.
-pub(crate) fn copied_size(copied: Option<Copied>) -> usize
-    ensures { result ≡ copied_size copied }
+// How many bytes of a front stand behind its capacities: 12 for epoch and base, and 4 for the heading's sum, if they
+// are there.
+pub(crate) fn behind_size(parsed: ParsedFront) -> usize
+    ensures { result ≡ behind_size parsed.sums parsed.kind parsed.copied }
 {
-    match copied {
+    let copied = match written_as(parsed.sums, parsed.kind, parsed.copied) {
         Some(_) => COPIED_BYTES,
         None => 0,
+    };
+    if parsed.sums {
+        copied + SUM_BYTES
+    } else {
+        copied
     }
 }
 
@@ -81,6 +90,7 @@ fn parse_cartridge(bytes: &[u8]) -> Option<ParsedFront>
             kind: SideKind::Cartridge,
             pair: bytes[PAIR_GATE],
             copied: head.copied,
+            sums: head.sums,
             size: BEGUN_BYTES + head.size,
         }),
         None => None,
@@ -97,18 +107,36 @@ fn parse_store(bytes: &[u8]) -> Option<ParsedFront>
     if !are_of_store(pair, bytes[BEGUN_BYTES], &name_in(bytes)) {
         return None;
     }
+    let sums = bytes[BEGUN_BYTES] == SUMS_BIT;
+    if sums && !is_summed_store(bytes) {
+        return None;
+    }
     Some(ParsedFront {
         kind: SideKind::Store,
         pair,
         copied: None,
-        size: START_BYTES,
+        sums,
+        size: if sums {
+            START_BYTES + SUM_BYTES
+        } else {
+            START_BYTES
+        },
     })
 }
 
-// Whether pair gate, count and name are those of a store: the pair gate is 00h, the count of capacities is 0, and the
-// name is that of a drive's store.
-fn are_of_store(pair: u8, count: u8, name: &[u8; NAME_BYTES]) -> bool
-    ensures { IsTrue result ↔ (pair ≡ CLOSED) × (count ≡ 0) × IsName SideKind.Store name.now }
+// Whether the heading's sum follows the name of a store.
+fn is_summed_store(bytes: &[u8]) -> bool
+    requires { START_BYTES ≤ length bytes.now }
+    ensures { IsTrue result ↔ IsSummedStore bytes.now }
 {
-    pair == CLOSED && count == 0 && is_name(SideKind::Store, name)
+    let size = START_BYTES + SUM_BYTES;
+    bytes.len() >= size && ends_with_sum(SideKind::Store, &bytes[BEGUN_BYTES..size])
+}
+
+// Whether pair gate, count and name are those of a store: the pair gate is 00h, the count of capacities is 0, or 40h
+// with sums, and the name is that of a drive's store.
+fn are_of_store(pair: u8, count: u8, name: &[u8; NAME_BYTES]) -> bool
+    ensures { IsTrue result ↔ (pair ≡ CLOSED) × ((count ≡ 0) ⊎ (count ≡ SUMS_BIT)) × IsName SideKind.Store name.now }
+{
+    pair == CLOSED && (count == 0 || count == SUMS_BIT) && is_name(SideKind::Store, name)
 }

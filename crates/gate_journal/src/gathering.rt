@@ -86,7 +86,7 @@ fn add_parts<D: Disk, P: BodyParts>(
             unreachable!()
         };
         let (head, block) = part;
-        at = add_part(bytes, disk, at, &head, block)?;
+        at = add_part(bytes, disk, at, head.as_slice(), block)?;
     }
     Ok(at)
 }

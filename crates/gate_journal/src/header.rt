@@ -39,6 +39,8 @@ pub struct Header {
     pub name: [u8; NAME_BYTES],
     /// The capacity of each partition of a cartridge, in bytes. A store has none.
     pub capacities: Vec<u64>,
+    /// Whether the side has sums: that of its heading, and those of what its frames store.
+    pub sums: bool,
 }
 
 impl Header {

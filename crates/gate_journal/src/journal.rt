@@ -2,12 +2,11 @@
 ghost use Rattle.std.specs.Prelude.{◌≡◌, ◌⊎◌, ◌+◌, ◌*◌, ◌^◌, ◌<◌, ◌≤◌, ◌++◌, [], ◌∷◌, ℕ, List, length, true, false, OnOk, OnErr, IfOk, IfErr, slice_range, slice_index_or, if◌then◌else◌, is_ok};
 ghost use Rattle.tape_disk.specs.Disk.{Each, Keeps, Only};
 ghost use Rattle.tape_disk.specs.Moments.{LeavesOnly};
-ghost use Rattle.gate_journal.specs.Side.{CLOSED, IsBody, IsFront, IsHeading, StandsFor, base_of, heading_of, plain, spell};
+ghost use Rattle.gate_journal.specs.Side.{CLOSED, IsBody, IsFront, IsHeading, StandsFor, base_of, front_size, heading_of, plain, spell};
 ghost use Rattle.gate_journal.specs.Answers.{Appended, Broke, IsFault, MatchWrite, NoneFailed, NotMade, disk_after};
 ghost use Rattle.gate_journal.specs.Crash.{Unwritten, WithOrWithout};
 ghost use Rattle.gate_journal.specs.Reads.{ReadsOnce};
 ghost use Rattle.gate_journal.specs.State.{room_behind, IsBodyAt, IsBodyPart, IsExtent, LiesInBody};
-ghost use Rattle.vtl_base.specs.declared.layout.TheConstants.{CAPACITY_BYTES, START_BYTES};
 
 use crate::device::write_new;
 use crate::frame::Frame;
@@ -16,7 +15,7 @@ use crate::{Copied, Header, JournalError, Refused};
 use std::alloc::Global;
 use std::marker::Model;
 use tape_disk::Disk;
-use vtl_base::layout::{CAPACITY_BYTES, CLOSED, START_BYTES};
+use vtl_base::layout::CLOSED;
 use vtl_base::limits::MAX_SIDE;
 
 /// An open side on a disk. After a device fault the side has failed: nothing more is read or written until it is opened
@@ -77,7 +76,7 @@ impl<D: Disk> Journal<D> {
         ensures disk { Keeps (D.state disk) (D.state (disk_after result)) }
         ensures ok { IfOk result (λ journal. (journal.front ≡ plain (heading_of header))
             × (journal.bodies ≡ []) × (journal.extents ≡ []) × (journal.failed ≡ false)
-            × (journal.end ≡ START_BYTES + CAPACITY_BYTES * length journal.front.head.heading.capacities)
+            × (journal.end ≡ front_size journal.front.head)
             × NoneFailed (D.state disk) (D.state journal.disk)) }
         ensures bytes { IfOk result (λ journal. (D.state disk).honest →
             (D.state journal.disk).seen ≡ spell journal.front [] ++ CLOSED ∷ []) }
@@ -101,7 +100,7 @@ impl<D: Disk> Journal<D> {
         ensures disk { Keeps (D.state disk) (D.state (disk_after result)) }
         ensures ok { IfOk result (λ journal. (journal.front ≡ plain (heading_of header))
             × (journal.bodies ≡ []) × (journal.extents ≡ []) × (journal.failed ≡ false)
-            × (journal.end ≡ START_BYTES + CAPACITY_BYTES * length journal.front.head.heading.capacities)
+            × (journal.end ≡ front_size journal.front.head)
             × NoneFailed (D.state disk) (D.state journal.disk)) }
         ensures reserved { IfOk result (λ journal. frames ≤ journal.reserved_extents) }
         ensures bytes { IfOk result (λ journal. (D.state disk).honest →
@@ -123,7 +122,7 @@ impl<D: Disk> Journal<D> {
         };
         match write_new(&mut disk, &bytes) {
             Ok(()) => {
-                let end = (START_BYTES + CAPACITY_BYTES * header.capacities.len()) as u64;
+                let end = bytes.len() as u64 - 1;
                 Ok(Journal {
                     disk,
                     header,

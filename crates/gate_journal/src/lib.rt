@@ -23,9 +23,10 @@ mod pieces;
 mod placing;
 mod reading;
 mod spelling;
+pub mod sums;
 
 pub use behind::frames_behind;
-pub use body_parts::{BodyParts, NoParts};
+pub use body_parts::{BodyParts, NoParts, PartHead};
 pub use decoders::Decodes;
 pub use error::{JournalError, NotDecoded, OpenError, Refused};
 pub use frame::Frame;
@@ -34,3 +35,4 @@ pub use header::{Header, SideKind};
 pub use heads::{Copied, ParsedHead, parse_head};
 pub use journal::Journal;
 pub use noted::NotedBytes;
+pub use sums::{head_byte, heading_sum};

@@ -2,7 +2,7 @@
 ghost use Rattle.std.specs.Prelude.{◌≡◌, ◌+◌, ◌<◌, ◌≤◌, ◌∷◌, length, IfOk, slice_index};
 ghost use Rattle.tape_disk.specs.Disk.{Elapses, Keeps, Passes, Syncs};
 ghost use Rattle.gate_journal.specs.Side.{OPEN, heading_of};
-ghost use Rattle.gate_journal.specs.Inner.Reading.{copied_size, heading_parsed, numbers_of, size_behind};
+ghost use Rattle.gate_journal.specs.Inner.Reading.{behind_size, heading_parsed, numbers_of, size_behind};
 ghost use Rattle.std.specs.Int.{to_be_bytes, w32};
 ghost use Rattle.gate_journal.specs.Crash.{Unwritten};
 ghost use Rattle.gate_journal.specs.Reads.{OnlyOpenings, OnlyReads, SyncsFirst};
@@ -11,7 +11,7 @@ ghost use Rattle.tape_disk.specs.Moments.{LeavesOnly};
 ghost use Rattle.vtl_base.specs.declared.layout.TheConstants.{START_BYTES};
 
 use crate::error::JournalError;
-use crate::fronts::{ParsedFront, base_in, copied_size, parse_front};
+use crate::fronts::{ParsedFront, base_in, behind_size, parse_front};
 use crate::header::{Header, SideKind};
 use crate::heads::Copied;
 use crate::spelling::name_in;
@@ -21,7 +21,7 @@ use tape_disk::Disk;
 use vtl_base::DevFault;
 use vtl_base::layout::{
     BEGUN_BYTES, CAPACITY_BYTES, COPIED_BYTES, COPY_BIT, FRAME_HEAD, LONGEST_FRONT, OPEN,
-    START_BYTES,
+    START_BYTES, SUM_BYTES, SUMS_BIT,
 };
 use vtl_base::limits::MAX_BODY;
 
@@ -179,24 +179,29 @@ fn read_bytes<D: Disk>(disk: &mut D) -> Result<FrontBytes, JournalError>
 fn size_behind(count: u8) -> usize
     ensures { result ≡ size_behind count }
 {
-    if count < COPY_BIT {
+    if count < SUMS_BIT {
         CAPACITY_BYTES * count as usize
-    } else {
+    } else if count < COPY_BIT {
+        CAPACITY_BYTES * (count - SUMS_BIT) as usize + SUM_BYTES
+    } else if count < COPY_BIT + SUMS_BIT {
         CAPACITY_BYTES * (count - COPY_BIT) as usize + COPIED_BYTES
+    } else {
+        CAPACITY_BYTES * (count - (COPY_BIT + SUMS_BIT)) as usize + COPIED_BYTES + SUM_BYTES
     }
 }
 
 // The header in the bytes of a front, given what `parse_front` read from them.
 fn header_parsed(alloc: Global, bytes: &[u8], parsed: ParsedFront) -> Result<Header, AllocError>
-    requires some { START_BYTES + copied_size parsed.copied ≤ parsed.size }
+    requires some { START_BYTES + behind_size parsed.sums parsed.kind parsed.copied ≤ parsed.size }
     requires inside { parsed.size ≤ length bytes.now }
     ensures { IfOk result (λ header. heading_of header ≡ heading_parsed parsed bytes.now) }
 {
-    let end = parsed.size - copied_size(parsed.copied);
+    let end = parsed.size - behind_size(parsed);
     Ok(Header {
         kind: parsed.kind,
         name: name_in(bytes),
         capacities: numbers(alloc, &bytes[START_BYTES..end])?,
+        sums: parsed.sums,
     })
 }
 

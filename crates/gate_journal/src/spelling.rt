@@ -8,12 +8,13 @@
 //! | 0 | the side's gate, open |
 //! | 1 to 8 | `VTLCART1` of a cartridge, `VTLRESV1` of a drive's saved reservations |
 //! | 9 | the pair gate: of a cartridge any byte, 00h in a side that was just made; of a store 00h |
-//! | 10 | N, the count of capacities: 1 to 4 of a cartridge, plus 80h of a copy; 0 of a store |
+//! | 10 | N, the count of capacities: 1 to 4 of a cartridge, plus 80h of a copy; 0 of a store; with sums 40h more |
 //! | 11 to 26 | the barcode, or `DRIVE` and the drive's number, filled up with spaces |
 //! | 27 on | N capacities, each a number of 8 bytes: 4,096 to 1,099,511,627,776, in bytes |
-//! | 27 + 8N | of a copy: its epoch, a number of 8 bytes |
-//! | 35 + 8N | of a copy: its base, a number of 4 bytes |
-//! | 27 + 8N | the gate of the first frame; of a copy at 39 + 8N |
+//! | 27 + 8N | of a copy, and of a cartridge with sums: its epoch, a number of 8 bytes |
+//! | 35 + 8N | of a copy, and of a cartridge with sums: its base, a number of 4 bytes |
+//! | 27 + 8N | with sums: the heading's sum, a number of 4 bytes; of a cartridge at 39 + 8N |
+//! | 27 + 8N | the gate of the first frame; of a copy at 39 + 8N; with sums at 31 of a store, 43 + 8N of a cartridge |
 //!
 //! What stands before the gate of the first frame is the side's front: the ten bytes up to the pair gate, and from
 //! place 10 on the head, which holds no gate (`heads.rt`). This crate does not ask whether the pair gate is open, or
@@ -27,21 +28,23 @@
 //! A frame is added with two syncs. The length, the body and the next gate, closed, are written after the closed gate
 //! at the end, in one write or, where parts of the body are long, in several; a sync follows. Then A5h is written over
 //! the gate at the end; a sync follows.
-ghost use Rattle.std.specs.Prelude.{◌≡◌, ◌↔◌, ◌≤◌, [], ◌∷◌, ◌++◌, length, take, drop, IfOk, IsTrue};
+ghost use Rattle.std.specs.Prelude.{◌≡◌, ◌↔◌, ◌≤◌, [], ◌∷◌, ◌++◌, length, take, drop, true, None, IfOk, IsTrue};
 ghost use Rattle.std.specs.List.{All, flat_map};
-ghost use Rattle.std.specs.Int.{to_be_bytes, w64};
+ghost use Rattle.std.specs.Int.{to_be_bytes, w32, w64};
 ghost use Rattle.vtl_base.specs.Limits.{is_capacity};
+ghost use Rattle.gate_journal.specs.Heads.{head_of, heading_sum, spell_copied, written};
 ghost use Rattle.gate_journal.specs.Side.{CLOSED, OPEN, heading_of, plain, spell_front, start};
 ghost use Rattle.gate_journal.specs.Inner.Reading.{kind_by_letter, numbers_of};
 ghost use Rattle.vtl_base.specs.declared.limits.TheConstants.{MAX_PARTITIONS};
 ghost use Rattle.vtl_base.specs.declared.layout.TheConstants.{NAME_BYTES, NAME_PLACE, START_BYTES};
 
 use crate::header::{Header, SideKind, is_capacity};
+use crate::sums::{head_byte, heading_sum};
 use byteorder::{BigEndian, ByteOrder};
 use std::alloc::{AllocError, Global};
 use vtl_base::layout::{
-    BEGUN_BYTES, CAPACITY_BYTES, CARTRIDGE_MARK, CLOSED, LETTER_PLACE, MARK_PLACE, NAME_BYTES,
-    NAME_PLACE, OPEN, PAIR_GATE, START_BYTES,
+    BEGUN_BYTES, CAPACITY_BYTES, CARTRIDGE_MARK, CLOSED, COPIED_BYTES, LETTER_PLACE, MARK_PLACE,
+    NAME_BYTES, NAME_PLACE, OPEN, PAIR_GATE, START_BYTES,
 };
 
 // The ten bytes at the start of a side of this kind, where its gate is open and its pair gate is this byte.
@@ -61,10 +64,27 @@ pub(crate) fn spell_header(alloc: Global, header: &Header) -> Result<Vec<u8>, Al
 {
     let mut bytes = Vec::new(alloc);
     bytes.extend_from_slice(&start(header.kind, CLOSED))?;
-    bytes.push(header.capacities.len() as u8)?;
+    bytes.push(head_byte(header, None))?;
     bytes.extend_from_slice(&header.name)?;
     spell_capacities(&mut bytes, &header.capacities)?;
+    if header.sums {
+        spell_sums(&mut bytes, header)?;
+    }
     Ok(bytes)
+}
+
+// Appends what follows the capacities of a side with sums that is no copy: of a cartridge epoch 0 and base 0, and the
+// heading's sum.
+fn spell_sums(bytes: &mut Vec<u8>, header: &Header) -> Result<(), AllocError>
+    requires sums { header.now.sums ≡ true }
+    requires count { length header.now.capacities.items ≤ MAX_PARTITIONS }
+    ensures { IfOk result (λ _. bytes.new.items ≡ bytes.old.items ++ (spell_copied (written (head_of header.now None))
+        ++ to_be_bytes w32 (heading_sum (head_of header.now None)))) }
+{
+    if let SideKind::Cartridge = header.kind {
+        bytes.extend_from_slice(&[0; COPIED_BYTES])?;
+    }
+    bytes.extend_from_slice(&heading_sum(header, None).to_be_bytes())
 }
 
 // Appends eight bytes for each number.

@@ -37,7 +37,8 @@ room_found (Some contents) = room_of contents
 
 -- what no cartridge begins from (own)
 abbrev pub no_start : Start
-no_start = record { heading = record { kind = Store; name = []; capacities = [] }; epoch = 0; volume = [] }
+no_start =
+    record { heading = record { kind = Store; name = []; capacities = []; sums = false }; epoch = 0; volume = [] }
 
 -- a closed cartridge that may give these contents, or these with the frame that was in flight: stopped, and what it
 -- then gives is found when it is opened (own)

@@ -47,6 +47,7 @@ fn new_side(alloc: Global) -> Result<Journal<MemDisk>, Fail> {
         kind: SideKind::Cartridge,
         name: *b"T00001L6        ",
         capacities: vec![in alloc; 4096; 1]?,
+        sums: false,
     };
     if !header.can_be_spelled() {
         return Err(Fail::from("no header"));

@@ -55,6 +55,7 @@ fn copy_to<D: Disk>(
         kind: SideKind::Cartridge,
         name: *b"T00001L6        ",
         capacities,
+        sums: false,
     };
     let Ok(mut buffer) = Vec::with_capacity(alloc, COPY_BODY + 5) else {
         return Err(OUT_OF_MEMORY);

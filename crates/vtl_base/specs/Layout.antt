@@ -1,7 +1,7 @@
 -- The layout of a file, in numbers.
 use Rattle.std.specs.Prelude.{◌≡◌, ◌+◌, ◌*◌, codes}
 use Rattle.vtl_base.specs.declared.limits.TheConstants.{MAX_PARTITIONS}
-use Rattle.vtl_base.specs.declared.layout.TheConstants.{OPEN, CLOSED, CARTRIDGE_MARK, STORE_MARK, SIDE_GATE, MARK_PLACE, LETTER_PLACE, PAIR_GATE, BEGUN_BYTES, NAME_PLACE, NAME_BYTES, START_BYTES, CAPACITY_BYTES, LONGEST_FRONT, COPY_BIT, EPOCH_BYTES, COPIED_BYTES, LENGTH_BYTES, FRAME_HEAD, RECORD_HEAD, BLOCK, MARKS, ERASE, RECORD_OBJECT, RECORD_NUMBER, SEALED_HEAD, HEAD_SUM, FRAMED_HEAD, STATE_HEAD, REGISTRATION_BYTES, STATE_BYTES}
+use Rattle.vtl_base.specs.declared.layout.TheConstants.{OPEN, CLOSED, CARTRIDGE_MARK, STORE_MARK, SIDE_GATE, MARK_PLACE, LETTER_PLACE, PAIR_GATE, BEGUN_BYTES, NAME_PLACE, NAME_BYTES, START_BYTES, CAPACITY_BYTES, LONGEST_FRONT, COPY_BIT, SUMS_BIT, SUM_BYTES, EPOCH_BYTES, COPIED_BYTES, LENGTH_BYTES, FRAME_HEAD, RECORD_HEAD, BLOCK, MARKS, ERASE, RECORD_OBJECT, RECORD_NUMBER, SEALED_HEAD, HEAD_SUM, FRAMED_HEAD, STATE_HEAD, REGISTRATION_BYTES, STATE_BYTES}
 
 -- each number and mark of the layout of a file, written out (own)
 pub record LayoutInNumbers : Type 0 where
@@ -18,9 +18,11 @@ pub record LayoutInNumbers : Type 0 where
   pub name_bytes : NAME_BYTES ≡ 16
   pub start_bytes : START_BYTES ≡ 27
   pub capacity_bytes : CAPACITY_BYTES ≡ 8
-  pub longest_front : LONGEST_FRONT ≡ 71
-  pub front_parts : LONGEST_FRONT ≡ START_BYTES + CAPACITY_BYTES * MAX_PARTITIONS + COPIED_BYTES
+  pub longest_front : LONGEST_FRONT ≡ 75
+  pub front_parts : LONGEST_FRONT ≡ START_BYTES + CAPACITY_BYTES * MAX_PARTITIONS + COPIED_BYTES + SUM_BYTES
   pub copy_bit : COPY_BIT ≡ 128
+  pub sums_bit : SUMS_BIT ≡ 64
+  pub sum_bytes : SUM_BYTES ≡ 4
   pub epoch_bytes : EPOCH_BYTES ≡ 8
   pub copied_bytes : COPIED_BYTES ≡ 12
   pub length_bytes : LENGTH_BYTES ≡ 4

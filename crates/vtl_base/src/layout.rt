@@ -42,11 +42,17 @@ pub const START_BYTES: usize = 27;
 /// How many bytes a capacity takes.
 pub const CAPACITY_BYTES: usize = 8;
 
-/// How many bytes the longest front has: that of a copy with 4 capacities.
-pub const LONGEST_FRONT: usize = 71;
+/// How many bytes the longest front has: that of a cartridge with sums and 4 capacities.
+pub const LONGEST_FRONT: usize = 75;
 
-/// What is added to the count of capacities in the head of a copy.
+/// What is added to the count of capacities in a head with an epoch and a base.
 pub const COPY_BIT: u8 = 0x80;
+
+/// What is added to the count of capacities in the head of a side with sums.
+pub const SUMS_BIT: u8 = 0x40;
+
+/// How many bytes a sum takes.
+pub const SUM_BYTES: usize = 4;
 
 /// How many bytes the epoch of a copy takes. Its base follows.
 pub const EPOCH_BYTES: usize = 8;

@@ -1,5 +1,5 @@
 -- Facts that a reader of an image can decide.
-use Rattle.std.proofs.Common.{◌≡◌, ◌⊎◌, inl, inr, ⊎_elim, ℕ, zero, suc, ◌<◌, ◌≤◌, List, [], ◌∷◌, Bool, arith, refl}
+use Rattle.std.proofs.Common.{◌≡◌, ◌⊎◌, inl, inr, ⊎_elim, ℕ, zero, suc, ◌<◌, ◌≤◌, List, [], ◌∷◌, Bool, true, false, arith, refl}
 use Rattle.std.specs.Prelude.{IsTrue}
 use Rattle.std.specs.List.{All}
 use Rattle.std.proofs.lemmas.Bool.{cases_eq, cases_lt, cases_Bool, false≢true}
@@ -54,3 +54,22 @@ same (x ∷ xs) (y ∷ ys) = elim (cases_eq x y) [
     | inr never ↦ inr (λ g. never (cc))
   ]
 ]
+
+pub same_bool : (a b : Bool) → Decidable (a ≡ b)
+same_bool true true = inl refl
+same_bool false false = inl refl
+same_bool true false = inr (λ e. cc)
+same_bool false true = inr (λ e. cc)
+
+pub either_bool : (P : Bool → Type 0) → ((b : Bool) → Decidable (P b)) → Decidable ((b : Bool) × P b)
+either_bool P each = elim (each false) [
+  | inl p ↦ inl (false, p)
+  | inr never ↦ elim (each true) [
+    | inl p ↦ inl (true, p)
+    | inr nor ↦ inr (none never nor)
+  ]
+]
+  where
+    none : (P false → ⊥) → (P true → ⊥) → (b : Bool) × P b → ⊥
+    none never nor (false, p) = never p
+    none never nor (true, p) = nor p

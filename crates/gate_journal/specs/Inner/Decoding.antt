@@ -5,7 +5,7 @@ use Rattle.gate_journal.specs.declared.error.JournalError.{JournalError}
 use Rattle.gate_journal.specs.declared.error.JournalError.TheVariants as Calls
 use Rattle.gate_journal.specs.declared.error.OpenError.{OpenError}
 use Rattle.gate_journal.specs.declared.error.OpenError.TheVariants.{NotOurs, Damaged, BadRecord, Device, NoMemory}
-use Rattle.gate_journal.specs.Side.{Front, Heading}
+use Rattle.gate_journal.specs.Side.{Front, Head}
 use Rattle.gate_journal.specs.Answers.{IsFault, NoneFailed}
 use Rattle.gate_journal.specs.Decoding.{HasBadBody}
 
@@ -27,7 +27,7 @@ IsNotRead (Damaged at) old new = ⊥
 IsNotRead (BadRecord at) old new = ⊥
 
 -- why not all bodies are decoded: one is bad, a fault, or memory ran out (own)
-abbrev pub NotFinished : {T : Type 0} → (T → Heading → List (ℕ × ℕ) → List (List ℕ) → Type 0)
+abbrev pub NotFinished : {T : Type 0} → (T → Head → List (ℕ × ℕ) → List (List ℕ) → Type 0)
     → (T → List ℕ → Type 0) → OpenError → Front → List (List ℕ) → DiskState → DiskState → Type 0
 NotFinished has_read refuses (BadRecord at) front bodies old new =
     NoneFailed old new × (old.honest → HasBadBody has_read refuses front bodies at)

@@ -3,7 +3,7 @@ use Rattle.std.specs.Prelude.{◌≡◌, ◌<◌, ◌≤◌, ℕ, List, length, 
 use Rattle.gate_journal.specs.declared.pieces.SoFar.{SoFar}
 use Rattle.gate_journal.specs.declared.pieces.TheConstants.{PIECE_BYTES}
 use Rattle.gate_journal.specs.Decoding.{TakesBody, TakesPiece}
-use Rattle.gate_journal.specs.Side.{Heading}
+use Rattle.gate_journal.specs.Side.{Head}
 
 -- The first bytes of a body of that size were taken; they are the body's own where the disk is honest. The next piece
 -- has at least one byte and at most the length of a piece (own).
@@ -14,7 +14,7 @@ pub record IsSoFar (so_far : SoFar) (size : ℕ) (honest : Type 0) (body : List 
   pub counted : length so_far.bytes.bytes ≡ so_far.from
   pub real : honest → so_far.bytes.bytes ≡ take so_far.from body
 
-module _ {T : Type 0} (has_read : T → Heading → List (ℕ × ℕ) → List (List ℕ) → Type 0)
+module _ {T : Type 0} (has_read : T → Head → List (ℕ × ℕ) → List (List ℕ) → Type 0)
     (refuses : T → List ℕ → Type 0) where
   -- the next bytes of the body in that extent are taken, or show that it is bad (own)
   pub record TakesNext (is_within : T → T → ℕ → List ℕ → Type 0) (good : Bool) (old new : T) (before after : SoFar)
@@ -31,6 +31,6 @@ module _ {T : Type 0} (has_read : T → Heading → List (ℕ × ℕ) → List (
     pub read : List ℕ
     pub sized : length read ≡ extent.1
     pub real : honest → read ≡ body
-    pub takes : (heading : Heading) (extents : List (ℕ × ℕ)) (bodies : List (List ℕ))
-        → has_read old heading extents bodies
-        → TakesBody has_read refuses good old new heading extents bodies extent.0 read
+    pub takes : (head : Head) (extents : List (ℕ × ℕ)) (bodies : List (List ℕ))
+        → has_read old head extents bodies
+        → TakesBody has_read refuses good old new head extents bodies extent.0 read

@@ -33,7 +33,7 @@ loop-frame-preserved g c =
       };
       none_failed = c.in_ok-decode_body.ensures.ok.1 ∙ inv.none_failed;
       read =
-          decoded_next g.T.Decodes.has_read g.T.Decodes.refuses c.loop-frame.decoder start.front.head.heading
+          decoded_next g.T.Decodes.has_read g.T.Decodes.refuses c.loop-frame.decoder start.front.head
           start.extents start.bodies old.honest frame inv.read c.decode_body.new.decoder c.in_ok-decode_body.field-0
           extent.0
           decodes.read c.if-not-branch.false inside (extent_is ∙ (λ i. (extent.0, sym decodes.sized i))) decodes.takes

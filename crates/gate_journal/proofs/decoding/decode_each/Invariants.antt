@@ -20,7 +20,7 @@ invariant-loop-frame g l =
       keeps : Keeps old new;
       none_failed : NoneFailed old new;
       read :
-          HasDecoded g.T.Decodes.has_read l.decoder start.front.head.heading (take l.frame start.extents)
+          HasDecoded g.T.Decodes.has_read l.decoder start.front.head (take l.frame start.extents)
           (take l.frame start.bodies) old.honest;
       unwritten : old.honest → Unwritten old new;
       reads : OnlyReads g.D.Disk.effect start.disk l.journal.disk;

@@ -1,5 +1,5 @@
-use Rattle.std.proofs.Common.{◌≡◌, ℕ, ◌+◌, ◌++◌, List, [], length, take, refl, ◌∙◌, ap, arith, rules, append_assoc, length-append}
-use Rattle.std.specs.Prelude.{vec_len}
+use Rattle.std.proofs.Common.{◌≡◌, ℕ, ◌+◌, ◌++◌, List, [], length, take, refl, sym, ◌∙◌, ap, arith, rules, append_assoc, length-append}
+use Rattle.std.specs.Prelude.{Some, vec_len}
 use Rattle.gate_journal.specs.Followed.{followed}
 use Rattle.gate_journal.proofs.FollowedLemmas.{followed_more, followed_within}
 use Rattle.gate_journal.proofs.LaidLemmas.{gathers_on, laid_on, none_laid, nothing_over}
@@ -28,7 +28,9 @@ add_part-requires-clause-room g c =
     let first = c.args.bytes.now.items in
     let parts = g.P.BodyParts.parts c.args.parts.now in
     let inv = c.loop-number.invariant in
-    let part = c.in-Some.part.0 ++ c.in-Some.part.1.now in
+    let head = c.as_slice.result.now in
+    let block = c.in-Some.part.1.now in
+    let found = c.in-Some.ensures.found ∙ (λ i. Some (sym c.as_slice.ensures.value i ++ block)) in
     let counted : vec_len c.loop-number.bytes ≡ length c.loop-number.bytes.items = search rules in
     omega (
       arith,
@@ -37,8 +39,8 @@ add_part-requires-clause-room g c =
       inv.room.0,
       ap (λ (l : List ℕ). length l) inv.gathers.all,
       length-append inv.gathers.written c.loop-number.bytes.items,
-      followed_within first parts c.loop-number.number part c.in-Some.ensures.found,
-      length-append c.in-Some.part.0 c.in-Some.part.1.now,
+      followed_within first parts c.loop-number.number (head ++ block) found,
+      length-append head block,
     )
 
 pub add_part-requires-clause-bound : goal.add_part-requires-clause-bound
@@ -46,7 +48,9 @@ add_part-requires-clause-bound g c =
     let first = c.args.bytes.now.items in
     let parts = g.P.BodyParts.parts c.args.parts.now in
     let inv = c.loop-number.invariant in
-    let part = c.in-Some.part.0 ++ c.in-Some.part.1.now in
+    let head = c.as_slice.result.now in
+    let block = c.in-Some.part.1.now in
+    let found = c.in-Some.ensures.found ∙ (λ i. Some (sym c.as_slice.ensures.value i ++ block)) in
     let counted : vec_len c.loop-number.bytes ≡ length c.loop-number.bytes.items = search rules in
     omega (
       arith,
@@ -55,8 +59,8 @@ add_part-requires-clause-bound g c =
       inv.gathers.at_is,
       ap (λ (l : List ℕ). length l) inv.gathers.all,
       length-append inv.gathers.written c.loop-number.bytes.items,
-      followed_within first parts c.loop-number.number part c.in-Some.ensures.found,
-      length-append c.in-Some.part.0 c.in-Some.part.1.now,
+      followed_within first parts c.loop-number.number (head ++ block) found,
+      length-append head block,
     )
 
 pub returns-in_err-at-clause-any_moment : goal.returns-in_err-at-clause-any_moment
@@ -65,8 +69,9 @@ returns-in_err-at-clause-any_moment g c = λ h.
     let parts = g.P.BodyParts.parts c.args.parts.now in
     let inv = c.loop-number.invariant in
     let bytes = c.loop-number.bytes.items in
-    let head = c.in-Some.part.0 in
+    let head = c.as_slice.result.now in
     let block = c.in-Some.part.1.now in
+    let found = c.in-Some.ensures.found ∙ (λ i. Some (sym c.as_slice.ensures.value i ++ block)) in
     let h1 = inv.keeps.stays_honest h in
     laid_on c.args.from (length (followed first parts)) (g.D.Disk.state c.args.disk.now)
     (g.D.Disk.state c.loop-number.disk) (g.met.D.Disk.is_disk c.loop-number.disk h1) (inv.moments h)
@@ -77,7 +82,7 @@ returns-in_err-at-clause-any_moment g c = λ h.
       inv.gathers.at_is,
       ap (λ (l : List ℕ). length l) inv.gathers.all,
       length-append inv.gathers.written bytes,
-      followed_within first parts c.loop-number.number (head ++ block) c.in-Some.ensures.found,
+      followed_within first parts c.loop-number.number (head ++ block) found,
       length-append head block,
       length-append (bytes ++ head) block,
       length-append bytes head,
@@ -90,8 +95,9 @@ loop-number-preserved g c =
     let parts = g.P.BodyParts.parts c.args.parts.now in
     let inv = c.loop-number.invariant in
     let bytes = c.loop-number.bytes.items in
-    let head = c.in-Some.part.0 in
+    let head = c.as_slice.result.now in
     let block = c.in-Some.part.1.now in
+    let found = c.in-Some.ensures.found ∙ (λ i. Some (sym c.as_slice.ensures.value i ++ block)) in
     let d0 = g.D.Disk.state c.args.disk.now in
     let d1 = g.D.Disk.state c.loop-number.disk in
     let d2 = g.D.Disk.state c.add_part.new.disk in
@@ -111,7 +117,7 @@ loop-number-preserved g c =
           (head ++ block) bytes (bytes ++ head ++ block) c.add_part.new.bytes.items
           (followed first (take (c.loop-number.number + 1) parts)) d0 d1 d2 inv.gathers c.in_ok-at.ensures.gathers
           inv.keeps.stays_honest c.requires.place (append_assoc bytes head block)
-          (followed_more first parts c.loop-number.number (head ++ block) c.in-Some.ensures.found);
+          (followed_more first parts c.loop-number.number (head ++ block) found);
       keeps = record {
         stays_honest = λ h. passes.stays_honest (inv.keeps.stays_honest h);
         was_honest = λ h. inv.keeps.was_honest (passes.was_honest h);
@@ -127,7 +133,7 @@ loop-number-preserved g c =
             inv.gathers.at_is,
             ap (λ (l : List ℕ). length l) inv.gathers.all,
             length-append inv.gathers.written bytes,
-            followed_within first parts c.loop-number.number (head ++ block) c.in-Some.ensures.found,
+            followed_within first parts c.loop-number.number (head ++ block) found,
             length-append head block,
             length-append (bytes ++ head) block,
             length-append bytes head,

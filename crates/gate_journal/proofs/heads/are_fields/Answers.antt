@@ -16,7 +16,7 @@ Allowed bytes = IsTrue (is_capacity bytes)
 
 pub returns-then-is_name : goal.returns-then-is_name
 returns-then-is_name c =
-    let bytes = c.args.bytes.now in (
+    let bytes = c.args.bytes.now in λ sums. (
       λ yes. elim c.if-is_count.branch [
         | then-is_count w ↦ record {
           name = subst (λ (name : List ℕ). IsName Cartridge name) w.name_at.ensures
@@ -34,7 +34,7 @@ returns-then-is_name c =
 
 pub returns-else-is_name : goal.returns-else-is_name
 returns-else-is_name c =
-    let bytes = c.args.bytes.now in (
+    let bytes = c.args.bytes.now in λ sums. (
       λ yes. absurd (false≢true (sym c.if-is_name.false ∙ yes)),
       λ ok. elim c.if-is_count.branch [
         | then-is_count w ↦ w.value-is ∙ w.is_name.ensures.1

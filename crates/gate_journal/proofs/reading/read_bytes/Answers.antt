@@ -43,8 +43,8 @@ returns-then-more-clause-answer g c = (
   λ honest.
       let seen = (g.D.Disk.state c.args.disk.now).seen in
       let read = c.read_at.new.buffer in
-      too_short seen (parsed read (replicate 44 0) c.read_at.auto.buffer)
-      (count_read read (replicate 44 0) c.read_at.auto.buffer seen (c.in_ok-read_at.ensures.bytes honest))
+      too_short seen (parsed read (replicate 48 0) c.read_at.auto.buffer)
+      (count_read read (replicate 48 0) c.read_at.auto.buffer seen (c.in_ok-read_at.ensures.bytes honest))
       (inr (omega (arith, c.size_behind-more.ensures, c.if-more.true))),
 )
 
@@ -54,17 +54,17 @@ returns-then-size-more-clause-answer g c = (
   λ honest.
       let seen = (g.D.Disk.state c.args.disk.now).seen in
       let read = c.read_at.new.buffer in
-      too_short seen (parsed read (replicate 44 0) c.read_at.auto.buffer)
-      (count_read read (replicate 44 0) c.read_at.auto.buffer seen (c.in_ok-read_at.ensures.bytes honest))
+      too_short seen (parsed read (replicate 48 0) c.read_at.auto.buffer)
+      (count_read read (replicate 48 0) c.read_at.auto.buffer seen (c.in_ok-read_at.ensures.bytes honest))
       (inl (omega (arith, c.size_behind-more.ensures, c.if-size-more.true, c.len-size.ensures.length honest))),
 )
 
 pub returns-in_err-read_at-2-clause-reads : goal.returns-in_err-read_at-2-clause-reads
 returns-in_err-read_at-2-clause-reads g c =
-    let more : List ℕ = replicate 44 0 in
+    let more : List ℕ = replicate 48 0 in
     let read = c.read_at.new.buffer in
     let count : ℕ = c.size_behind-more.result in
-    let few : count ≤ 44 = c.if-more.false in
+    let few : count ≤ 48 = c.if-more.false in
     let roomy : 27 + count ≤ length (read ++ more) =
     omega (arith, few, c.read_at.auto.buffer, length-append read more) in
     let part = mid_len 27 (27 + count) (read ++ more) roomy in
@@ -73,10 +73,10 @@ returns-in_err-read_at-2-clause-reads g c =
 
 pub returns-clause-reads : goal.returns-clause-reads
 returns-clause-reads g c =
-    let more : List ℕ = replicate 44 0 in
+    let more : List ℕ = replicate 48 0 in
     let read = c.read_at.new.buffer in
     let count : ℕ = c.size_behind-more.result in
-    let few : count ≤ 44 = c.if-more.false in
+    let few : count ≤ 48 = c.if-more.false in
     let roomy : 27 + count ≤ length (read ++ more) =
     omega (arith, few, c.read_at.auto.buffer, length-append read more) in
     let part = mid_len 27 (27 + count) (read ++ more) roomy in
@@ -87,10 +87,10 @@ pub returns-clause-answer : goal.returns-clause-answer
 returns-clause-answer g c =
     let read = c.read_at.new.buffer in
     let second = c.read_at-2.new.buffer in
-    let more : List ℕ = replicate 44 0 in
+    let more : List ℕ = replicate 48 0 in
     let sized = c.read_at.auto.buffer in
     let count : ℕ = c.size_behind-more.result in
-    let few : count ≤ 44 = c.if-more.false in
+    let few : count ≤ 48 = c.if-more.false in
     let roomy : 27 + count ≤ length (read ++ more) = omega (arith, few, sized, length-append read more) in
     let span : 27 + count - 27 ≡ count = omega arith in
     let part = mid_len 27 (27 + count) (read ++ more) roomy ∙ span in
